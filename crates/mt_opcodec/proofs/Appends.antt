@@ -1,0 +1,22 @@
+-- One piece after another.
+use Rattle.std.proofs.Common.{◌≡◌, ℕ, ◌+◌, ◌<◌, List, [], ◌∷◌, ◌++◌, length, get_or, take, sym, ap, ◌∙◌, append_assoc}
+use Rattle.std.specs.List.{flat_map}
+use Rattle.sha2.specs.Sha256.{sha256}
+use Rattle.mt_op.specs.Operation.{Operation}
+use Rattle.mt_opcodec.specs.LogText.{log_body, log_text}
+use Rattle.std.proofs.lemmas.List.{flat_map_more, take_more}
+
+-- a tag and two pieces
+pub tagged_pieces : (old with_tag with_first new first second : List ℕ) (tag : ℕ) → with_tag ≡ old ++ tag ∷ [] → with_first ≡ with_tag ++ first → new ≡ with_first ++ second → new ≡ old ++ (tag ∷ (first ++ second))
+tagged_pieces old with_tag with_first new first second tag a b c =
+    c ∙ ap (λ (l : List ℕ). l ++ second) (b ∙ ap (λ (l : List ℕ). l ++ first) a)
+    ∙ append_assoc (old ++ tag ∷ []) first second ∙ append_assoc old (tag ∷ []) (first ++ second)
+
+-- one more piece of a list's texts
+pub piece_more : {X : Type 0} (f : X → List ℕ) (head : List ℕ) (xs : List X) (i : ℕ) (x : X) (so_far new : List ℕ) → i < length xs → x ≡ get_or xs i x → so_far ≡ head ++ flat_map f (take i xs) → new ≡ so_far ++ f x → new ≡ head ++ flat_map f (take (i + 1) xs)
+piece_more {X = X} f head xs i x so_far new lt is so new_is =
+    new_is ∙ ap (λ (l : List ℕ). l ++ f x) so ∙ flat_map_more f head (take i xs) x ∙ ap (λ (ys : List X). head ++ flat_map f ys) (ap (λ (y : X). take i xs ++ y ∷ []) is ∙ sym (take_more xs i x lt))
+
+-- what the digest is made of, and the digest
+pub sealed : (ops : List Operation) (text digest new : List ℕ) → text ≡ log_body ops → digest ≡ sha256 text → new ≡ text ++ digest → new ≡ log_text ops
+sealed ops text digest new text_is digest_is new_is = new_is ∙ ap (λ (d : List ℕ). text ++ d) digest_is ∙ ap (λ (t : List ℕ). t ++ sha256 t) text_is

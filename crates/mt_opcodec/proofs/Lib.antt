@@ -1,0 +1,6 @@
+pub mod Fields
+pub mod Operations
+pub mod Logs
+pub mod Appends
+pub mod Records
+pub mod LogTexts

@@ -1,0 +1,230 @@
+-- A log that is read is spelled so, and a log that is spelled so is read.
+use Rattle.std.proofs.Common.{◌≡◌, ℕ, zero, suc, ◌+◌, ◌-◌, ◌^◌, ◌<◌, ◌≤◌, Bool, true, false, not, cond, eqb, ltb, List, [], ◌∷◌, ◌++◌, map, Option, Some, None, Result, Ok, Err, length, take, drop, refl, sym, ap, subst, ◌∙◌, arith, append_assoc}
+use Rattle.std.specs.Prelude.{IsTrue}
+use Rattle.std.specs.List.{flat_map, starts_with, AllByRecursion}
+use Rattle.std.specs.Int.{w64, from_be_bytes, to_be_bytes}
+use Rattle.std.specs.Ordering.{is_lt}
+use Rattle.std.specs.FinMap.Entries.{below_all}
+use Rattle.std.specs.declared.cmp.Ordering.{Ordering}
+use Rattle.std.specs.declared.cmp.Ordering.TheVariants.{Less, Equal, Greater}
+use Rattle.std.proofs.lemmas.Bool.{ltb-false, le-ltb}
+use Rattle.std.proofs.lemmas.List.{take_at, drop_at, take-append-drop, length-append, length-take, length-drop, take-take, drop-drop}
+use Rattle.sha2.specs.Sha256.{sha256}
+use Rattle.sha2.proofs.Facts256.{length-sha256}
+use Rattle.mt_stamp.specs.declared.name.Dot.{Dot}
+use Rattle.mt_stamp.specs.Moment.{dot_cmp}
+use Rattle.mt_stamp.proofs.Order.{dot_cmp_total}
+use Rattle.mt_op.specs.Operation.{Operation}
+use Rattle.mt_op.specs.Dots.{op_dot, entry_of, dots_rise}
+use Rattle.mt_op.specs.Valid.{IsOperation}
+use Rattle.mt_op.proofs.Needs.{and_first, and_second}
+use Rattle.mt_op.proofs.Equal.{bytes_same, bytes_itself}
+use Rattle.mt_opcodec.specs.declared.fault.ReadFault.{ReadFault}
+use Rattle.mt_opcodec.specs.declared.fault.LogFault.{LogFault}
+use Rattle.mt_opcodec.specs.declared.fault.LogFault.TheVariants.{BadMagic, BadVersion, Damaged, OutOfOrder}
+use Rattle.mt_opcodec.specs.OpText.{op_text}
+use Rattle.mt_opcodec.specs.OpReading.{op_at}
+use Rattle.mt_opcodec.specs.LogText.{magic, version, log_head, log_body, log_text}
+use Rattle.mt_opcodec.specs.LogReading.{◌>>=◌, is_after, record_of, records_at, head_len, digest_len, body_of, is_sealed, sealed_at, counted_at, log_at, LogFails}
+use Rattle.mt_opcodec.specs.LogValue.{AreLogged}
+use Rattle.mt_opcodec.proofs.Fields.{IsBytes, IsBytes-take, IsBytes-drop, wide64}
+use Rattle.mt_opcodec.proofs.Operations.{op_takes, op_again}
+
+abbrev done : {A : Type 0} → A → Result A LogFault
+done x = Ok x
+
+bind_ok : {A B : Type 0} (r : Result A LogFault) (f : A → Result B LogFault) (y : B) → (r >>= f) ≡ Ok y → (x : A) × (r ≡ Ok x) × (f x ≡ Ok y)
+bind_ok (Ok x) f y e = (x, refl, e)
+bind_ok (Err d) f y e = absurd cc
+
+-- ---- each dot after the one before
+
+abbrev Chain : Option Dot → List Operation → Type 0
+Chain last [] = Unit {0}
+Chain last (o ∷ ops) = IsTrue (is_after last (op_dot o)) × Chain (Some (op_dot o)) ops
+
+less : (o : Ordering) → is_lt o ≡ true → o ≡ Less
+less Less e = refl
+less Equal e = absurd cc
+less Greater e = absurd cc
+
+-- what is below a dot is below all above it
+below_rest : (dot next : Dot) (rest : List Operation) → dot_cmp dot next ≡ Less → below_all dot_cmp next (map entry_of rest) ≡ true → below_all dot_cmp dot (map entry_of rest) ≡ true
+below_rest dot next [] lt b = refl
+below_rest dot next (p ∷ rest) lt b =
+    let here : dot_cmp dot (op_dot p) ≡ Less = dot_cmp_total.trans dot next (op_dot p) lt (less (dot_cmp next (op_dot p)) (and_first _ _ b)) in
+    let others : below_all dot_cmp dot (map entry_of rest) ≡ true = below_rest dot next rest lt (and_second _ _ b) in
+    rw (here, others) refl
+
+chain_above : (dot : Dot) (ops : List Operation) → Chain (Some dot) ops → below_all dot_cmp dot (map entry_of ops) ≡ true
+chain_above dot [] h = refl
+chain_above dot (o ∷ ops) h =
+    let here : dot_cmp dot (op_dot o) ≡ Less = less (dot_cmp dot (op_dot o)) h.0 in
+    let others : below_all dot_cmp dot (map entry_of ops) ≡ true = below_rest dot (op_dot o) ops here (chain_above (op_dot o) ops h.1) in
+    rw (here, others) refl
+
+chain_rises : (last : Option Dot) (ops : List Operation) → Chain last ops → IsTrue (dots_rise ops)
+chain_rises last [] h = refl
+chain_rises last (o ∷ ops) h =
+    let first : below_all dot_cmp (op_dot o) (map entry_of ops) ≡ true = chain_above (op_dot o) ops h.1 in
+    let others : dots_rise ops ≡ true = chain_rises (Some (op_dot o)) ops h.1 in
+    rw (first, others) refl
+
+rises_chain : (last : Option Dot) (ops : List Operation) → IsTrue (dots_rise ops) → ((o : Operation) (rest : List Operation) → ops ≡ o ∷ rest → IsTrue (is_after last (op_dot o))) → Chain last ops
+rises_chain last [] rise first = tt
+rises_chain last (o ∷ ops) rise first = (first o ops refl, rises_chain (Some (op_dot o)) ops (and_second _ _ rise) (next ops (and_first _ _ rise)))
+  where
+    next : (ops : List Operation) → below_all dot_cmp (op_dot o) (map entry_of ops) ≡ true → (p : Operation) (rest : List Operation) → ops ≡ p ∷ rest → IsTrue (is_after (Some (op_dot o)) (op_dot p))
+    next ops b p rest is = and_first _ _ (subst (λ (l : List Operation). below_all dot_cmp (op_dot o) (map entry_of l) ≡ true) is b)
+
+-- ---- records
+
+record_ok : (index : ℕ) (last : Option Dot) (r : Result (Operation × List ℕ) ReadFault) (x : Operation × List ℕ) → record_of index last r ≡ Ok x → (r ≡ Ok x) × IsTrue (is_after last (op_dot x.0))
+record_ok index last (Ok y) x e = step (is_after last (op_dot y.0)) refl
+  where
+    step : (b : Bool) → is_after last (op_dot y.0) ≡ b → ◌≡◌ {A = Result (Operation × List ℕ) ReadFault} (Ok y) (Ok x) × IsTrue (is_after last (op_dot x.0))
+    step true is =
+        let same : ◌≡◌ {A = Result (Operation × List ℕ) LogFault} (Ok y) (Ok x) = rw is at e in
+        let is_x : y ≡ x = cc in
+        (ap (λ (z : Operation × List ℕ). Ok z) is_x, subst (λ (z : Operation × List ℕ). IsTrue (is_after last (op_dot z.0))) is_x is)
+    step false is = let wrong : ◌≡◌ {A = Result (Operation × List ℕ) LogFault} (Err (OutOfOrder index)) (Ok x) = rw is at e in absurd cc
+record_ok index last (Err cause) x e = absurd cc
+
+-- what a list of records is
+record AreRead (last : Option Dot) (count : ℕ) (bytes : List ℕ) (ops : List Operation) : Type 0 where
+  text : bytes ≡ flat_map op_text ops
+  counted : length ops ≡ count
+  chain : Chain last ops
+  valid : AllByRecursion IsOperation ops
+
+records_take : (count index : ℕ) (last : Option Dot) (bytes : List ℕ) (ops : List Operation) → IsBytes bytes → records_at count index last bytes ≡ Ok ops → AreRead last count bytes ops
+unfolding records_at
+records_take zero index last [] ops fits e =
+    let is : [] ≡ ops = cc in
+    subst (AreRead last 0 []) is (record { text = refl; counted = refl; chain = tt; valid = tt })
+records_take zero index last (b ∷ bytes) ops fits e = absurd cc
+records_take (suc count) index last bytes ops fits e =
+    let a = bind_ok (record_of index last (op_at bytes)) (λ first. records_at count (index + 1) (Some (op_dot first.0)) first.1 >>= λ others. Ok (first.0 ∷ others)) ops e in
+    let b = bind_ok (records_at count (index + 1) (Some (op_dot a.0.0)) a.0.1) (λ others. Ok (a.0.0 ∷ others)) ops a.2 in
+    let first = record_ok index last (op_at bytes) a.0 a.1 in
+    let taken = op_takes bytes a.0 fits first.0 in
+    let rest = records_take count (index + 1) (Some (op_dot a.0.0)) a.0.1 b.0 taken.0.rest_fits b.1 in
+    let made : ◌≡◌ {A = Result (List Operation) LogFault} (Ok (a.0.0 ∷ b.0)) (Ok ops) = b.2 in
+    let is : a.0.0 ∷ b.0 ≡ ops = cc in
+    subst (AreRead last (suc count) bytes) is (record {
+      text = taken.0.parts ∙ ap (λ (l : List ℕ). op_text a.0.0 ++ l) rest.text;
+      counted = ap suc rest.counted;
+      chain = (first.1, rest.chain);
+      valid = (taken.1, rest.valid);
+    })
+
+records_again : (ops : List Operation) (index : ℕ) (last : Option Dot) → AllByRecursion IsOperation ops → Chain last ops → records_at (length ops) index last (flat_map op_text ops) ≡ Ok ops
+unfolding records_at
+records_again [] index last valid chain = refl
+records_again (o ∷ ops) index last valid chain =
+    let first : record_of index last (op_at (op_text o ++ flat_map op_text ops)) ≡ Ok (o, flat_map op_text ops) = ap (record_of index last) (op_again o (flat_map op_text ops) valid.0) ∙ rw chain.0 refl in
+    let rest = records_again ops (index + 1) (Some (op_dot o)) valid.1 chain.1 in
+    ap (λ (r : Result (Operation × List ℕ) LogFault). r >>= λ first. records_at (length ops) (index + 1) (Some (op_dot first.0)) first.1 >>= λ others. Ok (first.0 ∷ others)) first
+    ∙ ap (λ (r : Result (List Operation) LogFault). r >>= λ others. Ok (o ∷ others)) rest
+
+-- ---- the frame
+
+refuses_not : {A : Type 0} (b : Bool) (d : LogFault) (r : Result A LogFault) (y : A) → cond (not b) (Err d) r ≡ Ok y → (b ≡ true) × (r ≡ Ok y)
+refuses_not true d r y e = (refl, e)
+refuses_not false d r y e = absurd cc
+
+refuses_true : {A : Type 0} (b : Bool) (d : LogFault) (r : Result A LogFault) (y : A) → cond b (Err d) r ≡ Ok y → (b ≡ false) × (r ≡ Ok y)
+refuses_true true d r y e = absurd cc
+refuses_true false d r y e = (refl, e)
+
+refuses_false : {A : Type 0} (b : Bool) (d : LogFault) (x y : A) → cond b (Ok x) (Err d) ≡ Ok y → (b ≡ true) × (x ≡ y)
+refuses_false true d x y e = (refl, cc)
+refuses_false false d x y e = absurd cc
+
+-- what a frame that is whole says
+record IsFramed (bytes body : List ℕ) : Type 0 where
+  text : bytes ≡ body ++ sha256 body
+  begins : take 5 body ≡ magic ++ version ∷ []
+  long : head_len ≤ length body
+  front : body ≡ take (length bytes - digest_len) bytes
+
+sealed_takes : (bytes body : List ℕ) → sealed_at bytes ≡ Ok body → IsFramed bytes body
+unfolding sealed_at
+sealed_takes bytes body e =
+    let a = refuses_not (starts_with eqb bytes magic) BadMagic (cond (not (starts_with eqb bytes (magic ++ version ∷ []))) (Err BadVersion) (cond (ltb (length bytes) (head_len + digest_len)) (Err Damaged) (cond (is_sealed bytes) (Ok (body_of bytes)) (Err Damaged)))) body e in
+    let b = refuses_not (starts_with eqb bytes (magic ++ version ∷ [])) BadVersion (cond (ltb (length bytes) (head_len + digest_len)) (Err Damaged) (cond (is_sealed bytes) (Ok (body_of bytes)) (Err Damaged))) body a.1 in
+    let c = refuses_true (ltb (length bytes) (head_len + digest_len)) Damaged (cond (is_sealed bytes) (Ok (body_of bytes)) (Err Damaged)) body b.1 in
+    let d = refuses_false (is_sealed bytes) Damaged (body_of bytes) body c.1 in
+    let n = length bytes - digest_len in
+    let long : head_len + digest_len ≤ length bytes = ltb-false _ _ c.0 in
+    let digest : sha256 (body_of bytes) ≡ drop n bytes = bytes_same _ _ d.0 in
+    let version-is : magic ++ version ∷ [] ≡ take 5 bytes = bytes_same _ _ b.0 in
+    subst (IsFramed bytes) d.1 (record {
+      text = sym (take-append-drop n bytes) ∙ ap (λ (l : List ℕ). take n bytes ++ l) (sym digest);
+      begins = take-take 5 n bytes (omega arith) ∙ sym version-is;
+      long = omega (arith, length-take n bytes);
+      front = refl;
+    })
+
+sealed_again : (ops : List Operation) → sealed_at (log_text ops) ≡ Ok (log_body ops)
+unfolding sealed_at
+sealed_again ops =
+    let body = log_body ops in
+    let digest-len : length (sha256 body) ≡ 32 = length-sha256 body in
+    let all : length (log_text ops) ≡ length body + 32 = length-append body (sha256 body) ∙ ap (λ (k : ℕ). length body + k) digest-len in
+    let body-len : 13 ≤ length body = omega arith in
+    let long : ltb (length (log_text ops)) (head_len + digest_len) ≡ false = le-ltb _ _ (omega arith) in
+    let front : take (length (log_text ops) - digest_len) (log_text ops) ≡ body = take_at body (sha256 body) (length (log_text ops) - digest_len) (omega arith) in
+    let back : drop (length (log_text ops) - digest_len) (log_text ops) ≡ sha256 body = drop_at body (sha256 body) (length (log_text ops) - digest_len) (omega arith) in
+    let same : is_sealed (log_text ops) ≡ true = rw (front, back) (bytes_itself (sha256 body)) in
+    rw (long, same, front) refl
+
+-- ---- logs
+
+counted_takes : (bytes body : List ℕ) (ops : List Operation) → IsBytes body → IsFramed bytes body → counted_at body ≡ Ok ops → AreLogged ops × (body ≡ log_body ops)
+unfolding counted_at
+counted_takes bytes body ops fits framed e =
+    let word = take 8 (drop 5 body) in
+    let rest = drop head_len body in
+    let read = records_take (from_be_bytes w64 word) 0 None rest ops (IsBytes-drop head_len body fits) e in
+    let word-len : length word ≡ 8 = omega (arith, framed.long, length-take 8 (drop 5 body), length-drop 5 body) in
+    let count : to_be_bytes w64 (from_be_bytes w64 word) ≡ word = wide64.back word word-len (IsBytes-take 8 (drop 5 body) (IsBytes-drop 5 body fits)) in
+    let head : log_head (length ops) ≡ take 5 body ++ word =
+    ap (λ (n : ℕ). magic ++ (version ∷ to_be_bytes w64 n)) read.counted ∙ ap (λ (w : List ℕ). magic ++ (version ∷ w)) count ∙ ap (λ (f : List ℕ). f ++ word) (sym framed.begins) in
+    let parts : body ≡ (take 5 body ++ word) ++ rest =
+    sym (take-append-drop 5 body) ∙ ap (λ (l : List ℕ). take 5 body ++ l) (sym (take-append-drop 8 (drop 5 body)) ∙ ap (λ (l : List ℕ). word ++ l) (drop-drop 8 5 body)) ∙ sym (append_assoc (take 5 body) word rest) in (
+      record { rise = chain_rises None ops read.chain; valid = read.valid },
+      parts ∙ ap (λ (l : List ℕ). l ++ rest) (sym head) ∙ ap (λ (l : List ℕ). log_head (length ops) ++ l) read.text,
+    )
+
+counted_again : (ops : List Operation) → AreLogged ops → length ops < 2 ^ 64 → counted_at (log_body ops) ≡ Ok ops
+unfolding counted_at
+counted_again ops logged short =
+    let count : from_be_bytes w64 (to_be_bytes w64 (length ops)) ≡ length ops = wide64.again (length ops) short in
+    ap (λ (n : ℕ). records_at n 0 None (flat_map op_text ops)) count ∙ records_again ops 0 None logged.valid (rises_chain None ops logged.rise (λ o rest e. refl))
+
+-- what is read is the log text of its operations
+pub log_takes : (bytes : List ℕ) (ops : List Operation) → IsBytes bytes → log_at bytes ≡ Ok ops → AreLogged ops × (bytes ≡ log_text ops)
+log_takes bytes ops fits e =
+    let a = bind_ok (sealed_at bytes) counted_at ops e in
+    let framed = sealed_takes bytes a.0 a.1 in
+    let body-fits : IsBytes a.0 = subst IsBytes (sym framed.front) (IsBytes-take (length bytes - digest_len) bytes fits) in
+    let counted = counted_takes bytes a.0 ops body-fits framed a.2 in
+    (counted.0, framed.text ∙ ap (λ (b : List ℕ). b ++ sha256 b) counted.1)
+
+-- the log text of operations is read as them
+pub log_again : (ops : List Operation) → AreLogged ops → length ops < 2 ^ 64 → log_at (log_text ops) ≡ Ok ops
+log_again ops logged short = ap (λ (r : Result (List ℕ) LogFault). r >>= counted_at) (sealed_again ops) ∙ counted_again ops logged short
+
+-- a log's text determines its operations
+pub log_text-apart : (a b : List Operation) → AreLogged a → AreLogged b → length a < 2 ^ 64 → length b < 2 ^ 64 → log_text a ≡ log_text b → a ≡ b
+log_text-apart a b a-logged b-logged a-short b-short same =
+    let both : done a ≡ done b = sym (log_again a a-logged a-short) ∙ ap log_at same ∙ log_again b b-logged b-short in
+    ok_same a b both
+  where
+    ok_same : (x y : List Operation) → done x ≡ done y → x ≡ y
+    ok_same x y e = cc
+
+-- what a fault is, where the bytes are a log's text
+pub log_only_err : (fault : LogFault) (bytes : List ℕ) → LogFails fault (log_at bytes) → (ops : List Operation) → AreLogged ops → length ops < 2 ^ 64 → bytes ≡ log_text ops → LogFails fault (done ops)
+log_only_err fault bytes h ops logged short text = subst (λ (r : Result (List Operation) LogFault). LogFails fault r) (ap log_at text ∙ log_again ops logged short) h

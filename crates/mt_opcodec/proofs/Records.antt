@@ -1,0 +1,78 @@
+-- Reading records one after another.
+use Rattle.std.proofs.Common.{◌≡◌, ℕ, suc, ◌+◌, ◌-◌, ◌<◌, ◌≤◌, true, false, List, [], ◌∷◌, ◌++◌, Option, Some, Result, Ok, Err, length, eqb, refl, sym, ap, ◌∙◌, arith, append_assoc}
+use Rattle.std.proofs.lemmas.List.{append-nil}
+use Rattle.std.proofs.lemmas.Bool.{eqb-true}
+use Rattle.mt_stamp.specs.declared.name.Dot.{Dot}
+use Rattle.mt_op.specs.Operation.{Operation}
+use Rattle.mt_op.specs.Dots.{op_dot}
+use Rattle.mt_opcodec.specs.declared.fault.ReadFault.{ReadFault}
+use Rattle.mt_opcodec.specs.declared.fault.ReadFault.TheVariants as read
+use Rattle.mt_opcodec.specs.declared.fault.LogFault.{LogFault}
+use Rattle.mt_opcodec.specs.declared.fault.LogFault.TheVariants as log
+use Rattle.mt_opcodec.specs.OpReading.{op_at, Fails}
+use Rattle.mt_opcodec.specs.LogReading.{◌>>=◌, record_of, fault_of, records_at, LogFails}
+
+-- a record that is no operation is refused so
+pub fault_of-fails : (index : ℕ) (last : Option Dot) (cause : ReadFault) (r : Result (Operation × List ℕ) ReadFault) → Fails cause r → LogFails (fault_of index cause) (record_of index last r)
+fault_of-fails index last read.Memory r h = tt
+fault_of-fails index last read.Truncated r h = ap (record_of index last) h
+fault_of-fails index last read.BadTag r h = ap (record_of index last) h
+fault_of-fails index last read.BadField r h = ap (record_of index last) h
+
+-- what was read before, and what is still read
+abbrev pub with_front : List Operation → Result (List Operation) LogFault → Result (List Operation) LogFault
+with_front front r = r >>= λ ops. Ok (front ++ ops)
+
+regroup : (front : List Operation) (o : Operation) (r : Result (List Operation) LogFault) → with_front front (r >>= λ ops. Ok (o ∷ ops)) ≡ with_front (front ++ o ∷ []) r
+regroup front o (Ok ops) = ap (λ (l : List Operation). Ok l) (sym (append_assoc front (o ∷ []) ops))
+regroup front o (Err e) = refl
+
+pub goes_on : (front : List Operation) (count index : ℕ) (last : Option Dot) (bytes : List ℕ) (o : Operation) (after : List ℕ) (total : Result (List Operation) LogFault) → index < count
+    → record_of index last (op_at bytes) ≡ Ok (o, after) → with_front front (records_at (count - index) index last bytes) ≡ total
+    → with_front (front ++ o ∷ []) (records_at (count - (index + 1)) (index + 1) (Some (op_dot o)) after) ≡ total
+unfolding records_at
+goes_on front count index last bytes o after total lt h so_far =
+    let k : count - index ≡ suc (count - (index + 1)) = omega arith in
+    let one : with_front front (records_at (count - index) index last bytes) ≡ with_front (front ++ o ∷ []) (records_at (count - (index + 1)) (index + 1) (Some (op_dot o)) after) =
+    rw (k, h) (regroup front o (records_at (count - (index + 1)) (index + 1) (Some (op_dot o)) after)) in
+    sym one ∙ so_far
+
+failed : (e : LogFault) (r total : Result (List Operation) LogFault) (first : Result (Operation × List ℕ) LogFault) → (first ≡ Err e → r ≡ Err e) → r ≡ total → LogFails e first → LogFails e total
+failed log.Memory r total first step so_far h = tt
+failed log.BadMagic r total first step so_far h = sym so_far ∙ step h
+failed log.BadVersion r total first step so_far h = sym so_far ∙ step h
+failed log.Damaged r total first step so_far h = sym so_far ∙ step h
+failed (log.BadRecord index cause) r total first step so_far h = sym so_far ∙ step h
+failed (log.OutOfOrder index) r total first step so_far h = sym so_far ∙ step h
+failed log.Trailing r total first step so_far h = sym so_far ∙ step h
+failed (log.Conflict dot) r total first step so_far h = h
+
+pub ends : (e : LogFault) (front : List Operation) (count index : ℕ) (last : Option Dot) (bytes : List ℕ) (total : Result (List Operation) LogFault) → index < count
+    → LogFails e (record_of index last (op_at bytes)) → with_front front (records_at (count - index) index last bytes) ≡ total → LogFails e total
+unfolding records_at
+ends e front count index last bytes total lt h so_far =
+    let k : count - index ≡ suc (count - (index + 1)) = omega arith in
+    failed e (with_front front (records_at (count - index) index last bytes)) total (record_of index last (op_at bytes)) (λ is. rw (k, is) refl) so_far h
+
+pub is_done : (front : List Operation) (count index : ℕ) (last : Option Dot) (total : Result (List Operation) LogFault) → count ≤ index → with_front front (records_at (count - index) index last []) ≡ total → total ≡ Ok front
+unfolding records_at
+is_done front count index last total le so_far =
+    let k : count - index ≡ 0 = omega arith in
+    let one : with_front front (records_at (count - index) index last []) ≡ Ok front = rw k (ap (λ (l : List Operation). Ok l) (append-nil front)) in
+    sym so_far ∙ one
+
+pub is_trailing : (front : List Operation) (count index : ℕ) (last : Option Dot) (b : ℕ) (bytes : List ℕ) (total : Result (List Operation) LogFault) → count ≤ index → with_front front (records_at (count - index) index last (b ∷ bytes)) ≡ total → total ≡ Err log.Trailing
+unfolding records_at
+is_trailing front count index last b bytes total le so_far =
+    let k : count - index ≡ 0 = omega arith in
+    let one : with_front front (records_at (count - index) index last (b ∷ bytes)) ≡ Err log.Trailing = rw k refl in
+    sym so_far ∙ one
+
+-- the end, by whether bytes are left
+pub at_end : (front : List Operation) (count index : ℕ) (last : Option Dot) (rest : List ℕ) (total : Result (List Operation) LogFault) → count ≤ index → eqb (length rest) 0 ≡ true → with_front front (records_at (count - index) index last rest) ≡ total → total ≡ Ok front
+at_end front count index last [] total le e so_far = is_done front count index last total le so_far
+at_end front count index last (b ∷ rest) total le e so_far = absurd (omega (arith, eqb-true (length (b ∷ rest)) 0 e))
+
+pub before_end : (front : List Operation) (count index : ℕ) (last : Option Dot) (rest : List ℕ) (total : Result (List Operation) LogFault) → count ≤ index → eqb (length rest) 0 ≡ false → with_front front (records_at (count - index) index last rest) ≡ total → total ≡ Err log.Trailing
+before_end front count index last [] total le e so_far = absurd cc
+before_end front count index last (b ∷ rest) total le e so_far = is_trailing front count index last b rest total le so_far

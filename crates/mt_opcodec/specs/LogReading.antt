@@ -1,0 +1,97 @@
+-- Reading a log, with its refusals in their order (profile).
+use Rattle.std.specs.Prelude.{◌≡◌, ℕ, zero, suc, ◌+◌, ◌-◌, Bool, true, List, [], ◌∷◌, ◌++◌, length, take, drop, Option, Some, None, Result, Ok, Err, nat_lt, nat_eq, not, if◌then◌else◌}
+use Rattle.std.specs.Int.{w64, from_be_bytes}
+use Rattle.std.specs.Ordering.{is_lt}
+use Rattle.std.specs.Cmp.Lexicographic.{pointwise}
+use Rattle.std.specs.List.{starts_with}
+use Rattle.sha2.specs.Sha256.{sha256}
+use Rattle.mt_stamp.specs.declared.name.Dot.{Dot}
+use Rattle.mt_stamp.specs.Moment.{dot_cmp}
+use Rattle.mt_op.specs.Operation.{Operation}
+use Rattle.mt_op.specs.Dots.{op_dot}
+use Rattle.mt_opcodec.specs.declared.fault.ReadFault.{ReadFault}
+use Rattle.mt_opcodec.specs.declared.fault.ReadFault.TheVariants as read
+use Rattle.mt_opcodec.specs.declared.fault.LogFault.{LogFault}
+use Rattle.mt_opcodec.specs.declared.fault.LogFault.TheVariants.{Memory, BadMagic, BadVersion, Damaged, BadRecord, OutOfOrder, Trailing, Conflict}
+use Rattle.mt_opcodec.specs.OpReading.{op_at}
+use Rattle.mt_opcodec.specs.LogText.{magic, version}
+
+-- whether a dot is greater than the one before, if there is one
+abbrev pub is_after : Option Dot → Dot → Bool
+is_after None dot = true
+is_after (Some last) dot = is_lt (dot_cmp last dot)
+
+infixl 10 ◌>>=◌
+abbrev pub ◌>>=◌ : {A B : Type 0} → Result A LogFault → (A → Result B LogFault) → Result B LogFault
+(Ok x) >>= f = f x
+(Err e) >>= f = Err e
+
+-- one operation after the dot `last`, as record `index`
+abbrev pub in_order : ℕ → Option Dot → Operation × List ℕ → Result (Operation × List ℕ) LogFault
+in_order index last x = if is_after last (op_dot x.0) then Ok x else Err (OutOfOrder index)
+
+abbrev pub record_of : ℕ → Option Dot → Result (Operation × List ℕ) ReadFault → Result (Operation × List ℕ) LogFault
+record_of index last (Ok x) = in_order index last x
+record_of index last (Err cause) = Err (BadRecord index cause)
+
+-- the refusal of a record that is no operation
+abbrev pub fault_of : ℕ → ReadFault → LogFault
+fault_of index read.Memory = Memory
+fault_of index read.Truncated = BadRecord index read.Truncated
+fault_of index read.BadTag = BadRecord index read.BadTag
+fault_of index read.BadField = BadRecord index read.BadField
+
+-- this many operations from record `index` on, after the dot `last`, and then nothing
+unfoldable pub records_at : ℕ → ℕ → Option Dot → List ℕ → Result (List Operation) LogFault
+records_at zero index last [] = Ok []
+records_at zero index last (b ∷ bytes) = Err Trailing
+records_at (suc count) index last bytes = do
+  first ← record_of index last (op_at bytes)
+  others ← records_at count (index + 1) (Some (op_dot first.0)) first.1
+  Ok (first.0 ∷ others)
+
+-- how many bytes stand before the records, and how many the digest has
+abbrev pub head_len : ℕ
+head_len = 13
+
+abbrev pub digest_len : ℕ
+digest_len = 32
+
+-- the bytes before the digest
+abbrev pub body_of : List ℕ → List ℕ
+body_of bytes = take (length bytes - digest_len) bytes
+
+-- the digest at the end agrees with the bytes before it
+abbrev pub is_sealed : List ℕ → Bool
+is_sealed bytes = pointwise nat_eq (sha256 (body_of bytes)) (drop (length bytes - digest_len) bytes)
+
+-- the bytes before the digest, where the frame of a log is whole
+unfoldable pub sealed_at : List ℕ → Result (List ℕ) LogFault
+sealed_at bytes =
+    if not (starts_with nat_eq bytes magic) then Err BadMagic
+    else if not (starts_with nat_eq bytes (magic ++ version ∷ [])) then Err BadVersion
+    else if nat_lt (length bytes) (head_len + digest_len) then Err Damaged
+    else if is_sealed bytes then Ok (body_of bytes)
+    else Err Damaged
+
+-- the count says how many operations stand between it and the digest
+unfoldable pub counted_at : List ℕ → Result (List Operation) LogFault
+counted_at body = records_at (from_be_bytes w64 (take 8 (drop 5 body))) 0 None (drop head_len body)
+
+abbrev pub log_at : List ℕ → Result (List Operation) LogFault
+log_at bytes = sealed_at bytes >>= counted_at
+
+-- What a function returned, seen by view, is what reading gives, unless memory ran out.
+abbrev pub LogFails : {X : Type 0} → LogFault → Result X LogFault → Type 0
+LogFails Memory read = Unit {0}
+LogFails BadMagic read = read ≡ Err BadMagic
+LogFails BadVersion read = read ≡ Err BadVersion
+LogFails Damaged read = read ≡ Err Damaged
+LogFails (BadRecord index cause) read = read ≡ Err (BadRecord index cause)
+LogFails (OutOfOrder index) read = read ≡ Err (OutOfOrder index)
+LogFails Trailing read = read ≡ Err Trailing
+LogFails (Conflict dot) read = ⊥
+
+abbrev pub LogGives : {X Y : Type 0} → (X → Y) → Result X LogFault → Result Y LogFault → Type 0
+LogGives view (Ok x) read = read ≡ Ok (view x)
+LogGives view (Err e) read = LogFails e read

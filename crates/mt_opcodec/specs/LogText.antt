@@ -1,0 +1,26 @@
+-- The one text of each log (profile; SHA-256: FIPS 180-4).
+use Rattle.std.specs.Prelude.{ℕ, List, ◌∷◌, ◌++◌, length, codes}
+use Rattle.std.specs.List.{flat_map}
+use Rattle.std.specs.Int.{w64, to_be_bytes}
+use Rattle.sha2.specs.Sha256.{sha256}
+use Rattle.mt_op.specs.Operation.{Operation}
+use Rattle.mt_opcodec.specs.OpText.{op_text}
+
+-- `RMTS`, and the version
+abbrev pub magic : List ℕ
+magic = codes "RMTS"
+
+abbrev pub version : ℕ
+version = 1
+
+-- magic, version and how many operations follow
+abbrev pub log_head : ℕ → List ℕ
+log_head count = magic ++ (version ∷ to_be_bytes w64 count)
+
+-- all that the digest is made of
+abbrev pub log_body : List Operation → List ℕ
+log_body ops = log_head (length ops) ++ flat_map op_text ops
+
+-- the text of operations by rising dot
+abbrev pub log_text : List Operation → List ℕ
+log_text ops = log_body ops ++ sha256 (log_body ops)

@@ -1,0 +1,40 @@
+-- A log as a finite map from dot to operation.
+use Rattle.std.specs.Prelude.{◌≡◌, ◌≢◌, List, map as list_map, IsTrue, Bool, true, false, Some, None, Result, Ok, Err}
+use Rattle.std.specs.List.{AllByRecursion}
+use Rattle.std.specs.FinMap as map
+use Rattle.mt_stamp.specs.Moment.{dot_cmp}
+use Rattle.mt_op.specs.Operation.{Operation}
+use Rattle.mt_op.specs.Dots.{entry_of, op_dot, dots_rise}
+use Rattle.mt_op.specs.Valid.{IsOperation}
+use Rattle.mt_opcodec.specs.declared.fault.LogFault.{LogFault}
+use Rattle.mt_opcodec.specs.declared.fault.LogFault.TheVariants.{Memory, BadMagic, BadVersion, Damaged, BadRecord, OutOfOrder, Trailing, Conflict}
+
+-- a consistent set of operations: no two of them have one dot
+abbrev pub LogMap : Type 0
+LogMap = map.FinMap dot_cmp Operation
+
+-- the operations of a log, by rising dot
+abbrev pub operations : LogMap → List Operation
+operations log = map.values log
+
+-- the log of operations whose dots rise
+abbrev pub log_of : List Operation → LogMap
+log_of ops = map.from_sorted {R = dot_cmp} (list_map entry_of ops)
+
+-- operations that a log can have: their dots rise, and each is an operation
+pub record AreLogged (ops : List Operation) : Type 0 where
+  pub rise : IsTrue (dots_rise ops)
+  pub valid : AllByRecursion IsOperation ops
+
+-- what adding an operation answers, from what the log has under its dot
+abbrev pub Adds : Operation → LogMap → Result Bool LogFault → Type 0
+Adds op log (Ok true) = map.get log (op_dot op) ≡ None
+Adds op log (Ok false) = map.get log (op_dot op) ≡ Some op
+Adds op log (Err Memory) = map.get log (op_dot op) ≡ None
+Adds op log (Err (Conflict dot)) = (dot ≡ op_dot op) × ((other : Operation) × ((map.get log dot ≡ Some other) × (other ≢ op)))
+Adds op log (Err BadMagic) = ⊥
+Adds op log (Err BadVersion) = ⊥
+Adds op log (Err Damaged) = ⊥
+Adds op log (Err (BadRecord index cause)) = ⊥
+Adds op log (Err (OutOfOrder index)) = ⊥
+Adds op log (Err Trailing) = ⊥

@@ -1,0 +1,4 @@
+pub mod Moment
+pub mod Texts
+pub mod Faults
+pub mod Laws

@@ -1,0 +1,33 @@
+//! What holds of every stamp: each law is the contract of a function that does nothing.
+
+ghost use Rattle.std.specs.Prelude.{◌≡◌};
+ghost use Rattle.mt_stamp.specs.Moment.{stamp_cmp, dot_cmp};
+ghost use Rattle.mt_stamp.specs.Laws.{AreOrdered, TextsAreApart};
+
+use crate::name::Dot;
+use crate::stamp::Stamp;
+use std::cmp::Ordering;
+
+/// The order of stamps and of dots is total, and only equal ones tie.
+pub fn order()
+    ensures { AreOrdered }
+{}
+
+/// Stamps are compared in their order.
+pub fn compare_stamps(stamp: Stamp, other: Stamp) -> Ordering
+    ensures { result ≡ stamp_cmp stamp other }
+{
+    stamp.cmp(&other)
+}
+
+/// Dots are compared in their order.
+pub fn compare_dots(dot: Dot, other: Dot) -> Ordering
+    ensures { result ≡ dot_cmp dot other }
+{
+    dot.cmp(&other)
+}
+
+/// No two stamps have one text.
+pub fn texts()
+    ensures { TextsAreApart }
+{}

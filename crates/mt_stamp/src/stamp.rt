@@ -1,0 +1,92 @@
+//! Stamps of operations.
+
+ghost use Rattle.std.specs.Prelude.{◌≡◌, ◌<◌, ◌≤◌, ◌^◌, ◌⊎◌, ◌↔◌, ◌≢◌, IfOk, IsErrOf, Ok};
+ghost use Rattle.mt_stamp.specs.Moment.{Moment, IsMoment, greatest, dot_of};
+
+use crate::fault::StampFault;
+use crate::name::{Dot, Replica};
+use std::marker::Model;
+
+/// A stamp: the clock of an operation, the replica that made it and its number among that replica's.
+/// Clock and number lie between 1 and 2^62. Stamps are ordered by clock, then replica, then number.
+#[derive(Clone, Copy, Debug, PartialEq, Eq, PartialOrd, Ord, Hash)]
+pub struct Stamp {
+    clock: u64,
+    replica: Replica,
+    seq: u64,
+}
+
+impl Model for Stamp {
+    ghost use Rattle.mt_stamp.specs.Moment.{Moment, IsMoment};
+
+    ghost Value = { Moment };
+
+    ghost view = { λ s. record { clock = s.clock; replica = s.replica; seq = s.seq } };
+
+    ghost invariant = { λ s. IsMoment (record { clock = s.clock; replica = s.replica; seq = s.seq }) };
+
+    ghost inverse = { λ m. record { clock = m.clock; replica = m.replica; seq = m.seq } };
+}
+
+impl Stamp {
+    /// The greatest clock and the greatest number: 2^62.
+    pub const GREATEST: u64 = 1 << 62;
+
+    /// A stamp of its parts. Refused, in this order: `ZeroClock` (1) where the clock is 0, `ZeroSeq` (2)
+    /// where the number is 0, `TooGreat` (3) where either is above 2^62.
+    pub fn new(clock: u64, replica: Replica, seq: u64) -> Result<Self, StampFault>
+        ensures ok { IfOk result (λ s. (s ≡ record { clock = clock; replica = replica; seq = seq }) × IsMoment s) }
+        ensures made { IsMoment (record { clock = clock; replica = replica; seq = seq }) → result ≡ Ok (record { clock = clock; replica = replica; seq = seq }) }
+        ensures zero_clock { IsErrOf result StampFault.ZeroClock ↔ (clock ≡ 0) }
+        ensures zero_seq { IsErrOf result StampFault.ZeroSeq ↔ ((clock ≢ 0) × (seq ≡ 0)) }
+        ensures too_great { IsErrOf result StampFault.TooGreat ↔ ((clock ≢ 0) × (seq ≢ 0) × ((greatest < clock) ⊎ (greatest < seq))) }
+    {
+        if clock == 0 {
+            return Err(StampFault::ZeroClock);
+        }
+        if seq == 0 {
+            return Err(StampFault::ZeroSeq);
+        }
+        if clock > Self::GREATEST || seq > Self::GREATEST {
+            return Err(StampFault::TooGreat);
+        }
+        Ok(Stamp {
+            clock,
+            replica,
+            seq,
+        })
+    }
+
+    /// The Lamport clock, from 1 to 2^62.
+    pub fn clock(&self) -> u64
+        ensures value { result ≡ self.now.clock }
+        ensures valid { IsMoment self.now }
+    {
+        self.clock
+    }
+
+    /// The replica that made the operation.
+    pub fn replica(&self) -> Replica
+        ensures { result ≡ self.now.replica }
+    {
+        self.replica
+    }
+
+    /// The operation's number among those of its replica, from 1 to 2^62.
+    pub fn seq(&self) -> u64
+        ensures value { result ≡ self.now.seq }
+        ensures valid { IsMoment self.now }
+    {
+        self.seq
+    }
+
+    /// The replica and the number, which name the operation.
+    pub fn dot(&self) -> Dot
+        ensures { result ≡ dot_of self.now }
+    {
+        Dot {
+            replica: self.replica,
+            seq: self.seq,
+        }
+    }
+}

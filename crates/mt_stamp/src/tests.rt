@@ -1,0 +1,160 @@
+use crate::laws::{compare_dots, compare_stamps};
+use crate::{Dot, List, Replica, Stamp, StampFault};
+use mt_testalloc::Refusing;
+use std::cmp::Ordering;
+use std::test::Fail;
+
+const TEN: Replica = Replica(10);
+
+const TEN_TEXT: &str = "00000000-0000-0000-0000-00000000000a";
+
+const STAMP_TEXT: &str = "1.1.00000000-0000-0000-0000-00000000000a";
+
+#[test]
+fn makes_stamps_within_their_ranges(rt: HostRuntime) -> Result<(), Fail> {
+    for (clock, seq, fault, number) in [
+        (0, 0, StampFault::ZeroClock, 1),
+        (1, 0, StampFault::ZeroSeq, 2),
+        (Stamp::GREATEST + 1, 1, StampFault::TooGreat, 3),
+        (1, Stamp::GREATEST + 1, StampFault::TooGreat, 3),
+    ] {
+        assert_eq!(rt; Stamp::new(clock, TEN, seq), Err(fault), "{clock} {seq}");
+        assert_eq!(rt; fault.number(), number);
+    }
+    let greatest = Stamp::new(4_611_686_018_427_387_904, TEN, Stamp::GREATEST)?;
+    assert_eq!(rt; greatest.clock(), Stamp::GREATEST);
+    assert_eq!(rt; greatest.replica(), TEN);
+    assert_eq!(rt;
+        greatest.dot(),
+        Dot {
+            replica: TEN,
+            seq: greatest.seq()
+        }
+    );
+    Ok(())
+}
+
+#[test]
+fn reads_one_spelling_of_a_stamp(rt: HostRuntime) -> Result<(), Fail> {
+    let stamp = Stamp::read(STAMP_TEXT)?;
+    assert_eq!(rt; stamp, Stamp::new(1, TEN, 1)?);
+    assert_eq!(rt; stamp.text(rt.alloc())?.as_str(), STAMP_TEXT);
+    for text in [
+        "01.1.00000000-0000-0000-0000-00000000000a",
+        "0.1.00000000-0000-0000-0000-00000000000a",
+        "1.1.00000000-0000-0000-0000-00000000000A",
+        "1.1.0000000000000000000000000000000a",
+        "+1.1.00000000-0000-0000-0000-00000000000a",
+        "1.1.00000000-0000-0000-0000-00000000000a ",
+        "1.4611686018427387905.00000000-0000-0000-0000-00000000000a",
+        "1.00000000-0000-0000-0000-00000000000a",
+        "",
+    ] {
+        assert_eq!(rt; Stamp::read(text), Err(StampFault::BadText), "{text}");
+    }
+    assert_eq!(rt; StampFault::BadText.number(), 4);
+    Ok(())
+}
+
+#[test]
+fn reads_any_form_of_a_replica(rt: HostRuntime) -> Result<(), Fail> {
+    for text in [
+        TEN_TEXT,
+        "00000000-0000-0000-0000-00000000000A",
+        "{00000000-0000-0000-0000-00000000000a}",
+        "urn:uuid:00000000-0000-0000-0000-00000000000a",
+        "0000000000000000000000000000000a",
+    ] {
+        assert_eq!(rt; Replica::read(text), Ok(TEN), "{text}");
+    }
+    assert_eq!(rt; Replica::read("zz"), Err(StampFault::BadText));
+    assert_eq!(rt; TEN.text(rt.alloc())?.as_str(), TEN_TEXT);
+    Ok(())
+}
+
+#[test]
+fn orders_by_clock_then_replica_then_number(rt: HostRuntime) -> Result<(), Fail> {
+    let least = Stamp::new(1, Replica(9), 9)?;
+    let by_number = Stamp::new(2, Replica(1), 4)?;
+    let by_replica = Stamp::new(2, Replica(2), 3)?;
+    let greatest = Stamp::new(2, Replica(2), 5)?;
+    for (low, high) in [
+        (least, by_number),
+        (by_number, by_replica),
+        (by_replica, greatest),
+    ] {
+        assert_eq!(rt; compare_stamps(low, high), Ordering::Less);
+        assert_eq!(rt; compare_stamps(high, low), Ordering::Greater);
+    }
+    assert_eq!(rt;
+        compare_dots(by_number.dot(), by_replica.dot()),
+        Ordering::Less
+    );
+    assert_eq!(rt;
+        compare_dots(least.dot(), greatest.dot()),
+        Ordering::Greater
+    );
+    assert_eq!(rt; compare_dots(least.dot(), least.dot()), Ordering::Equal);
+    Ok(())
+}
+
+#[test]
+fn keeps_a_list(rt: HostRuntime) -> Result<(), Fail> {
+    let list = List::new(vec![in rt.alloc(); 3, 1, 2]?);
+    let same = List::new(vec![in rt.alloc(); 3, 1, 2]?);
+    let other = List::new(vec![in rt.alloc(); 3, 1]?);
+    assert_eq!(rt; list.items(), [3, 1, 2].as_slice());
+    assert!(rt; list == same);
+    assert!(rt; list != other);
+    assert_eq!(rt; list.into_vec().as_slice(), [3, 1, 2].as_slice());
+    Ok(())
+}
+
+#[test]
+fn refuses_each_growth_of_a_text(rt: HostRuntime) -> Result<(), Fail> {
+    let stamp = Stamp::new(Stamp::GREATEST, TEN, Stamp::GREATEST)?;
+    for at in 0..20 {
+        let memory = Refusing::new(rt.alloc(), at);
+        let text = stamp.text(&memory);
+        assert_eq!(rt; text.is_err(), memory.has_refused(), "at {at}");
+        if !memory.has_refused() {
+            assert_eq!(rt; text?.len(), 76);
+            assert!(rt; at > 0, "it grew");
+            return Ok(());
+        }
+        assert!(rt; matches!(text, Err(StampFault::Memory)));
+    }
+    Err(Fail::from("each run met a refusal"))
+}
+
+#[test]
+fn refuses_each_growth_of_a_replica_text(rt: HostRuntime) -> Result<(), Fail> {
+    for at in 0..20 {
+        let memory = Refusing::new(rt.alloc(), at);
+        let text = TEN.text(&memory);
+        assert_eq!(rt; text.is_err(), memory.has_refused(), "at {at}");
+        if !memory.has_refused() {
+            assert_eq!(rt; text?.as_str(), TEN_TEXT);
+            assert!(rt; at > 0, "it grew");
+            return Ok(());
+        }
+        assert!(rt; matches!(text, Err(StampFault::Memory)));
+    }
+    Err(Fail::from("each run met a refusal"))
+}
+
+#[test]
+fn leaves_a_text_as_it_was_where_memory_is_refused(rt: HostRuntime) -> Result<(), Fail> {
+    let stamp = Stamp::read(STAMP_TEXT)?;
+    let memory = Refusing::new(rt.alloc(), 1);
+    let mut text = String::from_str(&memory, "at ")?;
+    assert!(rt; stamp.append_text(&mut text).is_err());
+    assert_eq!(rt; text.as_str(), "at ");
+    stamp.append_text(&mut text)?;
+    assert_eq!(rt;
+        text.as_str(),
+        "at 1.1.00000000-0000-0000-0000-00000000000a"
+    );
+    assert_eq!(rt; StampFault::Memory.number(), 0);
+    Ok(())
+}
