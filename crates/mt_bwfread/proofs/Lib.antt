@@ -1,0 +1,10 @@
+pub mod Chunks
+pub mod Splitting
+pub mod Firsts
+pub mod Texts
+pub mod Extensions
+pub mod Reading
+pub mod Refusals
+pub mod Samples
+pub mod Labelling
+pub mod Pointing

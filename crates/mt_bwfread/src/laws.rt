@@ -1,0 +1,62 @@
+//! Laws of the definitions. Each function does nothing: its contract is the law.
+
+ghost use Rattle.std.specs.Prelude.{◌≡◌, ◌<◌, ◌^◌, IsTrue, ℕ, List, [], false, take, Some, None, negsuc};
+ghost use Rattle.mt_bwfread.specs.Riff.{Chunk, Splits, AreChunks, has_chunk, chunks_of, rest_of};
+ghost use Rattle.mt_bwfread.specs.Wave.{IsWave, body_of, chunks_in, is_width, fault_of, rate_of, channels_of, bits_of, frames_of, sample_of};
+ghost use Rattle.mt_bwfread.specs.Extension.{bext_of};
+ghost use Rattle.mt_bwfread.specs.Cues.{cues_of};
+ghost use Rattle.mt_bwfread.specs.Example.{smallest};
+ghost use Rattle.mt_bwfread.specs.declared.fault.WaveFault.TheVariants.{NotRiff, NotWave, Truncated, NoFmt, NoData};
+
+use crate::wave::Wave;
+
+/// At most one list of chunks is in the bytes.
+pub fn one_chunk_list()
+    ensures { (bytes : List ℕ) (cs ds : List Chunk) → AreChunks bytes cs → AreChunks bytes ds → cs ≡ ds }
+{}
+
+/// The walk over the bytes finds the chunks that are in them.
+pub fn walk_finds()
+    ensures { (bytes : List ℕ) (cs : List Chunk) → AreChunks bytes cs → chunks_of bytes ≡ cs }
+{}
+
+/// The walk over bytes splits them, up to where no whole chunk stands; nothing else splits them so.
+pub fn walk_splits(bytes: &[u8])
+    ensures splits { Splits bytes.now (chunks_of bytes.now) (rest_of bytes.now) }
+    ensures to_the_end { has_chunk (rest_of bytes.now) ≡ false }
+    ensures only { (cs : List Chunk) (rest : List ℕ) → Splits bytes.now cs rest → has_chunk rest ≡ false
+        → chunks_of bytes.now ≡ cs }
+{
+    let _ = bytes;
+}
+
+/// A `Wave` is a wave file, whose chunks are in its text and whose numbers are in range.
+#[inline]
+pub fn is_wave(wave: &Wave<'_>)
+    ensures wave { IsWave wave.now }
+    ensures chunks { AreChunks (body_of wave.now) (chunks_in wave.now) }
+    ensures rate { 0 < rate_of wave.now }
+    ensures channels { 0 < channels_of wave.now }
+    ensures width { IsTrue (is_width (bits_of wave.now)) }
+    ensures frames { frames_of wave.now < 2 ^ 32 }
+{
+    let _ = &wave.text;
+}
+
+/// What the definitions say of the smallest wave file and of its fronts.
+pub fn smallest_wave()
+    ensures read { IsWave smallest }
+    ensures rate { rate_of smallest ≡ 44100 }
+    ensures channels { channels_of smallest ≡ 1 }
+    ensures bits { bits_of smallest ≡ 8 }
+    ensures frames { frames_of smallest ≡ 1 }
+    ensures sample { sample_of smallest 0 0 ≡ negsuc 2147483647 }
+    ensures bext { bext_of smallest ≡ None }
+    ensures cues { cues_of smallest ≡ [] }
+    ensures not_riff { fault_of (take 7 smallest) ≡ Some NotRiff }
+    ensures not_wave { fault_of (take 11 smallest) ≡ Some NotWave }
+    ensures no_fmt { fault_of (take 12 smallest) ≡ Some NoFmt }
+    ensures truncated { fault_of (take 20 smallest) ≡ Some Truncated }
+    ensures no_data { fault_of (take 36 smallest) ≡ Some NoData }
+    ensures sample_truncated { fault_of (take 44 smallest) ≡ Some Truncated }
+{}

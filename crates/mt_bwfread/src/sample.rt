@@ -1,0 +1,53 @@
+//! Samples at 32-bit scale.
+
+ghost use Rattle.std.specs.Prelude.{◌≡◌, ◌≤◌, ◌/◌, IsTrue, length, drop, FitsSigned};
+ghost use Rattle.std.specs.Int.{w32};
+ghost use Rattle.mt_bwfread.specs.Wave.{is_width, scaled};
+
+use crate::wave::Wave;
+
+impl<'a> Wave<'a> {
+    ghost use Rattle.std.specs.Prelude.{◌≡◌, ◌<◌, FitsSigned};
+    ghost use Rattle.std.specs.Int.{w32};
+    ghost use Rattle.mt_bwfread.specs.Wave.{channels_of, frames_of, sample_of};
+
+    /// The sample of a channel in a frame, from -2^31 to 2^31 - 1, whatever the file's width: its highest
+    /// value is that of the file's width, and its low bits are zero. Takes the same short time for each.
+    #[inline]
+    pub fn sample(&self, frame: u64, channel: u16) -> i64
+        requires in_frames { frame < frames_of self.now }
+        requires in_channels { channel < channels_of self.now }
+        ensures value { result ≡ sample_of self.now frame channel }
+        ensures in_range { FitsSigned w32 result }
+    {
+        let width = (self.format.bits / 8) as usize;
+        let at = (frame as usize * self.format.channels as usize + channel as usize) * width;
+        scaled_at(self.format.bits, from_place(self.samples, at))
+    }
+}
+
+// The bytes from `at` on.
+#[inline]
+fn from_place(bytes: &[u8], at: usize) -> &[u8]
+    requires { at ≤ length bytes.now }
+    ensures { result.now ≡ drop at bytes.now }
+{
+    &bytes[at..]
+}
+
+// The sample of so many bits that the bytes begin with.
+#[inline]
+#[tactic(auto, unfolding(crate::specs::Wave::scaled))]
+fn scaled_at(bits: u16, bytes: &[u8]) -> i64
+    requires width { IsTrue (is_width bits) }
+    requires room { bits / 8 ≤ length bytes.now }
+    ensures value { result ≡ scaled bits bytes.now }
+    ensures in_range { FitsSigned w32 result }
+{
+    match bits {
+        8 => (i64::from(bytes[0]) - 128) * 16777216,
+        16 => i64::from(i32::from_le_bytes([0, 0, bytes[0], bytes[1]])),
+        24 => i64::from(i32::from_le_bytes([0, bytes[0], bytes[1], bytes[2]])),
+        _ => i64::from(i32::from_le_bytes([bytes[0], bytes[1], bytes[2], bytes[3]])),
+    }
+}
