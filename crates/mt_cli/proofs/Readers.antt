@@ -1,0 +1,59 @@
+-- Readers that gave logs, one after another.
+use Rattle.std.proofs.Common.{◌≡◌, ℕ, zero, suc, ◌+◌, ◌<◌, ◌≤◌, List, [], ◌∷◌, ◌++◌, Option, length, get_or, take, drop, refl, sym, ap, subst, ◌∙◌, arith, inl, inr}
+use Rattle.std.proofs.lemmas.List.{drop-drop, drop-set-lt, get_or-drop}
+use Rattle.std.proofs.Math.ListN.{set}
+use Rattle.mt_opcodec.specs.Latch.{Latched}
+use Rattle.mt_opcodec.specs.LogValue.{LogMap}
+use Rattle.mt_cli.specs.declared.fault.CliFault.{CliFault}
+use Rattle.mt_cli.specs.declared.fault.CliFault.TheVariants.{Memory}
+use Rattle.mt_cli.specs.Reading.{Gave, GaveLogs, IsCause, HasCause, text_of}
+
+module _ {R : Type 0} (remaining : R → Option (List ℕ)) where
+  pub GaveLogs-more : (latches : List (Latched R)) (logs : List LogMap) (i : ℕ) (latch : Latched R) (m : LogMap) → i < length latches → latch ≡ get_or latches i latch
+      → GaveLogs remaining (take i latches) logs → Gave remaining latch (text_of m) → GaveLogs remaining (take (suc i) latches) (logs ++ m ∷ [])
+  GaveLogs-more [] logs i latch m lt at h gave = absurd (omega arith)
+  GaveLogs-more (x ∷ latches) [] zero latch m lt at h gave = (subst (λ (l : Latched R). Gave remaining l (text_of m)) at gave, tt)
+  GaveLogs-more (x ∷ latches) (n ∷ logs) zero latch m lt at h gave = absurd h
+  GaveLogs-more (x ∷ latches) [] (suc i) latch m lt at h gave = absurd h
+  GaveLogs-more (x ∷ latches) (n ∷ logs) (suc i) latch m lt at h gave = (h.0, GaveLogs-more latches logs i latch m (omega arith) at h.1 gave)
+
+  pub HasCause-at : (old new : List (Latched R)) (logs : List LogMap) (i start : ℕ) (before after : Latched R) (fault : CliFault) → length new ≡ length old → i < length old → before ≡ get_or old i before → after ≡ get_or new i after
+      → GaveLogs remaining (take i old) logs → IsCause remaining (start + i) before after fault → HasCause remaining start old new fault
+  HasCause-at [] new logs i start before after fault same lt at_old at_new gave cause = absurd (omega arith)
+  HasCause-at (x ∷ old) [] logs i start before after fault same lt at_old at_new gave cause = absurd (omega arith)
+  HasCause-at (x ∷ old) (y ∷ new) logs zero start before after fault same lt at_old at_new gave cause =
+      let here : start + 0 ≡ start = omega arith in
+      inl (subst (λ (n : ℕ). IsCause remaining n x y fault) here (subst (λ (l : Latched R). IsCause remaining (start + 0) x l fault) at_new (subst (λ (l : Latched R). IsCause remaining (start + 0) l after fault) at_old cause)))
+  HasCause-at (x ∷ old) (y ∷ new) [] (suc i) start before after fault same lt at_old at_new gave cause = absurd gave
+  HasCause-at (x ∷ old) (y ∷ new) (m ∷ logs) (suc i) start before after fault same lt at_old at_new gave cause =
+      let next : start + suc i ≡ (start + 1) + i = omega arith in
+      inr (m, (gave.0, HasCause-at old new logs i (start + 1) before after fault (omega arith) (omega arith) at_old at_new gave.1 (subst (λ (n : ℕ). IsCause remaining n before after fault) next cause)))
+
+  -- a reader and what is read out of a slice in its place
+  pub Gave-same : (raw latch : Latched R) (m : LogMap) → latch ≡ raw → Gave remaining raw (text_of m) → Gave remaining latch (text_of m)
+  Gave-same raw latch m same gave = subst (λ (l : Latched R). Gave remaining l (text_of m)) (sym same) gave
+
+  pub IsCause-same : (place : ℕ) (raw latch after : Latched R) (fault : CliFault) → latch ≡ raw → IsCause remaining place raw after fault → IsCause remaining (0 + place) latch after fault
+  IsCause-same place raw latch after fault same cause =
+      let here : place ≡ 0 + place = omega arith in
+      subst (λ (n : ℕ). IsCause remaining n latch after fault) here (subst (λ (l : Latched R). IsCause remaining place l after fault) (sym same) cause)
+
+  pub HasCause-memory : (start : ℕ) (old new : List (Latched R)) → length new ≡ length old → HasCause remaining start old new Memory
+  HasCause-memory start [] new same = refl
+  HasCause-memory start (x ∷ old) [] same = absurd (omega arith)
+  HasCause-memory start (x ∷ old) (y ∷ new) same = inl tt
+
+-- after one more reader was read
+pub left_more : {X : Type 0} (i : ℕ) (xs ys : List X) (x : X) → drop i xs ≡ drop i ys → drop (i + 1) (set xs i x) ≡ drop (i + 1) ys
+left_more {X} i xs ys x same =
+    drop-set-lt (i + 1) xs i x (omega arith) ∙ sym (drop-drop 1 i xs) ∙ ap (λ (l : List X). drop 1 l) same ∙ drop-drop 1 i ys
+
+plus_zero : (i : ℕ) → i + 0 ≡ i
+plus_zero i = omega arith
+
+-- what stands at the place of a front that is the same
+pub left_at : {X : Type 0} (i : ℕ) (xs ys : List X) (x : X) → i < length xs → length xs ≡ length ys → drop i xs ≡ drop i ys → x ≡ get_or xs i x → x ≡ get_or ys i x
+left_at {X} i xs ys x lt long same at =
+    let here : get_or xs i x ≡ get_or (drop i xs) 0 x = sym (get_or-drop i xs 0 x ∙ ap (λ (n : ℕ). get_or xs n x) (plus_zero i)) in
+    let there : get_or (drop i ys) 0 x ≡ get_or ys i x = get_or-drop i ys 0 x ∙ ap (λ (n : ℕ). get_or ys n x) (plus_zero i) in
+    at ∙ here ∙ ap (λ (l : List X). get_or l 0 x) same ∙ there

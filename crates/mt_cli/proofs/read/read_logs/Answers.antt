@@ -1,0 +1,41 @@
+use Rattle.std.proofs.Common.{◌≡◌, ◌+◌, ◌<◌, ℕ, suc, length, get_or, take, ◌++◌, ◌∷◌, [], subst, sym, ap, refl, ◌∙◌, arith}
+use Rattle.std.proofs.lemmas.Result.{err_from_is_err_and}
+use Rattle.std.proofs.lemmas.List.{length-set, get_or-set_same}
+use Rattle.mt_opcodec.specs.LogValue.{LogMap}
+use Rattle.mt_opcodec.specs.Latch.{Latched}
+use Rattle.mt_cli.specs.Reading.{GaveLogs}
+use Rattle.mt_cli.proofs.Readers.{Gave-same, GaveLogs-more, IsCause-same, HasCause-at, HasCause-memory, left_at, left_more}
+use Rattle.mt_cli.proofs.read.read_logs.Goals as goal
+
+one_more : (n : ℕ) → suc n ≡ n + 1
+one_more n = omega arith
+
+pub returns-in_err-clone-clause-err : goal.returns-in_err-clone-clause-err
+returns-in_err-clone-clause-err g c =
+    let p = err_from_is_err_and c.from_residual.result c.from_residual.ensures.1 in
+    rw (p.1, p.2) (HasCause-memory g.R.Read.remaining 0 c.args.inputs.now c.args.inputs.now refl)
+
+pub returns-in_err-clone-2-clause-err : goal.returns-in_err-clone-2-clause-err
+returns-in_err-clone-2-clause-err g c =
+    let p = err_from_is_err_and c.from_residual-in_err-clone-2.result c.from_residual-in_err-clone-2.ensures.1 in
+    rw (p.1, p.2) (HasCause-memory g.R.Read.remaining 0 c.args.inputs.now _ (length-set _ _ _ ∙ c.loop-place.auto.inputs))
+
+pub returns-in_err-log-clause-err : goal.returns-in_err-log-clause-err
+returns-in_err-log-clause-err g c =
+    let p = err_from_is_err_and c.from_residual-in_err-log.result c.from_residual-in_err-log.ensures.1 in
+    let same = c.loop-place.auto.inputs in
+    let before = left_at c.loop-place.place c.loop-place.inputs c.args.inputs.now c.index-inputs-place.result (omega arith) (omega arith) c.loop-place.invariant.left c.index-inputs-place.is in
+    rw (p.1, p.2) (HasCause-at g.R.Read.remaining c.args.inputs.now _ c.loop-place.logs.items c.loop-place.place 0 c.index-inputs-place.result c.read_log.new.input c.in_err-log.field-0.0 (length-set _ _ _ ∙ same) (omega arith) before (sym (get_or-set_same c.loop-place.inputs c.loop-place.place c.read_log.new.input c.read_log.new.input (omega arith))) c.loop-place.invariant.gave (IsCause-same g.R.Read.remaining c.loop-place.place _ c.index-inputs-place.result c.read_log.new.input c.in_err-log.field-0.0 c.index-inputs-place.is c.in_err-log.ensures.err))
+
+pub returns-in_err-push-clause-err : goal.returns-in_err-push-clause-err
+returns-in_err-push-clause-err g c =
+    let p = err_from_is_err_and c.from_residual-in_err-push.result c.from_residual-in_err-push.ensures.1 in
+    rw (p.1, p.2) (HasCause-memory g.R.Read.remaining 0 c.args.inputs.now _ (length-set _ _ _ ∙ c.loop-place.auto.inputs))
+
+pub loop-place-preserved : goal.loop-place-preserved
+loop-place-preserved g c = record {
+  gave =
+      let before = left_at c.loop-place.place c.loop-place.inputs c.args.inputs.now c.index-inputs-place.result (omega arith) (omega arith) c.loop-place.invariant.left c.index-inputs-place.is in
+      rw c.in_ok-push.ensures.items (subst (λ (n : ℕ). GaveLogs g.R.Read.remaining (take n c.args.inputs.now) (c.loop-place.logs.items ++ c.in_ok-log.log ∷ [])) (one_more c.loop-place.place) (GaveLogs-more g.R.Read.remaining c.args.inputs.now c.loop-place.logs.items c.loop-place.place c.index-inputs-place.result c.in_ok-log.log (omega arith) before c.loop-place.invariant.gave (Gave-same g.R.Read.remaining _ c.index-inputs-place.result c.in_ok-log.log c.index-inputs-place.is c.in_ok-log.ensures.ok)));
+  left = left_more c.loop-place.place c.loop-place.inputs c.args.inputs.now c.read_log.new.input c.loop-place.invariant.left
+}

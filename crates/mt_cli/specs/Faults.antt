@@ -1,0 +1,13 @@
+-- The number of each refusal.
+use Rattle.std.specs.Prelude.{ℕ}
+use Rattle.mt_opcodec.specs.Faults.{log_fault_number}
+use Rattle.mt_cli.specs.declared.fault.CliFault.{CliFault}
+use Rattle.mt_cli.specs.declared.fault.CliFault.TheVariants.{Memory, Read, Log, Merge, Write}
+
+-- of a refusal inside another the inner one's
+abbrev pub number_of : CliFault → ℕ
+number_of Memory = 0
+number_of (Read index) = 45
+number_of (Log index fault) = log_fault_number fault
+number_of (Merge dot) = 17
+number_of Write = 37

@@ -1,0 +1,41 @@
+-- Reading logs from readers, and why one is refused.
+use Rattle.std.specs.Prelude.{◌≡◌, ◌≢◌, ℕ, Bool, true, List, [], ◌∷◌, map, Option, Some, Result, Err, IfSome, ◌+◌, ◌⊎◌}
+use Rattle.mt_opcodec.specs.declared.fault.LogFault.{LogFault}
+use Rattle.mt_opcodec.specs.declared.fault.LogFault.TheVariants as log
+use Rattle.mt_opcodec.specs.Latch.{Latched}
+use Rattle.mt_opcodec.specs.LogText.{log_text}
+use Rattle.mt_opcodec.specs.LogReading.{log_at, LogFails}
+use Rattle.mt_opcodec.specs.LogValue.{LogMap, operations}
+use Rattle.mt_cli.specs.declared.fault.CliFault.{CliFault}
+use Rattle.mt_cli.specs.declared.fault.CliFault.TheVariants.{Memory, Read, Log, Merge, Write}
+
+-- the one text of a log
+abbrev pub text_of : LogMap → List ℕ
+text_of m = log_text (operations m)
+
+module _ {R : Type 0} (remaining : R → Option (List ℕ)) where
+  -- these bytes are all that the reader had left, where it tells
+  abbrev pub Gave : Latched R → List ℕ → Type 0
+  Gave latch bytes = IfSome (remaining latch.inner) (λ left. bytes ≡ left)
+
+  -- each reader gave the text of the log at its place
+  abbrev pub GaveLogs : List (Latched R) → List LogMap → Type 0
+  GaveLogs [] [] = Unit {0}
+  GaveLogs [] (m ∷ logs) = ⊥
+  GaveLogs (latch ∷ latches) [] = ⊥
+  GaveLogs (latch ∷ latches) (m ∷ logs) = Gave latch (text_of m) × GaveLogs latches logs
+
+  -- why the reader at a place gave no log: the latch has failed, or its bytes are no log's text
+  abbrev pub IsCause : ℕ → Latched R → Latched R → CliFault → Type 0
+  IsCause index old new Memory = Unit {0}
+  IsCause index old new (Read place) = (place ≡ index) × (new.failed ≡ true)
+  IsCause index old new (Log place fault) = (place ≡ index) × ((fault ≢ log.Memory) × ((bytes : List ℕ) × (Gave old bytes × LogFails fault (log_at bytes))))
+  IsCause index old new (Merge dot) = ⊥
+  IsCause index old new Write = ⊥
+
+  -- the same of the readers from place `index` on: those before the one at fault gave logs
+  abbrev pub HasCause : ℕ → List (Latched R) → List (Latched R) → CliFault → Type 0
+  HasCause index [] new fault = fault ≡ Memory
+  HasCause index (latch ∷ latches) [] fault = ⊥
+  HasCause index (latch ∷ latches) (after ∷ afters) fault =
+      IsCause index latch after fault ⊎ ((m : LogMap) × (Gave latch (text_of m) × HasCause (index + 1) latches afters fault))

@@ -1,0 +1,58 @@
+//! Reading logs.
+
+ghost use Rattle.std.specs.Prelude.{◌≡◌, ◌≢◌, IfOk, IfErr};
+ghost use Rattle.mt_opcodec.specs.declared.fault.LogFault.TheVariants as log;
+ghost use Rattle.mt_cli.specs.Reading.{Gave, GaveLogs, IsCause, HasCause, text_of};
+
+use crate::fault::CliFault;
+use mt_opcodec::{Latch, LatchFault, Log, LogFault};
+use std::alloc::Allocator;
+use std::io::Read;
+
+// Reads the log of the input at this place.
+fn read_log<A: Allocator + Clone, R: Read>(
+    alloc: A,
+    place: usize,
+    input: &mut Latch<R>,
+) -> Result<Log<A>, CliFault>
+    ensures ok { IfOk result (λ log. Gave R.remaining input.old (text_of log)) }
+    ensures err { IfErr result (IsCause R.remaining place input.old input.new) }
+{
+    let bytes = match input.get_all(alloc.clone()?) {
+        Ok(bytes) => bytes,
+        Err(LatchFault::Memory) => return Err(CliFault::Memory),
+        Err(_) => return Err(CliFault::Read(place)),
+    };
+    match Log::read(alloc, &bytes) {
+        Ok(log) => Ok(log),
+        Err(fault) => Err(refused(place, fault)),
+    }
+}
+
+// The refusal of the input at this place.
+fn refused(place: usize, fault: LogFault) -> CliFault
+    ensures memory { fault ≡ log.Memory → result ≡ CliFault.Memory }
+    ensures other { fault ≢ log.Memory → result ≡ CliFault.Log place fault }
+{
+    match fault {
+        LogFault::Memory => CliFault::Memory,
+        _ => CliFault::Log(place, fault),
+    }
+}
+
+/// Reads the log of each input, from left to right.
+pub(crate) fn read_logs<A: Allocator + Clone, R: Read>(
+    alloc: A,
+    inputs: &mut [Latch<R>],
+) -> Result<Vec<Log<A>, A>, CliFault>
+    ensures ok { IfOk result (λ logs. GaveLogs R.remaining inputs.old logs.items) }
+    ensures err { IfErr result (HasCause R.remaining 0 inputs.old inputs.new) }
+{
+    let mut logs = Vec::new(alloc.clone()?);
+    for place in 0..inputs.len() {
+        let input = &mut inputs[place];
+        let log = read_log(alloc.clone()?, place, input)?;
+        logs.push(log)?;
+    }
+    Ok(logs)
+}
