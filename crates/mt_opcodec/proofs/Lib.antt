@@ -4,3 +4,4 @@ pub mod Logs
 pub mod Appends
 pub mod Records
 pub mod LogTexts
+pub mod Union

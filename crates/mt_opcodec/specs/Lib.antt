@@ -3,5 +3,7 @@ pub mod OpReading
 pub mod LogText
 pub mod LogReading
 pub mod LogValue
+pub mod Union
+pub mod Laws
 pub mod Faults
 pub mod Latch

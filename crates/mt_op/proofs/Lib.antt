@@ -1,0 +1,4 @@
+pub mod Readiness
+pub mod Needs
+pub mod Dots
+pub mod Equal

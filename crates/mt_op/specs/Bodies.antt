@@ -1,0 +1,12 @@
+-- What a body in memory says.
+use Rattle.mt_op.specs.declared.body.Body.{Body}
+use Rattle.mt_op.specs.declared.body.Body.TheVariants as body
+use Rattle.mt_op.specs.Operation.{Act, AddMarker, Retitle}
+
+abbrev pub act_of : {A : Type 0} → Body A → Act
+act_of (body.AddMarker at title) = AddMarker at title
+act_of (body.Retitle item title) = Retitle item title
+
+abbrev pub body_of : {A : Type 0} → Act → Body A
+body_of (AddMarker at title) = body.AddMarker at title
+body_of (Retitle item title) = body.Retitle item title

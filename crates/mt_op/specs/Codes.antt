@@ -1,0 +1,35 @@
+-- By what values are told apart, where a finite map holds them.
+use Rattle.std.specs.Prelude.{◌≡◌, ℕ, List, ◌⊎◌, refl}
+use Rattle.std.specs.Coded.{Coded, code_by, coded×, coded⊎, coded_ℕ, coded_list}
+use mathlib.Core.Logic.{inl, inr}
+use Rattle.mt_stamp.specs.declared.name.Dot.{Dot}
+use Rattle.mt_stamp.specs.Moment.{Moment}
+use Rattle.mt_op.specs.Operation.{Act, AddMarker, Retitle, Operation}
+
+abbrev pub dot_code : Coded Dot
+dot_code = code_by (ℕ × ℕ) (coded× coded_ℕ coded_ℕ) (λ d. (d.replica.0, d.seq)) (λ p. record { replica = record { 0 = p.0 }; seq = p.1 }) (λ _. refl)
+
+abbrev pub moment_code : Coded Moment
+moment_code = code_by (ℕ × (ℕ × ℕ)) (coded× coded_ℕ (coded× coded_ℕ coded_ℕ)) (λ m. (m.clock, (m.replica.0, m.seq))) (λ p. record { clock = p.0; replica = record { 0 = p.1.0 }; seq = p.1.1 }) (λ _. refl)
+
+-- an act by the place of its case and its fields
+abbrev Fields : Type 0
+Fields = (ℕ × List ℕ) ⊎ (Moment × List ℕ)
+
+abbrev fields_of : Act → Fields
+fields_of (AddMarker at title) = inl (at, title)
+fields_of (Retitle item title) = inr (item, title)
+
+abbrev act_of_fields : Fields → Act
+act_of_fields (inl p) = AddMarker p.0 p.1
+act_of_fields (inr p) = Retitle p.0 p.1
+
+abbrev act_of_fields-fields_of : (a : Act) → act_of_fields (fields_of a) ≡ a
+act_of_fields-fields_of (AddMarker at title) = refl
+act_of_fields-fields_of (Retitle item title) = refl
+
+abbrev pub act_code : Coded Act
+act_code = code_by Fields (coded⊎ (coded× coded_ℕ (coded_list coded_ℕ)) (coded× moment_code (coded_list coded_ℕ))) fields_of act_of_fields act_of_fields-fields_of
+
+abbrev pub operation_code : Coded Operation
+operation_code = code_by (Moment × Act) (coded× moment_code act_code) (λ o. (o.stamp, o.act)) (λ p. record { stamp = p.0; act = p.1 }) (λ _. refl)

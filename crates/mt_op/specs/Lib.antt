@@ -1,0 +1,11 @@
+pub mod Title
+pub mod Operation
+pub mod Bodies
+pub mod Needs
+pub mod Ready
+pub mod Writes
+pub mod Valid
+pub mod Dots
+pub mod Laws
+pub mod Faults
+pub mod Codes

@@ -1,0 +1,13 @@
+-- What an operation says, without where its texts lie in memory. A further body is a further act.
+use Rattle.std.specs.Prelude.{ℕ, List}
+use Rattle.mt_stamp.specs.Moment.{Moment}
+
+-- what an operation does to the session (profile)
+pub data Act : Type 0 where
+  AddMarker : (at : ℕ) (title : List ℕ) → Act
+  Retitle : (item : Moment) (title : List ℕ) → Act
+
+-- An operation of an operation-based replicated type (INRIA RR-7506, section 2.4): who made it when, and what it does.
+pub record Operation : Type 0 where
+  pub stamp : Moment
+  pub act : Act

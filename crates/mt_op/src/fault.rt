@@ -1,0 +1,40 @@
+//! Why an operation or a part of it could not be made.
+
+ghost use Rattle.std.specs.Prelude.{◌≡◌};
+ghost use Rattle.mt_op.specs.Faults.{number_of};
+ghost use Rattle.mt_op.specs.declared.fault.OpFault.TheVariants.{Memory};
+
+use std::alloc::AllocError;
+use thiserror::Error;
+
+/// Why an operation, or a part of one, could not be made. Each refusal has a number that never changes.
+#[derive(Clone, Copy, Debug, PartialEq, Eq, Error)]
+pub enum OpFault {
+    #[error("out of memory")]
+    Memory,
+    #[error("a named stamp's clock is not smaller than the operation's own")]
+    NameNotOlder,
+    #[error("the title is over 255 bytes or has a character below 0x20, or 0x7F")]
+    BadTitle,
+}
+
+impl OpFault {
+    /// The refusal's number: 0, 5 or 43.
+    pub fn number(&self) -> u8
+        ensures { result ≡ number_of self.now }
+    {
+        match self {
+            OpFault::Memory => 0,
+            OpFault::NameNotOlder => 5,
+            OpFault::BadTitle => 43,
+        }
+    }
+}
+
+impl From<AllocError> for OpFault {
+    ghost from_gives = { λ _ e. e ≡ Memory };
+
+    fn from(_e: AllocError) -> OpFault {
+        OpFault::Memory
+    }
+}

@@ -1,0 +1,48 @@
+//! What holds of all operations and of sets of them: each law is the contract of a small function, which does
+//! nothing or only compares.
+
+ghost use Rattle.std.specs.Prelude.{◌≡◌, ◌↔◌, IsTrue};
+ghost use Rattle.std.specs.Ordering.{nat_cmp};
+ghost use Rattle.std.specs.Cmp.Lexicographic.{slice_cmp};
+ghost use Rattle.mt_op.specs.Bodies.{act_of};
+ghost use Rattle.mt_op.specs.Laws.{ReadyIsDefined};
+
+use crate::body::Body;
+use crate::op::Op;
+use crate::title::Title;
+use std::alloc::Allocator;
+use std::cmp::Ordering;
+
+/// Ready is the only set that satisfies its rule: an operation is in it exactly where it is in the set
+/// and each of its needs is met by an operation that is in it.
+pub fn readiness()
+    ensures { ReadyIsDefined }
+{}
+
+/// Titles are equal where their bytes are.
+pub fn equal_titles<A: Allocator>(a: &Title<A>, b: &Title<A>) -> bool
+    ensures { IsTrue result ↔ (a.now ≡ b.now) }
+{
+    a == b
+}
+
+/// Titles are compared by their bytes as numbers, from the first on; a title comes before its continuations.
+pub fn compare_titles<A: Allocator>(a: &Title<A>, b: &Title<A>) -> Ordering
+    ensures { result ≡ slice_cmp nat_cmp a.now b.now }
+{
+    a.cmp(b)
+}
+
+/// Bodies are equal where they are of one case and its fields are equal.
+pub fn equal_bodies<A: Allocator>(a: &Body<A>, b: &Body<A>) -> bool
+    ensures { IsTrue result ↔ (act_of a.now ≡ act_of b.now) }
+{
+    a == b
+}
+
+/// Operations are equal where their stamps and their bodies are.
+pub fn equal_ops<A: Allocator>(a: &Op<A>, b: &Op<A>) -> bool
+    ensures { IsTrue result ↔ (a.now ≡ b.now) }
+{
+    a == b
+}

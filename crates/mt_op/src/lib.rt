@@ -1,0 +1,19 @@
+//! Operations: their titles and bodies, what they wait for, and how to find one by its dot.
+#![tactic(auto)]
+
+mod body;
+mod fault;
+mod find;
+pub mod laws;
+mod need;
+mod op;
+#[cfg(test)]
+mod tests;
+mod title;
+
+pub use body::Body;
+pub use fault::OpFault;
+pub use find::find_op;
+pub use need::{Need, Role};
+pub use op::Op;
+pub use title::Title;

@@ -1,0 +1,196 @@
+use crate::laws::{compare_titles, equal_bodies, equal_ops, equal_titles, readiness};
+use crate::{Body, Need, Op, OpFault, Role, Title, find_op};
+use mt_stamp::{Dot, Replica, Stamp};
+use mt_testalloc::Refusing;
+use std::alloc::Allocator;
+use std::cmp::Ordering;
+use std::test::Fail;
+
+const A: Replica = Replica(10);
+
+const B: Replica = Replica(11);
+
+fn marker<M: Allocator>(memory: M, title: &str) -> Result<Body<M>, OpFault> {
+    Ok(Body::AddMarker {
+        at: 48_000,
+        title: Title::new(memory, title)?,
+    })
+}
+
+fn retitle<M: Allocator>(memory: M, item: Stamp, title: &str) -> Result<Body<M>, OpFault> {
+    Ok(Body::Retitle {
+        item,
+        title: Title::new(memory, title)?,
+    })
+}
+
+#[test]
+fn makes_titles_of_at_most_255_plain_bytes(rt: HostRuntime) -> Result<(), Fail> {
+    let longest = format!(in rt.alloc(); "{:a<255}", "")?;
+    let too_long = format!(in rt.alloc(); "{:a<256}", "")?;
+    let two_bytes_each = format!(in rt.alloc(); "{:é<128}", "")?;
+    for text in [
+        "",
+        "News at nine",
+        " ~",
+        "Grüße",
+        "one\u{2028}two",
+        "one\u{85}two",
+        longest.as_str(),
+    ] {
+        let title = Title::new(rt.alloc(), text)?;
+        assert_eq!(rt; title.text(), text);
+        assert!(rt; title.try_clone()? == title);
+    }
+    for text in [
+        "one\ntwo",
+        "\u{1f}",
+        "\u{7f}",
+        "\0",
+        too_long.as_str(),
+        two_bytes_each.as_str(),
+    ] {
+        assert_eq!(rt;
+            Title::new(rt.alloc(), text).err(),
+            Some(OpFault::BadTitle),
+            "{text}"
+        );
+    }
+    Ok(())
+}
+
+#[test]
+fn orders_titles_by_their_bytes(rt: HostRuntime) -> Result<(), Fail> {
+    for (low, high) in [
+        ("", "a"),
+        ("News", "news"),
+        ("b", "ba"),
+        ("az", "b"),
+        ("z", "é"),
+    ] {
+        let low = Title::new(rt.alloc(), low)?;
+        let high = Title::new(rt.alloc(), high)?;
+        assert_eq!(rt; compare_titles(&low, &high), Ordering::Less);
+        assert_eq!(rt; compare_titles(&high, &low), Ordering::Greater);
+        assert_eq!(rt; compare_titles(&low, &low), Ordering::Equal);
+        assert!(rt; low < high);
+        assert!(rt; !equal_titles(&low, &high));
+        assert!(rt; equal_titles(&low, &low));
+    }
+    Ok(())
+}
+
+#[test]
+fn makes_operations_that_name_older_ones(rt: HostRuntime) -> Result<(), Fail> {
+    let own = Stamp::new(2, A, 2)?;
+    let as_old = retitle(rt.alloc(), Stamp::new(2, B, 1)?, "News")?;
+    assert_eq!(rt; Op::new(own, as_old).err(), Some(OpFault::NameNotOlder));
+    let item = Stamp::new(1, B, 1)?;
+    let op = Op::new(own, retitle(rt.alloc(), item, "News")?)?;
+    assert_eq!(rt; op.stamp(), own);
+    assert_eq!(rt; op.dot(), Dot { replica: A, seq: 2 });
+    assert!(rt; *op.body() == retitle(rt.alloc(), item, "News")?);
+    assert_eq!(rt; op.need_count(), 1);
+    assert_eq!(rt;
+        op.need(0),
+        Some(Need {
+            stamp: item,
+            role: Role::Titled
+        })
+    );
+    assert_eq!(rt; op.need(1), None);
+    assert!(rt; !op.fits(&Role::Titled));
+    let op = Op::new(item, marker(rt.alloc(), "News")?)?;
+    assert_eq!(rt; op.need_count(), 0);
+    assert_eq!(rt; op.need(0), None);
+    assert!(rt; op.fits(&Role::Titled));
+    readiness();
+    Ok(())
+}
+
+#[test]
+fn tells_operations_apart(rt: HostRuntime) -> Result<(), Fail> {
+    let first = Stamp::new(1, B, 1)?;
+    let second = Stamp::new(2, A, 1)?;
+    let ops = [
+        Op::new(first, marker(rt.alloc(), "News")?)?,
+        Op::new(first, marker(rt.alloc(), "Weather")?)?,
+        Op::new(second, marker(rt.alloc(), "News")?)?,
+        Op::new(second, retitle(rt.alloc(), first, "News")?)?,
+        Op::new(Stamp::new(3, A, 2)?, retitle(rt.alloc(), second, "News")?)?,
+    ];
+    for (i, op) in ops.iter().enumerate() {
+        assert!(rt; equal_bodies(op.body(), &op.body().try_clone()?));
+        for (j, other) in ops.iter().enumerate() {
+            assert_eq!(rt; equal_ops(&op.try_clone()?, other), i == j, "{i} {j}");
+        }
+    }
+    assert!(rt; ops[0].body() == ops[2].body());
+    assert!(rt; ops[0].body() != ops[3].body());
+    Ok(())
+}
+
+#[test]
+fn finds_operations_by_their_dots(rt: HostRuntime) -> Result<(), Fail> {
+    let ops = [
+        Op::new(Stamp::new(5, A, 2)?, marker(rt.alloc(), "News")?)?,
+        Op::new(Stamp::new(9, A, 4)?, marker(rt.alloc(), "Weather")?)?,
+        Op::new(Stamp::new(1, B, 1)?, marker(rt.alloc(), "Sport")?)?,
+    ];
+    for (replica, seq, place) in [
+        (A, 1, Err(0)),
+        (A, 2, Ok(0)),
+        (A, 3, Err(1)),
+        (A, 4, Ok(1)),
+        (A, 5, Err(2)),
+        (B, 1, Ok(2)),
+        (B, 2, Err(3)),
+    ] {
+        assert_eq!(rt; find_op(&ops, Dot { replica, seq }), place, "{seq}");
+    }
+    Ok(())
+}
+
+#[test]
+fn numbers_its_refusals(rt: HostRuntime) {
+    for (fault, number) in [
+        (OpFault::Memory, 0),
+        (OpFault::NameNotOlder, 5),
+        (OpFault::BadTitle, 43),
+    ] {
+        assert_eq!(rt; fault.number(), number);
+    }
+}
+
+// An operation that took memory four times: for a title, and for a clone of the title, of a body and of the
+// operation.
+fn cloned_thrice<M: Allocator + Clone>(
+    memory: M,
+    stamp: Stamp,
+    text: &str,
+) -> Result<Op<M>, OpFault> {
+    let title = Title::new(memory, text)?.try_clone()?;
+    let body = Body::AddMarker { at: 7, title }.try_clone()?;
+    Op::new(stamp, body)?.try_clone()
+}
+
+#[test]
+fn refuses_each_growth(rt: HostRuntime) -> Result<(), Fail> {
+    let stamp = Stamp::new(1, A, 1)?;
+    for at in 0..20 {
+        let memory = Refusing::new(rt.alloc(), at);
+        let made = cloned_thrice(&memory, stamp, "News at nine");
+        assert_eq!(rt; made.is_err(), memory.has_refused(), "at {at}");
+        if !memory.has_refused() {
+            let op = made?;
+            assert_eq!(rt; op.stamp(), stamp);
+            assert!(rt;
+                matches!(op.body(), Body::AddMarker { at: 7, title } if title.text() == "News at nine")
+            );
+            assert_eq!(rt; at, 4, "each of the four was refused");
+            return Ok(());
+        }
+        assert!(rt; matches!(made, Err(OpFault::Memory)), "at {at}");
+    }
+    Err(Fail::from("each run met a refusal"))
+}

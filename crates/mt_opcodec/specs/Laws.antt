@@ -1,0 +1,25 @@
+-- What holds of texts and of unions.
+use Rattle.std.specs.Prelude.{◌≡◌, ℕ, ◌<◌, ◌^◌, List, ◌++◌, length, Option, Some, None, is_some, if◌then◌else◌}
+use Rattle.std.specs.FinMap as map
+use Rattle.mt_stamp.specs.declared.name.Dot.{Dot}
+use Rattle.mt_op.specs.Operation.{Operation}
+use Rattle.mt_op.specs.Valid.{IsOperation}
+use Rattle.mt_opcodec.specs.OpText.{op_text}
+use Rattle.mt_opcodec.specs.LogText.{log_text}
+use Rattle.mt_opcodec.specs.LogValue.{LogMap, AreLogged}
+use Rattle.mt_opcodec.specs.Union.{Agree, union}
+
+-- An operation has one text, and no operation's text begins another's: what stands at the front of bytes is determined.
+abbrev pub OpTextsAreApart : Type 0
+OpTextsAreApart = (o p : Operation) (rest after : List ℕ) → IsOperation o → IsOperation p → op_text o ++ rest ≡ op_text p ++ after → (o ≡ p) × (rest ≡ after)
+
+-- A log's text determines its operations.
+abbrev pub LogTextsAreApart : Type 0
+LogTextsAreApart = (a b : List Operation) → AreLogged a → AreLogged b → length a < 2 ^ 64 → length b < 2 ^ 64 → log_text a ≡ log_text b → a ≡ b
+
+-- Union joins sets: it has what either log has, and where the logs agree it is commutative, associative and idempotent.
+pub record IsUnion : Type 0 where
+  pub has : (a b : LogMap) (dot : Dot) → map.get (union a b) dot ≡ (if is_some (map.get a dot) then map.get a dot else map.get b dot)
+  pub commutative : (a b : LogMap) → Agree a b → union a b ≡ union b a
+  pub associative : (a b c : LogMap) → union (union a b) c ≡ union a (union b c)
+  pub idempotent : (a : LogMap) → union a a ≡ a

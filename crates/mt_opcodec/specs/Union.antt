@@ -1,0 +1,49 @@
+-- The union of logs, and where it is consistent.
+use Rattle.std.specs.Prelude.{◌≡◌, ◌≢◌, ℕ, List, [], ◌∷◌, ◌++◌, ◌⊎◌, Option, Some}
+use Rattle.std.specs.FinMap as map
+use Rattle.std.specs.declared.cmp.Ordering.TheVariants.{Less}
+use Rattle.mt_stamp.specs.declared.name.Dot.{Dot}
+use Rattle.mt_stamp.specs.Moment.{dot_cmp}
+use Rattle.mt_op.specs.Operation.{Operation}
+use Rattle.mt_opcodec.specs.LogValue.{LogMap}
+
+-- Two logs clash at a dot that names an operation in one and another operation in the other.
+abbrev pub ClashesAt : LogMap → LogMap → Dot → Type 0
+ClashesAt a b dot = (o : Operation) × ((p : Operation) × ((map.get a dot ≡ Some o) × (map.get b dot ≡ Some p) × (o ≢ p)))
+
+-- Two logs agree where every dot that both have names one operation: then the union of their sets is a log.
+abbrev pub Agree : LogMap → LogMap → Type 0
+Agree a b = (dot : Dot) (o p : Operation) → map.get a dot ≡ Some o → map.get b dot ≡ Some p → o ≡ p
+
+-- the least dot at which they clash
+pub record IsFirstClash (a b : LogMap) (dot : Dot) : Type 0 where
+  pub clashes : ClashesAt a b dot
+  pub first : (other : Dot) → dot_cmp other dot ≡ Less → ClashesAt a b other → ⊥
+
+-- the operations of both (where they do not agree, those of the first)
+abbrev pub union : LogMap → LogMap → LogMap
+union a b = map.from_entries {R = dot_cmp} (map.entries a ++ map.entries b)
+
+-- the operations of a log and of the logs that follow it
+abbrev pub union_from : LogMap → List LogMap → LogMap
+union_from a [] = a
+union_from a (b ∷ logs) = union_from (union a b) logs
+
+abbrev pub union_all : List LogMap → LogMap
+union_all logs = union_from map.empty logs
+
+-- each log agrees with the union of those before it
+abbrev pub AgreeFrom : LogMap → List LogMap → Type 0
+AgreeFrom a [] = Unit {0}
+AgreeFrom a (b ∷ logs) = Agree a b × AgreeFrom (union a b) logs
+
+abbrev pub AllAgree : List LogMap → Type 0
+AllAgree logs = AgreeFrom map.empty logs
+
+-- The first log that does not agree with the union of those before it clashes with that union, first at this dot.
+abbrev pub FirstClashFrom : LogMap → List LogMap → Dot → Type 0
+FirstClashFrom a [] dot = ⊥
+FirstClashFrom a (b ∷ logs) dot = IsFirstClash a b dot ⊎ (Agree a b × FirstClashFrom (union a b) logs dot)
+
+abbrev pub FirstClash : List LogMap → Dot → Type 0
+FirstClash logs dot = FirstClashFrom map.empty logs dot

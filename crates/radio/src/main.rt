@@ -1,0 +1,40 @@
+//! `radio`: a nondestructive multitrack audio editor whose sessions are replicated.
+#![tactic(auto)]
+
+use mt_cli::command;
+use mt_opcodec::Latch;
+use std::env;
+use std::io;
+use std::process::ExitCode;
+
+fn main(rt: HostRuntime) -> ExitCode {
+    let mut input = Latch::new(rt.stdin());
+    let mut output = Latch::new(rt.stdout());
+    let mut errors = Latch::new(rt.stderr());
+    match words(&rt) {
+        Ok(words) => ExitCode::from(command(&rt, &words, &mut input, &mut output, &mut errors)),
+        Err(_) => {
+            let _ = errors.put(NOT_UTF8.as_bytes());
+            ExitCode::from(2)
+        }
+    }
+}
+
+// What the parser's users know of words that are no text.
+const NOT_UTF8: &str = "error: invalid UTF-8 was detected in one or more arguments
+
+Usage: radio <COMMAND>
+
+For more information, try '--help'.
+";
+
+// The words after the program's name.
+fn words(rt: &HostRuntime) -> io::Result<Vec<String>> {
+    let mut words = Vec::new(rt.alloc());
+    for (place, word) in env::args(rt)?.enumerate() {
+        if place > 0 {
+            words.push(word)?;
+        }
+    }
+    Ok(words)
+}

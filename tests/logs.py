@@ -1,0 +1,49 @@
+"""Operations and logs as bytes, written from the format alone (docs/formats.md) and not by the program under test."""
+import hashlib
+import struct
+
+A, B, C = 10, 11, 12
+
+
+def stamp(clock, replica, seq):
+    return struct.pack(">Q", clock) + replica.to_bytes(16, "big") + struct.pack(">Q", seq)
+
+
+def title(text):
+    data = text if isinstance(text, bytes) else text.encode()
+    return bytes([len(data)]) + data
+
+
+def add_marker(own, at, text):
+    return (own, stamp(*own) + bytes([10]) + struct.pack(">I", at) + title(text))
+
+
+def retitle(own, item, text):
+    return (own, stamp(*own) + bytes([12]) + stamp(*item) + title(text))
+
+
+def seal(body):
+    return body + hashlib.sha256(body).digest()
+
+
+def head(count, magic=b"RMTS", version=1):
+    return magic + bytes([version]) + struct.pack(">Q", count)
+
+
+def log(ops):
+    """The log of these operations, by rising dot (replica, then number)."""
+    ops = sorted(ops, key=lambda op: (op[0][1], op[0][2]))
+    return seal(head(len(ops)) + b"".join(text for _, text in ops))
+
+
+def name(replica):
+    digits = "%032x" % replica
+    return "-".join([digits[:8], digits[8:12], digits[12:16], digits[16:20], digits[20:]])
+
+
+def stamp_text(clock, replica, seq):
+    return "%d.%d.%s" % (clock, seq, name(replica))
+
+
+def marker_line(own, at, text):
+    return "marker %s at %d title %s\n" % (stamp_text(*own), at, text)

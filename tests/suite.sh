@@ -1,0 +1,53 @@
+#!/bin/sh
+# Runs the cases of tests/cases on a built program: sh tests/suite.sh PROGRAM
+# In a case: words (a line each), files/ (they lie where the program runs), stdin, stdout, stderr, status; `setup` is run
+# there first; `output` says where standard output goes if not into a file: closed, full (a full device), pipe (no reader).
+# The program runs as nobody where this script runs as root, since root may read every file.
+set -u
+program=$1
+cases=$(cd "$(dirname "$0")/cases" && pwd)
+place=$(mktemp -d) || exit 1
+trap 'chmod -R u+rwx "$place"; rm -rf "$place"' EXIT
+cp "$program" "$place/radio" || exit 1
+chmod 755 "$place" "$place/radio"
+as=""
+if [ "$(id -u)" = 0 ] && command -v setpriv >/dev/null 2>&1; then
+  as="setpriv --reuid 65534 --regid 65534 --clear-groups"
+fi
+passed=0
+failed=0
+skipped=0
+for case in "$cases"/*/; do
+  name=$(basename "$case")
+  here=$place/$name
+  if [ "$name" = unreadable_file ] && [ "$(id -u)" = 0 ] && [ -z "$as" ]; then
+    echo "skipped $name: root reads every file, and there is no setpriv"
+    skipped=$((skipped + 1))
+    continue
+  fi
+  mkdir -p "$here/in" "$here/out"
+  cp -R "$case/files/." "$here/in/"
+  rm -f "$here/in/.keep"
+  if [ -f "$case/setup" ]; then (cd "$here/in" && sh "$case/setup"); fi
+  [ -z "$as" ] || chown -R 65534:65534 "$here"
+  set --
+  while IFS= read -r word; do set -- "$@" "$word"; done < "$case/words"
+  output=$(cat "$case/output" 2>/dev/null)
+  case $output in
+    closed) (cd "$here/in" && exec $as "$place/radio" "$@" < "$case/stdin" >&- 2> "$here/out/stderr"); status=$? ;;
+    full) (cd "$here/in" && exec $as "$place/radio" "$@" < "$case/stdin" > /dev/full 2> "$here/out/stderr"); status=$? ;;
+    pipe) status=$( { (cd "$here/in" && sleep 0.2; exec $as "$place/radio" "$@" < "$case/stdin" 2> "$here/out/stderr"); echo $? >&3; } 3>&1 | true ) ;;
+    *) (cd "$here/in" && exec $as "$place/radio" "$@" < "$case/stdin" > "$here/out/stdout" 2> "$here/out/stderr"); status=$? ;;
+  esac
+  [ -f "$here/out/stdout" ] || : > "$here/out/stdout"
+  if [ "$status" = "$(cat "$case/status")" ] && cmp -s "$here/out/stdout" "$case/stdout" && cmp -s "$here/out/stderr" "$case/stderr"; then
+    passed=$((passed + 1))
+  else
+    failed=$((failed + 1))
+    echo "FAILED $name: status $status, wanted $(cat "$case/status")"
+    diff "$case/stdout" "$here/out/stdout" | head -5
+    diff "$case/stderr" "$here/out/stderr" | head -8
+  fi
+done
+echo "$passed passed, $failed failed, $skipped skipped"
+[ "$failed" = 0 ]
