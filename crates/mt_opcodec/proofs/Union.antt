@@ -1,18 +1,15 @@
 -- Unions of logs.
-use Rattle.std.proofs.Common.{◌≡◌, ◌≢◌, ℕ, Bool, true, false, cond, List, [], ◌∷◌, ◌++◌, Option, Some, None, refl, sym, ap, subst, ◌∙◌, inl, inr}
+use Rattle.std.proofs.Common.{◌≡◌, Bool, true, false, cond, List, [], ◌∷◌, ◌++◌, Option, Some, None, refl, sym, ap, ◌∙◌}
 use Rattle.std.specs.Prelude.{is_some}
 use Rattle.std.specs.FinMap as fin
 use Rattle.std.specs.FinMap.Entries.{find}
-use Rattle.std.specs.Ordering.{is_eq, eq_by_cmp}
-use Rattle.std.specs.declared.cmp.Ordering.{Ordering}
-use Rattle.std.specs.declared.cmp.Ordering.TheVariants.{Less, Equal, Greater}
-use Rattle.std.proofs.lemmas.Option.{none-some}
+use Rattle.std.specs.Ordering.{is_eq}
 use Rattle.mt_stamp.specs.declared.name.Dot.{Dot}
 use Rattle.mt_stamp.specs.Moment.{dot_cmp}
 use Rattle.mt_stamp.proofs.Order.{dot_cmp_total, dot_cmp-IsAntisymmetric}
 use Rattle.mt_op.specs.Operation.{Operation}
 use Rattle.mt_opcodec.specs.LogValue.{LogMap}
-use Rattle.mt_opcodec.specs.Union.{Agree, union}
+use Rattle.mt_opcodec.specs.Union.{union}
 use Rattle.mt_opcodec.specs.Laws.{IsUnion}
 
 -- what is found in one list after another
@@ -20,10 +17,10 @@ find-both : (dot : Dot) (es fs : List (Dot × Operation)) → find dot_cmp dot (
 find-both dot [] fs = refl
 find-both dot (e ∷ es) fs = step (is_eq (dot_cmp dot e.0)) (find-both dot es fs)
   where
-  step : (b : Bool) → find dot_cmp dot (es ++ fs) ≡ cond (is_some (find dot_cmp dot es)) (find dot_cmp dot es) (find dot_cmp dot fs)
-      → cond b (Some e.1) (find dot_cmp dot (es ++ fs)) ≡ cond (is_some (cond b (Some e.1) (find dot_cmp dot es))) (cond b (Some e.1) (find dot_cmp dot es)) (find dot_cmp dot fs)
-  step true rest = refl
-  step false rest = rest
+    step : (b : Bool) → find dot_cmp dot (es ++ fs) ≡ cond (is_some (find dot_cmp dot es)) (find dot_cmp dot es) (find dot_cmp dot fs)
+        → cond b (Some e.1) (find dot_cmp dot (es ++ fs)) ≡ cond (is_some (cond b (Some e.1) (find dot_cmp dot es))) (cond b (Some e.1) (find dot_cmp dot es)) (find dot_cmp dot fs)
+    step true rest = refl
+    step false rest = rest
 
 -- what a union has at a dot
 pub get-union : (a b : LogMap) (dot : Dot) → fin.get (union a b) dot ≡ cond (is_some (fin.get a dot)) (fin.get a dot) (fin.get b dot)
@@ -60,5 +57,5 @@ union_is_union = record {
       ∙ grouped (fin.get a dot) (fin.get b dot) (fin.get c dot)
       ∙ ap (λ (y : Option Operation). cond (is_some (fin.get a dot)) (fin.get a dot) y) (sym (get-union b c dot))
       ∙ sym (get-union a (union b c) dot));
-  idempotent = λ a. same_log (union a a) a (λ dot. get-union a a dot ∙ itself (fin.get a dot))
+  idempotent = λ a. same_log (union a a) a (λ dot. get-union a a dot ∙ itself (fin.get a dot));
 }

@@ -1,5 +1,5 @@
 -- What holds of texts and of unions.
-use Rattle.std.specs.Prelude.{◌≡◌, ℕ, ◌<◌, ◌^◌, List, ◌++◌, length, Option, Some, None, is_some, if◌then◌else◌}
+use Rattle.std.specs.Prelude.{◌≡◌, ℕ, ◌<◌, ◌^◌, List, ◌++◌, length, is_some, if◌then◌else◌}
 use Rattle.std.specs.FinMap as map
 use Rattle.mt_stamp.specs.declared.name.Dot.{Dot}
 use Rattle.mt_op.specs.Operation.{Operation}

@@ -8,18 +8,22 @@ use mt_stamp::Dot;
 use std::alloc::{AllocError, AllocFailed};
 use thiserror::Error;
 
-/// Why bytes are not the text of an operation: the first fault from left to right.
+/// Why bytes do not begin with the text of an operation: the fault of the first field, from left to right,
+/// that has one. A stamp is one field, and so is a title with its length.
 #[derive(Clone, Copy, Debug, PartialEq, Eq, Error)]
 pub enum ReadFault {
+    /// A growth was refused.
     #[error("out of memory")]
     Memory,
-    /// The bytes end within a field.
+    /// The bytes end before the field does.
     #[error("the operation is cut short")]
     Truncated,
-    /// No operation has this tag.
+    /// The tag is neither 10 nor 12.
     #[error("no operation has this tag")]
     BadTag,
-    /// A field holds what it may not.
+    /// A complete field other than the tag is out of range: a stamp whose clock or sequence number is 0 or
+    /// above 2^62, a named stamp whose clock is not smaller than the operation's own, or a title that is not
+    /// UTF-8 or holds a character below 0x20 or 0x7F.
     #[error("a field of the operation is out of range")]
     BadField,
 }
@@ -49,18 +53,20 @@ impl From<AllocError> for ReadFault {
 /// Why bytes are not the text of a log, or an operation cannot join a log.
 #[derive(Clone, Copy, Debug, PartialEq, Eq, Error)]
 pub enum LogFault {
+    /// A growth was refused.
     #[error("out of memory")]
     Memory,
     /// The first four bytes are not `RMTS`.
     #[error("not a log")]
     BadMagic,
-    /// The fifth byte is missing or names a version that is not read.
+    /// The fifth byte, which names the version, is missing or not 1.
     #[error("a log of another version")]
     BadVersion,
-    /// The log is shorter than an empty one, or its digest does not agree.
+    /// There are fewer than 45 bytes, as the empty log has, or the last 32 are not the SHA-256 of those
+    /// before them.
     #[error("the log is damaged")]
     Damaged,
-    /// The record of this index, counted from 0, is no operation.
+    /// The record of this index, counted from 0, is no operation, for this reason, which is never `Memory`.
     #[error("record {0} is no operation: {1}")]
     BadRecord(u64, ReadFault),
     /// The dot of the record of this index is not greater than the one before.
@@ -69,7 +75,7 @@ pub enum LogFault {
     /// Bytes stand between the last record and the digest.
     #[error("bytes stand after the last record")]
     Trailing,
-    /// Another operation has this dot.
+    /// The log has another operation with this dot.
     #[error("two operations have one name")]
     Conflict(Dot),
 }

@@ -5,17 +5,15 @@ ghost use Rattle.mt_opcodec.specs.Laws.{OpTextsAreApart, LogTextsAreApart, IsUni
 /// An operation has one text, and no operation's text begins another's.
 pub fn op_texts()
     ensures { OpTextsAreApart }
-{
-}
+{}
 
 /// A log's text determines its operations.
 pub fn log_texts()
     ensures { LogTextsAreApart }
-{
-}
+{}
 
-/// The union of logs has what either has; it is associative and idempotent, and commutative where they agree.
+/// At each dot the union of two logs has what the first has there, and else what the second has. It is associative
+/// and idempotent, and commutative where they agree.
 pub fn unions()
     ensures { IsUnion }
-{
-}
+{}

@@ -1,13 +1,23 @@
 //! Operations and logs as bytes, each with one text, and latches round readers and writers.
+//!
+//! Numbers have their greatest byte first. A stamp is its clock in 8 bytes, its replica in 16 and its
+//! sequence number in 8. A title is its length in one byte, and that many bytes. The text of an operation
+//! is its stamp, a byte that is its tag, and what the tag calls for: 10 for an AddMarker, the frame in 4
+//! bytes and the title; 12 for a Retitle, the item's stamp and the title.
+//!
+//! The text of a log is `RMTS`, the byte 1, the number of operations in 8 bytes, their texts by rising
+//! dot, and the 32 bytes of the SHA-256 of all that stands before it.
 #![tactic(auto)]
 
 mod fault;
-pub mod laws;
 mod latch;
+pub mod laws;
 mod log;
 mod log_reader;
 mod op_reader;
 mod op_writer;
+#[cfg(test)]
+mod tests;
 
 pub use fault::{LogFault, ReadFault};
 pub use latch::{Latch, LatchFault};

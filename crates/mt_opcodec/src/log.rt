@@ -56,7 +56,7 @@ impl<A: Allocator> Log<A> {
     /// than 45 bytes or the digest does not agree; then record by record, counted from 0, `BadRecord` (14) where
     /// it is no operation and `OutOfOrder` (15) where its dot is not greater than the one before; last `Trailing`
     /// (16) where bytes stand between the last record and the digest. `Memory` (0) is answered where a growth was
-    /// refused. No memory is taken by the count before the records are seen.
+    /// refused. Memory is taken record by record, never for the number of them that the text gives.
     pub fn read(alloc: A, bytes: &[u8]) -> Result<Self, LogFault>
     where
         A: Clone,
@@ -96,7 +96,7 @@ impl<A: Allocator> Log<A> {
         self.ops().is_empty()
     }
 
-    /// The operation with this dot.
+    /// The operation with this dot, or `None` where the log has none.
     pub fn get(&self, dot: &Dot) -> Option<&Op<A>>
         ensures { option_copied result ≡ map.get self.now dot.now }
     {
@@ -107,16 +107,16 @@ impl<A: Allocator> Log<A> {
         }
     }
 
-    /// The operation at place `i`, counted from 0, by rising dot, or `None` past the last.
+    /// The operation at place `i`, counted from 0 by rising dot, or `None` where `i` is `len()` or more.
     pub fn op_at(&self, i: usize) -> Option<&Op<A>>
         ensures { option_copied result ≡ slice_get (operations self.now) i }
     {
         self.ops().get(i)
     }
 
-    /// Joins one operation: `true` where it is new, and `false` where the same one is there. Refused as
-    /// `Conflict` (17) with its dot where another operation has that dot, and as `Memory` (0). After a
-    /// refusal the log is unchanged, and the operation is dropped.
+    /// Adds one operation: `true` where it is new, and `false` where the same one is there. Refused as
+    /// `Conflict` (17) with its dot where another operation has that dot, and as `Memory` (0) where a growth
+    /// was refused. After `false` or a refusal the log is unchanged, and the operation is dropped.
     pub fn add(&mut self, op: Op<A>) -> Result<bool, LogFault>
         ensures answer { Adds op self.old result }
         ensures added { result ≡ Ok true → self.new ≡ map.insert self.old (op_dot op) op }
@@ -137,7 +137,8 @@ impl<A: Allocator> Log<A> {
         self.ops.allocator()
     }
 
-    /// The log's text. Refused only as `Memory` (0).
+    /// The log's text: 45 bytes and those of its operations. Refused only as `Memory` (0), where a growth was
+    /// refused.
     pub fn write(&self) -> Result<Vec<u8, A>, LogFault>
     where
         A: Clone,

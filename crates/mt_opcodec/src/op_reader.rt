@@ -172,10 +172,11 @@ pub(crate) fn op_of<A: Allocator>(alloc: A, bytes: &[u8]) -> Result<(Op<A>, &[u8
     }
 }
 
-/// Reads the operation that stands at the front of the bytes, and says how many bytes it takes. Where the
-/// bytes do not begin with one, the first field that is not complete is refused as `Truncated` (8), and the
-/// first complete one that is not allowed as `BadTag` (9) where it is the tag and as `BadField` (10) elsewhere.
-/// `Memory` (0) is answered where the title was refused memory.
+/// Reads the operation that stands at the front of the bytes, and says how many bytes its text has; what
+/// follows is not looked at. Where the bytes do not begin with one, the first field at fault, from left to
+/// right, is refused: as `Truncated` (8) where the bytes end before it does, as `BadTag` (9) where it is the
+/// tag and neither 10 nor 12, and as `BadField` (10) where it is another and out of range. `Memory` (0) is
+/// answered where the title's growth was refused.
 pub fn read_op<A: Allocator>(alloc: A, bytes: &[u8]) -> Result<(Op<A>, usize), ReadFault>
     // What is read stands at the front.
     ensures found { IfOk result (λ x. IsOperation x.0 × (x.1 ≡ length (op_text x.0)) × (bytes.now ≡ op_text x.0 ++ drop x.1 bytes.now)) }

@@ -58,7 +58,8 @@ pub(crate) fn put_op<A: Allocator, B: Allocator>(
     put_body(out, op.body())
 }
 
-/// Writes the operation's text after what `out` holds, which stays as it is where memory is refused.
+/// Appends the operation's text to `out`. Refused only where a growth was refused, and `out` then holds
+/// what it held before.
 pub fn write_op<A: Allocator + Clone, B: Allocator>(
     op: &Op<B>,
     out: &mut Vec<u8, A>,

@@ -1,0 +1,85 @@
+//! What no clause says: texts that were worked out elsewhere, what each refusal looks at, and that
+//! every call succeeds where there is memory.
+mod changes;
+mod logs;
+mod operations;
+mod refused_growth;
+
+use crate::laws::{log_texts, op_texts, unions};
+use crate::{LogFault, ReadFault};
+use mt_op::{Body, Op, OpFault, Title};
+use mt_stamp::{Dot, Replica, Stamp};
+use sha2::{Digest, Sha256};
+use std::alloc::{AllocError, Allocator};
+
+pub const A: Replica = Replica(10);
+
+pub const B: Replica = Replica(11);
+
+/// The text of the operation `(1, A, 1)`: a marker at frame 480 with the title `News`.
+pub const NEWS: [u8; 42] = [
+    0, 0, 0, 0, 0, 0, 0, 1, 0, 0, 0, 0, 0, 0, 0, 0, 0, 0, 0, 0, 0, 0, 0, 10, 0, 0, 0, 0, 0, 0, 0,
+    1, 10, 0, 0, 1, 0xe0, 4, b'N', b'e', b'w', b's',
+];
+
+/// The text of the operation `(2, B, 1)`: it gives the item `(1, A, 1)` the title `Sport`.
+pub const SPORT: [u8; 71] = [
+    0, 0, 0, 0, 0, 0, 0, 2, 0, 0, 0, 0, 0, 0, 0, 0, 0, 0, 0, 0, 0, 0, 0, 11, 0, 0, 0, 0, 0, 0, 0,
+    1, 12, 0, 0, 0, 0, 0, 0, 0, 1, 0, 0, 0, 0, 0, 0, 0, 0, 0, 0, 0, 0, 0, 0, 0, 10, 0, 0, 0, 0, 0,
+    0, 0, 1, 5, b'S', b'p', b'o', b'r', b't',
+];
+
+/// A marker at frame 480.
+pub fn marker<M: Allocator>(memory: M, stamp: Stamp, title: &str) -> Result<Op<M>, OpFault> {
+    let title = Title::new(memory, title)?;
+    Op::new(stamp, Body::AddMarker { at: 480, title })
+}
+
+/// The bytes of a log with this count and these records, and with the digest that belongs to them.
+pub fn log_of<M: Allocator>(
+    memory: M,
+    count: u64,
+    records: &[&[u8]],
+) -> Result<Vec<u8, M>, AllocError> {
+    let mut bytes = Vec::new(memory);
+    bytes.extend_from_slice(b"RMTS\x01")?;
+    bytes.extend_from_slice(&count.to_be_bytes())?;
+    for record in records {
+        bytes.extend_from_slice(record)?;
+    }
+    let digest = Sha256::digest(bytes.as_slice());
+    bytes.extend_from_slice(&digest)?;
+    Ok(bytes)
+}
+
+#[test]
+fn numbers_its_refusals(rt: HostRuntime) {
+    for (fault, number) in [
+        (ReadFault::Memory, 0),
+        (ReadFault::Truncated, 8),
+        (ReadFault::BadTag, 9),
+        (ReadFault::BadField, 10),
+    ] {
+        assert_eq!(rt; fault.number(), number);
+    }
+    let dot = Dot { replica: A, seq: 1 };
+    for (fault, number) in [
+        (LogFault::Memory, 0),
+        (LogFault::BadMagic, 11),
+        (LogFault::BadVersion, 12),
+        (LogFault::Damaged, 13),
+        (LogFault::BadRecord(0, ReadFault::BadTag), 14),
+        (LogFault::OutOfOrder(1), 15),
+        (LogFault::Trailing, 16),
+        (LogFault::Conflict(dot), 17),
+    ] {
+        assert_eq!(rt; fault.number(), number);
+    }
+}
+
+#[test]
+fn states_its_laws() {
+    op_texts();
+    log_texts();
+    unions();
+}

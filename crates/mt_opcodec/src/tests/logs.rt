@@ -1,0 +1,152 @@
+//! Logs as bytes.
+use super::{A, NEWS, SPORT, log_of, marker};
+use crate::{Log, LogFault, ReadFault};
+use mt_stamp::{Dot, Stamp};
+use std::test::Fail;
+
+/// The log of no operation.
+const EMPTY: [u8; 45] = [
+    b'R', b'M', b'T', b'S', 1, 0, 0, 0, 0, 0, 0, 0, 0, 0x11, 0x16, 0xdd, 0xab, 0xe2, 0x3a, 0x61,
+    0xd2, 0xbd, 0xea, 0xf3, 0x06, 0x06, 0x0d, 0xd6, 0x32, 0x3b, 0xc4, 0xbc, 0xc6, 0xb9, 0xeb, 0xc9,
+    0x85, 0xe1, 0x33, 0x6e, 0x1a, 0x3e, 0x85, 0x23, 0x51,
+];
+
+/// The SHA-256 of the log of the one operation `NEWS`, up to the digest.
+const DIGEST: [u8; 32] = [
+    0x56, 0xbc, 0xa5, 0xd5, 0x94, 0x11, 0xf1, 0x8b, 0x25, 0xd0, 0x4b, 0x6a, 0xc5, 0xc7, 0x79, 0x3d,
+    0x90, 0x66, 0x2b, 0xb3, 0x7a, 0x2c, 0x84, 0x27, 0x2b, 0x33, 0x07, 0x4f, 0x78, 0x0e, 0x8f, 0x0c,
+];
+
+#[test]
+fn writes_and_reads_the_empty_log(rt: HostRuntime) -> Result<(), Fail> {
+    let log = Log::new(rt.alloc());
+    assert_eq!(rt; log.write()?.as_slice(), EMPTY.as_slice());
+    let log = Log::read(rt.alloc(), &EMPTY)?;
+    assert_eq!(rt; log.len(), 0);
+    assert!(rt; log.is_empty());
+    assert!(rt; log.op_at(0).is_none());
+    assert!(rt; log.ops().is_empty());
+    Ok(())
+}
+
+#[test]
+fn writes_and_reads_a_log_of_one_marker(rt: HostRuntime) -> Result<(), Fail> {
+    let stamp = Stamp::new(1, A, 1)?;
+    let mut log = Log::new(rt.alloc());
+    assert!(rt; log.add(marker(rt.alloc(), stamp, "News")?)?);
+    let text = log.write()?;
+    let mut wanted = b"RMTS\x01\0\0\0\0\0\0\0\x01".to_vec(rt.alloc())?;
+    wanted.extend_from_slice(&NEWS)?;
+    wanted.extend_from_slice(&DIGEST)?;
+    assert_eq!(rt; text.len(), 87);
+    assert_eq!(rt; text.as_slice(), wanted.as_slice());
+    let op = marker(rt.alloc(), stamp, "News")?;
+    let log = Log::read(rt.alloc(), text.as_slice())?;
+    assert_eq!(rt; log.len(), 1);
+    assert!(rt; !log.is_empty());
+    assert!(rt; log.get(&stamp.dot()) == Some(&op));
+    assert!(rt; log.get(&Dot { replica: A, seq: 2 }).is_none());
+    assert!(rt; log.op_at(0) == Some(&op));
+    assert!(rt; log.op_at(1).is_none());
+    assert!(rt; log.ops() == [op].as_slice());
+    Ok(())
+}
+
+#[test]
+fn refuses_what_is_no_log(rt: HostRuntime) -> Result<(), Fail> {
+    for (bytes, fault) in [
+        (b"RMT".as_slice(), LogFault::BadMagic),
+        (b"rmts\x01", LogFault::BadMagic),
+        (b"RMTS", LogFault::BadVersion),
+        (b"RMTS\x09", LogFault::BadVersion),
+        (b"RMTS\x01", LogFault::Damaged),
+    ] {
+        assert_eq!(rt;
+            Log::read(rt.alloc(), bytes).err(),
+            Some(fault),
+            "{bytes:?}"
+        );
+    }
+    let mut other_version = EMPTY;
+    other_version[4] = 2;
+    assert_eq!(rt;
+        Log::read(rt.alloc(), &other_version).err(),
+        Some(LogFault::BadVersion)
+    );
+    Ok(())
+}
+
+#[test]
+fn refuses_every_part_of_a_log(rt: HostRuntime) -> Result<(), Fail> {
+    let text = log_of(rt.alloc(), 1, &[&NEWS])?;
+    assert_eq!(rt; text.len(), 87);
+    for len in 0..text.len() {
+        let fault = match len {
+            0..4 => LogFault::BadMagic,
+            4 => LogFault::BadVersion,
+            _ => LogFault::Damaged,
+        };
+        assert_eq!(rt;
+            Log::read(rt.alloc(), &text[..len]).err(),
+            Some(fault),
+            "{len} bytes"
+        );
+    }
+    Ok(())
+}
+
+#[test]
+fn refuses_a_log_with_one_other_byte(rt: HostRuntime) -> Result<(), Fail> {
+    let text = log_of(rt.alloc(), 1, &[&NEWS])?;
+    for place in 0..text.len() {
+        let mut bytes = text.clone()?;
+        bytes[place] ^= 1;
+        let fault = match place {
+            0..4 => LogFault::BadMagic,
+            4 => LogFault::BadVersion,
+            _ => LogFault::Damaged,
+        };
+        assert_eq!(rt;
+            Log::read(rt.alloc(), bytes.as_slice()).err(),
+            Some(fault),
+            "at {place}"
+        );
+    }
+    Ok(())
+}
+
+#[test]
+fn refuses_wrong_records(rt: HostRuntime) -> Result<(), Fail> {
+    let cut_short = LogFault::BadRecord(1, ReadFault::Truncated);
+    let mut tagless = NEWS;
+    tagless[32] = 0xff;
+    let mut nameless = NEWS;
+    nameless[31] = 0;
+    for (count, records, fault) in [
+        (2, [NEWS.as_slice(), b""], cut_short),
+        (u64::MAX, [&NEWS, b""], cut_short),
+        (2, [&NEWS, &SPORT[..70]], cut_short),
+        (2, [&NEWS, &NEWS], LogFault::OutOfOrder(1)),
+        (2, [&SPORT, &NEWS], LogFault::OutOfOrder(1)),
+        (0, [&NEWS, b""], LogFault::Trailing),
+        (1, [&NEWS, &SPORT], LogFault::Trailing),
+        (
+            1,
+            [&tagless, b""],
+            LogFault::BadRecord(0, ReadFault::BadTag),
+        ),
+        (
+            1,
+            [&nameless, b""],
+            LogFault::BadRecord(0, ReadFault::BadField),
+        ),
+    ] {
+        let text = log_of(rt.alloc(), count, &records)?;
+        assert_eq!(rt;
+            Log::read(rt.alloc(), text.as_slice()).err(),
+            Some(fault),
+            "{count}"
+        );
+    }
+    Ok(())
+}
