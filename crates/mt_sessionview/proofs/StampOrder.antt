@@ -1,0 +1,86 @@
+-- Places in the order of their stamps.
+use Rattle.std.proofs.Common.{◌≡◌, ℕ, zero, suc, ◌+◌, ◌<◌, ◌≤◌, Bool, true, false, List, [], ◌∷◌, ◌++◌, Option, Some, None, length, get_or, refl, sym, ap, ◌∙◌, subst, arith, inl, inr}
+use Rattle.std.specs.Prelude.{slice_get}
+use Rattle.std.specs.List.{All, Contains}
+use Rattle.std.specs.List.Sorted.{IsPermutation, IsSorted}
+use Rattle.std.specs.Cmp.{IsTotalOrder}
+use Rattle.std.specs.Ordering.{is_lt, nat_cmp, ordering_then}
+use Rattle.std.specs.declared.cmp.Ordering.{Ordering}
+use Rattle.std.specs.declared.cmp.Ordering.TheVariants.{Less, Equal, Greater}
+use Rattle.std.proofs.lemmas.Cmp.{then_total, on_total, nat_cmp_total}
+use Rattle.std.proofs.lemmas.Option.{same_Some, none-some, slice_get_within, get_or_from_slice_get, slice_get_read}
+use Rattle.std.proofs.lemmas.Bool.{cases_lt}
+use Rattle.std.proofs.lemmas.List.{length_push}
+use Rattle.std.proofs.lemmas.List.Elements.{All-push}
+use Rattle.std.proofs.lemmas.List.Sorted.{ranks_by, sorted_far, All-permutation, Contains-permutation}
+use Rattle.mt_stamp.specs.Moment.{Moment, stamp_cmp}
+use Rattle.mt_stamp.proofs.Order.{stamp_cmp_total}
+use Rattle.mt_op.specs.Operation.{Operation}
+use Rattle.mt_sessionview.specs.declared.place.Place.{Place}
+use Rattle.mt_sessionview.specs.StampOrder.{place_of, IsPlaceIn, IsStampOrder}
+
+slice_get_push_before : {X : Type 0} (xs : List X) (y : X) (k : ℕ) (x : X) → slice_get xs k ≡ Some x → slice_get (xs ++ y ∷ []) k ≡ Some x
+slice_get_push_before [] y k x at = absurd (none-some x at)
+slice_get_push_before (z ∷ xs) y zero x at = at
+slice_get_push_before (z ∷ xs) y (suc k) x at = slice_get_push_before xs y k x at
+
+slice_get_push_at : {X : Type 0} (xs : List X) (y : X) (k : ℕ) → k ≡ length xs → slice_get (xs ++ y ∷ []) k ≡ Some y
+slice_get_push_at [] y zero e = refl
+slice_get_push_at [] y (suc k) e = absurd (omega arith)
+slice_get_push_at (z ∷ xs) y zero e = absurd (omega arith)
+slice_get_push_at (z ∷ xs) y (suc k) e = slice_get_push_at xs y k (omega arith)
+
+-- the places of the first n operations, as they stand
+pub record AreFirstPlaces (ops : List Operation) (places : List Place) (n : ℕ) : Type 0 where
+  pub count : length places ≡ n
+  pub within : All (IsPlaceIn ops) places
+  pub all : (p : ℕ) (o : Operation) → p < n → slice_get ops p ≡ Some o → slice_get places p ≡ Some (place_of o p)
+
+abbrev place_cmp : Place → Place → Ordering
+place_cmp a b = ordering_then (stamp_cmp a.stamp b.stamp) (nat_cmp a.place b.place)
+
+place_cmp_total : IsTotalOrder place_cmp
+place_cmp_total = then_total (on_total (λ (e : Place). e.stamp) stamp_cmp_total) (on_total (λ (e : Place). e.place) nat_cmp_total)
+
+first_not_less : (a b : Ordering) → is_lt (ordering_then a b) ≡ false → is_lt a ≡ false
+first_not_less Less b e = e
+first_not_less Equal b e = refl
+first_not_less Greater b e = refl
+
+at_contained : {X : Type 0} (xs : List X) (x : X) → Contains xs x → (k : ℕ) × (slice_get xs k ≡ Some x)
+at_contained xs x c = (c.0, slice_get_read xs (length xs) c.0 x refl c.1 (sym c.2))
+
+pub sorted_places : (ops : List Operation) (places order : List Place) (n : ℕ) → length ops ≤ n → AreFirstPlaces ops places n → IsPermutation places order → IsSorted place_cmp order → IsStampOrder ops order
+sorted_places ops places order n past first moved sorted = record {
+  within = λ k e at. let all = All-permutation (IsPlaceIn ops) places order moved first.within in subst (IsPlaceIn ops) (get_or_from_slice_get order k e e at) (all k e (slice_get_within order k e at));
+  all = λ p o at.
+      let here = first.all p o (omega (arith, slice_get_within ops p o at)) at in
+      at_contained order (place_of o p) (Contains-permutation places order (place_of o p) moved (p, slice_get_within places p (place_of o p) here, get_or_from_slice_get places p (place_of o p) (place_of o p) here));
+  rises = λ j k a b le at_j at_k.
+      let far = sorted_far (λ x y. is_lt (place_cmp x y)) (ranks_by place_cmp_total (λ x. x)) order sorted j k a le (slice_get_within order k b at_k) in
+      first_not_less (stamp_cmp b.stamp a.stamp) (nat_cmp b.place a.place)
+      (rw (get_or_from_slice_get order k b a at_k, get_or_from_slice_get order j a a at_j) at far)
+}
+
+pub first_places : (ops : List Operation) → AreFirstPlaces ops [] 0
+first_places ops = record { count = refl; within = λ k d lt. absurd (omega arith); all = λ p o lt at. absurd (omega arith) }
+
+pub one_more_place : (ops : List Operation) (places : List Place) (n : ℕ) (o : Operation) → AreFirstPlaces ops places n → slice_get ops n ≡ Some o → AreFirstPlaces ops (places ++ place_of o n ∷ []) (n + 1)
+one_more_place ops places n o first at = record {
+  count = length_push places (place_of o n) ∙ ap (λ (k : ℕ). k + 1) first.count;
+  within = All-push (IsPlaceIn ops) places (place_of o n) first.within (record { op = o; at = at; is = refl });
+  all = λ p x lt here. elim (cases_lt p n) [
+    | inl before ↦ slice_get_push_before places (place_of o n) p (place_of x p) (first.all p x before here)
+    | inr not_before ↦
+      let there : p ≡ n = omega arith in
+      let same : o ≡ x = same_Some o x (sym at ∙ ap (slice_get ops) (sym there) ∙ here) in
+      slice_get_push_at places (place_of o n) p (omega (arith, first.count)) ∙ ap Some (λ i. place_of (same i) (sym there i))
+  ]
+}
+
+-- what stands in the order stands among the operations
+pub stands_within : (ops : List Operation) (order items : List Place) → items ≡ order → IsStampOrder ops order → (n : ℕ) (e : Place) → n < length items → e ≡ get_or items n e → e.place < length ops
+stands_within ops order items is by_stamp n e lt read =
+    let P : List Place → Type 0 = IsStampOrder ops in
+    let stands = (subst P (sym is) by_stamp).within n e (slice_get_read items (length items) n e refl lt read) in
+    slice_get_within ops e.place stands.op stands.at

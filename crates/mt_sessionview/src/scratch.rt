@@ -1,0 +1,50 @@
+//! The session of a log, and its text through a latch.
+
+ghost use Rattle.std.specs.Prelude.{◌≡◌, IfOk, IfErr, OnOk, false, true};
+ghost use Rattle.std.specs.Io.KnownBytes.{Appends};
+ghost use Rattle.mt_opcodec.specs.Latch.{AppendsFront};
+ghost use Rattle.mt_opcodec.specs.LogValue.{operations};
+ghost use Rattle.mt_sessionview.specs.Session.{session_of};
+ghost use Rattle.mt_sessionview.specs.SessionText.{session_text};
+
+use crate::build::session_of_ops;
+use crate::fault::SessionFault;
+use crate::session::Session;
+use crate::text::append_session_text;
+use mt_opcodec::{Latch, Log};
+use std::alloc::Allocator;
+use std::io::Write;
+
+/// The session of a log's operations. Its cost is that of sorting them. Refused only as `Memory` (0).
+pub fn from_scratch<A: Allocator + Clone>(
+    alloc: A,
+    log: &Log<A>,
+) -> Result<Session<A>, SessionFault>
+    ensures ok { IfOk result (λ session. session ≡ session_of (operations log.now)) }
+    ensures err { IfErr result (λ fault. fault ≡ SessionFault.Memory) }
+{
+    session_of_ops(alloc, log.ops())
+}
+
+/// Writes a session's text: a line for each marker in order, then `held N`, each ended by a line feed.
+///
+/// `Write` (37) where the output's latch has failed, before or in this call; the output then holds a front of
+/// the text. `Memory` (0) where a growth was refused; the output is then as it was.
+pub fn write_text<A: Allocator, B: Allocator, W: Write>(
+    alloc: A,
+    session: &Session<B>,
+    output: &mut Latch<W>,
+) -> Result<(), SessionFault>
+    ensures whole { OnOk result (Appends (W.contents output.old.inner) (W.contents output.new.inner) (session_text session.now)) }
+    ensures front { AppendsFront (W.contents output.old.inner) (W.contents output.new.inner) (session_text session.now) }
+    ensures sound { OnOk result (output.new.failed ≡ false) }
+    ensures write { IfErr result (λ fault. fault ≡ SessionFault.Write → output.new.failed ≡ true) }
+    ensures memory { IfErr result (λ fault. fault ≡ SessionFault.Memory → output.new ≡ output.old) }
+{
+    let mut text = String::new(alloc);
+    append_session_text(&mut text, session)?;
+    match output.put(text.as_bytes()) {
+        Ok(()) => Ok(()),
+        Err(_) => Err(SessionFault::Write),
+    }
+}
