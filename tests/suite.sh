@@ -36,7 +36,7 @@ for case in "$cases"/*/; do
   case $output in
     closed) (cd "$here/in" && exec $as "$place/radio" "$@" < "$case/stdin" >&- 2> "$here/out/stderr"); status=$? ;;
     full) (cd "$here/in" && exec $as "$place/radio" "$@" < "$case/stdin" > /dev/full 2> "$here/out/stderr"); status=$? ;;
-    pipe) status=$( { (cd "$here/in" && sleep 0.2; exec $as "$place/radio" "$@" < "$case/stdin" 2> "$here/out/stderr"); echo $? >&3; } 3>&1 | true ) ;;
+    pipe) status=$( { { (cd "$here/in" && sleep 0.2; exec $as "$place/radio" "$@" < "$case/stdin" 2> "$here/out/stderr"); echo $? >&3; } | true; } 3>&1 ) ;;
     *) (cd "$here/in" && exec $as "$place/radio" "$@" < "$case/stdin" > "$here/out/stdout" 2> "$here/out/stderr"); status=$? ;;
   esac
   [ -f "$here/out/stdout" ] || : > "$here/out/stdout"

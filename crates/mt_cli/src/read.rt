@@ -9,8 +9,8 @@ use mt_opcodec::{Latch, LatchFault, Log, LogFault};
 use std::alloc::Allocator;
 use std::io::Read;
 
-// Reads the log of the input at this place.
-fn read_log<A: Allocator + Clone, R: Read>(
+/// Reads the log of the input at this place.
+pub(crate) fn read_log<A: Allocator + Clone, R: Read>(
     alloc: A,
     place: usize,
     input: &mut Latch<R>,

@@ -1,0 +1,73 @@
+//! What no clause says: printed texts that were worked out by hand, which device fails where, each growth refused in
+//! turn, and the command line.
+mod commands;
+mod fakes;
+mod refused_growth;
+mod views;
+
+use crate::CliFault;
+use mt_op::{Body, Op, OpFault, Title};
+use mt_opcodec::{Log, LogFault, ReadFault};
+use mt_stamp::{Dot, Replica, Stamp};
+use std::test::Fail;
+
+pub const A: Replica = Replica(10);
+
+pub const B: Replica = Replica(11);
+
+/// A marker at frame 480.
+pub fn marker(rt: &HostRuntime, stamp: Stamp, title: &str) -> Result<Op, OpFault> {
+    let title = Title::new(rt.alloc(), title)?;
+    Op::new(stamp, Body::AddMarker { at: 480, title })
+}
+
+/// A new title for an item.
+pub fn retitle(rt: &HostRuntime, stamp: Stamp, item: Stamp, title: &str) -> Result<Op, OpFault> {
+    let title = Title::new(rt.alloc(), title)?;
+    Op::new(stamp, Body::Retitle { item, title })
+}
+
+/// The text of the log of one operation.
+pub fn log_of(rt: &HostRuntime, op: Op) -> Result<Vec<u8>, Fail> {
+    let mut log = Log::new(rt.alloc());
+    let _new = log.add(op)?;
+    Ok(log.write()?)
+}
+
+/// The log of `(1, A, 1)`, a marker at frame 480 with the title `News`.
+pub fn news(rt: &HostRuntime) -> Result<Vec<u8>, Fail> {
+    log_of(rt, marker(rt, Stamp::new(1, A, 1)?, "News")?)
+}
+
+/// The log of `(2, B, 1)`, which gives that marker the title `Late`.
+pub fn late(rt: &HostRuntime) -> Result<Vec<u8>, Fail> {
+    let item = Stamp::new(1, A, 1)?;
+    log_of(rt, retitle(rt, Stamp::new(2, B, 1)?, item, "Late")?)
+}
+
+/// The log of another operation with the dot of that marker.
+pub fn other(rt: &HostRuntime) -> Result<Vec<u8>, Fail> {
+    log_of(rt, marker(rt, Stamp::new(1, A, 1)?, "Other")?)
+}
+
+#[test]
+fn numbers_its_refusals(rt: HostRuntime) {
+    let dot = Dot { replica: A, seq: 1 };
+    for (fault, number) in [
+        (CliFault::Memory, 0),
+        (CliFault::Read(3), 45),
+        (CliFault::Log(0, LogFault::BadMagic), 11),
+        (CliFault::Log(0, LogFault::BadVersion), 12),
+        (CliFault::Log(1, LogFault::Damaged), 13),
+        (
+            CliFault::Log(2, LogFault::BadRecord(7, ReadFault::BadTag)),
+            14,
+        ),
+        (CliFault::Log(3, LogFault::OutOfOrder(1)), 15),
+        (CliFault::Log(4, LogFault::Trailing), 16),
+        (CliFault::Merge(dot), 17),
+        (CliFault::Write, 37),
+    ] {
+        assert_eq!(rt; fault.number(), number);
+    }
+}

@@ -1,0 +1,112 @@
+//! The command line over memory.
+use super::views::NEWS_TEXT;
+use super::{fakes::Choked, news};
+use crate::command;
+use mt_opcodec::Latch;
+use std::test::Fail;
+
+/// What a command answers, and what it wrote to its output and to its errors.
+#[derive(Drop)]
+struct Answer {
+    status: u8,
+    output: Vec<u8>,
+    errors: Vec<u8>,
+}
+
+fn run(rt: &HostRuntime, words: &[&str], input: &[u8]) -> Result<Answer, Fail> {
+    let mut texts = Vec::new(rt.alloc());
+    for word in words {
+        texts.push(String::from_str(rt.alloc(), word)?)?;
+    }
+    let mut input = Latch::new(input);
+    let mut output = Latch::new(Vec::new(rt.alloc()));
+    let mut errors = Latch::new(Vec::new(rt.alloc()));
+    let status = command(rt, &texts, &mut input, &mut output, &mut errors);
+    Ok(Answer {
+        status,
+        output: output.into_inner(),
+        errors: errors.into_inner(),
+    })
+}
+
+#[test]
+fn views_standard_input(rt: HostRuntime) -> Result<(), Fail> {
+    let told = run(&rt, &["view"], &news(&rt)?)?;
+    assert_eq!(rt; told.status, 0);
+    assert_eq!(rt; told.output.as_slice(), NEWS_TEXT.as_bytes());
+    assert!(rt; told.errors.is_empty());
+    Ok(())
+}
+
+#[test]
+fn tells_a_refusal_by_its_number(rt: HostRuntime) -> Result<(), Fail> {
+    for (words, input, line) in [
+        (
+            ["view", "no such file"].as_slice(),
+            b"".as_slice(),
+            "radio: fault 45\n",
+        ),
+        (["view"].as_slice(), b"abc".as_slice(), "radio: fault 11\n"),
+        (
+            ["view"].as_slice(),
+            b"RMTS\x02".as_slice(),
+            "radio: fault 12\n",
+        ),
+        (
+            ["view"].as_slice(),
+            b"RMTS\x01".as_slice(),
+            "radio: fault 13\n",
+        ),
+    ] {
+        let told = run(&rt, words, input)?;
+        assert_eq!(rt; told.status, 1);
+        assert!(rt; told.output.is_empty());
+        assert_eq!(rt; told.errors.as_slice(), line.as_bytes());
+    }
+    Ok(())
+}
+
+#[test]
+fn tells_that_the_output_failed(rt: HostRuntime) -> Result<(), Fail> {
+    let news = news(&rt)?;
+    for word in ["view", "--help", "--version"] {
+        let mut words = Vec::new(rt.alloc());
+        words.push(String::from_str(rt.alloc(), word)?)?;
+        let mut input = Latch::new(news.as_slice());
+        let mut output = Latch::new(Choked);
+        let mut errors = Latch::new(Vec::new(rt.alloc()));
+        assert_eq!(rt; command(&rt, &words, &mut input, &mut output, &mut errors), 1);
+        assert_eq!(rt;
+            errors.into_inner().as_slice(),
+            b"radio: fault 37\n".as_slice()
+        );
+    }
+    Ok(())
+}
+
+#[test]
+fn tells_words_that_do_not_parse(rt: HostRuntime) -> Result<(), Fail> {
+    for words in [
+        ["frob"].as_slice(),
+        ["view", "--frob"].as_slice(),
+        [].as_slice(),
+    ] {
+        let told = run(&rt, words, b"")?;
+        assert_eq!(rt; told.status, 2);
+        assert!(rt; told.output.is_empty());
+        assert!(rt; !told.errors.is_empty());
+    }
+    Ok(())
+}
+
+#[test]
+fn tells_its_version_and_help(rt: HostRuntime) -> Result<(), Fail> {
+    let told = run(&rt, &["--version"], b"")?;
+    assert_eq!(rt; told.status, 0);
+    assert_eq!(rt; told.output.as_slice(), b"radio 0.1.0\n".as_slice());
+    assert!(rt; told.errors.is_empty());
+    let told = run(&rt, &["--help"], b"")?;
+    assert_eq!(rt; told.status, 0);
+    assert!(rt; told.errors.is_empty());
+    Ok(())
+}

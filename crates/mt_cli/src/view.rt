@@ -1,0 +1,86 @@
+//! Viewing logs.
+
+ghost use Rattle.std.specs.Prelude.{◌≡◌, IfErr, OnOk, List};
+ghost use Rattle.std.specs.Io.KnownBytes.{Appends};
+ghost use Rattle.mt_opcodec.specs.LogValue.{LogMap};
+ghost use Rattle.mt_opcodec.specs.Union.{AllAgree};
+ghost use Rattle.mt_cli.specs.Reading.{text_of, Gave, GaveLogs};
+ghost use Rattle.mt_cli.specs.Viewing.{log_view, view_text, ShowFails, JoinedFails, ViewFails, ViewsNoLog};
+
+use crate::fault::CliFault;
+use crate::join::join_all;
+use crate::read::{read_log, read_logs};
+use mt_opcodec::{Latch, Log};
+use mt_sessionview::{SessionFault, from_scratch, write_text};
+use std::alloc::Allocator;
+use std::io::{Read, Write};
+
+// Writes the text of a log's session.
+fn show<A: Allocator + Clone, W: Write>(
+    alloc: A,
+    log: &Log<A>,
+    output: &mut Latch<W>,
+) -> Result<(), CliFault>
+    ensures ok { OnOk result (Appends (W.contents output.old.inner) (W.contents output.new.inner) (log_view log.now)) }
+    ensures err { IfErr result (ShowFails W.contents log.now output.old output.new) }
+{
+    let Ok(session) = from_scratch(alloc.clone()?, log) else {
+        return Err(CliFault::Memory);
+    };
+    match write_text(alloc, &session, output) {
+        Ok(()) => Ok(()),
+        Err(SessionFault::Memory) => Err(CliFault::Memory),
+        Err(SessionFault::Write) => Err(CliFault::Write),
+    }
+}
+
+// Writes the text of the session of the union of the logs.
+fn show_all<A: Allocator + Clone, W: Write>(
+    alloc: A,
+    logs: Vec<Log<A>, A>,
+    output: &mut Latch<W>,
+) -> Result<(), CliFault>
+    ensures ok { OnOk result (AllAgree logs.items × Appends (W.contents output.old.inner) (W.contents output.new.inner) (view_text logs.items)) }
+    ensures err { IfErr result (JoinedFails W.contents logs.items output.old output.new) }
+{
+    match join_all(alloc.clone()?, logs) {
+        Ok(all) => show(alloc, &all, output),
+        Err(fault) => Err(fault),
+    }
+}
+
+/// Writes the text of the session of the union of the inputs' logs, and nothing else.
+///
+/// Refused, in this order: `Read` with the place of an input whose latch has failed, or `Log` with the place of
+/// one whose bytes are no log's text, from left to right; `Merge` with the least dot under which a log has another
+/// operation than the logs before it; `Write` where the output's latch has failed, which then holds a front of the
+/// text. Nothing is written before every log has been read and accepted. `Memory` where a growth was refused, and
+/// nothing was written then.
+pub fn view_logs<A: Allocator + Clone, R: Read, W: Write>(
+    alloc: A,
+    inputs: &mut [Latch<R>],
+    output: &mut Latch<W>,
+) -> Result<(), CliFault>
+    ensures ok { OnOk result ((logs : List LogMap) × (GaveLogs R.remaining inputs.old logs × AllAgree logs × Appends (W.contents output.old.inner) (W.contents output.new.inner) (view_text logs))) }
+    ensures err { IfErr result (ViewFails W.contents R.remaining inputs.old inputs.new output.old output.new) }
+{
+    match read_logs(alloc.clone()?, inputs) {
+        Ok(logs) => show_all(alloc, logs, output),
+        Err(fault) => Err(fault),
+    }
+}
+
+/// The same for one input.
+pub fn view_log<A: Allocator + Clone, R: Read, W: Write>(
+    alloc: A,
+    input: &mut Latch<R>,
+    output: &mut Latch<W>,
+) -> Result<(), CliFault>
+    ensures ok { OnOk result ((log : LogMap) × (Gave R.remaining input.old (text_of log) × Appends (W.contents output.old.inner) (W.contents output.new.inner) (log_view log))) }
+    ensures err { IfErr result (ViewsNoLog W.contents R.remaining input.old input.new output.old output.new) }
+{
+    match read_log(alloc.clone()?, 0, input) {
+        Ok(log) => show(alloc, &log, output),
+        Err(fault) => Err(fault),
+    }
+}
