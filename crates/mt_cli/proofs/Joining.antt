@@ -108,7 +108,7 @@ next_gap : (ops : List Operation) (i : ℕ) (o : Operation) → dots_rise ops �
 next_gap ops i o rise at = record {
   in_range = let within = slice_get_within ops i o at in omega (arith, length-take i ops);
   smaller_before = λ k p lt e. let before = slice_get-take ops i k p e in dots_rise-at ops rise k i p o lt before.1 at;
-  greater_after = λ k p le e. let before = slice_get-take ops i k p e in absurd (omega (arith, before.0))
+  greater_after = λ k p le e. let before = slice_get-take ops i k p e in absurd (omega (arith, before.0));
 }
 
 insert_at_end : (i : ℕ) (ops : List Operation) (o : Operation) → slice_get ops i ≡ Some o → insert (take i ops) i o ≡ take (suc i) ops
@@ -128,15 +128,15 @@ find_place : (ops : List Operation) (dot : Dot) (p : Operation) → find dot_cmp
 find_place [] dot p e = absurd (none-some p e)
 find_place (x ∷ ops) dot p e = step (is_eq (dot_cmp dot (op_dot x))) refl (find_place ops dot p)
   where
-  step : (b : Bool) → is_eq (dot_cmp dot (op_dot x)) ≡ b → (find dot_cmp dot (map entry_of ops) ≡ Some p → (k : ℕ) × ((slice_get ops k ≡ Some p) × (op_dot p ≡ dot))) → (k : ℕ) × ((slice_get (x ∷ ops) k ≡ Some p) × (op_dot p ≡ dot))
-  step true is rest =
-      let here : Some x ≡ Some p = rw is at e in
-      let same : x ≡ p = same_Some x p here in
-      (0, (here, ap op_dot (sym same) ∙ sym (dot_cmp-IsAntisymmetric dot (op_dot x) (tied (dot_cmp dot (op_dot x)) is))))
-  step false is rest =
-      let further : find dot_cmp dot (map entry_of ops) ≡ Some p = rw is at e in
-      let found = rest further in
-      (suc found.0, found.1)
+    step : (b : Bool) → is_eq (dot_cmp dot (op_dot x)) ≡ b → (find dot_cmp dot (map entry_of ops) ≡ Some p → (k : ℕ) × ((slice_get ops k ≡ Some p) × (op_dot p ≡ dot))) → (k : ℕ) × ((slice_get (x ∷ ops) k ≡ Some p) × (op_dot p ≡ dot))
+    step true is rest =
+        let here : Some x ≡ Some p = rw is at e in
+        let same : x ≡ p = same_Some x p here in
+        (0, (here, ap op_dot (sym same) ∙ sym (dot_cmp-IsAntisymmetric dot (op_dot x) (tied (dot_cmp dot (op_dot x)) is))))
+    step false is rest =
+        let further : find dot_cmp dot (map entry_of ops) ≡ Some p = rw is at e in
+        let found = rest further in
+        (suc found.0, found.1)
 
 not_less : (a b : Dot) → dot_cmp a b ≡ Less → dot_cmp b a ≡ Less → ⊥
 not_less a b lt back =
@@ -167,11 +167,11 @@ module _ (ops : List Operation) (rise : dots_rise ops ≡ true) (i : ℕ) (o : O
   front_has : (dot : Dot) (p : Operation) → dot_cmp dot (op_dot o) ≡ Less → fin.get (log_of ops) dot ≡ Some p → fin.get (log_of (take i ops)) dot ≡ Some p
   front_has dot p lt there = place (find_place ops dot p (sym (get-log_of ops dot rise) ∙ there))
     where
-    place : ((k : ℕ) × ((slice_get ops k ≡ Some p) × (op_dot p ≡ dot))) → fin.get (log_of (take i ops)) dot ≡ Some p
-    place (k, rest) = elim (cases_lt k i) [
-      | inl before ↦ get-at (take i ops) p dot k (dots_rise-take i ops rise) (slice_get-front ops i k p before rest.0) rest.1
-      | inr after ↦ absurd (no_later p (subst (λ (d : Dot). dot_cmp d (op_dot o) ≡ Less) (sym rest.1) lt) (at_or_after p k after rest.0))
-    ]
+      place : ((k : ℕ) × ((slice_get ops k ≡ Some p) × (op_dot p ≡ dot))) → fin.get (log_of (take i ops)) dot ≡ Some p
+      place (k, rest) = elim (cases_lt k i) [
+        | inl before ↦ get-at (take i ops) p dot k (dots_rise-take i ops rise) (slice_get-front ops i k p before rest.0) rest.1
+        | inr after ↦ absurd (no_later p (subst (λ (d : Dot). dot_cmp d (op_dot o) ≡ Less) (sym rest.1) lt) (at_or_after p k after rest.0))
+      ]
 
 -- ---- one operation after another
 
@@ -189,7 +189,7 @@ HasFront-start old ops =
     let none : (q : Dot) → fin.get (log_of (take 0 ops)) q ≡ None = λ q. ap (λ (m : LogMap). fin.get m q) log_of-nil ∙ fin.get-empty dot_cmp q in
     record {
       agree = λ q o p at_old at_new. absurd (none-some p (sym (none q) ∙ at_new));
-      is = same_log old (union old (log_of (take 0 ops))) (λ q. whole (fin.get old q) ∙ ap (λ (y : Option Operation). cond (is_some (fin.get old q)) (fin.get old q) y) (sym (none q)) ∙ sym (get-union old (log_of (take 0 ops)) q))
+      is = same_log old (union old (log_of (take 0 ops))) (λ q. whole (fin.get old q) ∙ ap (λ (y : Option Operation). cond (is_some (fin.get old q)) (fin.get old q) y) (sym (none q)) ∙ sym (get-union old (log_of (take 0 ops)) q));
     }
 
 module _ (old log : LogMap) (ops : List Operation) (logged : AreLogged ops) (is_log : log_of ops ≡ log) (i : ℕ) (o : Operation) (at : slice_get ops i ≡ Some o) (all : LogMap) (front : HasFront old ops i all) where
@@ -211,7 +211,7 @@ module _ (old log : LogMap) (ops : List Operation) (logged : AreLogged ops) (is_
       let none_in_union : fin.get (union old (log_of (take i ops))) (op_dot o) ≡ None = ap (λ (n : LogMap). fin.get n (op_dot o)) (sym front.is) ∙ none in
       record {
         agree = subst (Agree old) (sym more) (Agree-insert old (log_of (take i ops)) o (λ p there. absurd (none-some p (sym (old_has None none) ∙ there))) front.agree);
-        is = after_is ∙ ap (λ (n : LogMap). fin.insert n (op_dot o) o) front.is ∙ union-new old (log_of (take i ops)) o none_in_union ∙ ap (union old) (sym more)
+        is = after_is ∙ ap (λ (n : LogMap). fin.insert n (op_dot o) o) front.is ∙ union-new old (log_of (take i ops)) o none_in_union ∙ ap (union old) (sym more);
       }
 
   pub HasFront-there : (after : LogMap) → fin.get all (op_dot o) ≡ Some o → after ≡ all → HasFront old ops (suc i) after
@@ -219,15 +219,15 @@ module _ (old log : LogMap) (ops : List Operation) (logged : AreLogged ops) (is_
       let in_union : fin.get (union old (log_of (take i ops))) (op_dot o) ≡ Some o = ap (λ (n : LogMap). fin.get n (op_dot o)) (sym front.is) ∙ there in
       record {
         agree = subst (Agree old) (sym more) (Agree-insert old (log_of (take i ops)) o (λ p at_old. sym (same_Some o p (sym (old_has (Some o) there) ∙ at_old))) front.agree);
-        is = after_is ∙ front.is ∙ union-there old (log_of (take i ops)) o in_union none_yet ∙ ap (union old) (sym more)
+        is = after_is ∙ front.is ∙ union-there old (log_of (take i ops)) o in_union none_yet ∙ ap (union old) (sym more);
       }
 
   pub clash_found : (other : Operation) → fin.get all (op_dot o) ≡ Some other → other ≢ o → IsFirstClash old log (op_dot o)
   clash_found other there apart = record {
     clashes = (other, (o, (old_has (Some other) there, ap (λ (n : LogMap). fin.get n (op_dot o)) (sym is_log) ∙ get-at ops o (op_dot o) i logged.rise at refl, apart)));
     first = λ dot lt clash.
-      let p = clash.0 in let r = clash.1.0 in let facts = clash.1.1 in
-      facts.2 (front.agree dot p r facts.0 (front_has ops logged.rise i o at dot r lt (ap (λ (n : LogMap). fin.get n dot) is_log ∙ facts.1)))
+        let p = clash.0 in let r = clash.1.0 in let facts = clash.1.1 in
+        facts.2 (front.agree dot p r facts.0 (front_has ops logged.rise i o at dot r lt (ap (λ (n : LogMap). fin.get n dot) is_log ∙ facts.1)));
   }
 
 pub HasFront-step : (old log : LogMap) (ops : List Operation) → AreLogged ops → log_of ops ≡ log → (i : ℕ) (o : Operation) → slice_get ops i ≡ Some o → (all after : LogMap) → HasFront old ops i all
@@ -260,7 +260,7 @@ pub HasLogs-more : (first : LogMap) (logs : List LogMap) (i : ℕ) (log all afte
 HasLogs-more first [] i log all after lt at h agrees is = absurd (omega arith)
 HasLogs-more first (x ∷ logs) zero log all after lt at h agrees is = record {
   agree = (subst (λ (y : LogMap). Agree first y) at (subst (λ (y : LogMap). Agree y log) h.is agrees), tt);
-  is = is ∙ ap (λ (y : LogMap). union y log) h.is ∙ ap (union first) at
+  is = is ∙ ap (λ (y : LogMap). union y log) h.is ∙ ap (union first) at;
 }
 HasLogs-more first (x ∷ logs) (suc i) log all after lt at h agrees is =
     let rest = HasLogs-more (union first x) logs i log all after (omega arith) at (record { agree = h.agree.1; is = h.is }) agrees is in
@@ -286,9 +286,10 @@ pub all_joined : (items : List LogMap) (first : LogMap) (rest : List LogMap) (i 
 all_joined [] first rest i all some at is le h = absurd (omega arith)
 all_joined (x ∷ items) first rest i all some at is le h =
     let front : take i rest ≡ items = take_all i rest le ∙ is in
-    let start : first ≡ union fin.empty x = at ∙ sym (union-empty x) in
-    ((Agree-empty x, subst (λ (a : LogMap). AgreeFrom a items) start (subst (AgreeFrom first) front h.agree)),
-      h.is ∙ ap (union_from first) front ∙ ap (λ (a : LogMap). union_from a items) start)
+    let start : first ≡ union fin.empty x = at ∙ sym (union-empty x) in (
+      (Agree-empty x, subst (λ (a : LogMap). AgreeFrom a items) start (subst (AgreeFrom first) front h.agree)),
+      h.is ∙ ap (union_from first) front ∙ ap (λ (a : LogMap). union_from a items) start,
+    )
 
 clash_first : (items : List LogMap) (first : LogMap) (rest : List LogMap) (dot : Dot) → 0 < length items → first ≡ get_or items 0 first → rest ≡ remove items 0 → FirstClashFrom first rest dot → FirstClash items dot
 clash_first [] first rest dot some at is h = absurd (omega arith)

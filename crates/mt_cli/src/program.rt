@@ -18,10 +18,7 @@ enum Stop {
     /// It was refused: the number of the refusal.
     Refused(u8),
     /// The command line asks for a text, as help, or does not parse.
-    Told {
-        text: String,
-        is_mistake: bool,
-    },
+    Told { text: String, is_mistake: bool },
 }
 
 impl From<AllocError> for Stop {

@@ -80,7 +80,7 @@ position_is ops rise place o at title stands passes is =
     let v : Written ℕ = record { writer = o.stamp; value = at } in
     let own : written_by position_written o.stamp o ≡ Some v = rw (is, stamp_eq_same o.stamp o.stamp refl) refl in
     let one = one_written (written_by position_written o.stamp) (is_ready clock_of needs meets ops) ops place o v stands passes own
-        (λ k y e ne. unwritten o.stamp y.stamp y.act (λ same. ne (one_place ops rise k place y o e stands (ap dot_of same)))) in
+    (λ k y e ne. unwritten o.stamp y.stamp y.act (λ same. ne (one_place ops rise k place y o e stands (ap dot_of same)))) in
     ap (λ (ws : List (Written ℕ)). option_map (λ (w : Written ℕ). w.value) (latest ws)) one
 
 -- one writes its title
@@ -168,16 +168,16 @@ module _ {X Y : Type 0} (f : X → Y) (p q : X → Bool) where
   added : (x : X) (v : Y) → p x ≡ true → Some v ≡ cond (q x) (Some (f x)) None → map f (filter q (cond (p x) (x ∷ []) [])) ≡ v ∷ []
   added x v passes is = rw passes (by_test (q x) is)
     where
-    by_test : (b : Bool) → Some v ≡ cond b (Some (f x)) None → map f (cond b (x ∷ []) []) ≡ v ∷ []
-    by_test true e = cc
-    by_test false e = absurd cc
+      by_test : (b : Bool) → Some v ≡ cond b (Some (f x)) None → map f (cond b (x ∷ []) []) ≡ v ∷ []
+      by_test true e = cc
+      by_test false e = absurd cc
 
   nothing_added : (x : X) → p x ≡ true → None ≡ cond (q x) (Some (f x)) None → map f (filter q (cond (p x) (x ∷ []) [])) ≡ []
   nothing_added x passes is = rw passes (by_test (q x) is)
     where
-    by_test : (b : Bool) → None ≡ cond b (Some (f x)) None → map f (cond b (x ∷ []) []) ≡ []
-    by_test true e = absurd cc
-    by_test false e = refl
+      by_test : (b : Bool) → None ≡ cond b (Some (f x)) None → map f (cond b (x ∷ []) []) ≡ []
+      by_test true e = absurd cc
+      by_test false e = refl
 
   pub more_shown : (xs : List X) (i : ℕ) (x : X) (v : Y) (before after : List Y) → slice_get xs i ≡ Some x → before ≡ map f (filter q (filter p (take i xs))) → p x ≡ true → Some v ≡ cond (q x) (Some (f x)) None
       → after ≡ before ++ v ∷ [] → after ≡ map f (filter q (filter p (take (i + 1) xs)))

@@ -50,7 +50,7 @@ pub rising_more : (ops : List Operation) (n i : ℕ) → n ≡ i + 1 → n ≤ l
 rising_more ops n i is past less valid rising =
     let here = element ops i (omega arith) in
     let split : drop i ops ≡ here.0 ∷ drop n ops =
-        drop_more ops i here.0 (omega arith) ∙ ap (λ (x : Operation). x ∷ drop (i + 1) ops) (get_or_from_slice_get ops i here.0 here.0 here.1) ∙ ap (λ (k : ℕ). here.0 ∷ drop k ops) (sym is) in
+    drop_more ops i here.0 (omega arith) ∙ ap (λ (x : Operation). x ∷ drop (i + 1) ops) (get_or_from_slice_get ops i here.0 here.0 here.1) ∙ ap (λ (k : ℕ). here.0 ∷ drop k ops) (sym is) in
     subst Rising (sym split) (record {
       rise = rise_more here.0 (drop n ops) rising.rise (λ y at. less here.0 y here.1 (ap (slice_get ops) (sym is) ∙ first_of_rest ops n y at));
       valid = (valid here.0 here.1, rising.valid);

@@ -16,7 +16,7 @@ three_pieces old t1 t2 t3 new a b c rest e1 e2 e3 e = record {
   front = a ++ (b ++ c);
   rest = rest;
   is = simp append_assoc;
-  appended = rw (e, e3, e2, e1) (simp append_assoc)
+  appended = rw (e, e3, e2, e1) (simp append_assoc);
 }
 
 pub four_pieces : (old t1 t2 t3 t4 new a b c d rest : List ℕ) → t1 ≡ old ++ a → t2 ≡ t1 ++ b → t3 ≡ t2 ++ c → t4 ≡ t3 ++ d → new ≡ t4 → AppendsFront old new (a ++ (b ++ (c ++ (d ++ rest))))
@@ -24,7 +24,7 @@ four_pieces old t1 t2 t3 t4 new a b c d rest e1 e2 e3 e4 e = record {
   front = a ++ (b ++ (c ++ d));
   rest = rest;
   is = simp append_assoc;
-  appended = rw (e, e4, e3, e2, e1) (simp append_assoc)
+  appended = rw (e, e4, e3, e2, e1) (simp append_assoc);
 }
 
 pub five_pieces : (old t1 t2 t3 t4 t5 new a b c d f rest : List ℕ) → t1 ≡ old ++ a → t2 ≡ t1 ++ b → t3 ≡ t2 ++ c → t4 ≡ t3 ++ d → t5 ≡ t4 ++ f → new ≡ t5 → AppendsFront old new (a ++ (b ++ (c ++ (d ++ (f ++ rest)))))
@@ -32,7 +32,7 @@ five_pieces old t1 t2 t3 t4 t5 new a b c d f rest e1 e2 e3 e4 e5 e = record {
   front = a ++ (b ++ (c ++ (d ++ f)));
   rest = rest;
   is = simp append_assoc;
-  appended = rw (e, e5, e4, e3, e2, e1) (simp append_assoc)
+  appended = rw (e, e5, e4, e3, e2, e1) (simp append_assoc);
 }
 
 pub six_pieces : (old t1 t2 t3 t4 t5 t6 new a b c d f h rest : List ℕ) → t1 ≡ old ++ a → t2 ≡ t1 ++ b → t3 ≡ t2 ++ c → t4 ≡ t3 ++ d → t5 ≡ t4 ++ f → t6 ≡ t5 ++ h → new ≡ t6
@@ -41,7 +41,7 @@ six_pieces old t1 t2 t3 t4 t5 t6 new a b c d f h rest e1 e2 e3 e4 e5 e6 e = reco
   front = a ++ (b ++ (c ++ (d ++ (f ++ h))));
   rest = rest;
   is = simp append_assoc;
-  appended = rw (e, e6, e5, e4, e3, e2, e1) (simp append_assoc)
+  appended = rw (e, e6, e5, e4, e3, e2, e1) (simp append_assoc);
 }
 
 pub all_pieces : (old t1 t2 t3 t4 t5 t6 new a b c d f h k : List ℕ) → t1 ≡ old ++ a → t2 ≡ t1 ++ b → t3 ≡ t2 ++ c → t4 ≡ t3 ++ d → t5 ≡ t4 ++ f → t6 ≡ t5 ++ h → new ≡ t6 ++ k
@@ -63,7 +63,7 @@ module _ {X : Type 0} (f : X → List ℕ) where
     front = flat_map f (take i xs) ++ added.front;
     rest = added.rest ++ (flat_map f (drop (i + 1) xs) ++ tail);
     is = rw (around xs i x lt read, added.is) (simp append_assoc);
-    appended = added.appended ∙ ap (λ (l : List ℕ). l ++ added.front) so_far ∙ append_assoc old (flat_map f (take i xs)) added.front
+    appended = added.appended ∙ ap (λ (l : List ℕ). l ++ added.front) so_far ∙ append_assoc old (flat_map f (take i xs)) added.front;
   }
 
   pub one_more_text : (xs : List X) (i : ℕ) (x : X) (old mid new : List ℕ) → i < length xs → x ≡ get_or xs i x → mid ≡ old ++ flat_map f (take i xs) → new ≡ mid ++ f x → new ≡ old ++ flat_map f (take (i + 1) xs)
@@ -77,5 +77,5 @@ module _ {X : Type 0} (f : X → List ℕ) where
     front = flat_map f xs ++ added.front;
     rest = added.rest;
     is = rw added.is (simp append_assoc);
-    appended = added.appended ∙ ap (λ (l : List ℕ). l ++ added.front) (so_far ∙ ap (λ (l : List X). old ++ flat_map f l) (take_all i xs past)) ∙ append_assoc old (flat_map f xs) added.front
+    appended = added.appended ∙ ap (λ (l : List ℕ). l ++ added.front) (so_far ∙ ap (λ (l : List X). old ++ flat_map f l) (take_all i xs past)) ∙ append_assoc old (flat_map f xs) added.front;
   }

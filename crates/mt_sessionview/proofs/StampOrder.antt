@@ -59,7 +59,7 @@ sorted_places ops places order n past first moved sorted = record {
   rises = λ j k a b le at_j at_k.
       let far = sorted_far (λ x y. is_lt (place_cmp x y)) (ranks_by place_cmp_total (λ x. x)) order sorted j k a le (slice_get_within order k b at_k) in
       first_not_less (stamp_cmp b.stamp a.stamp) (nat_cmp b.place a.place)
-      (rw (get_or_from_slice_get order k b a at_k, get_or_from_slice_get order j a a at_j) at far)
+      (rw (get_or_from_slice_get order k b a at_k, get_or_from_slice_get order j a a at_j) at far);
 }
 
 pub first_places : (ops : List Operation) → AreFirstPlaces ops [] 0
@@ -72,10 +72,10 @@ one_more_place ops places n o first at = record {
   all = λ p x lt here. elim (cases_lt p n) [
     | inl before ↦ slice_get_push_before places (place_of o n) p (place_of x p) (first.all p x before here)
     | inr not_before ↦
-      let there : p ≡ n = omega arith in
-      let same : o ≡ x = same_Some o x (sym at ∙ ap (slice_get ops) (sym there) ∙ here) in
-      slice_get_push_at places (place_of o n) p (omega (arith, first.count)) ∙ ap Some (λ i. place_of (same i) (sym there i))
-  ]
+        let there : p ≡ n = omega arith in
+        let same : o ≡ x = same_Some o x (sym at ∙ ap (slice_get ops) (sym there) ∙ here) in
+        slice_get_push_at places (place_of o n) p (omega (arith, first.count)) ∙ ap Some (λ i. place_of (same i) (sym there i))
+  ];
 }
 
 -- what stands in the order stands among the operations

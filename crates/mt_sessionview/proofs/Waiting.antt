@@ -82,13 +82,13 @@ told_below ops order table n e d by_stamp filled at_n at p o at_p less =
     elim (cases_lt found.0 n) [
       | inl before ↦ filled.told found.0 (place_of o p) o before found.1 at_p
       | inr not_before ↦
-        let not_less = by_stamp.rises n found.0 e (place_of o p) (omega arith) at_n found.1 in
-        let below : o.stamp.clock < e.stamp.clock = omega arith in
-        absurd (true_is_not_false (sym (clock_less o.stamp e.stamp below) ∙ not_less))
+          let not_less = by_stamp.rises n found.0 e (place_of o p) (omega arith) at_n found.1 in
+          let below : o.stamp.clock < e.stamp.clock = omega arith in
+          absurd (true_is_not_false (sym (clock_less o.stamp e.stamp below) ∙ not_less))
     ]
   where
-  true_is_not_false : true ≡ false → ⊥
-  true_is_not_false h = cc
+    true_is_not_false : true ≡ false → ⊥
+    true_is_not_false h = cc
 
 -- a table after the operation at the next place in the order was looked at
 pub filled_more : (ops : List Operation) (order : List Place) (table : List Bool) (n : ℕ) (e : Place) (d : Operation) (b : Bool) → IsFilledTo ops order table n → slice_get order n ≡ Some e
@@ -97,28 +97,28 @@ filled_more ops order table n e d b filled at_n at is = record {
   count = length-set table e.place b ∙ filled.count;
   told = λ k f o lt at_k at_o. elim (cases_eq f.place e.place) [
     | inl here ↦
-      let same : d ≡ o = same_Some d o (sym at ∙ ap (slice_get ops) (sym here) ∙ at_o) in
-      let inside : e.place < length table = omega (arith, slice_get_within ops e.place d at, filled.count) in
-      ap (λ (q : ℕ). get_or (slice_set table e.place b) q false) here ∙ get_or-set_same table e.place b false inside ∙ is ∙ ap (is_ready clock_of needs meets ops) same
+        let same : d ≡ o = same_Some d o (sym at ∙ ap (slice_get ops) (sym here) ∙ at_o) in
+        let inside : e.place < length table = omega (arith, slice_get_within ops e.place d at, filled.count) in
+        ap (λ (q : ℕ). get_or (slice_set table e.place b) q false) here ∙ get_or-set_same table e.place b false inside ∙ is ∙ ap (is_ready clock_of needs meets ops) same
     | inr other ↦ get_or-set_other table e.place f.place b false other ∙ filled.told k f o (not_last k f lt at_k other) at_k at_o
-  ]
+  ];
 }
   where
-  not_last : (k : ℕ) (f : Place) → k < n + 1 → slice_get order k ≡ Some f → f.place ≢ e.place → k < n
-  not_last k f lt at_k other = elim (cases_lt k n) [
-    | inl before ↦ before
-    | inr not_before ↦
-      let last : k ≡ n = omega arith in
-      absurd (other (ap (λ (x : Place). x.place) (same_Some f e (sym at_k ∙ ap (slice_get order) last ∙ at_n))))
-  ]
+    not_last : (k : ℕ) (f : Place) → k < n + 1 → slice_get order k ≡ Some f → f.place ≢ e.place → k < n
+    not_last k f lt at_k other = elim (cases_lt k n) [
+      | inl before ↦ before
+      | inr not_before ↦
+          let last : k ≡ n = omega arith in
+          absurd (other (ap (λ (x : Place). x.place) (same_Some f e (sym at_k ∙ ap (slice_get order) last ∙ at_n))))
+    ]
 
 -- an operation is ready where its needs are met by ready ones
 pub ready_where_met : (ops : List Operation) → AllByRecursion IsOperation ops → (d : Operation) → IsOperation d → is_met clock_of needs meets ops (is_ready clock_of needs meets ops) d ≡ is_ready clock_of needs meets ops d
 ready_where_met ops valid d is_op = sym (is_ready-met clock_of needs meets ops (all_older ops (names ops valid)) d (needs_are_older d is_op.older))
   where
-  names : (xs : List Operation) → AllByRecursion IsOperation xs → AllByRecursion (λ o. IsTrue (names_are_older o)) xs
-  names [] h = tt
-  names (x ∷ xs) h = (h.0.older, names xs h.1)
+    names : (xs : List Operation) → AllByRecursion IsOperation xs → AllByRecursion (λ o. IsTrue (names_are_older o)) xs
+    names [] h = tt
+    names (x ∷ xs) h = (h.0.older, names xs h.1)
 
 pub element : {X : Type 0} (xs : List X) (k : ℕ) → k < length xs → (x : X) × (slice_get xs k ≡ Some x)
 element [] k lt = absurd (omega arith)
@@ -131,12 +131,12 @@ filled_all ops order table n by_stamp past filled =
     same_lists table (map passes ops) (filled.count ∙ sym (length-map ops passes))
     (λ k b lt. at_each k b (omega (arith, filled.count)))
   where
-  passes : Operation → Bool
-  passes = is_ready clock_of needs meets ops
+    passes : Operation → Bool
+    passes = is_ready clock_of needs meets ops
 
-  at_each : (k : ℕ) (b : Bool) → k < length ops → get_or table k b ≡ get_or (map passes ops) k b
-  at_each k b lt =
-      let here = element ops k lt in
-      let found = by_stamp.all k here.0 here.1 in
-      let told = filled.told found.0 (place_of here.0 k) here.0 (omega (arith, slice_get_within order found.0 (place_of here.0 k) found.1)) found.1 here.1 in
-      get_or_default table k b false (omega (arith, filled.count)) ∙ told ∙ ap passes (sym (get_or_from_slice_get ops k here.0 here.0 here.1)) ∙ sym (get_or-map passes ops k here.0 b lt)
+    at_each : (k : ℕ) (b : Bool) → k < length ops → get_or table k b ≡ get_or (map passes ops) k b
+    at_each k b lt =
+        let here = element ops k lt in
+        let found = by_stamp.all k here.0 here.1 in
+        let told = filled.told found.0 (place_of here.0 k) here.0 (omega (arith, slice_get_within order found.0 (place_of here.0 k) found.1)) found.1 here.1 in
+        get_or_default table k b false (omega (arith, filled.count)) ∙ told ∙ ap passes (sym (get_or_from_slice_get ops k here.0 here.0 here.1)) ∙ sym (get_or-map passes ops k here.0 b lt)

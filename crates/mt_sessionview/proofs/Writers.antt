@@ -42,11 +42,11 @@ pub writer_is : (o : Operation) (item : Moment) (w : Option (Write (List ℕ))) 
 writer_is o item None v is = absurd cc
 writer_is o item (Some w) v is = kept_here (stamp_eq w.item item) is
   where
-  kept_here : (b : Bool) → cond b (Some (record { writer = o.stamp; value = w.value })) None ≡ Some v → (v.writer ≡ o.stamp) × ((u : Write (List ℕ)) → Some w ≡ Some u → v.value ≡ u.value)
-  kept_here true e =
-      let same = same_Some (record { writer = o.stamp; value = w.value }) v e in
-      (ap (λ (x : Written (List ℕ)). x.writer) (sym same), λ u f. ap (λ (x : Written (List ℕ)). x.value) (sym same) ∙ ap (λ (x : Write (List ℕ)). x.value) (same_Some w u f))
-  kept_here false e = absurd cc
+    kept_here : (b : Bool) → cond b (Some (record { writer = o.stamp; value = w.value })) None ≡ Some v → (v.writer ≡ o.stamp) × ((u : Write (List ℕ)) → Some w ≡ Some u → v.value ≡ u.value)
+    kept_here true e =
+        let same = same_Some (record { writer = o.stamp; value = w.value }) v e in
+        (ap (λ (x : Written (List ℕ)). x.writer) (sym same), λ u f. ap (λ (x : Written (List ℕ)). x.value) (sym same) ∙ ap (λ (x : Write (List ℕ)). x.value) (same_Some w u f))
+    kept_here false e = absurd cc
 
 skipped : (o : Operation) (item : Moment) (rest : List Operation) → written_by title_written item o ≡ None → last_write title_written item (o ∷ rest) ≡ last_write title_written item rest
 skipped o item rest none = ap (λ (m : Option (Written (List ℕ))). latest (cons_option m (filter_map (written_by title_written item) rest))) none
@@ -70,21 +70,21 @@ tells_at : (ops : List Operation) (table : List (Option ℕ)) (rest : List Opera
     → TellsWriters ops rest table → TellsWriters ops (o ∷ rest) (slice_set table j (Some r))
 tells_at ops table rest o w j y r rise count is at_j same noted tells p x at = elim (cases_eq p j) [
   | inl here ↦
-    let one : y ≡ x = same_Some y x (sym at_j ∙ ap (slice_get ops) (sym here) ∙ at) in
-    let written = written_here o w y.stamp is same in
-    let Q : Option ℕ → Type 0 = IsLastWriter ops y.stamp (later (record { writer = o.stamp; value = w.value }) (last_write title_written y.stamp rest)) in
-    let stored : get_or (slice_set table j (Some r)) j None ≡ Some r = get_or-set_same table j (Some r) None (omega (arith, slice_get_within ops j y at_j)) in
-    let at_item : IsLastWriter ops y.stamp (later (record { writer = o.stamp; value = w.value }) (last_write title_written y.stamp rest)) (get_or (slice_set table j (Some r)) j None) =
-        subst Q (sym stored) (noted (last_write title_written y.stamp rest) (record { writer = o.stamp; value = w.value }) written (tells j y at_j)) in
-    let P : Option (Written (List ℕ)) → Type 0 = λ last. IsLastWriter ops y.stamp last (get_or (slice_set table j (Some r)) j None) in
-    let R : Operation → Type 0 = λ z. IsLastWriter ops z.stamp (last_write title_written z.stamp (o ∷ rest)) (get_or (slice_set table j (Some r)) j None) in
-    let S : ℕ → Type 0 = λ q. IsLastWriter ops x.stamp (last_write title_written x.stamp (o ∷ rest)) (get_or (slice_set table j (Some r)) q None) in
-    subst S (sym here) (subst R one (subst P (sym (taken o y.stamp rest (record { writer = o.stamp; value = w.value }) written)) at_item))
+      let one : y ≡ x = same_Some y x (sym at_j ∙ ap (slice_get ops) (sym here) ∙ at) in
+      let written = written_here o w y.stamp is same in
+      let Q : Option ℕ → Type 0 = IsLastWriter ops y.stamp (later (record { writer = o.stamp; value = w.value }) (last_write title_written y.stamp rest)) in
+      let stored : get_or (slice_set table j (Some r)) j None ≡ Some r = get_or-set_same table j (Some r) None (omega (arith, slice_get_within ops j y at_j)) in
+      let at_item : IsLastWriter ops y.stamp (later (record { writer = o.stamp; value = w.value }) (last_write title_written y.stamp rest)) (get_or (slice_set table j (Some r)) j None) =
+      subst Q (sym stored) (noted (last_write title_written y.stamp rest) (record { writer = o.stamp; value = w.value }) written (tells j y at_j)) in
+      let P : Option (Written (List ℕ)) → Type 0 = λ last. IsLastWriter ops y.stamp last (get_or (slice_set table j (Some r)) j None) in
+      let R : Operation → Type 0 = λ z. IsLastWriter ops z.stamp (last_write title_written z.stamp (o ∷ rest)) (get_or (slice_set table j (Some r)) j None) in
+      let S : ℕ → Type 0 = λ q. IsLastWriter ops x.stamp (last_write title_written x.stamp (o ∷ rest)) (get_or (slice_set table j (Some r)) q None) in
+      subst S (sym here) (subst R one (subst P (sym (taken o y.stamp rest (record { writer = o.stamp; value = w.value }) written)) at_item))
   | inr other ↦
-    let apart : w.item ≡ x.stamp → ⊥ = λ e. other (one_place ops rise p j x y at at_j (ap dot_of (sym e ∙ same))) in
-    let P : Option (Written (List ℕ)) → Type 0 = λ last. IsLastWriter ops x.stamp last (get_or table p None) in
-    let Q : Option ℕ → Type 0 = IsLastWriter ops x.stamp (last_write title_written x.stamp (o ∷ rest)) in
-    subst Q (sym (get_or-set_other table j p (Some r) None other)) (subst P (sym (skipped o x.stamp rest (writes_elsewhere o w x.stamp is apart))) (tells p x at))
+      let apart : w.item ≡ x.stamp → ⊥ = λ e. other (one_place ops rise p j x y at at_j (ap dot_of (sym e ∙ same))) in
+      let P : Option (Written (List ℕ)) → Type 0 = λ last. IsLastWriter ops x.stamp last (get_or table p None) in
+      let Q : Option ℕ → Type 0 = IsLastWriter ops x.stamp (last_write title_written x.stamp (o ∷ rest)) in
+      subst Q (sym (get_or-set_other table j p (Some r) None other)) (subst P (sym (skipped o x.stamp rest (writes_elsewhere o w x.stamp is apart))) (tells p x at))
 ]
 
 pub at_read : (ops : List Operation) (k : ℕ) (o x : Operation) → slice_get ops k ≡ Some o → x ≡ get_or ops k x → x ≡ o
@@ -136,7 +136,7 @@ later_first ops item last o w place u x y r at writes is_last read_x read_y is l
   write = w;
   at = at;
   writes = writes;
-  is = rw (is_last.is, compared ops item last o w place u x y r at writes is_last read_x read_y is, less) refl
+  is = rw (is_last.is, compared ops item last o w place u x y r at writes is_last read_x read_y is, less) refl;
 }
 
 pub later_second : (ops : List Operation) (item : Moment) (last : Option (Written (List ℕ))) (o : Operation) (w : Written (List ℕ)) (place u : ℕ) (x y : Operation) (r : Ordering) → slice_get ops place ≡ Some o
@@ -146,7 +146,7 @@ later_second ops item last o w place u x y r at writes is_last read_x read_y is 
   write = is_last.write;
   at = is_last.at;
   writes = is_last.writes;
-  is = rw (is_last.is, compared ops item last o w place u x y r at writes is_last read_x read_y is, not_less) refl
+  is = rw (is_last.is, compared ops item last o w place u x y r at writes is_last read_x read_y is, not_less) refl;
 }
 
 pub filter_drop : {X : Type 0} (p : X → Bool) (xs : List X) (i : ℕ) (x : X) → slice_get xs i ≡ Some x → filter p (drop i xs) ≡ cond (p x) (x ∷ filter p (drop (i + 1) xs)) (filter p (drop (i + 1) xs))
@@ -172,7 +172,7 @@ found_is ops item dot j x s found read is same = record {
   inside = slice_get_within ops j found.0 found.1;
   op = found.0;
   at = found.1;
-  is = sym (stamp_eq-true s item same) ∙ is ∙ ap (λ (z : Operation). z.stamp) (at_read ops j found.0 x found.1 read)
+  is = sym (stamp_eq-true s item same) ∙ is ∙ ap (λ (z : Operation). z.stamp) (at_read ops j found.0 x found.1 read);
 }
 
 -- it has another, so the item is nowhere
@@ -183,8 +183,8 @@ found_not ops item dot j x s rise is_dot found read is other p y at same =
     let stamps : s ≡ item = is ∙ ap (λ (z : Operation). z.stamp) (at_read ops j found.0 x found.1 read ∙ sym one) ∙ sym same in
     true_is_not_false (sym (stamp_eq_same s item stamps) ∙ other)
   where
-  true_is_not_false : true ≡ false → ⊥
-  true_is_not_false h = cc
+    true_is_not_false : true ≡ false → ⊥
+    true_is_not_false h = cc
 
 -- nothing is written by none
 pub tells_start : (ops : List Operation) (p : Operation → Bool) (n : ℕ) (table : List (Option ℕ)) → length ops ≤ n → table ≡ replicate (length ops) None → TellsWriters ops (filter p (drop n ops)) table
@@ -203,9 +203,9 @@ tells_waiting ops p ready n i table is past told not_ready tells =
     let here = element ops i (omega arith) in
     let P : List Operation → Type 0 = λ among. TellsWriters ops among table in
     let step : filter p (drop i ops) ≡ filter p (drop n ops) =
-        filter_drop p ops i here.0 here.1
-        ∙ ap (λ (b : Bool). cond b (here.0 ∷ filter p (drop (i + 1) ops)) (filter p (drop (i + 1) ops))) (sym (told_at ops p ready i here.0 told here.1) ∙ not_ready)
-        ∙ ap (λ (k : ℕ). filter p (drop k ops)) (sym is) in
+    filter_drop p ops i here.0 here.1
+    ∙ ap (λ (b : Bool). cond b (here.0 ∷ filter p (drop (i + 1) ops)) (filter p (drop (i + 1) ops))) (sym (told_at ops p ready i here.0 told here.1) ∙ not_ready)
+    ∙ ap (λ (k : ℕ). filter p (drop k ops)) (sym is) in
     subst P (sym step) tells
 
 -- one more operation, which is ready
@@ -216,9 +216,9 @@ tells_ready ops p ready n i before table after is past told ready_here same note
     let here = element ops i (omega arith) in
     let P : List Operation → Type 0 = λ among. TellsWriters ops among after in
     let step : filter p (drop i ops) ≡ here.0 ∷ filter p (drop n ops) =
-        filter_drop p ops i here.0 here.1
-        ∙ ap (λ (b : Bool). cond b (here.0 ∷ filter p (drop (i + 1) ops)) (filter p (drop (i + 1) ops))) (sym (told_at ops p ready i here.0 told here.1) ∙ ready_here)
-        ∙ ap (λ (k : ℕ). here.0 ∷ filter p (drop k ops)) (sym is) in
+    filter_drop p ops i here.0 here.1
+    ∙ ap (λ (b : Bool). cond b (here.0 ∷ filter p (drop (i + 1) ops)) (filter p (drop (i + 1) ops))) (sym (told_at ops p ready i here.0 told here.1) ∙ ready_here)
+    ∙ ap (λ (k : ℕ). here.0 ∷ filter p (drop k ops)) (sym is) in
     let Q : List (Option ℕ) → Type 0 = TellsWriters ops (filter p (drop n ops)) in
     subst P (sym step) (noted here.0 (filter p (drop n ops)) here.1 (subst Q (sym same) tells))
 

@@ -50,12 +50,7 @@ fn rises<M: Allocator>(ops: &[Op<M>]) -> bool
     true
 }
 
-fn marker<M: Allocator>(
-    memory: M,
-    stamp: Stamp,
-    at: u32,
-    title: &str,
-) -> Result<Op<M>, OpFault> {
+fn marker<M: Allocator>(memory: M, stamp: Stamp, at: u32, title: &str) -> Result<Op<M>, OpFault> {
     let title = Title::new(memory, title)?;
     Op::new(stamp, Body::AddMarker { at, title })
 }
@@ -92,7 +87,12 @@ fn shows_nothing_of_no_operation(rt: HostRuntime) -> Result<(), Fail> {
 #[test]
 fn holds_an_early_retitle(rt: HostRuntime) -> Result<(), Fail> {
     let mut ops = Vec::new(rt.alloc());
-    ops.push(retitle(rt.alloc(), Stamp::new(2, B, 1)?, Stamp::new(1, A, 1)?, "Late")?)?;
+    ops.push(retitle(
+        rt.alloc(),
+        Stamp::new(2, B, 1)?,
+        Stamp::new(1, A, 1)?,
+        "Late",
+    )?)?;
     assert_eq!(rt; shown(&rt, rt.alloc(), &ops)?.as_str(), "held 1\n");
     ops.insert(0, marker(rt.alloc(), Stamp::new(1, A, 1)?, 480, "News")?)?;
     assert_eq!(rt;
@@ -139,7 +139,12 @@ fn shows_markers_by_position_and_stamp(rt: HostRuntime) -> Result<(), Fail> {
 fn holds_a_retitle_of_another_clock(rt: HostRuntime) -> Result<(), Fail> {
     let mut ops = Vec::new(rt.alloc());
     ops.push(marker(rt.alloc(), Stamp::new(1, A, 1)?, 480, "News")?)?;
-    ops.push(retitle(rt.alloc(), Stamp::new(5, B, 1)?, Stamp::new(2, A, 1)?, "Late")?)?;
+    ops.push(retitle(
+        rt.alloc(),
+        Stamp::new(5, B, 1)?,
+        Stamp::new(2, A, 1)?,
+        "Late",
+    )?)?;
     assert_eq!(rt;
         shown(&rt, rt.alloc(), &ops)?.as_str(),
         "marker 1.1.00000000-0000-0000-0000-00000000000a at 480 title News\nheld 1\n"
@@ -151,8 +156,18 @@ fn holds_a_retitle_of_another_clock(rt: HostRuntime) -> Result<(), Fail> {
 fn holds_a_retitle_of_a_retitle(rt: HostRuntime) -> Result<(), Fail> {
     let mut ops = Vec::new(rt.alloc());
     ops.push(marker(rt.alloc(), Stamp::new(1, A, 1)?, 480, "News")?)?;
-    ops.push(retitle(rt.alloc(), Stamp::new(2, A, 2)?, Stamp::new(1, A, 1)?, "Late")?)?;
-    ops.push(retitle(rt.alloc(), Stamp::new(3, B, 1)?, Stamp::new(2, A, 2)?, "Never")?)?;
+    ops.push(retitle(
+        rt.alloc(),
+        Stamp::new(2, A, 2)?,
+        Stamp::new(1, A, 1)?,
+        "Late",
+    )?)?;
+    ops.push(retitle(
+        rt.alloc(),
+        Stamp::new(3, B, 1)?,
+        Stamp::new(2, A, 2)?,
+        "Never",
+    )?)?;
     assert_eq!(rt;
         shown(&rt, rt.alloc(), &ops)?.as_str(),
         "marker 1.1.00000000-0000-0000-0000-00000000000a at 480 title Late\nheld 1\n"
@@ -167,7 +182,12 @@ fn compares_sessions(rt: HostRuntime) -> Result<(), Fail> {
     assert!(rt; rises(&ops));
     let one = session_of_ops(rt.alloc(), &ops)?;
     let same = session_of_ops(rt.alloc(), &ops)?;
-    ops.push(retitle(rt.alloc(), Stamp::new(5, B, 1)?, Stamp::new(2, A, 1)?, "Late")?)?;
+    ops.push(retitle(
+        rt.alloc(),
+        Stamp::new(5, B, 1)?,
+        Stamp::new(2, A, 1)?,
+        "Late",
+    )?)?;
     assert!(rt; rises(&ops));
     let other = session_of_ops(rt.alloc(), &ops)?;
     assert!(rt; one == same);
@@ -217,8 +237,9 @@ fn refuses_each_growth_of_a_text(rt: HostRuntime) -> Result<(), Fail> {
     for at in 0..20 {
         let memory = Refusing::new(rt.alloc(), at);
         let mut text = String::new(&memory);
-        let made = append_marker_line(&mut text, &view)
-            .and_then(|_| append_held_line(&mut text, 3));
+        let made = append_marker_line(&mut text, &view).and_then(|_| append_held_line(
+            &mut text, 3,
+        ));
         assert_eq!(rt; made.is_err(), memory.has_refused(), "at {at}");
         if !memory.has_refused() {
             assert_eq!(rt;

@@ -3,9 +3,8 @@
 
 use mt_cli::command;
 use mt_opcodec::Latch;
-use std::env;
-use std::io;
 use std::process::ExitCode;
+use std::{env, io};
 
 fn main(rt: HostRuntime) -> ExitCode {
     let mut input = Latch::new(rt.stdin());

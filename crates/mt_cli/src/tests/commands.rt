@@ -1,6 +1,7 @@
 //! The command line over memory.
+use super::fakes::Choked;
+use super::news;
 use super::views::NEWS_TEXT;
-use super::{fakes::Choked, news};
 use crate::command;
 use mt_opcodec::Latch;
 use std::test::Fail;
@@ -75,7 +76,10 @@ fn tells_that_the_output_failed(rt: HostRuntime) -> Result<(), Fail> {
         let mut input = Latch::new(news.as_slice());
         let mut output = Latch::new(Choked);
         let mut errors = Latch::new(Vec::new(rt.alloc()));
-        assert_eq!(rt; command(&rt, &words, &mut input, &mut output, &mut errors), 1);
+        assert_eq!(rt;
+            command(&rt, &words, &mut input, &mut output, &mut errors),
+            1
+        );
         assert_eq!(rt;
             errors.into_inner().as_slice(),
             b"radio: fault 37\n".as_slice()

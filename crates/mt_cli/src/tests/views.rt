@@ -50,8 +50,14 @@ fn shows_one_marker(rt: HostRuntime) -> Result<(), Fail> {
 fn holds_an_early_retitle_until_its_marker_is_there(rt: HostRuntime) -> Result<(), Fail> {
     let (news, late) = (news(&rt)?, late(&rt)?);
     assert_eq!(rt; view(&rt, &[&late])?.as_slice(), b"held 1\n".as_slice());
-    assert_eq!(rt; view(&rt, &[&news, &late])?.as_slice(), LATE_TEXT.as_bytes());
-    assert_eq!(rt; view(&rt, &[&late, &news])?.as_slice(), LATE_TEXT.as_bytes());
+    assert_eq!(rt;
+        view(&rt, &[&news, &late])?.as_slice(),
+        LATE_TEXT.as_bytes()
+    );
+    assert_eq!(rt;
+        view(&rt, &[&late, &news])?.as_slice(),
+        LATE_TEXT.as_bytes()
+    );
     Ok(())
 }
 
@@ -109,10 +115,7 @@ fn refuses_in_order_and_writes_nothing(rt: HostRuntime) -> Result<(), Fail> {
             Latch::new(logs[2]),
         ];
         let mut output = Latch::new(Vec::new(rt.alloc()));
-        assert_eq!(rt;
-            view_logs(rt.alloc(), &mut inputs, &mut output),
-            Err(fault)
-        );
+        assert_eq!(rt; view_logs(rt.alloc(), &mut inputs, &mut output), Err(fault));
         assert!(rt; !output.failed());
         assert!(rt; output.into_inner().is_empty());
     }

@@ -37,5 +37,5 @@ loop-place-preserved g c = record {
   gave =
       let before = left_at c.loop-place.place c.loop-place.inputs c.args.inputs.now c.index-inputs-place.result (omega arith) (omega arith) c.loop-place.invariant.left c.index-inputs-place.is in
       rw c.in_ok-push.ensures.items (subst (λ (n : ℕ). GaveLogs g.R.Read.remaining (take n c.args.inputs.now) (c.loop-place.logs.items ++ c.in_ok-log.log ∷ [])) (one_more c.loop-place.place) (GaveLogs-more g.R.Read.remaining c.args.inputs.now c.loop-place.logs.items c.loop-place.place c.index-inputs-place.result c.in_ok-log.log (omega arith) before c.loop-place.invariant.gave (Gave-same g.R.Read.remaining _ c.index-inputs-place.result c.in_ok-log.log c.index-inputs-place.is c.in_ok-log.ensures.ok)));
-  left = left_more c.loop-place.place c.loop-place.inputs c.args.inputs.now c.read_log.new.input c.loop-place.invariant.left
+  left = left_more c.loop-place.place c.loop-place.inputs c.args.inputs.now c.read_log.new.input c.loop-place.invariant.left;
 }

@@ -9,8 +9,8 @@ use Rattle.mt_cli.proofs.view.view_log.Goals as goal
 pub returns-in-Ok-clause-ok : goal.returns-in-Ok-clause-ok
 returns-in-Ok-clause-ok g c =
     shown c.show.result c.in-Ok.log (λ (m : LogMap). Gave g.R.Read.remaining c.args.input.now (text_of m))
-      (λ (m : LogMap). Appends (g.W.Write.contents c.args.output.now.inner) (g.W.Write.contents c.show.new.output.inner) (log_view m))
-      c.in-Ok.ensures.ok c.show.ensures.ok
+    (λ (m : LogMap). Appends (g.W.Write.contents c.args.output.now.inner) (g.W.Write.contents c.show.new.output.inner) (log_view m))
+    c.in-Ok.ensures.ok c.show.ensures.ok
 
 pub returns-in-Ok-clause-err : goal.returns-in-Ok-clause-err
 returns-in-Ok-clause-err g c =

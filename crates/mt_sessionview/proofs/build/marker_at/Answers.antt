@@ -27,5 +27,5 @@ returns-clause-ok g c =
     let titles = c.in_ok-title.ensures.ok o.stamp (last_write title_written o.stamp (ready_ops ops)) (c.requires.writer o at) in
     let stamps = c.stamp.ensures.value ∙ ap (λ (z : Operation). z.stamp) same in
     let named : ◌≡◌ {A = Option Marker} (Some (record { marker = c.stamp.result; at = c.in-AddMarker.at; title = c.in_ok-title.title })) (Some (record { marker = o.stamp; at = c.in-AddMarker.at; title = c.in_ok-title.title })) =
-        λ i. Some (record { marker = stamps i; at = c.in-AddMarker.at; title = c.in_ok-title.title }) in
+    λ i. Some (record { marker = stamps i; at = c.in-AddMarker.at; title = c.in_ok-title.title }) in
     named ∙ marker_made ops c.requires.rise c.args.place o c.in-AddMarker.at c.in-AddMarker.title c.in_ok-title.title at (c.requires.ready o at) acts titles

@@ -23,13 +23,13 @@ loop-place-preserved g c =
     let told = told_at ops p c.args.ready.now i here.0 c.requires.ready here.1 in
     elim c.if-ready-place.branch [
       | then-ready-place+in_ok-view+in-Some+in_ok-push w ↦
-        more_shown f p q ops i here.0 w.in-Some.view c.loop-place.markers.items c.if-ready-place.markers.items here.1 c.loop-place.invariant (sym told ∙ w.if-ready-place.true)
-        (sym w.in-Some.is ∙ w.in_ok-view.ensures.ok here.0 here.1) ((λ j. (w.markers-is j).items) ∙ w.in_ok-push.ensures.items)
+          more_shown f p q ops i here.0 w.in-Some.view c.loop-place.markers.items c.if-ready-place.markers.items here.1 c.loop-place.invariant (sym told ∙ w.if-ready-place.true)
+          (sym w.in-Some.is ∙ w.in_ok-view.ensures.ok here.0 here.1) ((λ j. (w.markers-is j).items) ∙ w.in_ok-push.ensures.items)
       | then-ready-place+in_ok-view+in_default w ↦
-        (λ j. (w.markers-is j).items)
-        ∙ none_shown f p q ops i here.0 c.loop-place.markers.items here.1 c.loop-place.invariant (sym told ∙ w.if-ready-place.true) (sym w.in_default.is ∙ w.in_ok-view.ensures.ok here.0 here.1)
+          (λ j. (w.markers-is j).items)
+          ∙ none_shown f p q ops i here.0 c.loop-place.markers.items here.1 c.loop-place.invariant (sym told ∙ w.if-ready-place.true) (sym w.in_default.is ∙ w.in_ok-view.ensures.ok here.0 here.1)
       | else-ready-place w ↦
-        (λ j. (w.markers-is j).items) ∙ waiting_unshown f p q ops i here.0 c.loop-place.markers.items here.1 c.loop-place.invariant (sym told ∙ w.if-ready-place.false)
+          (λ j. (w.markers-is j).items) ∙ waiting_unshown f p q ops i here.0 c.loop-place.markers.items here.1 c.loop-place.invariant (sym told ∙ w.if-ready-place.false)
     ]
 
 pub returns-clause-ok : goal.returns-clause-ok

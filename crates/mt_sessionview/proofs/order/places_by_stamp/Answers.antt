@@ -14,7 +14,7 @@ loop-place-preserved g c =
     let at : slice_get ops n ≡ Some o = slice_get_read ops (length ops) n o refl (omega arith) c.index-ops-place.is in
     let more = one_more_place ops c.loop-place.order.items n o c.loop-place.invariant at in
     let stored : c.push.new.self.items ≡ c.loop-place.order.items ++ (record { stamp = o.stamp; place = n }) ∷ [] =
-        ◌∙◌ {b = c.loop-place.order.items ++ (record { stamp = c.stamp.result; place = n }) ∷ []} c.in_ok-push.ensures.items (ap (λ (s : Moment). c.loop-place.order.items ++ (record { stamp = s; place = n }) ∷ []) c.stamp.ensures.value) in
+    ◌∙◌ {b = c.loop-place.order.items ++ (record { stamp = c.stamp.result; place = n }) ∷ []} c.in_ok-push.ensures.items (ap (λ (s : Moment). c.loop-place.order.items ++ (record { stamp = s; place = n }) ∷ []) c.stamp.ensures.value) in
     rw stored more
 
 pub returns : goal.returns

@@ -9,7 +9,7 @@ pub returns-in_err-append_marker_line-clause-err : goal.returns-in_err-append_ma
 returns-in_err-append_marker_line-clause-err g c =
     whatever_result c.from_residual.result _
     (front_within marker_line c.args.markers.now c.loop-view.view-index c.view-item.result (held_line c.args.held) (string_bytes c.args.text.now) (string_bytes c.loop-view.text) (string_bytes c.append_marker_line.new.text)
-      (omega arith) c.view-item.is c.loop-view.invariant c.in_err-append_marker_line.ensures.err)
+    (omega arith) c.view-item.is c.loop-view.invariant c.in_err-append_marker_line.ensures.err)
 
 pub loop-view-preserved : goal.loop-view-preserved
 loop-view-preserved g c =
@@ -20,4 +20,4 @@ pub returns-in_err-append_held_line-clause-err : goal.returns-in_err-append_held
 returns-in_err-append_held_line-clause-err g c =
     whatever_result c.from_residual-in_err-append_held_line.result _
     (front_after marker_line c.args.markers.now c.loop-view.view-index (held_line c.args.held) (string_bytes c.args.text.now) (string_bytes c.loop-view.text) (string_bytes c.append_held_line.new.text)
-      (omega arith) c.loop-view.invariant c.in_err-append_held_line.ensures.err)
+    (omega arith) c.loop-view.invariant c.in_err-append_held_line.ensures.err)
