@@ -15,6 +15,9 @@ use mt_opcodec::{Latch, Log};
 use std::alloc::Allocator;
 use std::io::Write;
 
+#[cfg(test)]
+mod tests;
+
 /// The session of a log's operations. Its cost is that of sorting them. Refused only as `Memory` (0).
 pub fn from_scratch<A: Allocator + Clone>(
     alloc: A,
