@@ -1,6 +1,6 @@
 -- The one operation that a need can be met by, where dots rise.
-use Rattle.std.proofs.Common.{◌≡◌, ◌≢◌, ℕ, zero, suc, ◌+◌, ◌<◌, ◌≤◌, Bool, true, false, cond, List, [], ◌∷◌, ◌&&◌, ◌||◌, Option, Some, None, length, get_or, refl, sym, ap, ◌∙◌, subst, arith, inl, inr}
-use Rattle.std.specs.Prelude.{IsTrue, slice_get}
+use Rattle.std.proofs.Common.{◌≡◌, ◌≢◌, ℕ, zero, suc, Bool, true, false, cond, List, [], ◌∷◌, ◌&&◌, ◌||◌, Some, get_or, refl, sym, ap, ◌∙◌, subst, arith, inl, inr}
+use Rattle.std.specs.Prelude.{slice_get}
 use Rattle.std.specs.List.{filter, list_any}
 use Rattle.std.specs.Ordering.{ordering_reverse}
 use Rattle.std.specs.declared.cmp.Ordering.{Ordering}
@@ -39,7 +39,7 @@ one_place ops rise i j a b at_i at_j is = elim (cases_lt i j) [
   ]
 ]
 
-pub none_pass : {X : Type 0} (p : X → Bool) (xs : List X) → ((k : ℕ) (y : X) → slice_get xs k ≡ Some y → p y ≡ false) → filter p xs ≡ []
+none_pass : {X : Type 0} (p : X → Bool) (xs : List X) → ((k : ℕ) (y : X) → slice_get xs k ≡ Some y → p y ≡ false) → filter p xs ≡ []
 none_pass p [] h = refl
 none_pass p (x ∷ xs) h = rw (h 0 x refl) (none_pass p xs (λ k y e. h (suc k) y e))
 
@@ -48,7 +48,7 @@ or_nothing true = refl
 or_nothing false = refl
 
 -- what a list finds among the items that pass, where one item at most does
-pub any_found : {X : Type 0} (p r : X → Bool) (xs : List X) (i : ℕ) (x : X) → slice_get xs i ≡ Some x → ((k : ℕ) (y : X) → slice_get xs k ≡ Some y → k ≢ i → p y ≡ false) → list_any r (filter p xs) ≡ (p x && r x)
+any_found : {X : Type 0} (p r : X → Bool) (xs : List X) (i : ℕ) (x : X) → slice_get xs i ≡ Some x → ((k : ℕ) (y : X) → slice_get xs k ≡ Some y → k ≢ i → p y ≡ false) → list_any r (filter p xs) ≡ (p x && r x)
 any_found p r [] i x at others = absurd (none-some x at)
 any_found {X} p r (y ∷ xs) zero x at others =
     let same : y ≡ x = same_Some y x at in

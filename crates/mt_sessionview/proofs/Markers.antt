@@ -1,7 +1,7 @@
 -- The markers of ready operations.
-use Rattle.std.proofs.Common.{◌≡◌, ◌≢◌, ℕ, zero, suc, ◌+◌, ◌<◌, ◌≤◌, Bool, true, false, cond, List, [], ◌∷◌, ◌++◌, Option, Some, None, length, get_or, take, map, refl, sym, ap, ◌∙◌, subst, arith, inl, inr}
-use Rattle.std.specs.Prelude.{slice_get, MatchOption, option_map, unwrap_or, not}
-use Rattle.std.specs.List.{filter, filter_map, cons_option, All, AllByRecursion, count_by}
+use Rattle.std.proofs.Common.{◌≡◌, ◌≢◌, ℕ, zero, suc, ◌+◌, Bool, true, false, cond, List, [], ◌∷◌, ◌++◌, Option, Some, None, length, get_or, take, map, refl, sym, ap, ◌∙◌, subst, arith}
+use Rattle.std.specs.Prelude.{slice_get, option_map, unwrap_or, not}
+use Rattle.std.specs.List.{filter, filter_map, cons_option, All, count_by}
 use Rattle.std.specs.List.Sorted.{IsPermutation, IsSorted}
 use Rattle.std.specs.Cmp.{IsTotalOrder}
 use Rattle.std.specs.Ordering.{is_lt, nat_cmp, ordering_then}
@@ -17,8 +17,8 @@ use Rattle.mt_stamp.proofs.Order.{stamp_cmp_total, stamp_cmp-IsAntisymmetric}
 use Rattle.mt_op.specs.Operation.{Act, AddMarker, Retitle, Operation}
 use Rattle.mt_op.specs.Needs.{needs, meets, clock_of, stamp_eq}
 use Rattle.mt_op.specs.Ready.{is_ready}
-use Rattle.mt_op.specs.Dots.{op_dot, dots_rise}
-use Rattle.mt_op.specs.Writes.{Write, Written, title_written, position_written, kept, written_by, later, latest, last_write}
+use Rattle.mt_op.specs.Dots.{dots_rise}
+use Rattle.mt_op.specs.Writes.{Written, title_written, position_written, kept, written_by, later, latest, last_write}
 use Rattle.mt_op.proofs.Needs.{stamp_eq-true}
 use Rattle.mt_sessionview.specs.Content.{Marker, marker_cmp}
 use Rattle.mt_sessionview.specs.Session.{ready_ops, field_value, is_marker, marker_ops, marker_of}
@@ -104,12 +104,8 @@ marker_made ops rise place o at own title stands passes is title_is_last =
     let titles : title ≡ (marker_of ops o).title = title_is_last ∙ given_or (last_write title_written o.stamp (ready_ops ops)) own [] (title_is ops place o at own stands passes (sym is)) in
     (λ i. Some (record { marker = o.stamp; at = position i; title = titles i })) ∙ ap (λ (a : Act). cond (is_marker a) (Some (marker_of ops o)) None) is
 
--- an operation that adds none
-pub no_marker : (ops : List Operation) (o : Operation) (item : Moment) (title : List ℕ) → Retitle item title ≡ o.act → ◌≡◌ {A = Option Marker} None (cond (is_marker o.act) (Some (marker_of ops o)) None)
-no_marker ops o item title is = ap (λ (a : Act). cond (is_marker a) (Some (marker_of ops o)) None) is
-
 -- one more item of a list that is filtered twice and mapped
-pub collected_more : {X Y : Type 0} (f : X → Y) (p q : X → Bool) (xs : List X) (i : ℕ) (x : X) → slice_get xs i ≡ Some x
+collected_more : {X Y : Type 0} (f : X → Y) (p q : X → Bool) (xs : List X) (i : ℕ) (x : X) → slice_get xs i ≡ Some x
     → map f (filter q (filter p (take (i + 1) xs))) ≡ map f (filter q (filter p (take i xs))) ++ map f (filter q (cond (p x) (x ∷ []) []))
 collected_more f p q xs i x at =
     ap (λ l. map f (filter q (filter p l))) (take_more xs i x (slice_get_within xs i x at) ∙ ap (λ y. take i xs ++ y ∷ []) (get_or_from_slice_get xs i x x at))

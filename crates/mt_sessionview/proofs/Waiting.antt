@@ -1,60 +1,30 @@
 -- One pass over operations in the order of their stamps tells which are ready.
-use Rattle.std.proofs.Common.{◌≡◌, ◌≢◌, ℕ, zero, suc, ◌+◌, ◌<◌, ◌≤◌, Bool, true, false, cond, List, [], ◌∷◌, ltb, ◌&&◌, Option, Some, None, length, get_or, take, map, refl, sym, ap, ◌∙◌, subst, arith, inl, inr}
+use Rattle.std.proofs.Common.{◌≡◌, ◌≢◌, ℕ, zero, suc, ◌+◌, ◌<◌, ◌≤◌, Bool, true, false, List, [], ◌∷◌, Some, length, get_or, take, map, refl, sym, ap, ◌∙◌, subst, arith, inl, inr}
 use Rattle.std.specs.Prelude.{IsTrue, slice_get, slice_set}
 use Rattle.std.specs.List.{filter, list_any, list_all, AllByRecursion}
-use Rattle.std.specs.Ordering.{is_lt, nat_cmp, ordering_then}
-use Rattle.std.specs.declared.cmp.Ordering.{Ordering}
-use Rattle.std.specs.declared.cmp.Ordering.TheVariants.{Less, Equal, Greater}
-use Rattle.std.proofs.lemmas.Option.{same_Some, none-some, slice_get_within, get_or_from_slice_get, slice_get-get_or, slice_get_past}
-use Rattle.std.proofs.lemmas.Bool.{cases_lt, cases_eq, ltb-true, lt-ltb}
+use Rattle.std.specs.Ordering.{is_lt}
+use Rattle.std.proofs.lemmas.Option.{same_Some, none-some, slice_get_within, get_or_from_slice_get}
+use Rattle.std.proofs.lemmas.Bool.{cases_lt, cases_eq, lt-ltb}
 use Rattle.std.proofs.lemmas.List.{same_lists, get_or_default, get_or-set_same, get_or-set_other, get_or-map, length-map, length-set, take_all}
-use Rattle.std.proofs.lemmas.List.Folds.{list_all_more, list_all_at}
 use Rattle.mt_stamp.specs.Moment.{Moment, stamp_cmp}
 use Rattle.mt_op.specs.declared.need.Need.{Need}
 use Rattle.mt_op.specs.Operation.{Operation}
 use Rattle.mt_op.specs.Needs.{needs, meets, clock_of, names_are_older}
 use Rattle.mt_op.specs.Ready.{is_met, is_ready}
 use Rattle.mt_op.specs.Valid.{IsOperation}
-use Rattle.mt_op.proofs.Needs.{and_first, and_second, all_older, needs_are_older}
+use Rattle.mt_op.proofs.Needs.{all_older, needs_are_older}
 use Rattle.mt_op.proofs.Readiness.{is_ready-met}
 use Rattle.mt_sessionview.specs.declared.place.Place.{Place}
 use Rattle.mt_sessionview.specs.StampOrder.{place_of, IsPlaceIn, IsStampOrder}
-use Rattle.mt_sessionview.specs.Tables.{TellsOf, TellsBelow}
-
-all_at : {X : Type 0} (p : X → Bool) (xs : List X) → list_all p xs ≡ true → (k : ℕ) (x : X) → slice_get xs k ≡ Some x → p x ≡ true
-all_at p [] h k x at = absurd (none-some x at)
-all_at {X} p (y ∷ xs) h zero x at = subst (λ (z : X). p z ≡ true) (same_Some y x at) (and_first _ _ h)
-all_at p (y ∷ xs) h (suc k) x at = all_at p xs (and_second _ _ h) k x at
+use Rattle.mt_sessionview.specs.Tables.{TellsBelow}
 
 pub by_recursion_at : {X : Type 0} (P : X → Type 0) (xs : List X) → AllByRecursion P xs → (k : ℕ) (x : X) → slice_get xs k ≡ Some x → P x
 by_recursion_at P [] h k x at = absurd (none-some x at)
 by_recursion_at P (y ∷ xs) h zero x at = subst P (same_Some y x at) h.0
 by_recursion_at P (y ∷ xs) h (suc k) x at = by_recursion_at P xs h.1 k x at
 
--- what tells of smaller clocks tells of what a need names
-pub needs_told : (ops : List Operation) (table : List Bool) (op : Operation) → IsOperation op → (passes : Operation → Bool) → TellsBelow ops table (clock_of op) passes
-    → (i : ℕ) (need : Need) → slice_get (needs op) i ≡ Some need → TellsOf ops table need.stamp passes
-needs_told ops table op valid passes tells i need at k o at_k same =
-    let older = all_at (λ (n : Need). ltb n.stamp.clock op.stamp.clock) (needs op) valid.older i need at in
-    let lt = ltb-true need.stamp.clock op.stamp.clock older in
-    let clocks = ap (λ (s : Moment). s.clock) same in
-    tells k o at_k (omega arith)
-
 met : List Operation → (Operation → Bool) → Need → Bool
 met ops passes need = list_any passes (filter (meets need) ops)
-
--- one more need is met
-pub met_more : {Q : Type 0} (p : Q → Bool) (ns : List Q) (i : ℕ) (n : Q) → slice_get ns i ≡ Some n → list_all p (take i ns) ≡ true → p n ≡ true → list_all p (take (i + 1) ns) ≡ true
-met_more {Q} p ns i n at before here =
-    let within = slice_get_within ns i n at in
-    let P : Q → Type 0 = λ x. p x ≡ true in
-    rw (list_all_more p ns i n within, before) (subst P (sym (get_or_from_slice_get ns i n n at)) here)
-
--- one need is not met
-pub unmet_at : {Q : Type 0} (p : Q → Bool) (ns : List Q) (i : ℕ) (n : Q) → slice_get ns i ≡ Some n → p n ≡ false → false ≡ list_all p ns
-unmet_at {Q} p ns i n at here =
-    let P : Q → Type 0 = λ x. p x ≡ false in
-    sym (list_all_at p ns i n (slice_get_within ns i n at) (subst P (sym (get_or_from_slice_get ns i n n at)) here))
 
 pub all_met : {Q : Type 0} (p : Q → Bool) (ns : List Q) (i : ℕ) → length ns ≤ i → list_all p (take i ns) ≡ true → true ≡ list_all p ns
 all_met {Q} p ns i past h = sym (rw (take_all i ns past) at h)
@@ -63,9 +33,6 @@ all_met {Q} p ns i past h = sym (rw (take_all i ns past) at h)
 pub record IsFilledTo (ops : List Operation) (order : List Place) (table : List Bool) (n : ℕ) : Type 0 where
   pub count : length table ≡ length ops
   pub told : (k : ℕ) (e : Place) (o : Operation) → k < n → slice_get order k ≡ Some e → slice_get ops e.place ≡ Some o → get_or table e.place false ≡ is_ready clock_of needs meets ops o
-
-pub filled_none : (ops : List Operation) (order : List Place) (table : List Bool) → length table ≡ length ops → IsFilledTo ops order table 0
-filled_none ops order table count = record { count = count; told = λ k e o lt at_k at. absurd (omega arith) }
 
 clock_less : (a b : Moment) → a.clock < b.clock → is_lt (stamp_cmp a b) ≡ true
 clock_less a b lt = rw (lt-ltb a.clock b.clock lt) refl

@@ -1,17 +1,17 @@
 -- The last writers of titles, by the place of the item.
-use Rattle.std.proofs.Common.{◌≡◌, ◌≢◌, ℕ, zero, suc, ◌+◌, ◌<◌, ◌≤◌, Bool, true, false, cond, List, [], ◌∷◌, replicate, ◌&&◌, Option, Some, None, length, get_or, take, drop, ◌++◌, map, eq-eqb, refl, sym, ap, ◌∙◌, subst, arith, inl, inr}
-use Rattle.std.specs.Prelude.{slice_get, slice_set, MatchOption, IfSome, option_map}
+use Rattle.std.proofs.Common.{◌≡◌, ℕ, zero, suc, ◌+◌, ◌<◌, ◌≤◌, Bool, true, false, cond, List, ◌∷◌, replicate, ◌&&◌, Option, Some, None, length, get_or, take, drop, ◌++◌, map, eq-eqb, refl, sym, ap, ◌∙◌, subst, arith, inl, inr}
+use Rattle.std.specs.Prelude.{slice_get, slice_set, IfSome, option_map}
 use Rattle.std.specs.List.{filter, filter_map, cons_option}
 use Rattle.std.specs.Ordering.{is_lt}
 use Rattle.std.specs.declared.cmp.Ordering.{Ordering}
-use Rattle.std.proofs.lemmas.Option.{same_Some, none-some, slice_get_within, get_or_from_slice_get}
+use Rattle.std.proofs.lemmas.Option.{same_Some, slice_get_within, get_or_from_slice_get}
 use Rattle.std.proofs.lemmas.Bool.{cases_eq, cases_lt}
 use Rattle.std.proofs.lemmas.List.{get_or-set_same, get_or-set_other, get_or_past, drop_more, drop_all, take_all, append-nil, get_or-map, get_or-replicate}
 use Rattle.mt_stamp.specs.declared.name.Dot.{Dot}
 use Rattle.mt_stamp.specs.Moment.{Moment, stamp_cmp, dot_of}
 use Rattle.mt_op.specs.Operation.{Operation}
 use Rattle.mt_op.specs.Needs.{stamp_eq}
-use Rattle.mt_op.specs.Dots.{op_dot, dots_rise, IsAt, IsGapFor}
+use Rattle.mt_op.specs.Dots.{dots_rise, IsAt}
 use Rattle.mt_op.specs.Writes.{Write, Written, title_written, kept, written_by, later, latest, last_write}
 use Rattle.mt_op.proofs.Needs.{stamp_eq-true}
 use Rattle.mt_sessionview.specs.Tables.{IsNowhere, StandsAt, IsWriter, IsLastWriter, TellsWriters}
@@ -35,10 +35,7 @@ writes_elsewhere o w item is other = rw (is, unmet (stamp_eq w.item item) (λ e.
 written_here : (o : Operation) (w : Write (List ℕ)) (item : Moment) → title_written o.stamp o.act ≡ Some w → w.item ≡ item → written_by title_written item o ≡ Some (record { writer = o.stamp; value = w.value })
 written_here o w item is same = rw (is, stamp_eq_same w.item item same) refl
 
-writes_nothing : (o : Operation) (item : Moment) → title_written o.stamp o.act ≡ None → written_by title_written item o ≡ None
-writes_nothing o item is = ap (kept title_written item o.stamp) is
-
-pub writer_is : (o : Operation) (item : Moment) (w : Option (Write (List ℕ))) (v : Written (List ℕ)) → kept title_written item o.stamp w ≡ Some v → (v.writer ≡ o.stamp) × ((u : Write (List ℕ)) → w ≡ Some u → v.value ≡ u.value)
+writer_is : (o : Operation) (item : Moment) (w : Option (Write (List ℕ))) (v : Written (List ℕ)) → kept title_written item o.stamp w ≡ Some v → (v.writer ≡ o.stamp) × ((u : Write (List ℕ)) → w ≡ Some u → v.value ≡ u.value)
 writer_is o item None v is = absurd cc
 writer_is o item (Some w) v is = kept_here (stamp_eq w.item item) is
   where
@@ -54,12 +51,7 @@ skipped o item rest none = ap (λ (m : Option (Written (List ℕ))). latest (con
 taken : (o : Operation) (item : Moment) (rest : List Operation) (v : Written (List ℕ)) → written_by title_written item o ≡ Some v → last_write title_written item (o ∷ rest) ≡ later v (last_write title_written item rest)
 taken o item rest v is = ap (λ (m : Option (Written (List ℕ))). latest (cons_option m (filter_map (written_by title_written item) rest))) is
 
-pub tells_unwritten : (ops : List Operation) (table : List (Option ℕ)) (rest : List Operation) (o : Operation) → title_written o.stamp o.act ≡ None → TellsWriters ops rest table → TellsWriters ops (o ∷ rest) table
-tells_unwritten ops table rest o none tells p x at =
-    let P : Option (Written (List ℕ)) → Type 0 = λ last. IsLastWriter ops x.stamp last (get_or table p None) in
-    subst P (sym (skipped o x.stamp rest (writes_nothing o x.stamp none))) (tells p x at)
-
-pub tells_elsewhere : (ops : List Operation) (table : List (Option ℕ)) (rest : List Operation) (o : Operation) (w : Write (List ℕ)) → title_written o.stamp o.act ≡ Some w → IsNowhere ops w.item → TellsWriters ops rest table → TellsWriters ops (o ∷ rest) table
+tells_elsewhere : (ops : List Operation) (table : List (Option ℕ)) (rest : List Operation) (o : Operation) (w : Write (List ℕ)) → title_written o.stamp o.act ≡ Some w → IsNowhere ops w.item → TellsWriters ops rest table → TellsWriters ops (o ∷ rest) table
 tells_elsewhere ops table rest o w is nowhere tells p x at =
     let P : Option (Written (List ℕ)) → Type 0 = λ last. IsLastWriter ops x.stamp last (get_or table p None) in
     subst P (sym (skipped o x.stamp rest (writes_elsewhere o w x.stamp is (nowhere p x at)))) (tells p x at)
@@ -149,7 +141,7 @@ later_second ops item last o w place u x y r at writes is_last read_x read_y is 
   is = rw (is_last.is, compared ops item last o w place u x y r at writes is_last read_x read_y is, not_less) refl;
 }
 
-pub filter_drop : {X : Type 0} (p : X → Bool) (xs : List X) (i : ℕ) (x : X) → slice_get xs i ≡ Some x → filter p (drop i xs) ≡ cond (p x) (x ∷ filter p (drop (i + 1) xs)) (filter p (drop (i + 1) xs))
+filter_drop : {X : Type 0} (p : X → Bool) (xs : List X) (i : ℕ) (x : X) → slice_get xs i ≡ Some x → filter p (drop i xs) ≡ cond (p x) (x ∷ filter p (drop (i + 1) xs)) (filter p (drop (i + 1) xs))
 filter_drop {X} p xs i x at =
     let here : get_or xs i x ≡ x = get_or_from_slice_get xs i x x at in
     let P : X → Type 0 = λ y. filter p (drop i xs) ≡ cond (p y) (y ∷ filter p (drop (i + 1) xs)) (filter p (drop (i + 1) xs)) in

@@ -1,7 +1,6 @@
 use Rattle.std.specs.Prelude.{◌≡◌, ℕ, List, [], ◌∷◌, refl, codes}
 use Rattle.mt_stamp.specs.Moment.{Moment}
-use Rattle.mt_op.specs.Operation.{Act, AddMarker, Retitle, Operation}
-use Rattle.mt_sessionview.specs.Content.{Marker, Content}
+use Rattle.mt_op.specs.Operation.{AddMarker, Retitle, Operation}
 use Rattle.mt_sessionview.specs.Session.{session_of}
 
 abbrev pub by : ℕ → ℕ → ℕ → Moment

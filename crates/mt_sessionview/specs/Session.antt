@@ -1,5 +1,5 @@
 -- The session of a set of operations.
-use Rattle.std.specs.Prelude.{ℕ, Bool, true, false, List, map, filter, length, Option, option_map, unwrap_or, []}
+use Rattle.std.specs.Prelude.{Bool, true, false, List, map, filter, length, Option, option_map, unwrap_or, []}
 use Rattle.mt_stamp.specs.Moment.{Moment}
 use Rattle.mt_op.specs.Operation.{Act, AddMarker, Retitle, Operation}
 use Rattle.mt_op.specs.Needs.{needs, meets, clock_of}

@@ -1,7 +1,7 @@
-use Rattle.std.proofs.Common.{◌≡◌, Some, None, length, refl, sym, ap, ◌∙◌, arith, Option}
+use Rattle.std.proofs.Common.{◌≡◌, Some, length, refl, sym, ap, ◌∙◌, Option}
 use Rattle.std.specs.Prelude.{slice_get}
-use Rattle.std.proofs.lemmas.Option.{slice_get_read, same_Some}
-use Rattle.mt_op.specs.Operation.{Act, AddMarker, Operation}
+use Rattle.std.proofs.lemmas.Option.{slice_get_read}
+use Rattle.mt_op.specs.Operation.{AddMarker, Operation}
 use Rattle.mt_op.specs.Bodies.{act_of}
 use Rattle.mt_op.specs.Writes.{title_written, last_write}
 use Rattle.mt_sessionview.specs.Content.{Marker}

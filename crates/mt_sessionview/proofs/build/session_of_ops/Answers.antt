@@ -1,4 +1,4 @@
-use Rattle.std.proofs.Common.{◌≡◌, ◌∙◌, length, map, refl, ap}
+use Rattle.std.proofs.Common.{◌≡◌, ◌∙◌, length, map, ap}
 use Rattle.std.specs.Prelude.{not}
 use Rattle.std.specs.List.{count_by}
 use Rattle.mt_op.specs.Needs.{needs, meets, clock_of}

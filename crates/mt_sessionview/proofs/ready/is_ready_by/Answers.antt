@@ -1,4 +1,4 @@
-use Rattle.std.proofs.Common.{Bool, arith}
+use Rattle.std.proofs.Common.{arith}
 use Rattle.std.specs.List.{list_any, filter}
 use Rattle.mt_op.specs.declared.need.Need.{Need}
 use Rattle.mt_op.specs.Needs.{needs, meets}

@@ -1,6 +1,5 @@
-use Rattle.std.proofs.Common.{◌≡◌, ℕ, ◌<◌, List, length, sym, ap, ◌∙◌, arith}
+use Rattle.std.proofs.Common.{arith}
 use Rattle.std.specs.String.{string_bytes}
-use Rattle.mt_sessionview.specs.Content.{Marker}
 use Rattle.mt_sessionview.specs.SessionText.{marker_line, held_line}
 use Rattle.mt_sessionview.proofs.SessionText.{whatever_result, front_within, one_more_text, front_after}
 use Rattle.mt_sessionview.proofs.text.append_lines.Goals as goal

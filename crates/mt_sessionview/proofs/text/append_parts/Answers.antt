@@ -1,9 +1,9 @@
-use Rattle.std.proofs.Common.{◌≡◌, ℕ, List, [], ◌∷◌, ◌++◌, sym, ap, ◌∙◌}
+use Rattle.std.proofs.Common.{ℕ, List, [], ◌∷◌, ◌++◌, ap, ◌∙◌}
 use Rattle.std.specs.Prelude.{codes}
 use Rattle.std.specs.Fmt.{decimal}
 use Rattle.std.specs.String.{string_bytes}
 use Rattle.mt_stamp.specs.Texts.{stamp_text}
-use Rattle.mt_sessionview.specs.SessionText.{newline, marker_line, AppendsFront}
+use Rattle.mt_sessionview.specs.SessionText.{newline, marker_line}
 use Rattle.mt_sessionview.proofs.SessionText.{whatever_result, no_piece, three_pieces, four_pieces, five_pieces, six_pieces, all_pieces}
 use Rattle.mt_sessionview.proofs.text.append_parts.Goals as goal
 

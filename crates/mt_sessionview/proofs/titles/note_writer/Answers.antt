@@ -1,7 +1,3 @@
-use Rattle.std.proofs.Common.{◌≡◌, Some, refl, sym, ap, ◌∙◌}
-use Rattle.std.specs.Option.{option_map}
-use Rattle.mt_op.specs.Operation.{Operation}
-use Rattle.mt_op.specs.Writes.{title_written}
 use Rattle.mt_sessionview.proofs.Writers.{tells_nowhere, tells_here}
 use Rattle.mt_sessionview.proofs.titles.note_writer.Goals as goal
 

@@ -1,19 +1,15 @@
-use Rattle.std.proofs.Common.{◌≡◌, ℕ, ◌+◌, ◌-◌, ◌<◌, Bool, true, false, List, Option, Some, None, length, get_or, refl, sym, ap, ◌∙◌, subst, rules, arith}
+use Rattle.std.proofs.Common.{◌≡◌, ℕ, ◌-◌, ◌<◌, Bool, List, Option, None, length, get_or, sym, ap, ◌∙◌, subst, rules, arith}
 use Rattle.std.specs.Option.{IfSome}
-use Rattle.std.proofs.lemmas.Grind.{common_steps}
 use Rattle.std.proofs.lemmas.List.{length-replicate}
 use Rattle.mt_op.specs.Operation.{Operation}
 use Rattle.mt_op.specs.Needs.{needs, meets, clock_of}
 use Rattle.mt_op.specs.Ready.{is_ready}
-use Rattle.mt_sessionview.specs.Tables.{TellsWriters}
-use Rattle.mt_sessionview.specs.Session.{ready_ops}
-use Rattle.mt_sessionview.proofs.Waiting.{element}
 use Rattle.mt_sessionview.proofs.Writers.{inside_by_tells, tells_start, tells_ready, tells_waiting, tells_all, written_whole}
 use Rattle.mt_sessionview.proofs.titles.title_writers.Goals as goal
 
 pub loop-place-init : goal.loop-place-init
 loop-place-init g c =
-    let none = c.in_ok-writers.ensures.items_if_clones_equal (λ y h. first_of (search rules, cc, grind (arith, common_steps))) in
+    let none = c.in_ok-writers.ensures.items_if_clones_equal (λ y h. search rules) in
     record {
       inside = omega arith;
       count = ap length none ∙ length-replicate (length c.args.ops.now) None;
