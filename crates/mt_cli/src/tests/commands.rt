@@ -88,18 +88,16 @@ fn tells_that_the_output_failed(rt: HostRuntime) -> Result<(), Fail> {
     Ok(())
 }
 
+fn is_mistake(rt: &HostRuntime, words: &[&str]) -> Result<bool, Fail> {
+    let told = run(rt, words, b"")?;
+    Ok(told.status == 2 && told.output.is_empty() && !told.errors.is_empty())
+}
+
 #[test]
 fn tells_words_that_do_not_parse(rt: HostRuntime) -> Result<(), Fail> {
-    for words in [
-        ["frob"].as_slice(),
-        ["view", "--frob"].as_slice(),
-        [].as_slice(),
-    ] {
-        let told = run(&rt, words, b"")?;
-        assert_eq!(rt; told.status, 2);
-        assert!(rt; told.output.is_empty());
-        assert!(rt; !told.errors.is_empty());
-    }
+    assert!(rt; is_mistake(&rt, &["frob"])?);
+    assert!(rt; is_mistake(&rt, &["view", "--frob"])?);
+    assert!(rt; is_mistake(&rt, &[])?);
     Ok(())
 }
 

@@ -17,10 +17,6 @@ impl<'a> Slow<'a> {
             asked: 0,
         }
     }
-
-    pub fn asked(&self) -> usize {
-        self.asked
-    }
 }
 
 impl Read for Slow<'_> {
