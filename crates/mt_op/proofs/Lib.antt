@@ -2,3 +2,4 @@ pub mod Readiness
 pub mod Needs
 pub mod Dots
 pub mod Equal
+pub mod Digests

@@ -1,9 +1,10 @@
 -- The number of each refusal.
 use Rattle.std.specs.Prelude.{ℕ}
 use Rattle.mt_op.specs.declared.fault.OpFault.{OpFault}
-use Rattle.mt_op.specs.declared.fault.OpFault.TheVariants.{Memory, NameNotOlder, BadTitle}
+use Rattle.mt_op.specs.declared.fault.OpFault.TheVariants.{Memory, NameNotOlder, BadTitle, BadDigest}
 
 abbrev pub number_of : OpFault → ℕ
 number_of Memory = 0
 number_of NameNotOlder = 5
 number_of BadTitle = 43
+number_of BadDigest = 50

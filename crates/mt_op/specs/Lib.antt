@@ -9,3 +9,4 @@ pub mod Dots
 pub mod Laws
 pub mod Faults
 pub mod Codes
+pub mod Digest

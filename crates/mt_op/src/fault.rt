@@ -16,10 +16,12 @@ pub enum OpFault {
     NameNotOlder,
     #[error("the title is over 255 bytes or has a character below 0x20, or 0x7F")]
     BadTitle,
+    #[error("the text is not 64 hex digits")]
+    BadDigest,
 }
 
 impl OpFault {
-    /// The refusal's number: 0, 5 or 43.
+    /// The refusal's number: 0, 5, 43 or 50.
     pub fn number(&self) -> u8
         ensures { result ≡ number_of self.now }
     {
@@ -27,6 +29,7 @@ impl OpFault {
             OpFault::Memory => 0,
             OpFault::NameNotOlder => 5,
             OpFault::BadTitle => 43,
+            OpFault::BadDigest => 50,
         }
     }
 }

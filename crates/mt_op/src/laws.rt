@@ -8,6 +8,7 @@ ghost use Rattle.mt_op.specs.Bodies.{act_of};
 ghost use Rattle.mt_op.specs.Laws.{ReadyIsDefined};
 
 use crate::body::Body;
+use crate::digest::Digest;
 use crate::op::Op;
 use crate::title::Title;
 use std::alloc::Allocator;
@@ -31,6 +32,13 @@ pub fn compare_titles<A: Allocator>(a: &Title<A>, b: &Title<A>) -> Ordering
     ensures { result ≡ slice_cmp nat_cmp a.now b.now }
 {
     a.cmp(b)
+}
+
+/// Digests are compared by their bytes as numbers, from the first on.
+pub fn compare_digests(first: &Digest, second: &Digest) -> Ordering
+    ensures { result ≡ slice_cmp nat_cmp first.now.0 second.now.0 }
+{
+    first.cmp(second)
 }
 
 /// Bodies are equal where they are of one case and its fields are equal.

@@ -2,6 +2,7 @@
 #![tactic(auto)]
 
 mod body;
+mod digest;
 mod fault;
 mod find;
 pub mod laws;
@@ -12,6 +13,7 @@ mod tests;
 mod title;
 
 pub use body::Body;
+pub use digest::Digest;
 pub use fault::OpFault;
 pub use find::find_op;
 pub use need::{Need, Role};

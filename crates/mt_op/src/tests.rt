@@ -1,5 +1,7 @@
-use crate::laws::{compare_titles, equal_bodies, equal_ops, equal_titles, readiness};
-use crate::{Body, Need, Op, OpFault, Role, Title, find_op};
+use crate::laws::{
+    compare_digests, compare_titles, equal_bodies, equal_ops, equal_titles, readiness,
+};
+use crate::{Body, Digest, Need, Op, OpFault, Role, Title, find_op};
 use mt_stamp::{Dot, Replica, Stamp};
 use mt_testalloc::Refusing;
 use std::alloc::Allocator;
@@ -80,6 +82,48 @@ fn orders_titles_by_their_bytes(rt: HostRuntime) -> Result<(), Fail> {
     Ok(())
 }
 
+// The digest of `abc` (FIPS 180-4).
+const ABC: &str = "ba7816bf8f01cfea414140de5dae2223b00361a396177a9cb410ff61f20015ad";
+
+#[test]
+fn reads_digests_of_64_digits(rt: HostRuntime) -> Result<(), Fail> {
+    let abc = Digest::of(b"abc");
+    assert_eq!(rt; abc.text(rt.alloc())?.as_str(), ABC);
+    assert_eq!(rt; Digest::read(ABC)?, abc);
+    let capitals = hex::encode_upper(rt.alloc(), abc.0)?;
+    assert_eq!(rt; Digest::read(capitals.as_str())?, abc);
+    let longer = format!(in rt.alloc(); "{ABC}a")?;
+    let two_more = format!(in rt.alloc(); "{ABC}ad")?;
+    let other_digit = format!(in rt.alloc(); "{:g<64}", "ba7816")?;
+    let spaced = format!(in rt.alloc(); " {}", "0".repeat(rt.alloc(), 63)?)?;
+    for text in [
+        "",
+        "ba",
+        "ba7816bf8f01cfea414140de5dae2223b00361a396177a9cb410ff61f20015a",
+        longer.as_str(),
+        two_more.as_str(),
+        other_digit.as_str(),
+        spaced.as_str(),
+    ] {
+        assert_eq!(rt; Digest::read(text), Err(OpFault::BadDigest), "{text}");
+    }
+    Ok(())
+}
+
+#[test]
+fn orders_digests_by_their_bytes(rt: HostRuntime) {
+    let mut high = [0; 32];
+    high[0] = 1;
+    let mut low = [255; 32];
+    low[0] = 0;
+    let (low, high) = (Digest(low), Digest(high));
+    assert_eq!(rt; compare_digests(&low, &high), Ordering::Less);
+    assert_eq!(rt; compare_digests(&high, &low), Ordering::Greater);
+    assert_eq!(rt; compare_digests(&low, &low), Ordering::Equal);
+    assert!(rt; low < high);
+    assert!(rt; low != high);
+}
+
 #[test]
 fn makes_operations_that_name_older_ones(rt: HostRuntime) -> Result<(), Fail> {
     let own = Stamp::new(2, A, 2)?;
@@ -157,6 +201,7 @@ fn numbers_its_refusals(rt: HostRuntime) {
         (OpFault::Memory, 0),
         (OpFault::NameNotOlder, 5),
         (OpFault::BadTitle, 43),
+        (OpFault::BadDigest, 50),
     ] {
         assert_eq!(rt; fault.number(), number);
     }
@@ -193,4 +238,17 @@ fn refuses_each_growth(rt: HostRuntime) -> Result<(), Fail> {
         assert!(rt; matches!(made, Err(OpFault::Memory)), "at {at}");
     }
     Err(Fail::from("each run met a refusal"))
+}
+
+#[test]
+fn refuses_the_growth_of_a_digests_text(rt: HostRuntime) -> Result<(), Fail> {
+    let abc = Digest::of(b"abc");
+    let refused = Refusing::new(rt.alloc(), 0);
+    assert_eq!(rt; abc.text(&refused).err(), Some(OpFault::Memory));
+    assert!(rt; refused.has_refused());
+    let granted = Refusing::new(rt.alloc(), 1);
+    let text = abc.text(&granted)?;
+    assert_eq!(rt; text.as_str(), ABC);
+    assert!(rt; !granted.has_refused());
+    Ok(())
 }
