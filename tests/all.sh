@@ -4,3 +4,8 @@ set -e
 cd "$(dirname "$0")/.."
 rt ci
 sh tests/suite.sh "$PWD/crates/radio/out/radio"
+if command -v python3 >/dev/null 2>&1; then
+  python3 tests/real_waves.py "$PWD/crates/radio/out/radio"
+else
+  echo "skipped the comparison with other programs' wave files: no python3"
+fi

@@ -1,6 +1,6 @@
 -- Joining the operations of a log one by one gives the union.
-use Rattle.std.proofs.Common.{◌≡◌, ◌≢◌, ℕ, zero, suc, ◌+◌, ◌<◌, ◌≤◌, Bool, true, false, cond, List, [], ◌∷◌, ◌++◌, ◌&&◌, Option, Some, None, Result, Ok, Err, length, get_or, take, drop, map, refl, sym, ap, subst, ◌∙◌, arith, inl, inr}
-use Rattle.std.specs.Prelude.{IsTrue, is_some, slice_get, insert}
+use Rattle.std.proofs.Common.{◌≡◌, ◌≢◌, ℕ, zero, suc, ◌<◌, ◌≤◌, Bool, true, false, cond, List, [], ◌∷◌, Option, Some, None, Ok, Err, length, get_or, take, map, refl, sym, ap, subst, ◌∙◌, arith, inl, inr}
+use Rattle.std.specs.Prelude.{is_some, slice_get, insert}
 use Rattle.std.specs.FinMap as fin
 use Rattle.std.specs.FinMap.Entries.{find}
 use Rattle.std.specs.Ordering.{is_eq, eq_by_cmp, ordering_reverse}
@@ -241,6 +241,7 @@ HasFront-fails old log ops logged is_log i o at all after front faults.Memory h 
 HasFront-fails old log ops logged is_log i o at all after front (faults.Merge dot) h =
     subst (IsFirstClash old log) (sym h.0) (clash_found old log ops logged is_log i o at all front h.1.0 (ap (λ (d : Dot). fin.get all d) (sym h.0) ∙ h.1.1.0) h.1.1.1)
 HasFront-fails old log ops logged is_log i o at all after front (faults.Read place) h = absurd h
+HasFront-fails old log ops logged is_log i o at all after front (faults.Source place fault) h = absurd h
 HasFront-fails old log ops logged is_log i o at all after front (faults.Log place fault) h = absurd h
 HasFront-fails old log ops logged is_log i o at all after front faults.Write h = absurd h
 
@@ -301,5 +302,6 @@ pub all_failed : (items : List LogMap) (first : LogMap) (rest : List LogMap) (i 
 all_failed items first rest i log all some at is lt here h faults.Memory f = tt
 all_failed items first rest i log all some at is lt here h (faults.Merge dot) f = clash_first items first rest dot some at is (HasLogs-fails first rest i log all dot lt here h f)
 all_failed items first rest i log all some at is lt here h (faults.Read place) f = absurd f
+all_failed items first rest i log all some at is lt here h (faults.Source place fault) f = absurd f
 all_failed items first rest i log all some at is lt here h (faults.Log place fault) f = absurd f
 all_failed items first rest i log all some at is lt here h faults.Write f = absurd f

@@ -1,5 +1,5 @@
 -- Views that are shown or refused.
-use Rattle.std.proofs.Common.{◌≡◌, ℕ, List, Option, Result, Ok, Err, inl, inr}
+use Rattle.std.proofs.Common.{ℕ, List, Option, Result, Ok, Err, inr}
 use Rattle.std.specs.Prelude.{OnOk, IfErr}
 use Rattle.mt_opcodec.specs.Latch.{Latched}
 use Rattle.mt_opcodec.specs.LogValue.{LogMap}

@@ -2,3 +2,5 @@ pub mod Faults
 pub mod Reading
 pub mod Joining
 pub mod Viewing
+pub mod Buffering
+pub mod Info

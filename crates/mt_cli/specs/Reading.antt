@@ -1,13 +1,12 @@
 -- Reading logs from readers, and why one is refused.
-use Rattle.std.specs.Prelude.{◌≡◌, ◌≢◌, ℕ, Bool, true, List, [], ◌∷◌, map, Option, Some, Result, Err, IfSome, ◌+◌, ◌⊎◌}
-use Rattle.mt_opcodec.specs.declared.fault.LogFault.{LogFault}
+use Rattle.std.specs.Prelude.{◌≡◌, ◌≢◌, ℕ, true, List, [], ◌∷◌, Option, IfSome, ◌+◌, ◌⊎◌}
 use Rattle.mt_opcodec.specs.declared.fault.LogFault.TheVariants as log
 use Rattle.mt_opcodec.specs.Latch.{Latched}
 use Rattle.mt_opcodec.specs.LogText.{log_text}
 use Rattle.mt_opcodec.specs.LogReading.{log_at, LogFails}
 use Rattle.mt_opcodec.specs.LogValue.{LogMap, operations}
 use Rattle.mt_cli.specs.declared.fault.CliFault.{CliFault}
-use Rattle.mt_cli.specs.declared.fault.CliFault.TheVariants.{Memory, Read, Log, Merge, Write}
+use Rattle.mt_cli.specs.declared.fault.CliFault.TheVariants.{Memory, Read, Log, Merge, Source, Write}
 
 -- the one text of a log
 abbrev pub text_of : LogMap → List ℕ
@@ -31,6 +30,7 @@ module _ {R : Type 0} (remaining : R → Option (List ℕ)) where
   IsCause index old new (Read place) = (place ≡ index) × (new.failed ≡ true)
   IsCause index old new (Log place fault) = (place ≡ index) × ((fault ≢ log.Memory) × ((bytes : List ℕ) × (Gave old bytes × LogFails fault (log_at bytes))))
   IsCause index old new (Merge dot) = ⊥
+  IsCause index old new (Source place fault) = ⊥
   IsCause index old new Write = ⊥
 
   -- the same of the readers from place `index` on: those before the one at fault gave logs

@@ -6,7 +6,7 @@ use Rattle.mt_opcodec.specs.Union.{union_all, AllAgree, FirstClash}
 use Rattle.mt_sessionview.specs.Session.{session_of}
 use Rattle.mt_sessionview.specs.SessionText.{session_text}
 use Rattle.mt_cli.specs.declared.fault.CliFault.{CliFault}
-use Rattle.mt_cli.specs.declared.fault.CliFault.TheVariants.{Memory, Read, Log, Merge, Write}
+use Rattle.mt_cli.specs.declared.fault.CliFault.TheVariants.{Memory, Read, Log, Merge, Source, Write}
 use Rattle.mt_cli.specs.Reading.{text_of, Gave, GaveLogs, IsCause, HasCause}
 
 -- the text of a log's session
@@ -23,6 +23,7 @@ module _ {W : Type 0} (contents : W → Option (List ℕ)) where
   ShowFails log old new Memory = new ≡ old
   ShowFails log old new Write = (new.failed ≡ true) × AppendsFront (contents old.inner) (contents new.inner) (log_view log)
   ShowFails log old new (Read place) = ⊥
+  ShowFails log old new (Source place fault) = ⊥
   ShowFails log old new (Log place fault) = ⊥
   ShowFails log old new (Merge dot) = ⊥
 
@@ -32,6 +33,7 @@ module _ {W : Type 0} (contents : W → Option (List ℕ)) where
   JoinedFails logs old new (Merge dot) = FirstClash logs dot × (new ≡ old)
   JoinedFails logs old new Write = AllAgree logs × (new.failed ≡ true) × AppendsFront (contents old.inner) (contents new.inner) (view_text logs)
   JoinedFails logs old new (Read place) = ⊥
+  JoinedFails logs old new (Source place fault) = ⊥
   JoinedFails logs old new (Log place fault) = ⊥
 
   -- of inputs: the first that gave no log, with the output as it was, or all gave logs and these are refused

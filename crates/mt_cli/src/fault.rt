@@ -4,6 +4,7 @@ ghost use Rattle.std.specs.Prelude.{◌≡◌};
 ghost use Rattle.mt_cli.specs.Faults.{number_of};
 ghost use Rattle.mt_cli.specs.declared.fault.CliFault.TheVariants.{Memory};
 
+use mt_bwfread::WaveFault;
 use mt_opcodec::LogFault;
 use mt_stamp::Dot;
 use std::alloc::{AllocError, AllocFailed};
@@ -23,6 +24,9 @@ pub enum CliFault {
     /// Two logs have different operations under this dot.
     #[error("two operations have one name")]
     Merge(Dot),
+    /// The bytes of the recording of this place are no wave file.
+    #[error("recording {0} is no wave file: {1}")]
+    Source(usize, WaveFault),
     /// The output failed.
     #[error("the output cannot be written")]
     Write,
@@ -38,6 +42,7 @@ impl CliFault {
             CliFault::Read(_) => 45,
             CliFault::Log(_, fault) => fault.number(),
             CliFault::Merge(_) => 17,
+            CliFault::Source(_, fault) => fault.number(),
             CliFault::Write => 37,
         }
     }

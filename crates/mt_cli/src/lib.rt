@@ -1,7 +1,9 @@
 //! The commands of `radio`.
 #![tactic(auto)]
 
+mod buffer;
 mod fault;
+mod info;
 mod join;
 mod program;
 mod read;
@@ -10,5 +12,6 @@ mod tests;
 mod view;
 
 pub use fault::CliFault;
+pub use info::write_info;
 pub use program::command;
 pub use view::{view_log, view_logs};

@@ -3,6 +3,8 @@
 ghost use Rattle.std.specs.Prelude.{◌≡◌, ◌≤◌};
 
 use crate::fault::CliFault;
+use crate::info::write_info;
+use crate::read::read_all;
 use crate::view::{view_log, view_logs};
 use clap::error::ErrorKind;
 use clap::{Arg, ArgAction, ArgMatches, Command};
@@ -83,6 +85,7 @@ fn run<F: Files + AllocGlobal, R: Read, W: Write>(
     };
     match matches.subcommand() {
         Some(("view", view)) => run_view(rt, view, input, output),
+        Some(("info", info)) => run_info(rt, info, output),
         _ => Ok(()),
     }
 }
@@ -110,13 +113,18 @@ fn radio<'a>(alloc: Global) -> Result<Command<'a>, AllocError> {
     let view = Command::new(alloc, "view")
         .about("Prints the session of the union of the logs")
         .arg(logs)?;
+    let wave = Arg::new(alloc, "WAVE").required(true).help("A wave file");
+    let info = Command::new(alloc, "info")
+        .about("Prints what a wave file says of itself")
+        .arg(wave)?;
     Command::new(alloc, "radio")
         .bin_name("radio")?
         .version("0.1.0")
         .about("A nondestructive multitrack audio editor whose sessions are replicated")
         .no_binary_name(true)
         .subcommand_required(true)
-        .subcommand(view)
+        .subcommand(view)?
+        .subcommand(info)
 }
 
 fn run_view<F: Files + AllocGlobal, R: Read, W: Write>(
@@ -132,6 +140,20 @@ fn run_view<F: Files + AllocGlobal, R: Read, W: Write>(
         }
         _ => Ok(view_log(rt.alloc(), input, output)?),
     }
+}
+
+fn run_info<F: Files + AllocGlobal, W: Write>(
+    rt: &F,
+    words: &ArgMatches<'_>,
+    output: &mut Latch<W>,
+) -> Result<(), Stop> {
+    let names = words.get_strs("WAVE").unwrap_or(&[]);
+    let mut files = open_all(rt, names)?;
+    for file in &mut files {
+        let bytes = read_all(rt.alloc(), 0, file)?;
+        write_info(rt.alloc(), &bytes, output)?;
+    }
+    Ok(())
 }
 
 // Opens the files from left to right. One that cannot be opened is refused as one that cannot be read.

@@ -9,6 +9,22 @@ use mt_opcodec::{Latch, LatchFault, Log, LogFault};
 use std::alloc::Allocator;
 use std::io::Read;
 
+/// Reads the bytes of the input at this place.
+pub(crate) fn read_all<A: Allocator, R: Read>(
+    alloc: A,
+    place: usize,
+    input: &mut Latch<R>,
+) -> Result<Vec<u8, A>, CliFault>
+    ensures ok { IfOk result (λ bytes. Gave R.remaining input.old bytes.items) }
+    ensures err { IfErr result (IsCause R.remaining place input.old input.new) }
+{
+    match input.get_all(alloc) {
+        Ok(bytes) => Ok(bytes),
+        Err(LatchFault::Memory) => Err(CliFault::Memory),
+        Err(_) => Err(CliFault::Read(place)),
+    }
+}
+
 /// Reads the log of the input at this place.
 pub(crate) fn read_log<A: Allocator + Clone, R: Read>(
     alloc: A,
@@ -18,11 +34,7 @@ pub(crate) fn read_log<A: Allocator + Clone, R: Read>(
     ensures ok { IfOk result (λ log. Gave R.remaining input.old (text_of log)) }
     ensures err { IfErr result (IsCause R.remaining place input.old input.new) }
 {
-    let bytes = match input.get_all(alloc.clone()?) {
-        Ok(bytes) => bytes,
-        Err(LatchFault::Memory) => return Err(CliFault::Memory),
-        Err(_) => return Err(CliFault::Read(place)),
-    };
+    let bytes = read_all(alloc.clone()?, place, input)?;
     match Log::read(alloc, &bytes) {
         Ok(log) => Ok(log),
         Err(fault) => Err(refused(place, fault)),

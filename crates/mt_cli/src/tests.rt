@@ -2,10 +2,12 @@
 //! turn, and the command line.
 mod commands;
 mod fakes;
+mod infos;
 mod refused_growth;
 mod views;
 
 use crate::CliFault;
+use mt_bwfread::WaveFault;
 use mt_op::{Body, Op, OpFault, Title};
 use mt_opcodec::{Log, LogFault, ReadFault};
 use mt_stamp::{Dot, Replica, Stamp};
@@ -66,6 +68,13 @@ fn numbers_its_refusals(rt: HostRuntime) {
         (CliFault::Log(3, LogFault::OutOfOrder(1)), 15),
         (CliFault::Log(4, LogFault::Trailing), 16),
         (CliFault::Merge(dot), 17),
+        (CliFault::Source(0, WaveFault::NotRiff), 26),
+        (CliFault::Source(1, WaveFault::NotWave), 27),
+        (CliFault::Source(2, WaveFault::Truncated), 28),
+        (CliFault::Source(3, WaveFault::NoFmt), 29),
+        (CliFault::Source(4, WaveFault::BadFmt), 30),
+        (CliFault::Source(5, WaveFault::Unsupported), 31),
+        (CliFault::Source(6, WaveFault::NoData), 32),
         (CliFault::Write, 37),
     ] {
         assert_eq!(rt; fault.number(), number);

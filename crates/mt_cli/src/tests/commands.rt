@@ -68,6 +68,24 @@ fn tells_a_refusal_by_its_number(rt: HostRuntime) -> Result<(), Fail> {
 }
 
 #[test]
+fn takes_one_wave_file(rt: HostRuntime) -> Result<(), Fail> {
+    let told = run(&rt, &["info", "no such file"], b"")?;
+    assert_eq!(rt; told.status, 1);
+    assert!(rt; told.output.is_empty());
+    assert_eq!(rt; told.errors.as_slice(), b"radio: fault 45\n".as_slice());
+    for words in [
+        ["info"].as_slice(),
+        ["info", "one.wav", "two.wav"].as_slice(),
+    ] {
+        let told = run(&rt, words, b"")?;
+        assert_eq!(rt; told.status, 2);
+        assert!(rt; told.output.is_empty());
+        assert!(rt; told.errors.as_slice().starts_with(b"error: "));
+    }
+    Ok(())
+}
+
+#[test]
 fn tells_that_the_output_failed(rt: HostRuntime) -> Result<(), Fail> {
     let news = news(&rt)?;
     for word in ["view", "--help", "--version"] {

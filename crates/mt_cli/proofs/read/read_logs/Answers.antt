@@ -1,8 +1,6 @@
-use Rattle.std.proofs.Common.{◌≡◌, ◌+◌, ◌<◌, ℕ, suc, length, get_or, take, ◌++◌, ◌∷◌, [], subst, sym, ap, refl, ◌∙◌, arith}
+use Rattle.std.proofs.Common.{◌≡◌, ◌+◌, ℕ, suc, take, ◌++◌, ◌∷◌, [], subst, sym, refl, ◌∙◌, arith}
 use Rattle.std.proofs.lemmas.Result.{err_from_is_err_and}
 use Rattle.std.proofs.lemmas.List.{length-set, get_or-set_same}
-use Rattle.mt_opcodec.specs.LogValue.{LogMap}
-use Rattle.mt_opcodec.specs.Latch.{Latched}
 use Rattle.mt_cli.specs.Reading.{GaveLogs}
 use Rattle.mt_cli.proofs.Readers.{Gave-same, GaveLogs-more, IsCause-same, HasCause-at, HasCause-memory, left_at, left_more}
 use Rattle.mt_cli.proofs.read.read_logs.Goals as goal

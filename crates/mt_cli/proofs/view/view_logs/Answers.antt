@@ -1,4 +1,4 @@
-use Rattle.std.proofs.Common.{◌≡◌, refl, inl}
+use Rattle.std.proofs.Common.{refl, inl}
 use Rattle.std.proofs.lemmas.Result.{err_from_is_err_and}
 use Rattle.mt_cli.proofs.Readers.{HasCause-memory}
 use Rattle.mt_cli.proofs.view.view_logs.Goals as goal

@@ -1,0 +1,58 @@
+"""Wave files as bytes, and the text of `radio info`, written from the formats alone (docs/formats.md) and not by the
+program under test."""
+import hashlib
+import struct
+
+PCM = bytes.fromhex("0100000000001000800000aa00389b71")
+FLOAT = bytes.fromhex("0300000000001000800000aa00389b71")
+
+
+def chunk(name, content, pad=True):
+    return name + struct.pack("<I", len(content)) + content + (b"\0" if pad and len(content) % 2 else b"")
+
+
+def riff(*chunks, size=None, magic=b"RIFF", kind=b"WAVE"):
+    """A RIFF file of these chunks; `size` stands in place of the right size."""
+    body = kind + b"".join(chunks)
+    return magic + struct.pack("<I", len(body) if size is None else size) + body
+
+
+def fmt(channels=1, rate=48000, bits=24, tag=1, align=None, extension=b""):
+    align = channels * bits // 8 if align is None else align
+    return chunk(b"fmt ", struct.pack("<HHIIHH", tag, channels, rate, rate * align, align, bits) + extension)
+
+
+def extensible(channels=1, rate=48000, bits=24, valid=None, subformat=PCM):
+    return fmt(channels, rate, bits, 0xFFFE, extension=struct.pack("<HHI", 22, bits if valid is None else valid, 0) + subformat)
+
+
+def data(content, **more):
+    return chunk(b"data", content, **more)
+
+
+def bext(description=b"", originator=b"", reference=b"", date=b"", time=b"", reference_time=0, version=0, history=b"", reserved=b""):
+    fields = [(description, 256), (originator, 32), (reference, 32), (date, 10), (time, 8)]
+    text = b"".join(part.ljust(length, b"\0") for part, length in fields)
+    return text + struct.pack("<QH", reference_time, version) + reserved.ljust(254, b"\0") + history
+
+
+def point(name, at, position=7, start=0):
+    return struct.pack("<II4sIII", name, position, b"data", start, start, at)
+
+
+def cue(*points, count=None):
+    return chunk(b"cue ", struct.pack("<I", len(points) if count is None else count) + b"".join(points))
+
+
+def labl(name, text):
+    return chunk(b"labl", struct.pack("<I", name) + text)
+
+
+def adtl(*chunks):
+    return chunk(b"LIST", b"adtl" + b"".join(chunks))
+
+
+def info(file, rate=48000, channels=1, bits=24, frames=1, extension=("bext none",), cues=()):
+    """The text of this file, whose lines on the extension and on the cues are given."""
+    lines = ["digest " + hashlib.sha256(file).hexdigest(), "rate %d" % rate, "channels %d" % channels, "bits %d" % bits, "frames %d" % frames]
+    return "".join(line + "\n" for line in lines + list(extension) + list(cues))
