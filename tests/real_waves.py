@@ -17,7 +17,7 @@ FIELDS = ["description", "originator", "reference", "date", "time", "time-refere
 
 
 def output(*words):
-    return subprocess.run(words, check=True, stdout=subprocess.PIPE, stderr=subprocess.DEVNULL, text=True).stdout
+    return subprocess.run(words, check=True, stdout=subprocess.PIPE, stderr=subprocess.DEVNULL, text=True, errors="replace").stdout
 
 
 def soxi(path):
@@ -46,7 +46,7 @@ def sndfile_info(path):
         names = ["Description", "Originator", "Origination ref", "Origination date", "Origination time"]
         for field, name in zip(FIELDS, names):
             facts[field] = re.search(r"^%s *: (.*)$" % name, told, re.M).group(1)
-        facts["time-reference"] = int(re.search(r"^Time ref *: 0x([0-9a-f]+)", told, re.M).group(1), 16)
+        facts["time-reference"] = int(re.search(r"^Time ref *: (\w+)", told, re.M).group(1), 0)
         facts["history"] = re.search(r"^Coding history *: (.*)", told, re.M | re.S).group(1)
     return facts
 

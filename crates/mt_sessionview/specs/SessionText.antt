@@ -1,5 +1,5 @@
 -- How a session is written (profile): a line for each marker, in order, and one for the number held.
-use Rattle.std.specs.Prelude.{◌≡◌, ℕ, List, [], ◌∷◌, ◌++◌, codes}
+use Rattle.std.specs.Prelude.{ℕ, List, [], ◌∷◌, ◌++◌, codes}
 use Rattle.std.specs.Fmt.{decimal}
 use Rattle.std.specs.List.{flat_map}
 use Rattle.mt_stamp.specs.Texts.{stamp_text}
@@ -19,10 +19,3 @@ held_line held = codes "held " ++ (decimal held ++ newline ∷ [])
 
 abbrev pub session_text : Content → List ℕ
 session_text c = flat_map marker_line c.markers ++ held_line c.held
-
--- after what was there stands a front of these bytes
-pub record AppendsFront (old new bytes : List ℕ) : Type 0 where
-  pub front : List ℕ
-  pub rest : List ℕ
-  pub is : bytes ≡ front ++ rest
-  pub appended : new ≡ old ++ front

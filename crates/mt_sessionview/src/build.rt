@@ -106,7 +106,7 @@ fn count_held(ready: &[bool]) -> u64
 
 /// The session of these operations, whose dots rise: in a time of n log n for n of them. Refused only as
 /// `Memory` (0).
-pub fn session_of_ops<A: Allocator + Clone>(
+pub(crate) fn session_of_ops<A: Allocator + Clone>(
     alloc: A,
     ops: &[Op<A>],
 ) -> Result<Session<A>, SessionFault>

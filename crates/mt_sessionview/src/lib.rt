@@ -13,8 +13,6 @@ mod tests;
 mod text;
 mod titles;
 
-pub use build::session_of_ops;
 pub use fault::SessionFault;
 pub use scratch::{from_scratch, write_text};
 pub use session::{MarkerView, Session};
-pub use text::{append_held_line, append_marker_line, append_session_text};

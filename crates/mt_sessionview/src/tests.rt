@@ -6,10 +6,9 @@ ghost use Rattle.mt_op.specs.Operation.{Operation};
 ghost use Rattle.mt_op.specs.Dots.{dots_rise, op_dot};
 ghost use Rattle.mt_op.specs.Valid.{IsOperation};
 
-use crate::{
-    MarkerView, SessionFault, append_held_line, append_marker_line, append_session_text,
-    session_of_ops,
-};
+use crate::build::session_of_ops;
+use crate::text::{append_held_line, append_marker_line, append_session_text};
+use crate::{MarkerView, SessionFault};
 use mt_op::{Body, Op, OpFault, Title};
 use mt_stamp::{Replica, Stamp};
 use mt_testalloc::Refusing;

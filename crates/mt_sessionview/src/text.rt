@@ -1,8 +1,8 @@
 //! Sessions as text.
 
-ghost use Rattle.std.specs.Prelude.{◌≡◌, ◌++◌, OnOk, OnErr};
+ghost use Rattle.std.specs.Prelude.{◌≡◌, ◌++◌, OnOk};
 ghost use Rattle.std.specs.String.{string_bytes};
-ghost use Rattle.mt_sessionview.specs.SessionText.{marker_line, held_line, session_text, AppendsFront};
+ghost use Rattle.mt_sessionview.specs.SessionText.{marker_line, held_line, session_text};
 
 use crate::session::{MarkerView, Session};
 use itoa::Buffer;
@@ -10,13 +10,12 @@ use mt_stamp::Stamp;
 use std::alloc::{AllocError, Allocator};
 
 /// Writes `marker STAMP at N title TITLE` and a line feed after what `text` holds: the position in frames, in
-/// decimal, and the title as it is. Where memory is refused, a front of the line was written.
-pub fn append_marker_line<A: Allocator, B: Allocator>(
+/// decimal, and the title as it is.
+pub(crate) fn append_marker_line<A: Allocator, B: Allocator>(
     text: &mut String<A>,
     view: &MarkerView<B>,
 ) -> Result<(), AllocError>
-    ensures ok { OnOk result (string_bytes text.new ≡ string_bytes text.old ++ marker_line view.now) }
-    ensures err { OnErr result (AppendsFront (string_bytes text.old) (string_bytes text.new) (marker_line view.now)) }
+    ensures { OnOk result (string_bytes text.new ≡ string_bytes text.old ++ marker_line view.now) }
 {
     append_parts(text, view.marker, view.at, view.title.text())
 }
@@ -28,8 +27,7 @@ fn append_parts<A: Allocator>(
     at: u32,
     title: &str,
 ) -> Result<(), AllocError>
-    ensures ok { OnOk result (string_bytes text.new ≡ string_bytes text.old ++ marker_line (record { marker = marker; at = at; title = title.now })) }
-    ensures err { OnErr result (AppendsFront (string_bytes text.old) (string_bytes text.new) (marker_line (record { marker = marker; at = at; title = title.now }))) }
+    ensures { OnOk result (string_bytes text.new ≡ string_bytes text.old ++ marker_line (record { marker = marker; at = at; title = title.now })) }
 {
     let mut number = Buffer::new();
     text.push_str("marker ")?;
@@ -42,11 +40,12 @@ fn append_parts<A: Allocator>(
     Ok(())
 }
 
-/// Writes `held N` and a line feed after what `text` holds. Where memory is refused, a front of the line was
-/// written.
-pub fn append_held_line<A: Allocator>(text: &mut String<A>, held: u64) -> Result<(), AllocError>
-    ensures ok { OnOk result (string_bytes text.new ≡ string_bytes text.old ++ held_line held) }
-    ensures err { OnErr result (AppendsFront (string_bytes text.old) (string_bytes text.new) (held_line held)) }
+/// Writes `held N` and a line feed after what `text` holds.
+pub(crate) fn append_held_line<A: Allocator>(
+    text: &mut String<A>,
+    held: u64,
+) -> Result<(), AllocError>
+    ensures { OnOk result (string_bytes text.new ≡ string_bytes text.old ++ held_line held) }
 {
     let mut number = Buffer::new();
     text.push_str("held ")?;
@@ -56,13 +55,12 @@ pub fn append_held_line<A: Allocator>(text: &mut String<A>, held: u64) -> Result
 }
 
 /// Writes a session after what `text` holds: a line for each marker in order, then `held N`. Each line ends
-/// with a line feed. Where memory is refused, a front of it was written.
-pub fn append_session_text<A: Allocator, B: Allocator>(
+/// with a line feed.
+pub(crate) fn append_session_text<A: Allocator, B: Allocator>(
     text: &mut String<A>,
     session: &Session<B>,
 ) -> Result<(), AllocError>
-    ensures ok { OnOk result (string_bytes text.new ≡ string_bytes text.old ++ session_text session.now) }
-    ensures err { OnErr result (AppendsFront (string_bytes text.old) (string_bytes text.new) (session_text session.now)) }
+    ensures { OnOk result (string_bytes text.new ≡ string_bytes text.old ++ session_text session.now) }
 {
     append_lines(text, session.markers.items(), session.held)
 }
@@ -73,8 +71,7 @@ fn append_lines<A: Allocator, B: Allocator>(
     markers: &[MarkerView<B>],
     held: u64,
 ) -> Result<(), AllocError>
-    ensures ok { OnOk result (string_bytes text.new ≡ string_bytes text.old ++ session_text (record { markers = markers.now; held = held })) }
-    ensures err { OnErr result (AppendsFront (string_bytes text.old) (string_bytes text.new) (session_text (record { markers = markers.now; held = held }))) }
+    ensures { OnOk result (string_bytes text.new ≡ string_bytes text.old ++ session_text (record { markers = markers.now; held = held })) }
 {
     for view in markers {
         append_marker_line(text, view)?;
