@@ -170,6 +170,19 @@ told("label_of_three_bytes", riff(fmt(), FRAME, cue(point(1, 5)), adtl(chunk(b"l
 told("bad_list_ends_by_itself", riff(fmt(), FRAME, cue(point(1, 5), point(2, 6)), adtl(labl(1, b"News\0"), b"labl\xff\0\0\0\x02\0\0\0"), adtl(labl(2, b"Late\0"))), cues=["cue 1 at 5 label News", "cue 2 at 6 label Late"])
 told("other_lists_and_notes", riff(fmt(), FRAME, cue(point(1, 5)), chunk(b"LIST", b"INFO" + labl(1, b"Info\0")), adtl(chunk(b"note", b"\x01\0\0\0Note\0"), labl(1, b"News\0"))), cues=["cue 1 at 5 label News"])
 told("list_of_two_bytes", riff(fmt(), FRAME, cue(point(1, 5)), chunk(b"LIST", b"ad")), cues=["cue 1 at 5"])
+# the examples that the README shows
+EXAMPLES = os.path.join(os.path.dirname(os.path.dirname(os.path.abspath(__file__))), "examples")
+with open(os.path.join(EXAMPLES, "morning.log"), "rb") as file:
+    MORNING = file.read()
+case("example_log", ["view", "log"], files={"log": MORNING}, stdout=marker_line((1, A, 1), 480, "Headlines") + marker_line((2, A, 2), 96000, "Weather for the coast") + "held 0\n")
+JINGLE = riff(
+    chunk(b"bext", bext(b"Jingle of the morning programme", b"Davonelume", b"DE-0001", b"2026-11-22", b"06:00:00", 1036800000, 0, b"A=PCM,F=48000,W=16,M=mono\r\n")),
+    fmt(bits=16), data(bytes(range(96))), cue(point(1, 0), point(2, 24)), adtl(labl(1, b"Bell\0"), labl(2, b"Voice\0")),
+)
+with open(os.path.join(EXAMPLES, "jingle.wav"), "wb") as file:
+    file.write(JINGLE)
+told("example_wave", JINGLE, bits=16, frames=48, extension=["bext 0", "description Jingle of the morning programme", "originator Davonelume", "reference DE-0001", "date 2026-11-22", "time 06:00:00", "time-reference 1036800000", "history A=PCM,F=48000,W=16,M=mono\\x0d\\x0a"],
+     cues=["cue 1 at 0 label Bell", "cue 2 at 24 label Voice"])
 case("wave_called_dash", ["info", "-"], files={"-": SMALLEST}, stdout=info(SMALLEST, **EIGHT))
 
 # wave files that are refused
