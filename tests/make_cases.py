@@ -22,7 +22,7 @@ def case(name, words, files=None, stdin=b"", stdout="", status=0, stderr=None, o
     if stderr is None:
         stderr = ""
     parts = {
-        "words": "".join(word + "\n" for word in words).encode(),
+        "words": b"".join((word if isinstance(word, bytes) else word.encode()) + b"\n" for word in words),
         "stdin": stdin,
         "stdout": stdout.encode(),
         "stderr": stderr.encode(),
@@ -228,6 +228,7 @@ fault("output_to_a_closed_pipe", 37, ["view", "log"], files={"log": ONE}, output
 case("no_argument", [], status=2, stderr="error: 'radio' requires a subcommand but one was not provided\n  [subcommands: view, info, help]\n\n" + USAGE)
 case("frob", ["frob"], status=2, stderr="error: unrecognized subcommand 'frob'\n\n" + USAGE)
 case("unknown_option", ["view", "--frob"], status=2, stderr="error: unexpected argument '--frob' found\n\n  tip: to pass '--frob' as a value, use '-- --frob'\n\nUsage: radio view [LOG]...\n\nFor more information, try '--help'.\n")
+case("word_of_no_text", ["view", b"\xff\xfe"], status=2, stderr="error: invalid UTF-8 was detected in one or more arguments\n\n" + USAGE)
 case("version", ["--version"], stdout="radio 0.1.0\n")
 case("version_in_short", ["-V"], stdout="radio 0.1.0\n")
 HELP = """A nondestructive multitrack audio editor whose sessions are replicated

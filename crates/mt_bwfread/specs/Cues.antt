@@ -38,7 +38,7 @@ pub record Named : Type 0 where
   pub name : ℕ
   pub text : List ℕ
 
--- the label that a chunk labl of four bytes or more is; another chunk is none
+-- the label that a chunk labl of four bytes or more is; another chunk, and a shorter one, is none (profile)
 unfoldable pub label_in : Chunk → List Named
 label_in c =
     if bytes_eq c.id (codes "labl") && nat_le 4 (length c.content)
@@ -65,7 +65,7 @@ labels_left list file = labels_among list ++ labels_in (chunks_of file)
 unfoldable pub labels_of : List ℕ → List Named
 labels_of text = labels_in (chunks_in text)
 
--- the text of the first label of this name
+-- the text of the first label of this name, which counts where there are several (profile)
 unfoldable pub label_for : ℕ → List Named → Option (List ℕ)
 label_for name labels = option_map (λ l. l.text) (find (λ l. l.name == name) labels)
 

@@ -69,7 +69,7 @@ chunks_of bytes = front_chunks (length bytes) bytes
 unfoldable pub rest_of : List ℕ → List ℕ
 rest_of bytes = front_rest (length bytes) bytes
 
--- the content of the first chunk with this id
+-- the content of the first chunk with this id, which counts where there are several (profile)
 unfoldable pub content_of : List ℕ → List Chunk → Option (List ℕ)
 content_of id [] = None
 content_of id (c ∷ cs) = if bytes_eq c.id id then Some c.content else content_of id cs

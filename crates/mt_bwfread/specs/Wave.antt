@@ -53,7 +53,7 @@ pcm = 0x01 ∷ 0x00 ∷ 0x00 ∷ 0x00 ∷ 0x00 ∷ 0x00 ∷ 0x10 ∷ 0x00 ∷ 0x
 abbrev pub is_width : ℕ → Bool
 is_width bits = bits == 8 || bits == 16 || bits == 24 || bits == 32
 
--- what is wrong with the numbers of PCM
+-- what is wrong with the numbers of PCM, in this order (profile)
 unfoldable pub numbers_fault : List ℕ → Option WaveFault
 numbers_fault fmt =
     if not (is_width (bits_in fmt)) then Some Unsupported
@@ -80,11 +80,11 @@ abbrev pub contents_fault : Option (List ℕ) → Option (List ℕ) → Option W
 contents_fault None samples = Some NoFmt
 contents_fault (Some fmt) samples = option_or (format_fault fmt) (samples_fault samples)
 
--- what is wrong with the chunks of a wave
+-- what is wrong with the chunks of a wave, the format before the samples (profile)
 unfoldable pub fault_in : List Chunk → Option WaveFault
 fault_in cs = contents_fault (content_of (codes "fmt ") cs) (content_of (codes "data") cs)
 
--- why a text is no wave file, or None where it is one: the first of these
+-- why a text is no wave file, or None where it is one: the first of these (profile)
 unfoldable pub fault_of : List ℕ → Option WaveFault
 fault_of text =
     if not (is_riff text) then Some NotRiff
@@ -131,7 +131,7 @@ width_of text = bits_of text / 8
 unfoldable pub frames_of : List ℕ → ℕ
 frames_of text = length (samples_of text) / (channels_of text * width_of text)
 
--- The sample that the bytes begin with, at 32-bit scale: one byte is unsigned with its zero at 128, and
+-- The sample that the bytes begin with, at 32-bit scale (profile): one byte is unsigned with its zero at 128, and
 -- two to four bytes are two's complement.
 unfoldable pub scaled : ℕ → List ℕ → ℤ
 scaled bits bytes =

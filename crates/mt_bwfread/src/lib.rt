@@ -7,8 +7,8 @@
 //!     let left = wave.sample(frame, 0);
 //! }
 //! for index in 0..wave.cue_count() {
-//!     if let Some(cue) = wave.cue(index) {
-//!         // at cue.at, named cue.label
+//!     if let Some(point) = wave.point(index) {
+//!         // at point.at, and named by the first of wave.labels() of its name
 //!     }
 //! }
 //! ```

@@ -61,6 +61,7 @@ fn sample(wave: &Wave<'_>, frame: u64, channel: u16) -> Option<i64> {
     }
 }
 
+// smallest_wave
 #[test]
 fn smallest(rt: HostRuntime) -> Result<(), Fail> {
     let wave = Wave::read(&SMALLEST).ok().ok_or("a wave file")?;
@@ -79,6 +80,7 @@ fn smallest(rt: HostRuntime) -> Result<(), Fail> {
     Ok(())
 }
 
+// smallest_wave: its fronts
 #[test]
 fn prefixes(rt: HostRuntime) {
     for len in 0..SMALLEST.len() {
@@ -105,6 +107,7 @@ fn edited(at: usize, bytes: &[u8]) -> [u8; 45] {
     text
 }
 
+// smallest_wave: one other field
 #[test]
 fn edits(rt: HostRuntime) {
     for (want, at, bytes) in [

@@ -5,7 +5,7 @@ use Rattle.std.specs.declared.cmp.Ordering.{Ordering}
 use Rattle.std.specs.declared.cmp.Ordering.TheVariants.{Less, Equal, Greater}
 use Rattle.std.specs.Cmp.{IsTotalOrder, then_total, on_total, nat_cmp_total, tied_itself, alike_right, Equal-is}
 use Rattle.mt_stamp.specs.Moment.{Moment, stamp_cmp}
-use Rattle.mt_cells.specs.Pairs.{Written, written_cmp, greater}
+use Rattle.mt_cells.specs.Pairs.{Timestamped, written_cmp, greater}
 use mathlib.Core.Path.{sym, ap, ◌∙◌}
 
 stamps_total : IsTotalOrder stamp_cmp
@@ -14,7 +14,7 @@ stamps_total =
     (then_total (on_total (λ (m : Moment). m.replica.0) nat_cmp_total) (on_total (λ (m : Moment). m.seq) nat_cmp_total))
 
 pub written_total : {T : Type 0} {cmp : T → T → Ordering} → IsTotalOrder cmp → IsTotalOrder (written_cmp cmp)
-written_total {T} o = then_total (on_total (λ (w : Written T). w.stamp) stamps_total) (on_total (λ (w : Written T). w.value) o)
+written_total {T} o = then_total (on_total (λ (w : Timestamped T). w.stamp) stamps_total) (on_total (λ (w : Timestamped T). w.value) o)
 
 module _ {K : Type 0} {R : K → K → Ordering} (o : IsTotalOrder R) where
   -- the greater, by what the order says

@@ -5,12 +5,12 @@ use Rattle.std.specs.declared.cmp.Ordering.{Ordering}
 use Rattle.mt_stamp.specs.Moment.{Moment, stamp_cmp}
 
 -- a value with the stamp of the operation that wrote it
-pub record Written (T : Type 0) : Type 0 where
+pub record Timestamped (T : Type 0) : Type 0 where
   pub stamp : Moment
   pub value : T
 
 -- by stamp, and then by value
-abbrev pub written_cmp : {T : Type 0} → (T → T → Ordering) → Written T → Written T → Ordering
+abbrev pub written_cmp : {T : Type 0} → (T → T → Ordering) → Timestamped T → Timestamped T → Ordering
 written_cmp cmp a b = ordering_then (stamp_cmp a.stamp b.stamp) (cmp a.value b.value)
 
 -- the greater of two, and the first where neither is

@@ -18,9 +18,9 @@ pub struct Register<T: Ord> {
 }
 
 impl<T: Ord> Model for Register<T> {
-    ghost use Rattle.mt_cells.specs.Pairs.{Written};
+    ghost use Rattle.mt_cells.specs.Pairs.{Timestamped};
 
-    ghost Value = { Written T };
+    ghost Value = { Timestamped T };
 
     ghost view = { λ r. record { stamp = r.stamp; value = r.value } };
 }

@@ -18,6 +18,7 @@ fn holds_what_it_was_made_of(rt: HostRuntime) -> Result<(), Fail> {
     Ok(())
 }
 
+// two_retitles
 #[test]
 fn keeps_the_last_of_two_retitles(rt: HostRuntime) -> Result<(), Fail> {
     let by_a = Stamp::new(2, A, 2)?;

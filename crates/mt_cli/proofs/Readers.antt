@@ -18,16 +18,16 @@ module _ {R : Type 0} (remaining : R → Option (List ℕ)) where
   GaveLogs-more (x ∷ latches) (n ∷ logs) (suc i) latch m lt at h gave = (h.0, GaveLogs-more latches logs i latch m (omega arith) at h.1 gave)
 
   pub HasCause-at : (old new : List (Latched R)) (logs : List LogMap) (i start : ℕ) (before after : Latched R) (fault : CliFault) → length new ≡ length old → i < length old → before ≡ get_or old i before → after ≡ get_or new i after
-      → GaveLogs remaining (take i old) logs → IsCause remaining (start + i) before after fault → HasCause remaining start old new fault
-  HasCause-at [] new logs i start before after fault same lt at_old at_new gave cause = absurd (omega arith)
-  HasCause-at (x ∷ old) [] logs i start before after fault same lt at_old at_new gave cause = absurd (omega arith)
-  HasCause-at (x ∷ old) (y ∷ new) logs zero start before after fault same lt at_old at_new gave cause =
+      → GaveLogs remaining (take i old) logs → drop (suc i) new ≡ drop (suc i) old → IsCause remaining (start + i) before after fault → HasCause remaining start old new fault
+  HasCause-at [] new logs i start before after fault same lt at_old at_new gave later cause = absurd (omega arith)
+  HasCause-at (x ∷ old) [] logs i start before after fault same lt at_old at_new gave later cause = absurd (omega arith)
+  HasCause-at (x ∷ old) (y ∷ new) logs zero start before after fault same lt at_old at_new gave later cause =
       let here : start + 0 ≡ start = omega arith in
-      inl (subst (λ (n : ℕ). IsCause remaining n x y fault) here (subst (λ (l : Latched R). IsCause remaining (start + 0) x l fault) at_new (subst (λ (l : Latched R). IsCause remaining (start + 0) l after fault) at_old cause)))
-  HasCause-at (x ∷ old) (y ∷ new) [] (suc i) start before after fault same lt at_old at_new gave cause = absurd gave
-  HasCause-at (x ∷ old) (y ∷ new) (m ∷ logs) (suc i) start before after fault same lt at_old at_new gave cause =
+      inl ((subst (λ (n : ℕ). IsCause remaining n x y fault) here (subst (λ (l : Latched R). IsCause remaining (start + 0) x l fault) at_new (subst (λ (l : Latched R). IsCause remaining (start + 0) l after fault) at_old cause))), λ _. later)
+  HasCause-at (x ∷ old) (y ∷ new) [] (suc i) start before after fault same lt at_old at_new gave later cause = absurd gave
+  HasCause-at (x ∷ old) (y ∷ new) (m ∷ logs) (suc i) start before after fault same lt at_old at_new gave later cause =
       let next : start + suc i ≡ (start + 1) + i = omega arith in
-      inr (m, (gave.0, HasCause-at old new logs i (start + 1) before after fault (omega arith) (omega arith) at_old at_new gave.1 (subst (λ (n : ℕ). IsCause remaining n before after fault) next cause)))
+      inr (m, (gave.0, HasCause-at old new logs i (start + 1) before after fault (omega arith) (omega arith) at_old at_new gave.1 later (subst (λ (n : ℕ). IsCause remaining n before after fault) next cause)))
 
   -- a reader and what is read out of a slice in its place
   pub Gave-same : (raw latch : Latched R) (m : LogMap) → latch ≡ raw → Gave remaining raw (text_of m) → Gave remaining latch (text_of m)
@@ -41,7 +41,7 @@ module _ {R : Type 0} (remaining : R → Option (List ℕ)) where
   pub HasCause-memory : (start : ℕ) (old new : List (Latched R)) → length new ≡ length old → HasCause remaining start old new Memory
   HasCause-memory start [] new same = refl
   HasCause-memory start (x ∷ old) [] same = absurd (omega arith)
-  HasCause-memory start (x ∷ old) (y ∷ new) same = inl tt
+  HasCause-memory start (x ∷ old) (y ∷ new) same = inl (tt, λ other. absurd (other refl))
 
 -- after one more reader was read
 pub left_more : {X : Type 0} (i : ℕ) (xs ys : List X) (x : X) → drop i xs ≡ drop i ys → drop (i + 1) (set xs i x) ≡ drop (i + 1) ys

@@ -33,9 +33,10 @@ module _ {R : Type 0} (remaining : R → Option (List ℕ)) where
   IsCause index old new (Source place fault) = ⊥
   IsCause index old new Write = ⊥
 
-  -- the same of the readers from place `index` on: those before the one at fault gave logs
+  -- The same of the readers from place `index` on: those before the one at fault gave logs, and those behind it were
+  -- not asked, unless memory ran out.
   abbrev pub HasCause : ℕ → List (Latched R) → List (Latched R) → CliFault → Type 0
   HasCause index [] new fault = fault ≡ Memory
   HasCause index (latch ∷ latches) [] fault = ⊥
   HasCause index (latch ∷ latches) (after ∷ afters) fault =
-      IsCause index latch after fault ⊎ ((m : LogMap) × (Gave latch (text_of m) × HasCause (index + 1) latches afters fault))
+      (IsCause index latch after fault × (fault ≢ Memory → afters ≡ latches)) ⊎ ((m : LogMap) × (Gave latch (text_of m) × HasCause (index + 1) latches afters fault))

@@ -177,8 +177,8 @@ fn put_cues<A: Allocator, W: Write>(
 /// `Memory` (0) where a growth was refused, each with nothing written; as `Write` (37) where the output's latch has
 /// failed, which then holds a front of the text.
 ///
-/// The time is that of hashing the bytes, and of one walk over the chunks and the labels; the memory is that of the
-/// labels.
+/// The time is that of hashing the bytes, of one walk over the chunks and the labels, and of the text: a label stands
+/// in it once for each cue point of its name. The memory is that of the labels' map.
 pub fn write_info<A: Allocator + Clone, W: Write>(
     alloc: A,
     bytes: &[u8],

@@ -3,3 +3,4 @@ pub mod Needs
 pub mod Dots
 pub mod Equal
 pub mod Digests
+pub mod LastWrite

@@ -1,11 +1,11 @@
 //! What holds of all operations and of sets of them: each law is the contract of a small function, which does
 //! nothing or only compares.
 
-ghost use Rattle.std.specs.Prelude.{◌≡◌, ◌↔◌, IsTrue};
+ghost use Rattle.std.specs.Prelude.{◌≡◌, ◌↔◌, ℕ, List, IsTrue};
 ghost use Rattle.std.specs.Ordering.{nat_cmp};
 ghost use Rattle.std.specs.Cmp.Lexicographic.{slice_cmp};
 ghost use Rattle.mt_op.specs.Bodies.{act_of};
-ghost use Rattle.mt_op.specs.Laws.{ReadyIsDefined};
+ghost use Rattle.mt_op.specs.Laws.{LatestIsGreatest, ReadyIsDefined};
 
 use crate::body::Body;
 use crate::digest::Digest;
@@ -18,6 +18,12 @@ use std::cmp::Ordering;
 /// and each of its needs is met by an operation that is in it.
 pub fn readiness()
     ensures { ReadyIsDefined }
+{}
+
+/// The last write of a title, and of a position, is the one with the greatest stamp.
+pub fn last_write()
+    ensures titles { LatestIsGreatest (List ℕ) }
+    ensures positions { LatestIsGreatest ℕ }
 {}
 
 /// Titles are equal where their bytes are.

@@ -1,5 +1,5 @@
 use crate::laws::{
-    compare_digests, compare_titles, equal_bodies, equal_ops, equal_titles, readiness,
+    compare_digests, compare_titles, equal_bodies, equal_ops, equal_titles, last_write, readiness,
 };
 use crate::{Body, Digest, Need, Op, OpFault, Role, Title, find_op};
 use mt_stamp::{Dot, Replica, Stamp};
@@ -26,6 +26,7 @@ fn retitle<M: Allocator>(memory: M, item: Stamp, title: &str) -> Result<Body<M>,
     })
 }
 
+// small_values: titles
 #[test]
 fn makes_titles_of_at_most_255_plain_bytes(rt: HostRuntime) -> Result<(), Fail> {
     let longest = format!(in rt.alloc(); "{:a<255}", "")?;
@@ -85,6 +86,7 @@ fn orders_titles_by_their_bytes(rt: HostRuntime) -> Result<(), Fail> {
 // The digest of `abc` (FIPS 180-4).
 const ABC: &str = "ba7816bf8f01cfea414140de5dae2223b00361a396177a9cb410ff61f20015ad";
 
+// small_values: digests
 #[test]
 fn reads_digests_of_64_digits(rt: HostRuntime) -> Result<(), Fail> {
     let abc = Digest::of(b"abc");
@@ -124,6 +126,7 @@ fn orders_digests_by_their_bytes(rt: HostRuntime) {
     assert!(rt; low != high);
 }
 
+// refused_operations: Retitle
 #[test]
 fn makes_operations_that_name_older_ones(rt: HostRuntime) -> Result<(), Fail> {
     let own = Stamp::new(2, A, 2)?;
@@ -149,6 +152,7 @@ fn makes_operations_that_name_older_ones(rt: HostRuntime) -> Result<(), Fail> {
     assert_eq!(rt; op.need(0), None);
     assert!(rt; op.fits(&Role::Titled));
     readiness();
+    last_write();
     Ok(())
 }
 

@@ -1,4 +1,4 @@
--- A log as a finite map from dot to operation.
+-- A log as a finite map from dot to operation (profile).
 use Rattle.std.specs.Prelude.{◌≡◌, ◌≢◌, List, map as list_map, IsTrue, Bool, true, false, Some, None, Result, Ok, Err}
 use Rattle.std.specs.List.{AllByRecursion}
 use Rattle.std.specs.FinMap as map

@@ -193,7 +193,8 @@ impl<R: Read> Latch<R> {
     /// `buffer` has no room.
     ///
     /// `Read` (45) where the latch has failed, before or in this call. Nothing was consumed then, and
-    /// the reader was not asked where the latch had failed before or allowed no more reads.
+    /// the reader was not asked, and `buffer` is as it was, where the latch had failed before or allowed
+    /// no more reads. What `buffer` holds after a read that failed is the reader's.
     pub fn get(&mut self, buffer: &mut [u8]) -> Result<usize, LatchFault>
         ensures bound { ReadsAtMost result buffer.new }
         ensures bytes { ReadConsumes (R.remaining self.old.inner) (R.remaining self.new.inner) result buffer.new }
@@ -204,6 +205,7 @@ impl<R: Read> Latch<R> {
         ensures counted { OnOk result (self.new.reads_left + 1 ≡ self.old.reads_left) }
         ensures never_more { self.new.reads_left ≤ self.old.reads_left }
         ensures used_up { self.old.reads_left ≡ 0 → self.new.inner ≡ self.old.inner }
+        ensures buffer_when_used_up { self.old.reads_left ≡ 0 → buffer.new ≡ buffer.old }
     {
         self.unless_failed(LatchFault::Read)?;
         if self.reads_left == 0 {

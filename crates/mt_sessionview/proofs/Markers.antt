@@ -134,7 +134,7 @@ one_marker ops rise a b of_a of_b tied =
     let one : of_a.op ≡ of_b.op = same_Some of_a.op of_b.op (sym of_a.at ∙ ap (slice_get ops) place ∙ of_b.at) in
     of_a.is ∙ ap (marker_of ops) one ∙ sym of_b.is
 
-marker_cmp_total : IsTotalOrder marker_cmp
+pub marker_cmp_total : IsTotalOrder marker_cmp
 marker_cmp_total = then_total (on_total (λ (m : Marker). m.at) nat_cmp_total) (on_total (λ (m : Marker). m.marker) stamp_cmp_total)
 
 -- markers put in order

@@ -9,7 +9,8 @@ use Rattle.std.specs.List.Sorted.{IsPermutation, IsSorted}
 use Rattle.std.proofs.lemmas.List.Sums.{sum_by-cons}
 use Rattle.std.proofs.lemmas.List.Elements.{recursion_from_All}
 use Rattle.std.proofs.lemmas.List.Sorted.{ranks_by, sorted_far, sum_by-IsPermutation, All-permutation}
-use Rattle.mt_sessionview.specs.Sorting.{insert_by, sort_by}
+use Rattle.mt_sessionview.specs.Sorting as rising
+use Rattle.mt_sessionview.specs.Sorting.{insert_by, sort_by, Sorts}
 
 less_turned : (o p : Ordering) → o ≡ ordering_reverse p → is_lt o ≡ true → is_lt p ≡ false
 less_turned Less Less e h = absurd cc
@@ -48,9 +49,8 @@ module _ {X : Type 0} (cmp : X → X → Ordering) (order : IsTotalOrder cmp) wh
   weak = ranks_by order (λ x. x)
 
   -- no item precedes an earlier one
-  abbrev pub Rises : List X → Type 0
-  Rises [] = Unit {0}
-  Rises (x ∷ xs) = AllByRecursion (λ y. precedes y x ≡ false) xs × Rises xs
+  abbrev Rises : List X → Type 0
+  Rises xs = rising.Rises cmp xs
 
   same : (x : X) → precedes x x ≡ false
   same x = elim (precedes x x) as (λ b. precedes x x ≡ b → b ≡ false) [ true ↦ (λ e. sym e ∙ weak.one_way x x e) | false ↦ (λ e. refl) ] refl
@@ -103,6 +103,9 @@ module _ {X : Type 0} (cmp : X → X → Ordering) (order : IsTotalOrder cmp) wh
   sum_sort : (f : X → ℕ) (xs : List X) → sum_by f (sort_by cmp xs) ≡ sum_by f xs
   sum_sort f [] = refl
   sum_sort f (x ∷ xs) = omega (arith, sum_insert f x (sort_by cmp xs), sum_sort f xs, sum_by-cons f x xs)
+
+  pub sorts : Sorts cmp
+  sorts = record { rises = rises_sort; same = sum_sort }
 
   -- the first of a rising list does not come after what the other list begins with
   first_before : (y z : X) (ys zs : List X) → Rises (z ∷ zs) → ((f : X → ℕ) → sum_by f (y ∷ ys) ≡ sum_by f (z ∷ zs)) → precedes y z ≡ false

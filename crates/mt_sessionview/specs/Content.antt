@@ -1,4 +1,4 @@
--- What a session shows, without where its texts lie in memory.
+-- What a session shows, without where its texts lie in memory (profile).
 use Rattle.std.specs.Prelude.{ℕ, List}
 use Rattle.std.specs.declared.cmp.Ordering.{Ordering}
 use Rattle.std.specs.Ordering.{nat_cmp, ordering_then}

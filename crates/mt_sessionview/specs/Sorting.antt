@@ -1,7 +1,8 @@
 -- Sorting, as a function of a list.
-use Rattle.std.specs.Prelude.{List, [], ◌∷◌}
+use Rattle.std.specs.Prelude.{◌≡◌, ℕ, false, List, [], ◌∷◌}
+use Rattle.std.specs.List.{AllByRecursion, sum_by}
 use Rattle.std.specs.declared.cmp.Ordering.{Ordering}
-use Rattle.std.specs.Ordering.{match_ordering}
+use Rattle.std.specs.Ordering.{match_ordering, is_lt}
 
 module _ {X : Type 0} (cmp : X → X → Ordering) where
   -- x in its place in a list in order, before those that tie with it
@@ -13,3 +14,13 @@ module _ {X : Type 0} (cmp : X → X → Ordering) where
   abbrev pub sort_by : List X → List X
   sort_by [] = []
   sort_by (x ∷ xs) = insert_by x (sort_by xs)
+
+  -- no item is smaller than one before it
+  abbrev pub Rises : List X → Type 0
+  Rises [] = Unit {0}
+  Rises (x ∷ xs) = AllByRecursion (λ y. is_lt (cmp y x) ≡ false) xs × Rises xs
+
+  -- Sorting gives a rising list of the same items: whatever is counted of each item adds up to the same.
+  pub record Sorts : Type 0 where
+    pub rises : (xs : List X) → Rises (sort_by xs)
+    pub same : (f : X → ℕ) (xs : List X) → sum_by f (sort_by xs) ≡ sum_by f xs

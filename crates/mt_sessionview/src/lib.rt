@@ -3,6 +3,7 @@
 
 mod build;
 mod fault;
+pub mod laws;
 mod order;
 mod place;
 mod ready;

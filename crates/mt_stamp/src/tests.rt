@@ -10,6 +10,7 @@ const TEN_TEXT: &str = "00000000-0000-0000-0000-00000000000a";
 
 const STAMP_TEXT: &str = "1.1.00000000-0000-0000-0000-00000000000a";
 
+// stamps: their ranges
 #[test]
 fn makes_stamps_within_their_ranges(rt: HostRuntime) -> Result<(), Fail> {
     for (clock, seq, fault, number) in [
@@ -34,6 +35,7 @@ fn makes_stamps_within_their_ranges(rt: HostRuntime) -> Result<(), Fail> {
     Ok(())
 }
 
+// stamps: their texts
 #[test]
 fn reads_one_spelling_of_a_stamp(rt: HostRuntime) -> Result<(), Fail> {
     let stamp = Stamp::read(STAMP_TEXT)?;
@@ -56,6 +58,7 @@ fn reads_one_spelling_of_a_stamp(rt: HostRuntime) -> Result<(), Fail> {
     Ok(())
 }
 
+// stamps: replicas
 #[test]
 fn reads_any_form_of_a_replica(rt: HostRuntime) -> Result<(), Fail> {
     for text in [

@@ -3,6 +3,7 @@
 
 use mt_cli::command;
 use mt_opcodec::Latch;
+use std::io::ErrorKind;
 use std::process::ExitCode;
 use std::{env, io};
 
@@ -12,9 +13,13 @@ fn main(rt: HostRuntime) -> ExitCode {
     let mut errors = Latch::new(rt.stderr());
     match words(&rt) {
         Ok(words) => ExitCode::from(command(&rt, &words, &mut input, &mut output, &mut errors)),
-        Err(_) => {
+        Err(error) if error.kind() == ErrorKind::InvalidData => {
             let _ = errors.put(NOT_UTF8.as_bytes());
             ExitCode::from(2)
+        }
+        Err(_) => {
+            let _ = errors.put(NO_MEMORY.as_bytes());
+            ExitCode::from(1)
         }
     }
 }
@@ -27,7 +32,11 @@ Usage: radio <COMMAND>
 For more information, try '--help'.
 ";
 
-// The words after the program's name.
+// The refusal of a growth.
+const NO_MEMORY: &str = "radio: fault 0\n";
+
+// The words after the program's name. Those that are no text are an error of the kind `InvalidData`; every other error
+// is that memory was refused.
 fn words(rt: &HostRuntime) -> io::Result<Vec<String>> {
     let mut words = Vec::new(rt.alloc());
     for (place, word) in env::args(rt)?.enumerate() {

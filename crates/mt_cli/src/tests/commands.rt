@@ -39,6 +39,7 @@ fn views_standard_input(rt: HostRuntime) -> Result<(), Fail> {
     Ok(())
 }
 
+// command_lines
 #[test]
 fn tells_a_refusal_by_its_number(rt: HostRuntime) -> Result<(), Fail> {
     for (words, input, line) in [

@@ -107,6 +107,7 @@ fn info(rt: &HostRuntime, file: &[u8]) -> Result<Vec<u8>, CliFault> {
     Ok(output.into_inner())
 }
 
+// smallest_wave
 #[test]
 fn of_the_smallest_wave(rt: HostRuntime) -> Result<(), Fail> {
     assert_eq!(rt; info(&rt, SMALLEST)?.as_slice(), SMALLEST_TEXT.as_bytes());

@@ -23,6 +23,7 @@ fn view(rt: &HostRuntime, logs: &[&[u8]]) -> Result<Vec<u8>, CliFault> {
     Ok(output.into_inner())
 }
 
+// empty_log
 #[test]
 fn shows_no_log_as_an_empty_one(rt: HostRuntime) -> Result<(), Fail> {
     let empty = Log::new(rt.alloc()).write()?;
@@ -35,6 +36,7 @@ fn shows_no_log_as_an_empty_one(rt: HostRuntime) -> Result<(), Fail> {
     Ok(())
 }
 
+// one_marker
 #[test]
 fn shows_one_marker(rt: HostRuntime) -> Result<(), Fail> {
     let news = news(&rt)?;
@@ -46,6 +48,7 @@ fn shows_one_marker(rt: HostRuntime) -> Result<(), Fail> {
     Ok(())
 }
 
+// early_retitle
 #[test]
 fn holds_an_early_retitle_until_its_marker_is_there(rt: HostRuntime) -> Result<(), Fail> {
     let (news, late) = (news(&rt)?, late(&rt)?);
@@ -61,6 +64,7 @@ fn holds_an_early_retitle_until_its_marker_is_there(rt: HostRuntime) -> Result<(
     Ok(())
 }
 
+// two_retitles
 #[test]
 fn shows_the_greatest_stamp_in_every_order(rt: HostRuntime) -> Result<(), Fail> {
     let item = Stamp::new(1, A, 1)?;
@@ -133,6 +137,7 @@ fn refuses_in_order_and_writes_nothing(rt: HostRuntime) -> Result<(), Fail> {
     Ok(())
 }
 
+// failing_devices: the failing reader
 #[test]
 fn each_read_fails_in_turn(rt: HostRuntime) -> Result<(), Fail> {
     let (news, late) = (news(&rt)?, late(&rt)?);
@@ -149,6 +154,33 @@ fn each_read_fails_in_turn(rt: HostRuntime) -> Result<(), Fail> {
         );
         assert!(rt; output.into_inner().is_empty());
     }
+    for fails_at in 0..late.len() + 1 {
+        let mut input = Latch::new(Slow::new(&late, fails_at));
+        let mut output = Latch::new(Vec::new(rt.alloc()));
+        assert_eq!(rt;
+            view_log(rt.alloc(), &mut input, &mut output),
+            Err(CliFault::Read(0)),
+            "at {fails_at}"
+        );
+        assert!(rt; output.into_inner().is_empty());
+    }
+    Ok(())
+}
+
+#[test]
+fn asks_no_reader_behind_the_one_at_fault(rt: HostRuntime) -> Result<(), Fail> {
+    let (news, late) = (news(&rt)?, late(&rt)?);
+    let mut inputs = [
+        Latch::new(news.as_slice()),
+        Latch::new(b"abc".as_slice()),
+        Latch::new(late.as_slice()),
+    ];
+    let mut output = Latch::new(Vec::new(rt.alloc()));
+    assert_eq!(rt;
+        view_logs(rt.alloc(), &mut inputs, &mut output),
+        Err(CliFault::Log(1, LogFault::BadMagic))
+    );
+    assert!(rt; inputs[2].get_all(rt.alloc())? == late);
     Ok(())
 }
 

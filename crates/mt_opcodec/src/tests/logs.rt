@@ -17,6 +17,7 @@ const DIGEST: [u8; 32] = [
     0x90, 0x66, 0x2b, 0xb3, 0x7a, 0x2c, 0x84, 0x27, 0x2b, 0x33, 0x07, 0x4f, 0x78, 0x0e, 0x8f, 0x0c,
 ];
 
+// empty_log
 #[test]
 fn writes_and_reads_the_empty_log(rt: HostRuntime) -> Result<(), Fail> {
     let log = Log::new(rt.alloc());
@@ -29,6 +30,7 @@ fn writes_and_reads_the_empty_log(rt: HostRuntime) -> Result<(), Fail> {
     Ok(())
 }
 
+// one_marker
 #[test]
 fn writes_and_reads_a_log_of_one_marker(rt: HostRuntime) -> Result<(), Fail> {
     let stamp = Stamp::new(1, A, 1)?;
@@ -52,6 +54,7 @@ fn writes_and_reads_a_log_of_one_marker(rt: HostRuntime) -> Result<(), Fail> {
     Ok(())
 }
 
+// damaged_logs: their frames
 #[test]
 fn refuses_what_is_no_log(rt: HostRuntime) -> Result<(), Fail> {
     for (bytes, fault) in [
@@ -115,6 +118,7 @@ fn refuses_a_log_with_one_other_byte(rt: HostRuntime) -> Result<(), Fail> {
     Ok(())
 }
 
+// damaged_logs: their records
 #[test]
 fn refuses_wrong_records(rt: HostRuntime) -> Result<(), Fail> {
     let cut_short = LogFault::BadRecord(1, ReadFault::Truncated);

@@ -5,6 +5,7 @@ use mt_op::{Body, Op, Title};
 use mt_stamp::Stamp;
 use std::test::Fail;
 
+// operation_bytes
 #[test]
 fn writes_and_reads_a_marker(rt: HostRuntime) -> Result<(), Fail> {
     let op = marker(rt.alloc(), Stamp::new(1, A, 1)?, "News")?;
@@ -40,6 +41,7 @@ fn writes_and_reads_a_new_title(rt: HostRuntime) -> Result<(), Fail> {
     Ok(())
 }
 
+// operation_bytes: their fronts
 #[test]
 fn refuses_every_part_of_an_operation(rt: HostRuntime) {
     for len in 0..NEWS.len() {
@@ -58,6 +60,7 @@ fn refuses_every_part_of_an_operation(rt: HostRuntime) {
     }
 }
 
+// operation_bytes: one other byte
 #[test]
 fn refuses_a_marker_by_one_byte(rt: HostRuntime) {
     for (place, byte, fault) in [

@@ -4,6 +4,7 @@ use mt_op::{Body, Op, Title};
 use mt_opcodec::{Latch, Log};
 use mt_stamp::{Replica, Stamp};
 use mt_testalloc::Refusing;
+use std::alloc::Allocator;
 use std::io::{Error, ErrorKind, Result as IoResult, Write};
 use std::test::Fail;
 
@@ -31,23 +32,26 @@ impl Write for Narrow {
     }
 }
 
-/// A marker, and a retitle of another one that is not there.
-fn log(rt: &HostRuntime) -> Result<Log, Fail> {
-    let mut log = Log::new(rt.alloc());
-    let title = Title::new(rt.alloc(), "News")?;
-    let marker = Stamp::new(1, Replica(10), 1)?;
-    let _new = log.add(Op::new(marker, Body::AddMarker { at: 480, title })?)?;
-    let title = Title::new(rt.alloc(), "Late")?;
-    let item = Stamp::new(1, Replica(12), 1)?;
-    let _new = log.add(Op::new(
-        Stamp::new(2, Replica(11), 1)?,
-        Body::Retitle { item, title },
-    )?)?;
-    Ok(log)
+/// A marker, and a retitle of another one that is not there, if there is memory for them.
+fn log<M: Allocator + Clone>(memory: M) -> Option<Log<M>> {
+    let mut log = Log::new(memory.clone().ok()?);
+    let title = Title::new(memory.clone().ok()?, "News").ok()?;
+    let marker = Stamp::new(1, Replica(10), 1).ok()?;
+    let marker = Op::new(marker, Body::AddMarker { at: 480, title }).ok()?;
+    let _new = log.add(marker).ok()?;
+    let title = Title::new(memory, "Late").ok()?;
+    let item = Stamp::new(1, Replica(12), 1).ok()?;
+    let retitle = Stamp::new(2, Replica(11), 1).ok()?;
+    let retitle = Op::new(retitle, Body::Retitle { item, title }).ok()?;
+    let _new = log.add(retitle).ok()?;
+    Some(log)
 }
 
 fn session(rt: &HostRuntime) -> Result<Session, Fail> {
-    Ok(from_scratch(rt.alloc(), &log(rt)?)?)
+    match log(rt.alloc()) {
+        Some(log) => Ok(from_scratch(rt.alloc(), &log)?),
+        None => Err(Fail::from("there is no log")),
+    }
 }
 
 #[test]
@@ -105,6 +109,28 @@ fn writes_nothing_without_memory(rt: HostRuntime) -> Result<(), Fail> {
         }
         assert_eq!(rt; written, Err(SessionFault::Memory), "at {at}");
         assert!(rt; output.into_inner().is_empty());
+    }
+    Err(Fail::from("each run met a refusal"))
+}
+
+#[test]
+fn makes_no_session_without_memory(rt: HostRuntime) -> Result<(), Fail> {
+    let mut refused = false;
+    for at in 0..100 {
+        let memory = Refusing::new(rt.alloc(), at);
+        let Some(log) = log(&memory) else {
+            continue;
+        };
+        let made = from_scratch(&memory, &log);
+        if !memory.has_refused() {
+            let session = made?;
+            assert_eq!(rt; session.markers.items().len(), 1);
+            assert_eq!(rt; session.held, 1);
+            assert!(rt; refused, "a growth of the session was refused");
+            return Ok(());
+        }
+        assert!(rt; matches!(made, Err(SessionFault::Memory)), "at {at}");
+        refused = true;
     }
     Err(Fail::from("each run met a refusal"))
 }

@@ -1,6 +1,7 @@
-use Rattle.std.proofs.Common.{◌≡◌, ◌+◌, ℕ, suc, take, ◌++◌, ◌∷◌, [], subst, sym, refl, ◌∙◌, arith}
+use Rattle.std.proofs.Common.{◌≡◌, ◌+◌, ℕ, suc, take, drop, ◌++◌, ◌∷◌, [], subst, sym, refl, ◌∙◌, arith}
 use Rattle.std.proofs.lemmas.Result.{err_from_is_err_and}
 use Rattle.std.proofs.lemmas.List.{length-set, get_or-set_same}
+use Rattle.std.proofs.Math.ListN.{set}
 use Rattle.mt_cli.specs.Reading.{GaveLogs}
 use Rattle.mt_cli.proofs.Readers.{Gave-same, GaveLogs-more, IsCause-same, HasCause-at, HasCause-memory, left_at, left_more}
 use Rattle.mt_cli.proofs.read.read_logs.Goals as goal
@@ -23,7 +24,9 @@ returns-in_err-log-clause-err g c =
     let p = err_from_is_err_and c.from_residual-in_err-log.result c.from_residual-in_err-log.ensures.1 in
     let same = c.loop-place.auto.inputs in
     let before = left_at c.loop-place.place c.loop-place.inputs c.args.inputs.now c.index-inputs-place.result (omega arith) (omega arith) c.loop-place.invariant.left c.index-inputs-place.is in
-    rw (p.1, p.2) (HasCause-at g.R.Read.remaining c.args.inputs.now _ c.loop-place.logs.items c.loop-place.place 0 c.index-inputs-place.result c.read_log.new.input c.in_err-log.field-0.0 (length-set _ _ _ ∙ same) (omega arith) before (sym (get_or-set_same c.loop-place.inputs c.loop-place.place c.read_log.new.input c.read_log.new.input (omega arith))) c.loop-place.invariant.gave (IsCause-same g.R.Read.remaining c.loop-place.place _ c.index-inputs-place.result c.read_log.new.input c.in_err-log.field-0.0 c.index-inputs-place.is c.in_err-log.ensures.err))
+    rw (p.1, p.2) (HasCause-at g.R.Read.remaining c.args.inputs.now _ c.loop-place.logs.items c.loop-place.place 0 c.index-inputs-place.result c.read_log.new.input c.in_err-log.field-0.0 (length-set _ _ _ ∙ same) (omega arith) before (sym (get_or-set_same c.loop-place.inputs c.loop-place.place c.read_log.new.input c.read_log.new.input (omega arith))) c.loop-place.invariant.gave
+    (subst (λ (n : ℕ). drop n (set c.loop-place.inputs c.loop-place.place c.read_log.new.input) ≡ drop n c.args.inputs.now) (sym (one_more c.loop-place.place)) (left_more c.loop-place.place c.loop-place.inputs c.args.inputs.now c.read_log.new.input c.loop-place.invariant.left))
+    (IsCause-same g.R.Read.remaining c.loop-place.place _ c.index-inputs-place.result c.read_log.new.input c.in_err-log.field-0.0 c.index-inputs-place.is c.in_err-log.ensures.err))
 
 pub returns-in_err-push-clause-err : goal.returns-in_err-push-clause-err
 returns-in_err-push-clause-err g c =

@@ -1,0 +1,7 @@
+use Rattle.mt_sessionview.specs.Content.{marker_cmp}
+use Rattle.mt_sessionview.proofs.Sorting.{sorts}
+use Rattle.mt_sessionview.proofs.Markers.{marker_cmp_total}
+use Rattle.mt_sessionview.proofs.laws.sorted_markers.Goals as goal
+
+pub returns : goal.returns
+returns c = sorts marker_cmp marker_cmp_total
