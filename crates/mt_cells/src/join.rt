@@ -7,7 +7,7 @@ ghost use Rattle.mt_cells.specs.Folds as folds;
 use crate::fault::CellFault;
 use std::alloc::Allocator;
 
-/// A value that replicas keep and join: a join semilattice (INRIA RR-7506, section 2.3.1). The laws hold up to `==`.
+/// A value that replicas keep and join: a join semilattice (INRIA RR-7506, state-based convergence). The laws hold up to `==`.
 pub trait Join: Eq {
     /// What two values are together.
     ghost joined: { Self → Self → Self };

@@ -7,7 +7,7 @@ pub data Act : Type 0 where
   AddMarker : (at : ℕ) (title : List ℕ) → Act
   Retitle : (item : Moment) (title : List ℕ) → Act
 
--- An operation of an operation-based replicated type (INRIA RR-7506, section 2.4): who made it when, and what it does.
+-- An operation of an operation-based replicated type (INRIA RR-7506, operation-based objects): who made it when, and what it does.
 pub record Operation : Type 0 where
   pub stamp : Moment
   pub act : Act

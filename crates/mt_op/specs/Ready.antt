@@ -1,4 +1,4 @@
--- Which of the things that wait are ready, for anything that waits (causal delivery by explicit needs: INRIA RR-7506, section 2.4.2).
+-- Which of the things that wait are ready, for anything that waits (causal delivery by explicit needs: INRIA RR-7506, operation-based objects).
 use Rattle.std.specs.Prelude.{◌≡◌, ℕ, zero, suc, ◌<◌, Bool, true, false, not, List, filter}
 use Rattle.std.specs.List.{list_all, list_any, AllByRecursion}
 

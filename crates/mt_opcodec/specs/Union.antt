@@ -1,4 +1,4 @@
--- The union of logs (what two replicas have delivered together: INRIA RR-7506, section 2.3), and where it is consistent
+-- The union of logs (what two replicas have delivered together: INRIA RR-7506, convergence), and where it is consistent
 -- (profile).
 use Rattle.std.specs.Prelude.{◌≡◌, ◌≢◌, List, [], ◌∷◌, ◌++◌, ◌⊎◌, Some}
 use Rattle.std.specs.FinMap as map

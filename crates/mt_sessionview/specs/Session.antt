@@ -8,7 +8,7 @@ use Rattle.mt_op.specs.Writes.{Write, Written, title_written, position_written, 
 use Rattle.mt_sessionview.specs.Sorting.{sort_by}
 use Rattle.mt_sessionview.specs.Content.{Marker, Content, marker_cmp}
 
--- Only ready operations have an effect (INRIA RR-7506, section 2.4).
+-- Only ready operations have an effect (INRIA RR-7506, operation-based objects).
 abbrev pub ready_ops : List Operation → List Operation
 ready_ops s = ready clock_of needs meets s
 
