@@ -12,6 +12,14 @@ module _ {X : Type 0} {E : X → X → Bool} (e : IsEquivalence E) where
   turn : (a b : X) → IsTrue (E a b) → IsTrue (E b a)
   turn a b ab = e.symm b a ∙ ab
 
+  -- what is in a list is in a longer one
+  still_in : (y : X) (ys : List X) (z : X) → IsTrue (is_in E ys z) → IsTrue (is_in E (y ∷ ys) z)
+  still_in y ys z is = by (E z y) refl
+    where
+      by : (t : Bool) → E z y ≡ t → IsTrue (is_in E (y ∷ ys) z)
+      by true same = rw same refl
+      by false other = rw other is
+
   module _ {j : X → X → X} (commutes : (a b : X) → IsTrue (E (j a b) (j b a))) (associates : (a b c : X) → IsTrue (E (j (j a b) c) (j a (j b c)))) (once : (a : X) → IsTrue (E (j a a) a))
       (respects : (a b c d : X) → IsTrue (E a b) → IsTrue (E c d) → IsTrue (E (j a c) (j b d))) where
     -- a adds nothing to b
@@ -57,26 +65,12 @@ module _ {X : Type 0} {E : X → X → Bool} (e : IsEquivalence E) where
     all_least : (x : X) (ys : List X) (u : X) → IsBelow x u → ((z : X) → IsTrue (is_in E ys z) → IsBelow z u) → IsBelow (join_all j x ys) u
     all_least x [] u first others = first
     all_least x (y ∷ ys) u first others =
-        all_least (j x y) ys u (least x y u first (others y (rw (e.refl y) refl))) (λ z is. others z (later z is))
-      where
-        later : (z : X) → IsTrue (is_in E ys z) → IsTrue (is_in E (y ∷ ys) z)
-        later z is = by (E z y) refl
-          where
-            by : (t : Bool) → E z y ≡ t → IsTrue (is_in E (y ∷ ys) z)
-            by true same = rw same refl
-            by false other = rw other is
+        all_least (j x y) ys u (least x y u first (others y (rw (e.refl y) refl))) (λ z is. others z (still_in y ys z is))
 
     -- each value of either list adds nothing to what the other's are together
     one_below : (x : X) (xs : List X) (y : X) (ys : List X) → SameValues E (x ∷ xs) (y ∷ ys) → IsBelow (join_all j y ys) (join_all j x xs)
-    one_below x xs y ys same = all_least y ys (join_all j x xs) (has y (rw (e.refl y) refl)) (λ z is. has z (later z is))
+    one_below x xs y ys same = all_least y ys (join_all j x xs) (has y (rw (e.refl y) refl)) (λ z is. has z (still_in y ys z is))
       where
-        later : (z : X) → IsTrue (is_in E ys z) → IsTrue (is_in E (y ∷ ys) z)
-        later z is = by (E z y) refl
-          where
-            by : (t : Bool) → E z y ≡ t → IsTrue (is_in E (y ∷ ys) z)
-            by true here = rw here refl
-            by false other = rw other is
-
         has : (z : X) → IsTrue (is_in E (y ∷ ys) z) → IsBelow z (join_all j x xs)
         has z is = by (E z x) refl (same z ∙ is)
           where

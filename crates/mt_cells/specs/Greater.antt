@@ -1,34 +1,29 @@
--- The greater of two is a join: it is commutative, associative and idempotent, up to what the order does not tell apart.
+-- Lemmas for the laws of a register: the greater of two is a join. It is commutative, associative and idempotent, up to what the order does not tell apart.
 use Rattle.std.specs.Prelude.{◌≡◌, cond, IsTrue, refl}
 use Rattle.std.specs.Ordering.{ordering_reverse, is_lt, is_eq, eq_by_cmp}
 use Rattle.std.specs.declared.cmp.Ordering.{Ordering}
 use Rattle.std.specs.declared.cmp.Ordering.TheVariants.{Less, Equal, Greater}
-use Rattle.std.specs.Cmp.{IsTotalOrder, then_total, on_total, nat_cmp_total, tied_itself, alike_right, Equal-is}
-use Rattle.mt_stamp.specs.Moment.{Moment, stamp_cmp}
-use Rattle.mt_cells.specs.Pairs.{Timestamped, written_cmp, greater}
+use Rattle.std.specs.Cmp.{IsTotalOrder, then_total, on_total, tied_itself, alike_right, Equal-is}
+use Rattle.mt_stamp.proofs.Order.{stamp_cmp_total}
+use Rattle.mt_cells.specs.Pairs.{Timestamped, timestamped_cmp, greater}
 use mathlib.Core.Path.{sym, ap, ◌∙◌}
 
-stamps_total : IsTotalOrder stamp_cmp
-stamps_total =
-    then_total (on_total (λ (m : Moment). m.clock) nat_cmp_total)
-    (then_total (on_total (λ (m : Moment). m.replica.0) nat_cmp_total) (on_total (λ (m : Moment). m.seq) nat_cmp_total))
-
-pub written_total : {T : Type 0} {cmp : T → T → Ordering} → IsTotalOrder cmp → IsTotalOrder (written_cmp cmp)
-written_total {T} o = then_total (on_total (λ (w : Timestamped T). w.stamp) stamps_total) (on_total (λ (w : Timestamped T). w.value) o)
+pub timestamped_total : {T : Type 0} {cmp : T → T → Ordering} → IsTotalOrder cmp → IsTotalOrder (timestamped_cmp cmp)
+timestamped_total {T} o = then_total (on_total (λ (w : Timestamped T). w.stamp) stamp_cmp_total) (on_total (λ (w : Timestamped T). w.value) o)
 
 module _ {K : Type 0} {R : K → K → Ordering} (o : IsTotalOrder R) where
   -- the greater, by what the order says
-  pub of_less : (a b : K) → R a b ≡ Less → greater R a b ≡ b
+  of_less : (a b : K) → R a b ≡ Less → greater R a b ≡ b
   of_less a b e = ap (λ (r : Ordering). cond (is_lt r) b a) e
 
-  pub of_equal : (a b : K) → R a b ≡ Equal → greater R a b ≡ a
+  of_equal : (a b : K) → R a b ≡ Equal → greater R a b ≡ a
   of_equal a b e = ap (λ (r : Ordering). cond (is_lt r) b a) e
 
-  pub of_greater : (a b : K) → R a b ≡ Greater → greater R a b ≡ a
+  of_greater : (a b : K) → R a b ≡ Greater → greater R a b ≡ a
   of_greater a b e = ap (λ (r : Ordering). cond (is_lt r) b a) e
 
   -- it turns with its arguments
-  pub turned : (a b : K) (r : Ordering) → R a b ≡ r → R b a ≡ ordering_reverse r
+  turned : (a b : K) (r : Ordering) → R a b ≡ r → R b a ≡ ordering_reverse r
   turned a b r e = o.antisymm b a ∙ ap ordering_reverse e
 
   tied : (a b : K) → R a b ≡ Equal → IsTrue (eq_by_cmp R a b)
@@ -48,7 +43,7 @@ module _ {K : Type 0} {R : K → K → Ordering} (o : IsTotalOrder R) where
       by Equal e = rw (of_equal a b e, of_equal b a (turned a b Equal e)) (tied a b e)
       by Greater e = rw (of_greater a b e, of_less b a (turned a b Greater e)) (itself a)
 
-  pub greater_associative : (a b c : K) → greater R (greater R a b) c ≡ greater R a (greater R b c)
+  greater_associative : (a b c : K) → greater R (greater R a b) c ≡ greater R a (greater R b c)
   greater_associative a b c = by (R a b) (R b c) refl refl
     where
       back : (x y : K) → R x y ≡ Greater → R y x ≡ Less
@@ -67,6 +62,9 @@ module _ {K : Type 0} {R : K → K → Ordering} (o : IsTotalOrder R) where
           ap (λ (x : K). greater R x c) (of_greater a b e) ∙ of_greater a c (turned c a Less (o.trans c b a (back b c f) (back a b e)))
           ∙ sym (ap (greater R a) (of_greater b c f) ∙ of_greater a b e)
 
+  pub greater_associates : (a b c : K) → IsTrue (eq_by_cmp R (greater R (greater R a b) c) (greater R a (greater R b c)))
+  greater_associates a b c = rw (greater_associative a b c) (itself (greater R a (greater R b c)))
+
   pub greater_respects : (a b c d : K) → IsTrue (eq_by_cmp R a b) → IsTrue (eq_by_cmp R c d) → IsTrue (eq_by_cmp R (greater R a c) (greater R b d))
   greater_respects a b c d ab cd =
       let e : R a b ≡ Equal = (Equal-is (R a b)).0 ab in
@@ -77,6 +75,3 @@ module _ {K : Type 0} {R : K → K → Ordering} (o : IsTotalOrder R) where
       by Less e f = rw (of_less a c e, of_less b d (f ∙ e)) cd
       by Equal e f = rw (of_equal a c e, of_equal b d (f ∙ e)) ab
       by Greater e f = rw (of_greater a c e, of_greater b d (f ∙ e)) ab
-
-  pub greater_associates : (a b c : K) → IsTrue (eq_by_cmp R (greater R (greater R a b) c) (greater R a (greater R b c)))
-  greater_associates a b c = rw (greater_associative a b c) (itself (greater R a (greater R b c)))

@@ -10,8 +10,8 @@ pub record Timestamped (T : Type 0) : Type 0 where
   pub value : T
 
 -- by stamp, and then by value
-abbrev pub written_cmp : {T : Type 0} → (T → T → Ordering) → Timestamped T → Timestamped T → Ordering
-written_cmp cmp a b = ordering_then (stamp_cmp a.stamp b.stamp) (cmp a.value b.value)
+abbrev pub timestamped_cmp : {T : Type 0} → (T → T → Ordering) → Timestamped T → Timestamped T → Ordering
+timestamped_cmp cmp a b = ordering_then (stamp_cmp a.stamp b.stamp) (cmp a.value b.value)
 
 -- the greater of two, and the first where neither is
 abbrev pub greater : {K : Type 0} → (K → K → Ordering) → K → K → K

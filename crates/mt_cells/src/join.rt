@@ -1,6 +1,6 @@
 //! Joining.
 
-ghost use Rattle.std.specs.Prelude.{◌≡◌, Bool, true, false, List, ◌∷◌, IsTrue, IfOk, IfErr, OnOk, OnErr};
+ghost use Rattle.std.specs.Prelude.{◌≡◌, Bool, true, List, ◌∷◌, IsTrue, IfOk, OnOk, OnErr};
 ghost use Rattle.mt_cells.specs.Folds.{SameValues};
 ghost use Rattle.mt_cells.specs.Folds as folds;
 

@@ -147,26 +147,31 @@ fn run_info<F: Files + AllocGlobal, W: Write>(
     words: &ArgMatches<'_>,
     output: &mut Latch<W>,
 ) -> Result<(), Stop> {
-    let names = words.get_strs("WAVE").unwrap_or(&[]);
-    let mut files = open_all(rt, names)?;
-    for file in &mut files {
-        let bytes = read_all(rt.alloc(), 0, file)?;
-        write_info(rt.alloc(), &bytes, output)?;
-    }
-    Ok(())
+    let mut file = open(rt, 0, words.get_str("WAVE").unwrap_or(""))?;
+    let bytes = read_all(rt.alloc(), 0, &mut file)?;
+    Ok(write_info(rt.alloc(), &bytes, output)?)
 }
 
-// Opens the files from left to right. One that cannot be opened is refused as one that cannot be read.
+// Opens the files from left to right.
 fn open_all<F: Files + AllocGlobal>(
     rt: &F,
     names: &[&str],
 ) -> Result<Vec<Latch<F::File>>, CliFault> {
     let mut files = Vec::new(rt.alloc());
     for (place, name) in names.iter().enumerate() {
-        match fs::open(rt, *name) {
-            Ok(file) => files.push(Latch::new(file))?,
-            Err(_) => return Err(CliFault::Read(place)),
-        }
+        files.push(open(rt, place, name)?)?;
     }
     Ok(files)
+}
+
+// Opens the file of this place. One that cannot be opened is refused as one that cannot be read.
+fn open<F: Files + AllocGlobal>(
+    rt: &F,
+    place: usize,
+    name: &str,
+) -> Result<Latch<F::File>, CliFault> {
+    match fs::open(rt, name) {
+        Ok(file) => Ok(Latch::new(file)),
+        Err(_) => Err(CliFault::Read(place)),
+    }
 }
