@@ -1,1 +1,3 @@
 pub mod Semilattice
+pub mod StampSets
+pub mod Presences

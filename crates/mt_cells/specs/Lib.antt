@@ -1,3 +1,5 @@
 pub mod Folds
 pub mod Pairs
 pub mod Greater
+pub mod Marks
+pub mod Together

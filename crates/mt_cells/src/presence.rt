@@ -1,0 +1,154 @@
+//! The presence of an item.
+
+ghost use Rattle.std.specs.Prelude.{◌≡◌, ◌↔◌, IsTrue, IfOk, OnOk, OnErr};
+ghost use Rattle.std.specs.List.Sorted.{IsStrictlySortedBy};
+ghost use Rattle.std.specs.Ordering.{eq_by_cmp};
+ghost use Rattle.std.specs.FinSet as set;
+ghost use Rattle.mt_stamp.specs.Moment.{Moment, stamp_cmp};
+ghost use Rattle.mt_cells.specs.Folds.{is_in};
+ghost use Rattle.mt_cells.specs.Marks.{unmarked, is_live, IsPresent};
+
+use crate::fault::CellFault;
+use crate::join::Join;
+use crate::stamp_set::StampSet;
+use mt_stamp::Stamp;
+use std::alloc::{Allocator, Global};
+use std::marker::Model;
+
+/// Whether one item is there: the stamps that tag it, and those of them that were removed. It is present while a tag
+/// is not removed, so a removal takes away the tags that it names and no other (INRIA RR-7506, section 3.3.5:
+/// Observed-Remove Set). Marks may come in any order, a removal before its tag too.
+#[derive(Drop)]
+pub struct Presence<A: Allocator = Global> {
+    alloc: A,
+    tags: StampSet<A>,
+    removed: StampSet<A>,
+}
+
+impl<A: Allocator> Model for Presence<A> {
+    ghost use Rattle.mt_cells.specs.Marks.{Marks, marks_code};
+
+    ghost Value = { Marks };
+
+    ghost coded = { marks_code };
+
+    ghost view = { λ p. record { tags = p.tags; removed = p.removed } };
+}
+
+impl<A: Allocator> Presence<A> {
+    /// The presence of an item without marks: it is not there. Takes no memory.
+    pub fn new(alloc: A) -> Self
+        ensures { result ≡ unmarked }
+    {
+        Presence {
+            alloc,
+            tags: StampSet::new(),
+            removed: StampSet::new(),
+        }
+    }
+
+    /// Tags the item with a stamp. Refused only as `Memory` (0), where a growth was refused; the presence is then
+    /// unchanged.
+    pub fn add_tag(&mut self, stamp: Stamp) -> Result<(), CellFault>
+    where
+        A: Clone,
+        ensures tagged { OnOk result (self.new ≡ record { tags = set.insert self.old.tags stamp; removed = self.old.removed }) }
+        ensures kept { OnErr result (self.new ≡ self.old) }
+    {
+        self.tags.insert(&self.alloc, stamp)
+    }
+
+    /// Removes the tag of a stamp, which may come later. Refused only as `Memory` (0), where a growth was refused; the
+    /// presence is then unchanged.
+    pub fn remove_tag(&mut self, stamp: Stamp) -> Result<(), CellFault>
+    where
+        A: Clone,
+        ensures removed { OnOk result (self.new ≡ record { tags = self.old.tags; removed = set.insert self.old.removed stamp }) }
+        ensures kept { OnErr result (self.new ≡ self.old) }
+    {
+        self.removed.insert(&self.alloc, stamp)
+    }
+
+    /// Whether the item is there: whether a tag is live. Takes no memory.
+    pub fn is_present(&self) -> bool
+        ensures { IsTrue result ↔ IsPresent self.now }
+    {
+        !self.tags.is_subset(&self.removed)
+    }
+
+    /// The live tags, each once, from the least stamp to the greatest. Refused only as `Memory` (0), where a growth
+    /// was refused.
+    pub fn live_tags(&self) -> Result<Vec<Stamp, A>, CellFault>
+    where
+        A: Clone,
+        ensures rising { IfOk result (λ tags. IsStrictlySortedBy stamp_cmp tags.items) }
+        ensures live { IfOk result (λ tags. (stamp : Moment) → is_in (eq_by_cmp stamp_cmp) tags.items stamp ≡ is_live self.now stamp) }
+    {
+        self.tags.difference(&self.alloc, &self.removed)
+    }
+
+    /// A copy. Refused only as `Memory` (0), where a growth was refused.
+    pub fn try_clone(&self) -> Result<Self, CellFault>
+    where
+        A: Clone,
+        ensures { IfOk result (λ copy. copy ≡ self.now) }
+    {
+        Ok(Presence {
+            alloc: self.alloc.clone()?,
+            tags: self.tags.try_clone()?,
+            removed: self.removed.try_clone()?,
+        })
+    }
+}
+
+impl<A: Allocator> PartialEq for Presence<A> {
+    ghost use Rattle.std.specs.Cmp.{partial_equiv_from_equiv};
+    ghost use Rattle.mt_cells.specs.Marks.{same_marks};
+    ghost use Rattle.mt_cells.specs.Together.{same_marks_equiv};
+
+    ghost eq = { same_marks };
+
+    ghost laws = { partial_equiv_from_equiv same_marks_equiv };
+
+    fn eq(&self, other: &Self) -> bool {
+        self.tags.is_subset(&other.tags)
+            && other.tags.is_subset(&self.tags)
+            && self.removed.is_subset(&other.removed)
+            && other.removed.is_subset(&self.removed)
+    }
+}
+
+impl<A: Allocator> Eq for Presence<A> {
+    ghost use Rattle.mt_cells.specs.Together.{same_marks_equiv};
+
+    ghost laws = { same_marks_equiv };
+}
+
+impl<A: Allocator + Clone> Join for Presence<A> {
+    ghost use Rattle.std.specs.Prelude.{true};
+    ghost use Rattle.mt_cells.specs.Marks.{together};
+    ghost use Rattle.mt_cells.specs.Together.{together_commutative, together_associative, together_idempotent, together_respects};
+
+    ghost joined = { together };
+
+    ghost takes_memory = { true };
+
+    ghost commutative = { together_commutative };
+
+    ghost associative = { together_associative };
+
+    ghost idempotent = { together_idempotent };
+
+    ghost respects = { together_respects };
+
+    fn join(&mut self, other: Self) -> Result<(), CellFault> {
+        let Presence {
+            alloc,
+            tags,
+            removed,
+        } = other;
+        drop(alloc);
+        self.tags.append(tags)?;
+        self.removed.append(removed)
+    }
+}
