@@ -14,8 +14,21 @@ def title(text):
     return bytes([len(data)]) + data
 
 
+def remove(own, item, tags):
+    """The tags stand in the order in which they are given."""
+    return (own, stamp(*own) + bytes([8]) + stamp(*item) + struct.pack(">H", len(tags)) + b"".join(stamp(*tag) for tag in tags))
+
+
+def restore(own, item):
+    return (own, stamp(*own) + bytes([9]) + stamp(*item))
+
+
 def add_marker(own, at, text):
     return (own, stamp(*own) + bytes([10]) + struct.pack(">I", at) + title(text))
+
+
+def move_marker(own, marker, at):
+    return (own, stamp(*own) + bytes([11]) + stamp(*marker) + struct.pack(">I", at))
 
 
 def retitle(own, item, text):

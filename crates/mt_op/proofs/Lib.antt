@@ -4,3 +4,4 @@ pub mod Dots
 pub mod Equal
 pub mod Digests
 pub mod LastWrite
+pub mod TagLists

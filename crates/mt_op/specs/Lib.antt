@@ -1,9 +1,11 @@
 pub mod Title
 pub mod Operation
 pub mod Bodies
+pub mod Tags
 pub mod Needs
 pub mod Ready
 pub mod Writes
+pub mod Presence
 pub mod Valid
 pub mod Dots
 pub mod Laws

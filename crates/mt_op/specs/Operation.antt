@@ -4,7 +4,10 @@ use Rattle.mt_stamp.specs.Moment.{Moment}
 
 -- what an operation does to the session (profile)
 pub data Act : Type 0 where
+  Remove : (item : Moment) (tags : List Moment) → Act
+  Restore : (item : Moment) → Act
   AddMarker : (at : ℕ) (title : List ℕ) → Act
+  MoveMarker : (marker : Moment) (at : ℕ) → Act
   Retitle : (item : Moment) (title : List ℕ) → Act
 
 -- An operation of an operation-based replicated type (INRIA RR-7506, operation-based objects): who made it when, and what it does.

@@ -3,7 +3,7 @@ use Rattle.std.specs.Prelude.{ℕ, List, [], ◌∷◌, Option, Some, None, if�
 use Rattle.std.specs.List.{filter_map}
 use Rattle.std.specs.Ordering.{is_lt}
 use Rattle.mt_stamp.specs.Moment.{Moment, stamp_cmp}
-use Rattle.mt_op.specs.Operation.{Act, AddMarker, Retitle, Operation}
+use Rattle.mt_op.specs.Operation.{Act, Remove, Restore, AddMarker, MoveMarker, Retitle, Operation}
 use Rattle.mt_op.specs.Needs.{stamp_eq}
 
 -- a value for one field of an item
@@ -13,11 +13,17 @@ pub record Write (X : Type 0) : Type 0 where
 
 -- the fields that each act writes, `own` being the operation's stamp (profile)
 abbrev pub title_written : Moment → Act → Option (Write (List ℕ))
+title_written own (Remove item tags) = None
+title_written own (Restore item) = None
 title_written own (AddMarker at title) = Some (record { item = own; value = title })
+title_written own (MoveMarker marker at) = None
 title_written own (Retitle item title) = Some (record { item = item; value = title })
 
 abbrev pub position_written : Moment → Act → Option (Write ℕ)
+position_written own (Remove item tags) = None
+position_written own (Restore item) = None
 position_written own (AddMarker at title) = Some (record { item = own; value = at })
+position_written own (MoveMarker marker at) = Some (record { item = marker; value = at })
 position_written own (Retitle item title) = None
 
 -- a value with the stamp of its writer

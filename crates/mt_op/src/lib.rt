@@ -8,6 +8,7 @@ mod find;
 pub mod laws;
 mod need;
 mod op;
+mod tags;
 #[cfg(test)]
 mod tests;
 mod title;

@@ -8,6 +8,8 @@ use std::alloc::Allocator;
 use std::cmp::Ordering;
 use std::test::Fail;
 
+mod bodies;
+
 const A: Replica = Replica(10);
 
 const B: Replica = Replica(11);
@@ -204,6 +206,7 @@ fn numbers_its_refusals(rt: HostRuntime) {
     for (fault, number) in [
         (OpFault::Memory, 0),
         (OpFault::NameNotOlder, 5),
+        (OpFault::BadTags, 7),
         (OpFault::BadTitle, 43),
         (OpFault::BadDigest, 50),
     ] {

@@ -1,4 +1,6 @@
 pub mod Fields
+pub mod Stamps
+pub mod Tags
 pub mod Operations
 pub mod Logs
 pub mod Appends

@@ -1,12 +1,13 @@
 -- Reading an operation from left to right, field by field, with the first fault that is met (profile).
-use Rattle.std.specs.Prelude.{◌≡◌, ℕ, Bool, List, [], ◌∷◌, length, take, drop, Result, Ok, Err, nat_lt, nat_le, ◌==◌, ◌&&◌, if◌then◌else◌}
-use Rattle.std.specs.Int.{Width, w32, w64, w128, byte_len, from_be_bytes}
+use Rattle.std.specs.Prelude.{◌≡◌, ℕ, zero, suc, Bool, List, [], ◌∷◌, Option, Some, None, length, take, drop, Result, Ok, Err, nat_lt, nat_le, ◌==◌, ◌&&◌, if◌then◌else◌}
+use Rattle.std.specs.Int.{Width, w16, w32, w64, w128, byte_len, from_be_bytes}
 use Rattle.mt_stamp.specs.Moment.{Moment, greatest}
 use Rattle.mt_op.specs.Title.{is_title}
-use Rattle.mt_op.specs.Operation.{Act, AddMarker, Retitle, Operation}
+use Rattle.mt_op.specs.Tags.{is_after}
+use Rattle.mt_op.specs.Operation.{Act, Remove, Restore, AddMarker, MoveMarker, Retitle, Operation}
 use Rattle.mt_opcodec.specs.declared.fault.ReadFault.{ReadFault}
 use Rattle.mt_opcodec.specs.declared.fault.ReadFault.TheVariants.{Truncated, BadTag, BadField, Memory}
-use Rattle.mt_opcodec.specs.OpText.{add_marker_tag, retitle_tag}
+use Rattle.mt_opcodec.specs.OpText.{remove_tag, restore_tag, add_marker_tag, move_marker_tag, retitle_tag}
 
 -- a value and the bytes after it, or the first fault
 abbrev pub Reads : Type 0 → Type 0
@@ -58,11 +59,48 @@ title_at (n ∷ rest) =
     if nat_lt (length rest) n then Err Truncated
     else (title_of_bytes (take n rest) >>= λ title. Ok (title, drop n rest))
 
+-- a tag of a Remove, after the one before
+unfoldable pub tag_at : ℕ → Option Moment → List ℕ → Reads Moment
+tag_at clock last bytes = do
+  tag ← older_stamp_at clock bytes
+  if is_after last tag.0 then Ok tag else Err BadField
+
+-- this many tags, after the one before
+unfoldable pub stamps_at : ℕ → ℕ → Option Moment → List ℕ → Reads (List Moment)
+stamps_at zero clock last bytes = Ok ([], bytes)
+stamps_at (suc count) clock last bytes = do
+  tag ← tag_at clock last bytes
+  tags ← stamps_at count clock (Some tag.0) tag.1
+  Ok (tag.0 ∷ tags.0, tags.1)
+
+-- a count that is not 0, and that many tags, each a field
+unfoldable pub tags_at : ℕ → List ℕ → Reads (List Moment)
+tags_at clock bytes = do
+  count ← number_at w16 bytes
+  if count.0 == 0 then Err BadField else stamps_at count.0 clock None count.1
+
+unfoldable pub remove_at : ℕ → List ℕ → Reads Act
+remove_at clock bytes = do
+  item ← older_stamp_at clock bytes
+  tags ← tags_at clock item.1
+  Ok (Remove item.0 tags.0, tags.1)
+
+unfoldable pub restore_at : ℕ → List ℕ → Reads Act
+restore_at clock bytes = do
+  item ← older_stamp_at clock bytes
+  Ok (Restore item.0, item.1)
+
 unfoldable pub add_marker_at : List ℕ → Reads Act
 add_marker_at bytes = do
   at ← number_at w32 bytes
   title ← title_at at.1
   Ok (AddMarker at.0 title.0, title.1)
+
+unfoldable pub move_marker_at : ℕ → List ℕ → Reads Act
+move_marker_at clock bytes = do
+  marker ← older_stamp_at clock bytes
+  at ← number_at w32 marker.1
+  Ok (MoveMarker marker.0 at.0, at.1)
 
 unfoldable pub retitle_at : ℕ → List ℕ → Reads Act
 retitle_at clock bytes = do
@@ -74,7 +112,10 @@ retitle_at clock bytes = do
 unfoldable pub act_at : ℕ → List ℕ → Reads Act
 act_at clock [] = Err Truncated
 act_at clock (tag ∷ rest) =
-    if tag == add_marker_tag then add_marker_at rest
+    if tag == remove_tag then remove_at clock rest
+    else if tag == restore_tag then restore_at clock rest
+    else if tag == add_marker_tag then add_marker_at rest
+    else if tag == move_marker_tag then move_marker_at clock rest
     else if tag == retitle_tag then retitle_at clock rest
     else Err BadTag
 

@@ -9,7 +9,8 @@ use std::alloc::{AllocError, AllocFailed};
 use thiserror::Error;
 
 /// Why bytes do not begin with the text of an operation: the fault of the first field, from left to right,
-/// that has one. A stamp is one field, and so is a title with its length.
+/// that has one. A stamp is one field, and so is a title with its length; of a Remove's tags, their count and each
+/// of them are fields of their own.
 #[derive(Clone, Copy, Debug, PartialEq, Eq, Error)]
 pub enum ReadFault {
     /// A growth was refused.
@@ -18,12 +19,13 @@ pub enum ReadFault {
     /// The bytes end before the field does.
     #[error("the operation is cut short")]
     Truncated,
-    /// The tag is neither 10 nor 12.
+    /// The tag is none of 8 to 12.
     #[error("no operation has this tag")]
     BadTag,
-    /// A complete field other than the tag is out of range: a stamp whose clock or sequence number is 0 or
-    /// above 2^62, a named stamp whose clock is not smaller than the operation's own, or a title that is not
-    /// UTF-8 or holds a character below 0x20 or 0x7F.
+    /// A complete field other than the tag is not allowed: a stamp whose clock or sequence number is 0 or
+    /// above 2^62, a named stamp whose clock is not smaller than the operation's own, a Remove's count of 0, a tag
+    /// of a Remove that is not greater than the one before, or a title that is not UTF-8 or holds a character
+    /// below 0x20 or 0x7F.
     #[error("a field of the operation is out of range")]
     BadField,
 }
@@ -46,6 +48,14 @@ impl From<AllocError> for ReadFault {
     ghost from_gives = { λ _ e. e ≡ Memory };
 
     fn from(_e: AllocError) -> ReadFault {
+        ReadFault::Memory
+    }
+}
+
+impl<T: Drop> From<AllocFailed<T>> for ReadFault {
+    ghost from_gives = { λ _ e. e ≡ Memory };
+
+    fn from(_e: AllocFailed<T>) -> ReadFault {
         ReadFault::Memory
     }
 }

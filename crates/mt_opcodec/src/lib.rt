@@ -2,8 +2,13 @@
 //!
 //! Numbers have their greatest byte first. A stamp is its clock in 8 bytes, its replica in 16 and its
 //! sequence number in 8. A title is its length in one byte, and that many bytes. The text of an operation
-//! is its stamp, a byte that is its tag, and what the tag calls for: 10 for an AddMarker, the frame in 4
-//! bytes and the title; 12 for a Retitle, the item's stamp and the title.
+//! is its stamp, a byte that is its tag, and what the tag calls for:
+//!
+//! - 8, a Remove: the item's stamp, the number of tags in 2 bytes, and the stamp of each, rising;
+//! - 9, a Restore: the item's stamp;
+//! - 10, an AddMarker: the frame in 4 bytes, and the title;
+//! - 11, a MoveMarker: the marker's stamp, and the frame in 4 bytes;
+//! - 12, a Retitle: the item's stamp, and the title.
 //!
 //! The text of a log is `RMTS`, the byte 1, the number of operations in 8 bytes, their texts by rising
 //! dot, and the 32 bytes of the SHA-256 of all that stands before it.

@@ -1,8 +1,10 @@
 //! Writing the text of an operation.
 
-ghost use Rattle.std.specs.Prelude.{◌≡◌, ◌++◌, OnOk, OnErr};
+ghost use Rattle.std.specs.Prelude.{◌≡◌, ◌<◌, ◌^◌, ◌++◌, length, OnOk, OnErr, IsTrue};
+ghost use Rattle.std.specs.Int.{w32, to_be_bytes};
 ghost use Rattle.mt_op.specs.Bodies.{act_of};
-ghost use Rattle.mt_opcodec.specs.OpText.{stamp_bytes, title_bytes, act_bytes, op_text};
+ghost use Rattle.mt_op.specs.Valid.{tags_are_good};
+ghost use Rattle.mt_opcodec.specs.OpText.{stamp_bytes, title_bytes, tags_bytes, act_bytes, op_text};
 
 use mt_op::{Body, Op, Title};
 use mt_stamp::Stamp;
@@ -16,6 +18,13 @@ fn put_stamp<A: Allocator>(out: &mut Vec<u8, A>, stamp: &Stamp) -> Result<(), Al
     out.extend_from_slice(&stamp.seq().to_be_bytes())
 }
 
+// A frame of the session.
+fn put_frame<A: Allocator>(out: &mut Vec<u8, A>, at: u32) -> Result<(), AllocError>
+    ensures { OnOk result (out.new.items ≡ out.old.items ++ to_be_bytes w32 at) }
+{
+    out.extend_from_slice(&at.to_be_bytes())
+}
+
 fn put_title<A: Allocator, B: Allocator>(
     out: &mut Vec<u8, A>,
     title: &Title<B>,
@@ -27,17 +36,43 @@ fn put_title<A: Allocator, B: Allocator>(
     out.extend_from_slice(text)
 }
 
+fn put_tags<A: Allocator>(out: &mut Vec<u8, A>, tags: &[Stamp]) -> Result<(), AllocError>
+    requires { length tags.now < 2 ^ 16 }
+    ensures { OnOk result (out.new.items ≡ out.old.items ++ tags_bytes tags.now) }
+{
+    out.extend_from_slice(&(tags.len() as u16).to_be_bytes())?;
+    for tag in tags {
+        put_stamp(out, tag)?;
+    }
+    Ok(())
+}
+
 fn put_body<A: Allocator, B: Allocator>(
     out: &mut Vec<u8, A>,
     body: &Body<B>,
 ) -> Result<(), AllocError>
+    requires { IsTrue (tags_are_good (act_of body.now)) }
     ensures { OnOk result (out.new.items ≡ out.old.items ++ act_bytes (act_of body.now)) }
 {
     match body {
+        Body::Remove { item, tags } => {
+            out.push(8)?;
+            put_stamp(out, item)?;
+            put_tags(out, tags.items())
+        }
+        Body::Restore { item } => {
+            out.push(9)?;
+            put_stamp(out, item)
+        }
         Body::AddMarker { at, title } => {
             out.push(10)?;
-            out.extend_from_slice(&at.to_be_bytes())?;
+            put_frame(out, *at)?;
             put_title(out, title)
+        }
+        Body::MoveMarker { marker, at } => {
+            out.push(11)?;
+            put_stamp(out, marker)?;
+            put_frame(out, *at)
         }
         Body::Retitle { item, title } => {
             out.push(12)?;

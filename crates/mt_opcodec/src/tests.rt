@@ -4,11 +4,12 @@ mod changes;
 mod logs;
 mod operations;
 mod refused_growth;
+mod tags;
 
 use crate::laws::{log_texts, op_texts, unions};
 use crate::{LogFault, ReadFault};
 use mt_op::{Body, Op, OpFault, Title};
-use mt_stamp::{Dot, Replica, Stamp};
+use mt_stamp::{Dot, List, Replica, Stamp};
 use sha2::{Digest, Sha256};
 use std::alloc::{AllocError, Allocator};
 
@@ -29,10 +30,42 @@ pub const SPORT: [u8; 71] = [
     0, 0, 1, 5, b'S', b'p', b'o', b'r', b't',
 ];
 
+/// The text of the operation `(2, B, 1)`: it gives the item `(1, A, 1)` another tag.
+pub const RESTORE: [u8; 65] = [
+    0, 0, 0, 0, 0, 0, 0, 2, 0, 0, 0, 0, 0, 0, 0, 0, 0, 0, 0, 0, 0, 0, 0, 11, 0, 0, 0, 0, 0, 0, 0,
+    1, 9, 0, 0, 0, 0, 0, 0, 0, 1, 0, 0, 0, 0, 0, 0, 0, 0, 0, 0, 0, 0, 0, 0, 0, 10, 0, 0, 0, 0, 0,
+    0, 0, 1,
+];
+
+/// The text of the operation `(3, A, 2)`: it removes the tags `(1, A, 1)` and `(2, B, 1)` of the item `(1, A, 1)`.
+pub const REMOVE: [u8; 131] = [
+    0, 0, 0, 0, 0, 0, 0, 3, 0, 0, 0, 0, 0, 0, 0, 0, 0, 0, 0, 0, 0, 0, 0, 10, 0, 0, 0, 0, 0, 0, 0,
+    2, 8, 0, 0, 0, 0, 0, 0, 0, 1, 0, 0, 0, 0, 0, 0, 0, 0, 0, 0, 0, 0, 0, 0, 0, 10, 0, 0, 0, 0, 0,
+    0, 0, 1, 0, 2, 0, 0, 0, 0, 0, 0, 0, 1, 0, 0, 0, 0, 0, 0, 0, 0, 0, 0, 0, 0, 0, 0, 0, 10, 0, 0,
+    0, 0, 0, 0, 0, 1, 0, 0, 0, 0, 0, 0, 0, 2, 0, 0, 0, 0, 0, 0, 0, 0, 0, 0, 0, 0, 0, 0, 0, 11, 0,
+    0, 0, 0, 0, 0, 0, 1,
+];
+
+/// The text of the operation `(4, B, 2)`: it moves the marker `(1, A, 1)` to frame 960.
+pub const MOVE: [u8; 69] = [
+    0, 0, 0, 0, 0, 0, 0, 4, 0, 0, 0, 0, 0, 0, 0, 0, 0, 0, 0, 0, 0, 0, 0, 11, 0, 0, 0, 0, 0, 0, 0,
+    2, 11, 0, 0, 0, 0, 0, 0, 0, 1, 0, 0, 0, 0, 0, 0, 0, 0, 0, 0, 0, 0, 0, 0, 0, 10, 0, 0, 0, 0, 0,
+    0, 0, 1, 0, 0, 3, 192,
+];
+
 /// A marker at frame 480.
 pub fn marker<M: Allocator>(memory: M, stamp: Stamp, title: &str) -> Result<Op<M>, OpFault> {
     let title = Title::new(memory, title)?;
     Op::new(stamp, Body::AddMarker { at: 480, title })
+}
+
+/// A Remove of these tags of the item `(1, A, 1)`.
+pub fn removal<M: Allocator>(memory: M, stamp: Stamp, tags: &[Stamp]) -> Result<Op<M>, OpFault> {
+    let Ok(item) = Stamp::new(1, A, 1) else {
+        return Err(OpFault::BadTags);
+    };
+    let tags = List::new(Vec::from_slice(memory, tags)?);
+    Op::new(stamp, Body::Remove { item, tags })
 }
 
 /// The bytes of a log with this count and these records, and with the digest that belongs to them.

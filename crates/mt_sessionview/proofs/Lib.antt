@@ -2,7 +2,12 @@ pub mod Sorting
 pub mod Found
 pub mod StampOrder
 pub mod Waiting
-pub mod Writers
+pub mod Tables
+pub mod Items
+pub mod LastWriters
 pub mod Markers
 pub mod SessionText
 pub mod Rising
+pub mod AllNeeds
+pub mod JoinedPlaces
+pub mod ItemMarks

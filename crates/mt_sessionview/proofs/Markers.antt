@@ -1,5 +1,5 @@
 -- The markers of ready operations.
-use Rattle.std.proofs.Common.{◌≡◌, ◌≢◌, ℕ, zero, suc, ◌+◌, Bool, true, false, cond, List, [], ◌∷◌, ◌++◌, Option, Some, None, length, get_or, take, map, refl, sym, ap, ◌∙◌, subst, arith}
+use Rattle.std.proofs.Common.{◌≡◌, ℕ, zero, suc, ◌+◌, Bool, true, false, cond, List, [], ◌∷◌, ◌++◌, Option, Some, None, length, get_or, take, map, refl, sym, ap, ◌∙◌, subst}
 use Rattle.std.specs.Prelude.{slice_get, option_map, unwrap_or, not}
 use Rattle.std.specs.List.{filter, filter_map, cons_option, All, count_by}
 use Rattle.std.specs.List.Sorted.{IsPermutation, IsSorted}
@@ -14,41 +14,18 @@ use Rattle.std.proofs.lemmas.List.Elements.{filter-append, All-map, All-filter}
 use Rattle.std.proofs.lemmas.List.Sums.{sum_by-cons, length-filter}
 use Rattle.mt_stamp.specs.Moment.{Moment, stamp_cmp, dot_of}
 use Rattle.mt_stamp.proofs.Order.{stamp_cmp_total, stamp_cmp-IsAntisymmetric}
-use Rattle.mt_op.specs.Operation.{Act, AddMarker, Retitle, Operation}
-use Rattle.mt_op.specs.Needs.{needs, meets, clock_of, stamp_eq}
+use Rattle.mt_op.specs.Operation.{Act, AddMarker, Operation}
+use Rattle.mt_op.specs.Needs.{needs, meets, clock_of, adds_marker}
+use Rattle.mt_op.specs.Presence.{is_present}
 use Rattle.mt_op.specs.Ready.{is_ready}
 use Rattle.mt_op.specs.Dots.{dots_rise}
-use Rattle.mt_op.specs.Writes.{Written, title_written, position_written, kept, written_by, later, latest, last_write}
-use Rattle.mt_op.proofs.Needs.{stamp_eq-true}
+use Rattle.mt_op.specs.Writes.{Write, Written, title_written, position_written, written_by, later, latest, last_write}
 use Rattle.mt_sessionview.specs.Content.{Marker, marker_cmp}
-use Rattle.mt_sessionview.specs.Session.{ready_ops, field_value, is_marker, marker_ops, marker_of}
+use Rattle.mt_sessionview.specs.Session.{ready_ops, is_shown, marker_ops, marker_of}
 use Rattle.mt_sessionview.specs.Sorting.{sort_by}
-use Rattle.mt_sessionview.proofs.Found.{one_place, unmet}
-use Rattle.mt_sessionview.proofs.Writers.{stamp_eq_same}
+use Rattle.mt_sessionview.proofs.Found.{one_place}
+use Rattle.mt_sessionview.proofs.Items.{stamp_eq_same}
 use Rattle.mt_sessionview.proofs.Sorting.{sorted_is_sort_by}
-
-nothing_written : {X Y : Type 0} (h : X → Option Y) (p : X → Bool) (xs : List X) → ((k : ℕ) (y : X) → slice_get xs k ≡ Some y → h y ≡ None) → filter_map h (filter p xs) ≡ []
-nothing_written h p [] none = refl
-nothing_written {X} {Y} h p (x ∷ xs) none = elim (p x) as (λ b. filter_map h (cond b (x ∷ filter p xs) (filter p xs)) ≡ []) [
-  | true ↦ ap (λ (o : Option Y). cons_option o (filter_map h (filter p xs))) (none 0 x refl) ∙ nothing_written h p xs (λ k y e. none (suc k) y e)
-  | false ↦ nothing_written h p xs (λ k y e. none (suc k) y e)
-]
-
--- what is written where one alone writes
-one_written : {X Y : Type 0} (h : X → Option Y) (p : X → Bool) (xs : List X) (i : ℕ) (x : X) (v : Y) → slice_get xs i ≡ Some x → p x ≡ true → h x ≡ Some v
-    → ((k : ℕ) (y : X) → slice_get xs k ≡ Some y → k ≢ i → h y ≡ None) → filter_map h (filter p xs) ≡ v ∷ []
-one_written h p [] i x v at passes is others = absurd (none-some x at)
-one_written {X} h p (y ∷ xs) zero x v at passes is others =
-    let same : x ≡ y = sym (same_Some y x at) in
-    let P : X → Type 0 = λ z. p z ≡ true in
-    let Q : X → Type 0 = λ z. h z ≡ Some v in
-    rw (subst P same passes, subst Q same is, nothing_written h p xs (λ k z e. others (suc k) z e (λ n. absurd (omega arith)))) refl
-one_written {X} {Y} h p (y ∷ xs) (suc i) x v at passes is others =
-    let rest = one_written h p xs i x v at passes is (λ k z e ne. others (suc k) z e (λ n. ne (omega arith))) in
-    elim (p y) as (λ b. filter_map h (cond b (y ∷ filter p xs) (filter p xs)) ≡ v ∷ []) [
-      | true ↦ ap (λ (o : Option Y). cons_option o (filter_map h (filter p xs))) (others 0 y refl (λ n. absurd (omega arith))) ∙ rest
-      | false ↦ rest
-    ]
 
 later_is_some : {X : Type 0} (w : Written X) (o : Option (Written X)) → later w o ≡ None → ⊥
 later_is_some w None e = absurd cc
@@ -69,40 +46,32 @@ some_latest {X} {Z} h p (y ∷ xs) (suc i) x v at passes is none =
       | false ↦ rest
     ] none
 
-unwritten : (item own : Moment) (act : Act) → (own ≡ item → ⊥) → kept position_written item own (position_written own act) ≡ None
-unwritten item own (AddMarker at title) other = rw (unmet (stamp_eq own item) (λ e. other (stamp_eq-true own item e))) refl
-unwritten item own (Retitle named title) other = refl
+-- a marker's own operation writes its fields first
+field_is : {X : Type 0} (field : Moment → Act → Option (Write X)) (ops : List Operation) (place : ℕ) (o : Operation) (value : X) → slice_get ops place ≡ Some o → is_ready clock_of needs meets ops o ≡ true
+    → field o.stamp o.act ≡ Some (record { item = o.stamp; value = value }) → last_write field o.stamp (ready_ops ops) ≡ None → ⊥
+field_is {X} field ops place o value stands passes is =
+    let v : Written X = record { writer = o.stamp; value = value } in
+    let writes : written_by field o.stamp o ≡ Some v = rw (is, stamp_eq_same o.stamp o.stamp refl) refl in
+    some_latest (written_by field o.stamp) (is_ready clock_of needs meets ops) ops place o v stands passes writes
 
--- a marker's own operation alone writes its position
-position_is : (ops : List Operation) → dots_rise ops ≡ true → (place : ℕ) (o : Operation) (at : ℕ) (title : List ℕ) → slice_get ops place ≡ Some o → is_ready clock_of needs meets ops o ≡ true → o.act ≡ AddMarker at title
-    → field_value position_written ops o.stamp ≡ Some at
-position_is ops rise place o at title stands passes is =
-    let v : Written ℕ = record { writer = o.stamp; value = at } in
-    let own : written_by position_written o.stamp o ≡ Some v = rw (is, stamp_eq_same o.stamp o.stamp refl) refl in
-    let one = one_written (written_by position_written o.stamp) (is_ready clock_of needs meets ops) ops place o v stands passes own
-    (λ k y e ne. unwritten o.stamp y.stamp y.act (λ same. ne (one_place ops rise k place y o e stands (ap dot_of same)))) in
-    ap (λ (ws : List (Written ℕ)). option_map (λ (w : Written ℕ). w.value) (latest ws)) one
-
--- one writes its title
-title_is : (ops : List Operation) (place : ℕ) (o : Operation) (at : ℕ) (own : List ℕ) → slice_get ops place ≡ Some o → is_ready clock_of needs meets ops o ≡ true → o.act ≡ AddMarker at own
-    → last_write title_written o.stamp (ready_ops ops) ≡ None → ⊥
-title_is ops place o at own stands passes is =
-    let v : Written (List ℕ) = record { writer = o.stamp; value = own } in
-    let writes : written_by title_written o.stamp o ≡ Some v = rw (is, stamp_eq_same o.stamp o.stamp refl) refl in
-    some_latest (written_by title_written o.stamp) (is_ready clock_of needs meets ops) ops place o v stands passes writes
-
-given_or : (o : Option (Written (List ℕ))) (d e : List ℕ) → (o ≡ None → ⊥) → unwrap_or (option_map (λ (w : Written (List ℕ)). w.value) o) d ≡ unwrap_or (option_map (λ (w : Written (List ℕ)). w.value) o) e
+given_or : {X : Type 0} (o : Option (Written X)) (d e : X) → (o ≡ None → ⊥) → unwrap_or (option_map (λ (w : Written X). w.value) o) d ≡ unwrap_or (option_map (λ (w : Written X). w.value) o) e
 given_or None d e some = absurd (some refl)
 given_or (Some w) d e some = refl
 
--- the marker of a ready operation that adds one
-pub marker_made : (ops : List Operation) → dots_rise ops ≡ true → (place : ℕ) (o : Operation) (at : ℕ) (own title : List ℕ) → slice_get ops place ≡ Some o → is_ready clock_of needs meets ops o ≡ true → AddMarker at own ≡ o.act
+-- the marker of a ready operation that adds one that is present
+pub marker_made : (ops : List Operation) (place : ℕ) (o : Operation) (own_at at : ℕ) (own title : List ℕ) → slice_get ops place ≡ Some o → is_ready clock_of needs meets ops o ≡ true → AddMarker own_at own ≡ o.act
+    → (adds_marker o.act ≡ true → true ≡ is_present (ready_ops ops) o.stamp)
     → title ≡ unwrap_or (option_map (λ (w : Written (List ℕ)). w.value) (last_write title_written o.stamp (ready_ops ops))) own
-    → ◌≡◌ {A = Option Marker} (Some (record { marker = o.stamp; at = at; title = title })) (cond (is_marker o.act) (Some (marker_of ops o)) None)
-marker_made ops rise place o at own title stands passes is title_is_last =
-    let position : at ≡ (marker_of ops o).at = sym (ap (λ (v : Option ℕ). unwrap_or v 0) (position_is ops rise place o at own stands passes (sym is))) in
-    let titles : title ≡ (marker_of ops o).title = title_is_last ∙ given_or (last_write title_written o.stamp (ready_ops ops)) own [] (title_is ops place o at own stands passes (sym is)) in
-    (λ i. Some (record { marker = o.stamp; at = position i; title = titles i })) ∙ ap (λ (a : Act). cond (is_marker a) (Some (marker_of ops o)) None) is
+    → at ≡ unwrap_or (option_map (λ (w : Written ℕ). w.value) (last_write position_written o.stamp (ready_ops ops))) own_at
+    → ◌≡◌ {A = Option Marker} (Some (record { marker = o.stamp; at = at; title = title })) (cond (is_shown ops o) (Some (marker_of ops o)) None)
+marker_made ops place o own_at at own title stands passes is present title_is_last at_is_last =
+    let writes_title : title_written o.stamp o.act ≡ Some (record { item = o.stamp; value = own }) = ap (title_written o.stamp) (sym is) in
+    let writes_at : position_written o.stamp o.act ≡ Some (record { item = o.stamp; value = own_at }) = ap (position_written o.stamp) (sym is) in
+    let position : at ≡ (marker_of ops o).at = at_is_last ∙ given_or (last_write position_written o.stamp (ready_ops ops)) own_at 0 (field_is position_written ops place o own_at stands passes writes_at) in
+    let titles : title ≡ (marker_of ops o).title = title_is_last ∙ given_or (last_write title_written o.stamp (ready_ops ops)) own [] (field_is title_written ops place o own stands passes writes_title) in
+    let adds : adds_marker o.act ≡ true = ap adds_marker (sym is) in
+    let shown : is_shown ops o ≡ true = rw adds (sym (present adds)) in
+    (λ i. Some (record { marker = o.stamp; at = position i; title = titles i })) ∙ ap (λ (b : Bool). cond b (Some (marker_of ops o)) None) (sym shown)
 
 -- one more item of a list that is filtered twice and mapped
 collected_more : {X Y : Type 0} (f : X → Y) (p q : X → Bool) (xs : List X) (i : ℕ) (x : X) → slice_get xs i ≡ Some x
@@ -143,7 +112,7 @@ pub markers_sorted : (ops : List Operation) → dots_rise ops ≡ true → (made
 markers_sorted ops rise made sorted is moved rises =
     let all_ops : All (λ o. IsMarkerOf ops (marker_of ops o)) ops = λ k d lt. record { place = k; op = get_or ops k d; at = slice_get-get_or ops k d lt; is = refl } in
     let ready = All-filter (is_ready clock_of needs meets ops) (λ o. IsMarkerOf ops (marker_of ops o)) ops all_ops in
-    let adding = All-filter (λ (o : Operation). is_marker o.act) (λ o. IsMarkerOf ops (marker_of ops o)) (ready_ops ops) ready in
+    let adding = All-filter (is_shown ops) (λ o. IsMarkerOf ops (marker_of ops o)) (ready_ops ops) ready in
     let all = All-map (IsMarkerOf ops) (marker_of ops) (marker_ops ops) adding in
     sorted_is_sort_by marker_cmp marker_cmp_total (IsMarkerOf ops) (one_marker ops rise) (map (marker_of ops) (marker_ops ops)) sorted all
     (let P : List Marker → Type 0 = λ l. IsPermutation l sorted in subst P is moved) rises

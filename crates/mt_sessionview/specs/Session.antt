@@ -1,10 +1,11 @@
 -- The session of a set of operations.
-use Rattle.std.specs.Prelude.{Bool, true, false, List, map, filter, length, Option, option_map, unwrap_or, []}
+use Rattle.std.specs.Prelude.{Bool, ◌&&◌, List, map, filter, length, Option, option_map, unwrap_or, []}
 use Rattle.mt_stamp.specs.Moment.{Moment}
-use Rattle.mt_op.specs.Operation.{Act, AddMarker, Retitle, Operation}
-use Rattle.mt_op.specs.Needs.{needs, meets, clock_of}
+use Rattle.mt_op.specs.Operation.{Act, Operation}
+use Rattle.mt_op.specs.Needs.{needs, meets, clock_of, adds_marker}
 use Rattle.mt_op.specs.Ready.{ready, held}
 use Rattle.mt_op.specs.Writes.{Write, Written, title_written, position_written, last_write}
+use Rattle.mt_op.specs.Presence.{is_present}
 use Rattle.mt_sessionview.specs.Sorting.{sort_by}
 use Rattle.mt_sessionview.specs.Content.{Marker, Content, marker_cmp}
 
@@ -20,13 +21,13 @@ held_ops s = held clock_of needs meets s
 abbrev pub field_value : {X : Type 0} → (Moment → Act → Option (Write X)) → List Operation → Moment → Option X
 field_value {X} field s item = option_map (λ (w : Written X). w.value) (last_write field item (ready_ops s))
 
-abbrev pub is_marker : Act → Bool
-is_marker (AddMarker at title) = true
-is_marker (Retitle item title) = false
+-- whether an operation added a marker that is present
+abbrev pub is_shown : List Operation → Operation → Bool
+is_shown s o = adds_marker o.act && is_present (ready_ops s) o.stamp
 
--- the operations that added the markers of a set; all of them are present
+-- the operations that added the markers of a set that are present
 abbrev pub marker_ops : List Operation → List Operation
-marker_ops s = filter (λ o. is_marker o.act) (ready_ops s)
+marker_ops s = filter (is_shown s) (ready_ops s)
 
 -- a marker with the values of its fields, which its own AddMarker writes first
 abbrev pub marker_of : List Operation → Operation → Marker

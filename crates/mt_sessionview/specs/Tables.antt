@@ -1,9 +1,15 @@
 -- What tables by place tell of operations.
-use Rattle.std.specs.Prelude.{◌≡◌, ℕ, ◌<◌, Bool, false, List, Option, Some, None, MatchOption, slice_get, slice_index_or, length}
+use Rattle.std.specs.Prelude.{◌≡◌, ℕ, ◌<◌, Bool, false, ◌||◌, List, [], ◌∷◌, Option, Some, None, MatchOption, slice_get, slice_index_or, length, option_map, if◌then◌else◌}
+use Rattle.std.specs.List.{flat_map}
+use Rattle.std.specs.FinSet as set
 use Rattle.mt_stamp.specs.Moment.{Moment}
-use Rattle.mt_op.specs.Operation.{Operation}
-use Rattle.mt_op.specs.Needs.{clock_of}
-use Rattle.mt_op.specs.Writes.{Written, title_written, written_by, last_write}
+use Rattle.mt_op.specs.Operation.{Act, Remove, Restore, AddMarker, MoveMarker, Retitle, Operation}
+use Rattle.mt_op.specs.Needs.{clock_of, stamp_eq}
+use Rattle.mt_op.specs.Presence.{is_listed, tags_removed, removed_tags}
+use Rattle.mt_cells.specs.Marks.{Marks}
+use Rattle.mt_op.specs.Writes.{Write, Written, title_written, position_written, written_by, last_write}
+use Rattle.mt_sessionview.specs.declared.field.Field.{Field}
+use Rattle.mt_sessionview.specs.declared.field.Field.TheVariants.{Title, Position}
 
 -- whether the operation of this stamp passes
 abbrev pub TellsOf : List Operation → List Bool → Moment → (Operation → Bool) → Type 0
@@ -24,18 +30,71 @@ pub record StandsAt (ops : List Operation) (stamp : Moment) (j : ℕ) : Type 0 w
 abbrev pub IsNowhere : List Operation → Moment → Type 0
 IsNowhere ops stamp = (p : ℕ) (x : Operation) → slice_get ops p ≡ Some x → stamp ≡ x.stamp → ⊥
 
--- The operation at place w writes the item's title, and what it writes is the last write.
-pub record IsWriter (ops : List Operation) (item : Moment) (last : Option (Written (List ℕ))) (w : ℕ) : Type 0 where
-  pub op : Operation
-  pub write : Written (List ℕ)
-  pub at : slice_get ops w ≡ Some op
-  pub writes : written_by title_written item op ≡ Some write
-  pub is : last ≡ Some write
+-- By the place of each operation, what a table has there holds of its stamp and these operations.
+abbrev pub Tells : {E : Type 0} → (Moment → List Operation → E → Type 0) → E → List Operation → List Operation → List E → Type 0
+Tells Q none ops among table = (p : ℕ) (o : Operation) → slice_get ops p ≡ Some o → Q o.stamp among (slice_index_or table p none)
 
--- the place of the last writer, where there is one
-abbrev pub IsLastWriter : List Operation → Moment → Option (Written (List ℕ)) → Option ℕ → Type 0
-IsLastWriter ops item last writer = MatchOption writer (last ≡ None) (IsWriter ops item last)
+module _ {X : Type 0} (field : Moment → Act → Option (Write X)) (ops : List Operation) where
+  -- The operation at place w writes the item's field, and what it writes is the last write.
+  pub record IsWriter (item : Moment) (last : Option (Written X)) (w : ℕ) : Type 0 where
+    pub op : Operation
+    pub write : Written X
+    pub at : slice_get ops w ≡ Some op
+    pub writes : written_by field item op ≡ Some write
+    pub is : last ≡ Some write
 
--- the last writer among these of the title of each operation's item
-abbrev pub TellsWriters : List Operation → List Operation → List (Option ℕ) → Type 0
-TellsWriters ops among table = (p : ℕ) (o : Operation) → slice_get ops p ≡ Some o → IsLastWriter ops o.stamp (last_write title_written o.stamp among) (slice_index_or table p None)
+  -- the place of the last writer, where there is one
+  abbrev pub IsLastWriter : Moment → Option (Written X) → Option ℕ → Type 0
+  IsLastWriter item last writer = MatchOption writer (last ≡ None) (IsWriter item last)
+
+  -- the last writer of the item's field among these operations
+  abbrev pub IsLastAmong : Moment → List Operation → Option ℕ → Type 0
+  IsLastAmong item among writer = IsLastWriter item (last_write field item among) writer
+
+-- the item whose field an act writes
+abbrev pub written_item : Field → Moment → Act → Option Moment
+written_item Title own act = option_map (λ w. w.item) (title_written own act)
+written_item Position own act = option_map (λ w. w.item) (position_written own act)
+
+-- the last writers among these of a field of each operation's item
+abbrev pub TellsWriters : Field → List Operation → List Operation → List (Option ℕ) → Type 0
+TellsWriters Title ops among table = Tells (IsLastAmong title_written ops) None ops among table
+TellsWriters Position ops among table = Tells (IsLastAmong position_written ops) None ops among table
+
+-- the tag that an act gives an item beside the one that adds it
+abbrev pub restoring_tags : Moment → Moment → Act → List Moment
+restoring_tags item own (Remove i tags) = []
+restoring_tags item own (Restore i) = if stamp_eq i item then own ∷ [] else []
+restoring_tags item own (AddMarker at title) = []
+restoring_tags item own (MoveMarker marker at) = []
+restoring_tags item own (Retitle i title) = []
+
+abbrev pub restored_tags : Moment → List Operation → List Moment
+restored_tags item ops = flat_map (λ o. restoring_tags item o.stamp o.act) ops
+
+-- the item that an act restores, or removes tags of
+abbrev pub marked_item : Act → Option Moment
+marked_item (Remove item tags) = Some item
+marked_item (Restore item) = Some item
+marked_item (AddMarker at title) = None
+marked_item (MoveMarker marker at) = None
+marked_item (Retitle item title) = None
+
+-- the marks of an item: its own stamp is its one tag where none are noted
+abbrev pub marks_from : Moment → Option Marks → Marks
+marks_from own None = record { tags = set.insert set.empty own; removed = set.empty }
+marks_from own (Some marks) = marks
+
+-- marks after an operation on their item
+pub record AreMarkedBy (item : Moment) (o : Operation) (before after : Marks) : Type 0 where
+  pub tags : (t : Moment) → set.contains after.tags t ≡ (is_listed (restoring_tags item o.stamp o.act) t || set.contains before.tags t)
+  pub removed : (t : Moment) → set.contains after.removed t ≡ (is_listed (tags_removed item o.act) t || set.contains before.removed t)
+
+-- the marks of an item that these operations leave
+pub record AreMarks (item : Moment) (ops : List Operation) (noted : Option Marks) : Type 0 where
+  pub tags : (t : Moment) → set.contains (marks_from item noted).tags t ≡ (is_listed (restored_tags item ops) t || stamp_eq t item)
+  pub removed : (t : Moment) → set.contains (marks_from item noted).removed t ≡ is_listed (removed_tags item ops) t
+
+-- the marks of each operation's item among these
+abbrev pub TellsMarks : List Operation → List Operation → List (Option Marks) → Type 0
+TellsMarks ops among table = Tells AreMarks None ops among table

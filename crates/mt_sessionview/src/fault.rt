@@ -4,6 +4,7 @@ ghost use Rattle.std.specs.Prelude.{◌≡◌};
 ghost use Rattle.mt_sessionview.specs.Faults.{number_of};
 ghost use Rattle.mt_sessionview.specs.declared.fault.SessionFault.TheVariants.{Memory};
 
+use mt_cells::CellFault;
 use std::alloc::{AllocError, AllocFailed};
 use thiserror::Error;
 
@@ -32,6 +33,14 @@ impl From<AllocError> for SessionFault {
     ghost from_gives = { λ _ e. e ≡ Memory };
 
     fn from(_e: AllocError) -> SessionFault {
+        SessionFault::Memory
+    }
+}
+
+impl From<CellFault> for SessionFault {
+    ghost from_gives = { λ _ e. e ≡ Memory };
+
+    fn from(_e: CellFault) -> SessionFault {
         SessionFault::Memory
     }
 }

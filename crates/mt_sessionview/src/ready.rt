@@ -1,8 +1,9 @@
 //! Which operations are ready.
 
-ghost use Rattle.std.specs.Prelude.{◌≡◌, Bool, IfOk, IsTrue, length, map};
+ghost use Rattle.std.specs.Prelude.{◌≡◌, Bool, Some, IfOk, IsTrue, length, map, slice_get};
 ghost use Rattle.std.specs.List.{AllByRecursion, list_any, filter};
 ghost use Rattle.mt_op.specs.Operation.{Operation};
+ghost use Rattle.mt_op.specs.declared.need.Need.{Need};
 ghost use Rattle.mt_op.specs.Dots.{dots_rise};
 ghost use Rattle.mt_op.specs.Needs.{needs, meets, clock_of};
 ghost use Rattle.mt_op.specs.Ready.{is_met, is_ready};
@@ -32,17 +33,27 @@ fn is_need_met<A: Allocator>(ops: &[Op<A>], ready: &[bool], need: &Need) -> bool
     }
 }
 
+// Whether the need at a place is met by an operation that the table tells to be ready.
+fn is_met_at<A: Allocator>(ops: &[Op<A>], ready: &[bool], op: &Op<A>, i: usize) -> bool
+    requires rise { IsTrue (dots_rise ops.now) }
+    requires table { length ready.now ≡ length ops.now }
+    ensures { (passes : Operation → Bool) → TellsBelow ops.now ready.now (clock_of op.now) passes → (need : Need) → slice_get (needs op.now) i ≡ Some need → result ≡ list_any passes (filter (meets need) ops.now) }
+{
+    let _ = op.stamp();
+    match op.need(i) {
+        Some(need) => is_need_met(ops, ready, &need),
+        None => true,
+    }
+}
+
 // Whether every need of an operation is met by an operation that the table tells to be ready.
 fn is_ready_by<A: Allocator>(ops: &[Op<A>], ready: &[bool], op: &Op<A>) -> bool
     requires rise { IsTrue (dots_rise ops.now) }
     requires table { length ready.now ≡ length ops.now }
     ensures { (passes : Operation → Bool) → TellsBelow ops.now ready.now (clock_of op.now) passes → result ≡ is_met clock_of needs meets ops.now passes op.now }
 {
-    let _ = op.stamp();
     for i in 0..op.need_count() {
-        if let Some(need) = op.need(i)
-            && !is_need_met(ops, ready, &need)
-        {
+        if !is_met_at(ops, ready, op, i) {
             return false;
         }
     }

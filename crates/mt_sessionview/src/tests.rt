@@ -17,6 +17,8 @@ use std::alloc::Allocator;
 use std::process::Abort;
 use std::test::Fail;
 
+mod presence;
+
 const A: Replica = Replica(10);
 
 const B: Replica = Replica(11);

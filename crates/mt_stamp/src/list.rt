@@ -2,10 +2,10 @@
 
 ghost use Rattle.std.specs.Prelude.{◌≡◌};
 
-use std::alloc::{Allocator, Global};
+use std::alloc::{AllocError, Allocator, Global};
 use std::marker::Model;
 
-/// A list inside another type, kept in a `Vec` and seen as the list of its items. No call takes memory.
+/// A list inside another type, kept in a `Vec` and seen as the list of its items. No call but `clone` takes memory.
 #[derive(Drop)]
 #[derive_where(Debug; T)]
 pub struct List<T, A: Allocator = Global> {
@@ -41,6 +41,17 @@ impl<T, A: Allocator> List<T, A> {
     {
         let List { items } = self;
         items
+    }
+}
+
+impl<T: Copy, A: Allocator + Clone> Clone for List<T, A> {
+    ghost is_clone = { λ list copy. copy ≡ list };
+
+    fn clone(&self) -> Result<Self, AllocError> {
+        let alloc = self.items.allocator().clone()?;
+        Ok(List {
+            items: Vec::from_slice(alloc, &self.items)?,
+        })
     }
 }
 

@@ -109,7 +109,24 @@ fn keeps_a_list(rt: HostRuntime) -> Result<(), Fail> {
     assert_eq!(rt; list.items(), [3, 1, 2].as_slice());
     assert!(rt; list == same);
     assert!(rt; list != other);
+    let copy = list.clone()?;
+    assert!(rt; copy == list);
+    assert_eq!(rt; copy.items(), [3, 1, 2].as_slice());
     assert_eq!(rt; list.into_vec().as_slice(), [3, 1, 2].as_slice());
+    Ok(())
+}
+
+#[test]
+fn refuses_the_growth_of_a_copied_list(rt: HostRuntime) -> Result<(), Fail> {
+    let refused = Refusing::new(rt.alloc(), 1);
+    let list = List::new(vec![in &refused; 3, 1, 2]?);
+    assert!(rt; list.clone().is_err());
+    assert!(rt; refused.has_refused());
+    assert_eq!(rt; list.items(), [3, 1, 2].as_slice());
+    let granted = Refusing::new(rt.alloc(), 2);
+    let list = List::new(vec![in &granted; 3, 1, 2]?);
+    assert!(rt; list.clone()? == list);
+    assert!(rt; !granted.has_refused());
     Ok(())
 }
 

@@ -1,6 +1,6 @@
 //! Logs as bytes.
-use super::{A, NEWS, SPORT, log_of, marker};
-use crate::{Log, LogFault, ReadFault};
+use super::{A, MOVE, NEWS, REMOVE, RESTORE, SPORT, log_of, marker};
+use crate::{Log, LogFault, ReadFault, read_op};
 use mt_stamp::{Dot, Stamp};
 use std::test::Fail;
 
@@ -51,6 +51,30 @@ fn writes_and_reads_a_log_of_one_marker(rt: HostRuntime) -> Result<(), Fail> {
     assert!(rt; log.op_at(0) == Some(&op));
     assert!(rt; log.op_at(1).is_none());
     assert!(rt; log.ops() == [op].as_slice());
+    Ok(())
+}
+
+// The dots of the five are (A, 1), (A, 2), (B, 1), (B, 2) and (C, 1).
+#[test]
+fn writes_and_reads_a_log_of_each_body(rt: HostRuntime) -> Result<(), Fail> {
+    let mut sport = SPORT;
+    sport[23] = 12;
+    let texts = [
+        NEWS.as_slice(),
+        REMOVE.as_slice(),
+        RESTORE.as_slice(),
+        MOVE.as_slice(),
+        sport.as_slice(),
+    ];
+    let mut log = Log::new(rt.alloc());
+    for text in texts.iter().rev() {
+        assert!(rt; log.add(read_op(rt.alloc(), text)?.0)?);
+    }
+    let wanted = log_of(rt.alloc(), 5, &texts)?;
+    assert_eq!(rt; log.write()?.as_slice(), wanted.as_slice());
+    let read = Log::read(rt.alloc(), wanted.as_slice())?;
+    assert_eq!(rt; read.len(), 5);
+    assert!(rt; read.ops() == log.ops());
     Ok(())
 }
 

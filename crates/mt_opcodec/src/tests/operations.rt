@@ -1,5 +1,5 @@
 //! Operations as bytes.
-use super::{A, B, NEWS, SPORT, marker};
+use super::{A, B, MOVE, NEWS, REMOVE, RESTORE, SPORT, marker, removal};
 use crate::{ReadFault, read_op, write_op};
 use mt_op::{Body, Op, Title};
 use mt_stamp::Stamp;
@@ -41,22 +41,57 @@ fn writes_and_reads_a_new_title(rt: HostRuntime) -> Result<(), Fail> {
     Ok(())
 }
 
+#[test]
+fn writes_and_reads_the_other_bodies(rt: HostRuntime) -> Result<(), Fail> {
+    let item = Stamp::new(1, A, 1)?;
+    let restored = Stamp::new(2, B, 1)?;
+    let moved = Body::MoveMarker {
+        marker: item,
+        at: 960,
+    };
+    for (op, text) in [
+        (
+            removal(rt.alloc(), Stamp::new(3, A, 2)?, &[item, restored])?,
+            REMOVE.as_slice(),
+        ),
+        (
+            Op::new(restored, Body::Restore { item })?,
+            RESTORE.as_slice(),
+        ),
+        (Op::new(Stamp::new(4, B, 2)?, moved)?, MOVE.as_slice()),
+    ] {
+        let mut bytes = Vec::new(rt.alloc());
+        write_op(&op, &mut bytes)?;
+        assert_eq!(rt; bytes.as_slice(), text);
+        for after in [b"".as_slice(), b"\0", b"more", REMOVE.as_slice()] {
+            bytes.truncate(text.len());
+            bytes.extend_from_slice(after)?;
+            let (read, len) = read_op(rt.alloc(), bytes.as_slice())?;
+            assert_eq!(rt; len, text.len());
+            assert!(rt; read == op);
+        }
+    }
+    Ok(())
+}
+
 // operation_bytes: their fronts
 #[test]
 fn refuses_every_part_of_an_operation(rt: HostRuntime) {
-    for len in 0..NEWS.len() {
-        assert_eq!(rt;
-            read_op(rt.alloc(), &NEWS[..len]).err(),
-            Some(ReadFault::Truncated),
-            "{len} bytes of a marker"
-        );
-    }
-    for len in 0..SPORT.len() {
-        assert_eq!(rt;
-            read_op(rt.alloc(), &SPORT[..len]).err(),
-            Some(ReadFault::Truncated),
-            "{len} bytes of a new title"
-        );
+    for text in [
+        NEWS.as_slice(),
+        SPORT.as_slice(),
+        REMOVE.as_slice(),
+        RESTORE.as_slice(),
+        MOVE.as_slice(),
+    ] {
+        for len in 0..text.len() {
+            assert_eq!(rt;
+                read_op(rt.alloc(), &text[..len]).err(),
+                Some(ReadFault::Truncated),
+                "{len} of {} bytes",
+                text.len()
+            );
+        }
     }
 }
 
@@ -105,8 +140,36 @@ fn refuses_a_new_title_by_one_byte(rt: HostRuntime) {
 }
 
 #[test]
+fn refuses_the_other_bodies_by_one_byte(rt: HostRuntime) -> Result<(), Fail> {
+    for (text, place, byte, fault) in [
+        (REMOVE.as_slice(), 7, 2, ReadFault::BadField), // its own clock is the last tag's
+        (REMOVE.as_slice(), 40, 3, ReadFault::BadField), // the item's clock is its own
+        (REMOVE.as_slice(), 64, 0, ReadFault::BadField), // the item's number is 0
+        (REMOVE.as_slice(), 65, 1, ReadFault::Truncated), // 258 tags
+        (REMOVE.as_slice(), 66, 3, ReadFault::Truncated), // 3 tags
+        (REMOVE.as_slice(), 67, 0x40, ReadFault::BadField), // a tag's clock is above 2^62
+        (RESTORE.as_slice(), 40, 2, ReadFault::BadField), // the item's clock is its own
+        (RESTORE.as_slice(), 33, 0x40, ReadFault::BadField), // the item's clock is above 2^62
+        (MOVE.as_slice(), 40, 4, ReadFault::BadField), // the marker's clock is its own
+        (MOVE.as_slice(), 64, 0, ReadFault::BadField), // the marker's number is 0
+    ] {
+        let mut bytes = text.to_vec(rt.alloc())?;
+        if let Some(at) = bytes.get_mut(place) {
+            *at = byte;
+        }
+        assert_eq!(rt;
+            read_op(rt.alloc(), bytes.as_slice()).err(),
+            Some(fault),
+            "{byte} at {place} of {} bytes",
+            text.len()
+        );
+    }
+    Ok(())
+}
+
+#[test]
 fn refuses_other_tags(rt: HostRuntime) {
-    for tag in [0, 1, 2, 3, 4, 5, 6, 7, 8, 9, 11, 13, 14, 255] {
+    for tag in [0, 1, 2, 3, 4, 5, 6, 7, 13, 14, 255] {
         let mut bytes = NEWS;
         bytes[32] = tag;
         assert_eq!(rt;

@@ -1,5 +1,5 @@
 //! Each growth refused in turn, until a run meets no refusal.
-use super::{A, NEWS, log_of, marker};
+use super::{A, NEWS, log_of, marker, removal};
 use crate::{Log, LogFault, ReadFault, read_op, write_op};
 use mt_op::{Op, OpFault};
 use mt_stamp::Stamp;
@@ -40,6 +40,53 @@ fn of_an_operation_that_is_read(rt: HostRuntime) -> Result<(), Fail> {
         if !memory.has_refused() {
             assert_eq!(rt; read?.1, 42);
             assert!(rt; at > 0, "the title was refused memory");
+            return Ok(());
+        }
+        assert_eq!(rt; read.err(), Some(ReadFault::Memory), "at {at}");
+    }
+    Err(Fail::from("each run met a refusal"))
+}
+
+/// A Remove of three tags.
+fn removal_of_three<M: Allocator>(memory: M) -> Result<Op<M>, Fail> {
+    let tags = [
+        Stamp::new(1, A, 1)?,
+        Stamp::new(2, A, 2)?,
+        Stamp::new(3, A, 3)?,
+    ];
+    Ok(removal(memory, Stamp::new(4, A, 4)?, &tags)?)
+}
+
+#[test]
+fn of_a_written_removal(rt: HostRuntime) -> Result<(), Fail> {
+    let op = removal_of_three(rt.alloc())?;
+    for at in 1..50 {
+        let memory = Refusing::new(rt.alloc(), at);
+        let mut out = b"before".to_vec(&memory)?;
+        let written = write_op(&op, &mut out);
+        assert_eq!(rt; written.is_err(), memory.has_refused(), "at {at}");
+        if !memory.has_refused() {
+            assert_eq!(rt; out.len(), 6 + 163);
+            assert!(rt; at > 3, "several growths were refused");
+            return Ok(());
+        }
+        assert_eq!(rt; out.as_slice(), b"before".as_slice(), "at {at}");
+    }
+    Err(Fail::from("each run met a refusal"))
+}
+
+#[test]
+fn of_a_removal_that_is_read(rt: HostRuntime) -> Result<(), Fail> {
+    let op = removal_of_three(rt.alloc())?;
+    let mut text = Vec::new(rt.alloc());
+    write_op(&op, &mut text)?;
+    for at in 0..50 {
+        let memory = Refusing::new(rt.alloc(), at);
+        let read = read_op(&memory, text.as_slice());
+        assert_eq!(rt; read.is_err(), memory.has_refused(), "at {at}");
+        if !memory.has_refused() {
+            assert_eq!(rt; read?.1, 163);
+            assert!(rt; at > 0, "the tags were refused memory");
             return Ok(());
         }
         assert_eq!(rt; read.err(), Some(ReadFault::Memory), "at {at}");

@@ -3,11 +3,12 @@ use Rattle.std.specs.Prelude.{slice_get}
 use Rattle.std.proofs.lemmas.Option.{slice_get_read}
 use Rattle.mt_op.specs.Operation.{AddMarker, Operation}
 use Rattle.mt_op.specs.Bodies.{act_of}
-use Rattle.mt_op.specs.Writes.{title_written, last_write}
+use Rattle.mt_op.specs.Writes.{title_written, position_written, last_write}
 use Rattle.mt_sessionview.specs.Content.{Marker}
 use Rattle.mt_sessionview.specs.Session.{ready_ops}
 use Rattle.mt_sessionview.proofs.Markers.{marker_made}
-use Rattle.mt_sessionview.proofs.Writers.{last_inside, at_read}
+use Rattle.mt_sessionview.proofs.LastWriters.{last_inside}
+use Rattle.mt_sessionview.proofs.Tables.{at_read}
 use Rattle.mt_sessionview.proofs.build.marker_at.Goals as goal
 
 pub last_title-requires : goal.last_title-requires
@@ -15,7 +16,14 @@ last_title-requires g c =
     let ops = c.args.ops.now in
     let o = c.index-ops-place.result in
     let at : slice_get ops c.args.place ≡ Some o = slice_get_read ops (length ops) c.args.place o refl c.requires.inside c.index-ops-place.is in
-    last_inside ops o.stamp (last_write title_written o.stamp (ready_ops ops)) c.args.writer (c.requires.writer o at)
+    last_inside title_written ops o.stamp (last_write title_written o.stamp (ready_ops ops)) c.args.title (c.requires.title o at)
+
+pub last_position-requires : goal.last_position-requires
+last_position-requires g c =
+    let ops = c.args.ops.now in
+    let o = c.index-ops-place.result in
+    let at : slice_get ops c.args.place ≡ Some o = slice_get_read ops (length ops) c.args.place o refl c.requires.inside c.index-ops-place.is in
+    last_inside position_written ops o.stamp (last_write position_written o.stamp (ready_ops ops)) c.args.position (c.requires.position o at)
 
 pub returns-clause-ok : goal.returns-clause-ok
 returns-clause-ok g c =
@@ -23,9 +31,11 @@ returns-clause-ok g c =
     let ops = c.args.ops.now in
     let x = c.index-ops-place.result in
     let same : x ≡ o = at_read ops c.args.place o x at c.index-ops-place.is in
-    let acts : AddMarker c.in-AddMarker.at c.in-AddMarker.title ≡ o.act = sym (ap act_of c.in-AddMarker.is) ∙ c.body.ensures.act ∙ ap (λ (z : Operation). z.act) same in
-    let titles = c.in_ok-title.ensures.ok o.stamp (last_write title_written o.stamp (ready_ops ops)) (c.requires.writer o at) in
+    let acts : AddMarker c.in-AddMarker.own_position c.in-AddMarker.own_title ≡ o.act = sym (ap act_of c.in-AddMarker.is) ∙ c.body.ensures.act ∙ ap (λ (z : Operation). z.act) same in
+    let title = c.in-Ok.ensures.ok ∙ c.last_title.ensures o.stamp (last_write title_written o.stamp (ready_ops ops)) (c.requires.title o at) in
+    let position = c.last_position.ensures o.stamp (last_write position_written o.stamp (ready_ops ops)) (c.requires.position o at) in
     let stamps = c.stamp.ensures.value ∙ ap (λ (z : Operation). z.stamp) same in
-    let named : ◌≡◌ {A = Option Marker} (Some (record { marker = c.stamp.result; at = c.in-AddMarker.at; title = c.in_ok-title.title })) (Some (record { marker = o.stamp; at = c.in-AddMarker.at; title = c.in_ok-title.title })) =
-    λ i. Some (record { marker = stamps i; at = c.in-AddMarker.at; title = c.in_ok-title.title }) in
-    named ∙ marker_made ops c.requires.rise c.args.place o c.in-AddMarker.at c.in-AddMarker.title c.in_ok-title.title at (c.requires.ready o at) acts titles
+    let named : ◌≡◌ {A = Option Marker} (Some (record { marker = c.stamp.result; at = c.last_position.result; title = c.in-Ok.title })) (Some (record { marker = o.stamp; at = c.last_position.result; title = c.in-Ok.title })) =
+    λ i. Some (record { marker = stamps i; at = c.last_position.result; title = c.in-Ok.title }) in
+    named ∙ marker_made ops c.args.place o c.in-AddMarker.own_position c.last_position.result c.in-AddMarker.own_title c.in-Ok.title at (c.requires.ready o at) acts
+    (λ adds. sym c.if-not-is_present.false ∙ c.requires.present o at adds) title position

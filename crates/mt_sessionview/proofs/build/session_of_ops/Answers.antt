@@ -15,5 +15,5 @@ returns-clause-ok g c =
     let markers : c.new.result ≡ sort_by marker_cmp (map (marker_of ops) (marker_ops ops)) =
     c.new.ensures ∙ markers_sorted ops c.requires.rise c.in_ok-markers.markers.items c.sort_markers.new.markers.items c.in_ok-markers.ensures.ok c.in_ok-sort_markers.ensures.moved c.in_ok-sort_markers.ensures.sorted in
     let held : c.count_held-held.result ≡ length (held_ops ops) =
-    c.count_held-held.ensures ∙ ap (count_by not) c.deref-4.ensures.value ∙ held_is (is_ready clock_of needs meets ops) ops c.in_ok-ready.ready.items c.in_ok-ready.ensures in
+    c.count_held-held.ensures ∙ ap (count_by not) c.deref-8.ensures.value ∙ held_is (is_ready clock_of needs meets ops) ops c.in_ok-ready.ready.items c.in_ok-ready.ensures in
     λ i. record { markers = markers i; held = held i }

@@ -1,0 +1,5 @@
+use Rattle.mt_op.proofs.TagLists.{need_of_tag}
+use Rattle.mt_op.proofs.op.remove_need.Goals as goal
+
+pub returns : goal.returns
+returns c = need_of_tag c.args.item c.args.tags.now c.args.i c.index-tags-i.result c.if-i-eq0.false c.if-i-tags.false c.index-tags-i.is

@@ -1,0 +1,55 @@
+//! The tags that an operation lists.
+
+ghost use Rattle.std.specs.Prelude.{◌≡◌, Option, Some, None, IsTrue, nat_lt};
+ghost use Rattle.std.specs.List.{list_all, AllByRecursion};
+ghost use Rattle.mt_stamp.specs.Moment.{Moment, IsMoment};
+ghost use Rattle.mt_op.specs.Tags.{is_after, stamps_rise, are_tags};
+
+use mt_stamp::Stamp;
+
+// How many tags a Remove may list.
+const GREATEST_COUNT: usize = 65_535;
+
+// Whether a stamp is greater than the one before it, where there is one.
+fn is_after(last: Option<Stamp>, tag: Stamp) -> bool
+    ensures { result ≡ is_after last tag }
+{
+    match last {
+        Some(last) => last.cmp(&tag).is_lt(),
+        None => true,
+    }
+}
+
+// Whether each stamp is greater than the one before it.
+fn rise(tags: &[Stamp]) -> bool
+    ensures { result ≡ stamps_rise tags.now }
+{
+    let mut last = None;
+    for tag in tags {
+        if !is_after(last, *tag) {
+            return false;
+        }
+        last = Some(*tag);
+    }
+    true
+}
+
+// Whether a Remove may list these tags: from 1 to 65,535 of them, rising.
+pub(crate) fn are_tags(tags: &[Stamp]) -> bool
+    ensures { result ≡ are_tags tags.now }
+{
+    !tags.is_empty() && tags.len() <= GREATEST_COUNT && rise(tags)
+}
+
+// Whether the clock of each stamp is smaller than this one.
+pub(crate) fn are_older(tags: &[Stamp], clock: u64) -> bool
+    ensures older { result ≡ list_all (λ (tag : Moment). nat_lt tag.clock clock) tags.now }
+    ensures valid { IsTrue result → AllByRecursion IsMoment tags.now }
+{
+    for tag in tags {
+        if tag.clock() >= clock {
+            return false;
+        }
+    }
+    true
+}
