@@ -1,11 +1,12 @@
--- What an item's presence holds: its tags, and those that were removed (INRIA RR-7506, section 3.3.5: Observed-Remove Set (OR-Set)).
-use Rattle.std.specs.Prelude.{ℕ, Bool, not, ◌&&◌, List, [], Option, Some, None, IsTrue, refl}
+-- What an item's presence holds: its tags, and the removed ones (INRIA RR-7506, section 3.3.5: Observed-Remove Set (OR-Set)).
+use Rattle.std.specs.Prelude.{Bool, not, ◌&&◌, List, [], Option, Some, None, IsTrue, refl}
 use Rattle.std.specs.BTreeSet.{BTreeSet}
-use Rattle.std.specs.Coded.{Coded, code_by, coded×, coded_ℕ}
+use Rattle.std.specs.Coded.{Coded, code_by, coded×}
 use Rattle.std.specs.FinSet as set
 use Rattle.mt_stamp.specs.Moment.{Moment, stamp_cmp}
+use Rattle.mt_stamp.specs.Codes.{moment_code}
 
--- the stamps of the operations that made the item present, and those of them that were removed: a removal may come before its tag
+-- the stamps that tag the item, and those that were removed, of which a tag may still be to come
 pub record Marks : Type 0 where
   pub tags : set.FinSet stamp_cmp
   pub removed : set.FinSet stamp_cmp
@@ -29,14 +30,11 @@ together a b = record { tags = set.union a.tags b.tags; removed = set.union a.re
 abbrev pub same_stamps : set.FinSet stamp_cmp → set.FinSet stamp_cmp → Bool
 same_stamps s t = set.is_subset s t && set.is_subset t s
 
--- the same tags, and the same of them removed
+-- the same tags, and the same removed
 abbrev pub same_marks : Marks → Marks → Bool
 same_marks a b = same_stamps a.tags b.tags && same_stamps a.removed b.removed
 
 -- by what marks are told apart as values
-abbrev moment_code : Coded Moment
-moment_code = code_by (ℕ × (ℕ × ℕ)) (coded× coded_ℕ (coded× coded_ℕ coded_ℕ)) (λ m. (m.clock, (m.replica.0, m.seq))) (λ p. record { clock = p.0; replica = record { 0 = p.1.0 }; seq = p.1.1 }) (λ _. refl)
-
 abbrev pub stamps_code : Coded (set.FinSet stamp_cmp)
 stamps_code = set.code moment_code
 

@@ -15,8 +15,8 @@ use mt_stamp::Stamp;
 use std::alloc::{Allocator, Global};
 use std::marker::Model;
 
-/// Whether one item is there: the stamps that tag it, and those of them that were removed. It is present while a tag
-/// is not removed, so a removal takes away the tags that it names and no other (INRIA RR-7506, section 3.3.5:
+/// Whether one item is there: the stamps that tag it, and those that were removed. It is present while a tag is not
+/// removed, so a removal takes away the tags that it names and no other (INRIA RR-7506, section 3.3.5:
 /// Observed-Remove Set). Marks may come in any order, a removal before its tag too.
 #[derive(Drop)]
 pub struct Presence<A: Allocator = Global> {

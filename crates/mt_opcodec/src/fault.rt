@@ -19,10 +19,10 @@ pub enum ReadFault {
     /// The bytes end before the field does.
     #[error("the operation is cut short")]
     Truncated,
-    /// The tag is none of 8 to 12.
+    /// The tag byte is none of 8 to 12.
     #[error("no operation has this tag")]
     BadTag,
-    /// A complete field other than the tag is not allowed: a stamp whose clock or sequence number is 0 or
+    /// A complete field other than the tag byte is not allowed: a stamp whose clock or sequence number is 0 or
     /// above 2^62, a named stamp whose clock is not smaller than the operation's own, a Remove's count of 0, a tag
     /// of a Remove that is not greater than the one before, or a title that is not UTF-8 or holds a character
     /// below 0x20 or 0x7F.

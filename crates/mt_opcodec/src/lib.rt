@@ -2,7 +2,7 @@
 //!
 //! Numbers have their greatest byte first. A stamp is its clock in 8 bytes, its replica in 16 and its
 //! sequence number in 8. A title is its length in one byte, and that many bytes. The text of an operation
-//! is its stamp, a byte that is its tag, and what the tag calls for:
+//! is its stamp, its tag byte, and what that calls for:
 //!
 //! - 8, a Remove: the item's stamp, the number of tags in 2 bytes, and the stamp of each, rising;
 //! - 9, a Restore: the item's stamp;

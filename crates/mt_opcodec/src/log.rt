@@ -23,7 +23,8 @@ pub struct Log<A: Allocator = Global> {
 
 impl<A: Allocator> Model for Log<A> {
     ghost use Rattle.mt_opcodec.specs.LogValue.{LogMap, AreLogged, log_of};
-    ghost use Rattle.mt_op.specs.Codes.{dot_code, operation_code};
+    ghost use Rattle.mt_stamp.specs.Codes.{dot_code};
+    ghost use Rattle.mt_op.specs.Codes.{operation_code};
     ghost use Rattle.std.specs.FinMap as map;
 
     ghost Value = { LogMap };

@@ -23,7 +23,7 @@ fn find_item<A: Allocator>(ops: &[Op<A>], item: Stamp) -> Option<usize>
     }
 }
 
-// Where the item stands that the operation at a place names, which is most often its own.
+// Where the item stands that the operation at a place names: here, where the operation added it.
 pub(crate) fn item_place<A: Allocator>(ops: &[Op<A>], place: usize, item: Stamp) -> Option<usize>
     requires rise { IsTrue (dots_rise ops.now) }
     requires inside { place < length ops.now }

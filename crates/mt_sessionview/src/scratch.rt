@@ -18,7 +18,8 @@ use std::io::Write;
 #[cfg(test)]
 mod tests;
 
-/// The session of a log's operations. Its cost is that of sorting them. Refused only as `Memory` (0).
+/// The session of a log's operations, in a time of n log n for n of them and of the tags that they list. Refused only
+/// as `Memory` (0).
 pub fn from_scratch<A: Allocator + Clone>(
     alloc: A,
     log: &Log<A>,

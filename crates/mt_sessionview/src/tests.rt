@@ -86,6 +86,7 @@ fn shows_nothing_of_no_operation(rt: HostRuntime) -> Result<(), Fail> {
     Ok(())
 }
 
+// early_retitle
 #[test]
 fn holds_an_early_retitle(rt: HostRuntime) -> Result<(), Fail> {
     let mut ops = Vec::new(rt.alloc());
@@ -104,6 +105,7 @@ fn holds_an_early_retitle(rt: HostRuntime) -> Result<(), Fail> {
     Ok(())
 }
 
+// one_marker, two_retitles
 #[test]
 fn shows_the_title_of_the_last_writer(rt: HostRuntime) -> Result<(), Fail> {
     let mut ops = Vec::new(rt.alloc());

@@ -1,4 +1,5 @@
 pub mod Moment
+pub mod Codes
 pub mod Texts
 pub mod Faults
 pub mod Laws

@@ -200,5 +200,12 @@ fn refuses_the_growth_of_a_copy(rt: HostRuntime) -> Result<(), Fail> {
     let body = remove(&granted, item, &[item])?;
     assert!(rt; body.try_clone()? == body);
     assert!(rt; !granted.has_refused());
+    let own = Stamp::new(2, B, 1)?;
+    let refused = Refusing::new(rt.alloc(), 1);
+    let op = Op::new(own, remove(&refused, item, &[item])?)?;
+    assert!(rt; matches!(op.try_clone(), Err(OpFault::Memory)));
+    let granted = Refusing::new(rt.alloc(), 2);
+    let op = Op::new(own, remove(&granted, item, &[item])?)?;
+    assert!(rt; op.try_clone()? == op);
     Ok(())
 }

@@ -47,26 +47,28 @@ fn of_an_operation_that_is_read(rt: HostRuntime) -> Result<(), Fail> {
     Err(Fail::from("each run met a refusal"))
 }
 
-/// A Remove of three tags.
-fn removal_of_three<M: Allocator>(memory: M) -> Result<Op<M>, Fail> {
-    let tags = [
-        Stamp::new(1, A, 1)?,
-        Stamp::new(2, A, 2)?,
-        Stamp::new(3, A, 3)?,
-    ];
-    Ok(removal(memory, Stamp::new(4, A, 4)?, &tags)?)
+/// A Remove of ten tags.
+fn removal_of_ten<M: Allocator>(memory: M) -> Result<Op<M>, Fail> {
+    let first = Stamp::new(1, A, 1)?;
+    let mut tags = [first; 10];
+    for clock in 1..10 {
+        tags[clock as usize] = Stamp::new(clock + 1, A, clock + 1)?;
+    }
+    Ok(removal(memory, Stamp::new(11, A, 11)?, &tags)?)
 }
 
 #[test]
 fn of_a_written_removal(rt: HostRuntime) -> Result<(), Fail> {
-    let op = removal_of_three(rt.alloc())?;
+    let op = removal_of_ten(rt.alloc())?;
+    let mut text = b"before".to_vec(rt.alloc())?;
+    write_op(&op, &mut text)?;
     for at in 1..50 {
         let memory = Refusing::new(rt.alloc(), at);
         let mut out = b"before".to_vec(&memory)?;
         let written = write_op(&op, &mut out);
         assert_eq!(rt; written.is_err(), memory.has_refused(), "at {at}");
         if !memory.has_refused() {
-            assert_eq!(rt; out.len(), 6 + 163);
+            assert_eq!(rt; out.as_slice(), text.as_slice());
             assert!(rt; at > 3, "several growths were refused");
             return Ok(());
         }
@@ -77,7 +79,7 @@ fn of_a_written_removal(rt: HostRuntime) -> Result<(), Fail> {
 
 #[test]
 fn of_a_removal_that_is_read(rt: HostRuntime) -> Result<(), Fail> {
-    let op = removal_of_three(rt.alloc())?;
+    let op = removal_of_ten(rt.alloc())?;
     let mut text = Vec::new(rt.alloc());
     write_op(&op, &mut text)?;
     for at in 0..50 {
@@ -85,8 +87,8 @@ fn of_a_removal_that_is_read(rt: HostRuntime) -> Result<(), Fail> {
         let read = read_op(&memory, text.as_slice());
         assert_eq!(rt; read.is_err(), memory.has_refused(), "at {at}");
         if !memory.has_refused() {
-            assert_eq!(rt; read?.1, 163);
-            assert!(rt; at > 0, "the tags were refused memory");
+            assert_eq!(rt; read?.1, 387);
+            assert!(rt; at > 2, "each growth of the tags was refused memory");
             return Ok(());
         }
         assert_eq!(rt; read.err(), Some(ReadFault::Memory), "at {at}");

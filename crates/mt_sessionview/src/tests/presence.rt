@@ -138,7 +138,10 @@ fn refuses_each_growth_of_a_session_with_removals(rt: HostRuntime) -> Result<(),
         let session = session_of_ops(&memory, &ops);
         assert_eq!(rt; session.is_err(), memory.has_refused(), "at {at}");
         if !memory.has_refused() {
-            for view in session?.markers.items() {
+            let session = session?;
+            assert_eq!(rt; session.held, 0);
+            assert_eq!(rt; session.markers.items().len(), 1);
+            for view in session.markers.items() {
                 assert_eq!(rt; view.at, 7);
             }
             assert!(rt; at > 8, "it grew");
