@@ -14,6 +14,39 @@ def title(text):
     return bytes([len(data)]) + data
 
 
+def place(after):
+    """An optional stamp."""
+    return bytes([0]) if after is None else bytes([1]) + stamp(*after)
+
+
+def add_track(own, after, text):
+    return (own, stamp(*own) + bytes([1]) + place(after) + title(text))
+
+
+def move_track(own, track, after):
+    return (own, stamp(*own) + bytes([2]) + stamp(*track) + place(after))
+
+
+def add_clip(own, source, track, at, offset, length):
+    return (own, stamp(*own) + bytes([3]) + source + stamp(*track) + struct.pack(">III", at, offset, length))
+
+
+def move_clip(own, clip, track, at):
+    return (own, stamp(*own) + bytes([4]) + stamp(*clip) + stamp(*track) + struct.pack(">I", at))
+
+
+def trim_clip(own, clip, offset, length):
+    return (own, stamp(*own) + bytes([5]) + stamp(*clip) + struct.pack(">II", offset, length))
+
+
+def set_gain(own, item, num, den):
+    return (own, stamp(*own) + bytes([6]) + stamp(*item) + struct.pack(">HH", num, den))
+
+
+def set_mute(own, item, flag):
+    return (own, stamp(*own) + bytes([7]) + stamp(*item) + bytes([flag]))
+
+
 def remove(own, item, tags):
     """The tags stand in the order in which they are given."""
     return (own, stamp(*own) + bytes([8]) + stamp(*item) + struct.pack(">H", len(tags)) + b"".join(stamp(*tag) for tag in tags))
@@ -56,6 +89,19 @@ def name(replica):
 
 def stamp_text(clock, replica, seq):
     return "%d.%d.%s" % (clock, seq, name(replica))
+
+
+def sound_text(gain, mute):
+    return "gain %d/%d mute %s" % (gain[0], gain[1], "on" if mute else "off")
+
+
+def track_line(own, text, gain=(1, 1), mute=False):
+    return "track %s %s title %s\n" % (stamp_text(*own), sound_text(gain, mute), text)
+
+
+def clip_line(own, place, at, offset, length, source, gain=(1, 1), mute=False):
+    return "clip %s place %s at %d offset %d len %d %s source %s\n" % (
+        stamp_text(*own), stamp_text(*place), at, offset, length, sound_text(gain, mute), source.hex())
 
 
 def marker_line(own, at, text):

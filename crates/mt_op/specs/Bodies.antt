@@ -1,9 +1,16 @@
 -- What a body in memory says.
 use Rattle.mt_op.specs.declared.body.Body.{Body}
 use Rattle.mt_op.specs.declared.body.Body.TheVariants as body
-use Rattle.mt_op.specs.Operation.{Act, Remove, Restore, AddMarker, MoveMarker, Retitle}
+use Rattle.mt_op.specs.Operation.{Act, AddTrack, MoveTrack, AddClip, MoveClip, TrimClip, SetGain, SetMute, Remove, Restore, AddMarker, MoveMarker, Retitle}
 
 abbrev pub act_of : {A : Type 0} → Body A → Act
+act_of (body.AddTrack after title) = AddTrack after title
+act_of (body.MoveTrack track after) = MoveTrack track after
+act_of (body.AddClip source track at offset len) = AddClip source track at offset len
+act_of (body.MoveClip clip track at) = MoveClip clip track at
+act_of (body.TrimClip clip offset len) = TrimClip clip offset len
+act_of (body.SetGain item gain) = SetGain item gain
+act_of (body.SetMute item on) = SetMute item on
 act_of (body.Remove item tags) = Remove item tags
 act_of (body.Restore item) = Restore item
 act_of (body.AddMarker at title) = AddMarker at title
@@ -11,6 +18,13 @@ act_of (body.MoveMarker marker at) = MoveMarker marker at
 act_of (body.Retitle item title) = Retitle item title
 
 abbrev pub body_of : {A : Type 0} → Act → Body A
+body_of (AddTrack after title) = body.AddTrack after title
+body_of (MoveTrack track after) = body.MoveTrack track after
+body_of (AddClip source track at offset len) = body.AddClip source track at offset len
+body_of (MoveClip clip track at) = body.MoveClip clip track at
+body_of (TrimClip clip offset len) = body.TrimClip clip offset len
+body_of (SetGain item gain) = body.SetGain item gain
+body_of (SetMute item on) = body.SetMute item on
 body_of (Remove item tags) = body.Remove item tags
 body_of (Restore item) = body.Restore item
 body_of (AddMarker at title) = body.AddMarker at title

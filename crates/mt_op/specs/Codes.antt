@@ -1,43 +1,84 @@
 -- By what values are told apart, where a finite map holds them.
-use Rattle.std.specs.Prelude.{◌≡◌, ℕ, List, ◌⊎◌, refl}
-use Rattle.std.specs.Coded.{Coded, code_by, coded×, coded⊎, coded_ℕ, coded_list}
+use Rattle.std.specs.Prelude.{◌≡◌, ℕ, Bool, List, Option, ◌⊎◌, refl}
+use Rattle.std.specs.Coded.{Coded, code_by, coded×, coded⊎, coded_ℕ, coded_bool, coded_list, coded_option}
 use mathlib.Core.Logic.{inl, inr}
 use Rattle.mt_stamp.specs.Moment.{Moment}
 use Rattle.mt_stamp.specs.Codes.{moment_code}
-use Rattle.mt_op.specs.Operation.{Act, Remove, Restore, AddMarker, MoveMarker, Retitle, Operation}
+use Rattle.mt_op.specs.Gain.{Ratio}
+use Rattle.mt_op.specs.declared.digest.Digest.{Digest}
+use Rattle.mt_op.specs.Operation.{Act, AddTrack, MoveTrack, AddClip, MoveClip, TrimClip, SetGain, SetMute, Remove, Restore, AddMarker, MoveMarker, Retitle, Operation}
+
+abbrev Text : Type 0
+Text = List ℕ
+
+abbrev text_code : Coded Text
+text_code = coded_list coded_ℕ
+
+abbrev ratio_code : Coded Ratio
+ratio_code = code_by (ℕ × ℕ) (coded× coded_ℕ coded_ℕ) (λ g. (g.num, g.den)) (λ p. record { num = p.0; den = p.1 }) (λ _. refl)
+
+abbrev digest_code : Coded Digest
+digest_code = code_by Text text_code (λ d. d.0) (λ bytes. record { 0 = bytes }) (λ _. refl)
+
+-- the fields of the acts on tracks, on clips, on either, and on any item
+abbrev OfTracks : Type 0
+OfTracks = (Option Moment × Text) ⊎ (Moment × Option Moment)
+
+abbrev OfClips : Type 0
+OfClips = (Digest × (Moment × (ℕ × (ℕ × ℕ)))) ⊎ ((Moment × (Moment × ℕ)) ⊎ (Moment × (ℕ × ℕ)))
+
+abbrev OfSounds : Type 0
+OfSounds = (Moment × Ratio) ⊎ (Moment × Bool)
+
+abbrev OfItems : Type 0
+OfItems = (Moment × List Moment) ⊎ (Moment ⊎ ((ℕ × Text) ⊎ ((Moment × ℕ) ⊎ (Moment × Text))))
 
 -- an act by the place of its case and its fields
 abbrev Fields : Type 0
-Fields = (Moment × List Moment) ⊎ (Moment ⊎ ((ℕ × List ℕ) ⊎ ((Moment × ℕ) ⊎ (Moment × List ℕ))))
+Fields = OfTracks ⊎ (OfClips ⊎ (OfSounds ⊎ OfItems))
 
 abbrev fields_of : Act → Fields
-fields_of (Remove item tags) = inl (item, tags)
-fields_of (Restore item) = inr (inl item)
-fields_of (AddMarker at title) = inr (inr (inl (at, title)))
-fields_of (MoveMarker marker at) = inr (inr (inr (inl (marker, at))))
-fields_of (Retitle item title) = inr (inr (inr (inr (item, title))))
+fields_of (AddTrack after title) = inl (inl (after, title))
+fields_of (MoveTrack track after) = inl (inr (track, after))
+fields_of (AddClip source track at offset len) = inr (inl (inl (source, (track, (at, (offset, len))))))
+fields_of (MoveClip clip track at) = inr (inl (inr (inl (clip, (track, at)))))
+fields_of (TrimClip clip offset len) = inr (inl (inr (inr (clip, (offset, len)))))
+fields_of (SetGain item gain) = inr (inr (inl (inl (item, gain))))
+fields_of (SetMute item on) = inr (inr (inl (inr (item, on))))
+fields_of (Remove item tags) = inr (inr (inr (inl (item, tags))))
+fields_of (Restore item) = inr (inr (inr (inr (inl item))))
+fields_of (AddMarker at title) = inr (inr (inr (inr (inr (inl (at, title))))))
+fields_of (MoveMarker marker at) = inr (inr (inr (inr (inr (inr (inl (marker, at)))))))
+fields_of (Retitle item title) = inr (inr (inr (inr (inr (inr (inr (item, title)))))))
 
 abbrev act_of_fields : Fields → Act
-act_of_fields (inl p) = Remove p.0 p.1
-act_of_fields (inr (inl item)) = Restore item
-act_of_fields (inr (inr (inl p))) = AddMarker p.0 p.1
-act_of_fields (inr (inr (inr (inl p)))) = MoveMarker p.0 p.1
-act_of_fields (inr (inr (inr (inr p)))) = Retitle p.0 p.1
+act_of_fields (inl (inl p)) = AddTrack p.0 p.1
+act_of_fields (inl (inr p)) = MoveTrack p.0 p.1
+act_of_fields (inr (inl (inl p))) = AddClip p.0 p.1.0 p.1.1.0 p.1.1.1.0 p.1.1.1.1
+act_of_fields (inr (inl (inr (inl p)))) = MoveClip p.0 p.1.0 p.1.1
+act_of_fields (inr (inl (inr (inr p)))) = TrimClip p.0 p.1.0 p.1.1
+act_of_fields (inr (inr (inl (inl p)))) = SetGain p.0 p.1
+act_of_fields (inr (inr (inl (inr p)))) = SetMute p.0 p.1
+act_of_fields (inr (inr (inr (inl p)))) = Remove p.0 p.1
+act_of_fields (inr (inr (inr (inr (inl item))))) = Restore item
+act_of_fields (inr (inr (inr (inr (inr (inl p)))))) = AddMarker p.0 p.1
+act_of_fields (inr (inr (inr (inr (inr (inr (inl p))))))) = MoveMarker p.0 p.1
+act_of_fields (inr (inr (inr (inr (inr (inr (inr p))))))) = Retitle p.0 p.1
 
 abbrev act_of_fields-fields_of : (a : Act) → act_of_fields (fields_of a) ≡ a
-act_of_fields-fields_of (Remove item tags) = refl
-act_of_fields-fields_of (Restore item) = refl
-act_of_fields-fields_of (AddMarker at title) = refl
-act_of_fields-fields_of (MoveMarker marker at) = refl
-act_of_fields-fields_of (Retitle item title) = refl
+act_of_fields-fields_of (AddTrack after title) = refl
+act_of_fields-fields_of _ = refl
 
 abbrev pub fields_code : Coded Fields
 fields_code =
-    coded⊎ (coded× moment_code (coded_list moment_code))
+    coded⊎ (coded⊎ (coded× (coded_option moment_code) text_code) (coded× moment_code (coded_option moment_code)))
+    (coded⊎ (coded⊎ (coded× digest_code (coded× moment_code (coded× coded_ℕ (coded× coded_ℕ coded_ℕ)))) (coded⊎ (coded× moment_code (coded× moment_code coded_ℕ)) (coded× moment_code (coded× coded_ℕ coded_ℕ))))
+    (coded⊎ (coded⊎ (coded× moment_code ratio_code) (coded× moment_code coded_bool))
+    (coded⊎ (coded× moment_code (coded_list moment_code))
     (coded⊎ moment_code
-    (coded⊎ (coded× coded_ℕ (coded_list coded_ℕ))
+    (coded⊎ (coded× coded_ℕ text_code)
     (coded⊎ (coded× moment_code coded_ℕ)
-    (coded× moment_code (coded_list coded_ℕ)))))
+    (coded× moment_code text_code)))))))
 
 abbrev pub act_code : Coded Act
 act_code = code_by Fields fields_code fields_of act_of_fields act_of_fields-fields_of

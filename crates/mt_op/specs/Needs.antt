@@ -1,17 +1,30 @@
 -- What an operation waits for, and what it may be waited for as (the precondition of an update: INRIA RR-7506, operation-based objects).
-use Rattle.std.specs.Prelude.{ℕ, Bool, true, false, List, [], ◌∷◌, map, nat_lt, ◌==◌, ◌&&◌}
+use Rattle.std.specs.Prelude.{ℕ, Bool, true, false, List, [], ◌∷◌, Option, Some, None, map, nat_lt, ◌==◌, ◌&&◌}
 use Rattle.std.specs.List.{list_all}
 use Rattle.mt_stamp.specs.Moment.{Moment}
+pub use Rattle.mt_stamp.specs.Moment.{stamp_eq}
 use Rattle.mt_op.specs.declared.need.Role.{Role}
-use Rattle.mt_op.specs.declared.need.Role.TheVariants.{Marker, Titled, Item, TagOf}
+use Rattle.mt_op.specs.declared.need.Role.TheVariants.{Track, Place, Clip, Marker, Mixable, Titled, Item, TagOf}
 use Rattle.mt_op.specs.declared.need.Need.{Need}
-use Rattle.mt_op.specs.Operation.{Act, Remove, Restore, AddMarker, MoveMarker, Retitle, Operation}
+use Rattle.mt_op.specs.Operation.{Act, AddTrack, MoveTrack, AddClip, MoveClip, TrimClip, SetGain, SetMute, Remove, Restore, AddMarker, MoveMarker, Retitle, Operation}
 
 abbrev pub need_of : Role → Moment → Need
 need_of role stamp = record { stamp = stamp; role = role }
 
+-- the place that a track is put after, where it is not the head
+abbrev pub place_needs : Option Moment → List Need
+place_needs None = []
+place_needs (Some after) = need_of Place after ∷ []
+
 -- the needs of each act, in the order of its fields (profile)
 abbrev pub needs_of : Act → List Need
+needs_of (AddTrack after title) = place_needs after
+needs_of (MoveTrack track after) = need_of Track track ∷ place_needs after
+needs_of (AddClip source track at offset len) = need_of Track track ∷ []
+needs_of (MoveClip clip track at) = need_of Clip clip ∷ need_of Track track ∷ []
+needs_of (TrimClip clip offset len) = need_of Clip clip ∷ []
+needs_of (SetGain item gain) = need_of Mixable item ∷ []
+needs_of (SetMute item on) = need_of Mixable item ∷ []
 needs_of (Remove item tags) = need_of Item item ∷ map (need_of (TagOf item)) tags
 needs_of (Restore item) = need_of Item item ∷ []
 needs_of (AddMarker at title) = []
@@ -21,44 +34,58 @@ needs_of (Retitle item title) = need_of Titled item ∷ []
 abbrev pub needs : Operation → List Need
 needs o = needs_of o.act
 
-abbrev pub stamp_eq : Moment → Moment → Bool
-stamp_eq a b = (a.clock == b.clock) && ((a.replica.0 == b.replica.0) && (a.seq == b.seq))
+-- the acts of each role but that of a tag (profile)
+abbrev pub adds_track : Act → Bool
+adds_track (AddTrack after title) = true
+adds_track _ = false
 
--- whether an act adds an item, which the operation's own stamp names from then on
-abbrev pub adds_item : Act → Bool
-adds_item (Remove item tags) = false
-adds_item (Restore item) = false
-adds_item (AddMarker at title) = true
-adds_item (MoveMarker marker at) = false
-adds_item (Retitle item title) = false
+abbrev pub adds_place : Act → Bool
+adds_place (AddTrack after title) = true
+adds_place (MoveTrack track after) = true
+adds_place _ = false
 
--- whether an act adds a marker
+abbrev pub adds_clip : Act → Bool
+adds_clip (AddClip source track at offset len) = true
+adds_clip _ = false
+
 abbrev pub adds_marker : Act → Bool
-adds_marker (Remove item tags) = false
-adds_marker (Restore item) = false
 adds_marker (AddMarker at title) = true
-adds_marker (MoveMarker marker at) = false
-adds_marker (Retitle item title) = false
+adds_marker _ = false
 
--- whether an act adds an item that has a title
+-- an item that has a gain and can be muted
+abbrev pub adds_mixable : Act → Bool
+adds_mixable (AddTrack after title) = true
+adds_mixable (AddClip source track at offset len) = true
+adds_mixable _ = false
+
+-- an item that has a title
 abbrev pub adds_titled : Act → Bool
-adds_titled (Remove item tags) = false
-adds_titled (Restore item) = false
+adds_titled (AddTrack after title) = true
 adds_titled (AddMarker at title) = true
-adds_titled (MoveMarker marker at) = false
-adds_titled (Retitle item title) = false
+adds_titled _ = false
+
+-- an item, which the operation's own stamp names from then on
+abbrev pub adds_item : Act → Bool
+adds_item (AddTrack after title) = true
+adds_item (AddClip source track at offset len) = true
+adds_item (AddMarker at title) = true
+adds_item _ = false
 
 -- whether an operation is a tag of an item: what adds the item, under its own stamp, and each Restore of it (profile)
 abbrev pub is_tag_of : Moment → Moment → Act → Bool
-is_tag_of item own (Remove i tags) = false
-is_tag_of item own (Restore i) = stamp_eq i item
+is_tag_of item own (AddTrack after title) = stamp_eq own item
+is_tag_of item own (AddClip source track at offset len) = stamp_eq own item
 is_tag_of item own (AddMarker at title) = stamp_eq own item
-is_tag_of item own (MoveMarker marker at) = false
-is_tag_of item own (Retitle i title) = false
+is_tag_of item own (Restore i) = stamp_eq i item
+is_tag_of item own _ = false
 
 -- whether an act may stand in a role, `own` being the operation's stamp (profile)
 abbrev pub act_fits : Role → Moment → Act → Bool
+act_fits Track own act = adds_track act
+act_fits Place own act = adds_place act
+act_fits Clip own act = adds_clip act
 act_fits Marker own act = adds_marker act
+act_fits Mixable own act = adds_mixable act
 act_fits Titled own act = adds_titled act
 act_fits Item own act = adds_item act
 act_fits (TagOf item) own act = is_tag_of item own act

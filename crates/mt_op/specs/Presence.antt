@@ -2,7 +2,7 @@
 use Rattle.std.specs.Prelude.{Bool, true, false, not, List, [], ◌∷◌, map, filter, if◌then◌else◌}
 use Rattle.std.specs.List.{list_any, flat_map}
 use Rattle.mt_stamp.specs.Moment.{Moment}
-use Rattle.mt_op.specs.Operation.{Act, Remove, Restore, AddMarker, MoveMarker, Retitle, Operation}
+use Rattle.mt_op.specs.Operation.{Act, Remove, Operation}
 use Rattle.mt_op.specs.Needs.{stamp_eq, is_tag_of}
 
 -- whether a stamp is listed
@@ -12,10 +12,7 @@ is_listed stamps s = list_any (stamp_eq s) stamps
 -- the tags that an act lists as removed from an item (profile)
 abbrev pub tags_removed : Moment → Act → List Moment
 tags_removed item (Remove i tags) = if stamp_eq i item then tags else []
-tags_removed item (Restore i) = []
-tags_removed item (AddMarker at title) = []
-tags_removed item (MoveMarker marker at) = []
-tags_removed item (Retitle i title) = []
+tags_removed item _ = []
 
 -- the stamps of the operations that are tags of an item
 abbrev pub tags : Moment → List Operation → List Moment

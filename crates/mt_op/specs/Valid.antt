@@ -1,30 +1,47 @@
 -- Which operations there are: their parts are in range and they name older stamps.
-use Rattle.std.specs.Prelude.{◌<◌, ◌^◌, Bool, true, IsTrue}
+use Rattle.std.specs.Prelude.{◌<◌, ◌^◌, ℕ, Bool, true, IsTrue, IfSome, nat_le}
 use Rattle.std.specs.List.{AllByRecursion}
 use Rattle.mt_stamp.specs.Moment.{IsMoment}
 use Rattle.mt_op.specs.Title.{is_title}
+use Rattle.mt_op.specs.Gain.{IsRatio}
+use Rattle.mt_op.specs.Digest.{IsDigest}
 use Rattle.mt_op.specs.Tags.{are_tags}
-use Rattle.mt_op.specs.Operation.{Act, Remove, Restore, AddMarker, MoveMarker, Retitle, Operation}
+use Rattle.mt_op.specs.Operation.{Act, AddTrack, MoveTrack, AddClip, MoveClip, TrimClip, SetGain, SetMute, Remove, Restore, AddMarker, MoveMarker, Retitle, Operation}
 use Rattle.mt_op.specs.Needs.{names_are_older}
+
+-- whether a clip keeps at least one frame; no other act gives a length (profile)
+abbrev pub length_is_good : Act → Bool
+length_is_good (AddClip source track at offset len) = nat_le 1 len
+length_is_good (TrimClip clip offset len) = nat_le 1 len
+length_is_good _ = true
 
 -- whether the tags of a Remove are in order, from one to the greatest count; no other act has any (profile)
 abbrev pub tags_are_good : Act → Bool
 tags_are_good (Remove item tags) = are_tags tags
-tags_are_good (Restore item) = true
-tags_are_good (AddMarker at title) = true
-tags_are_good (MoveMarker marker at) = true
-tags_are_good (Retitle item title) = true
+tags_are_good _ = true
+
+-- a frame of the session or of a recording, or a number of frames
+abbrev pub IsFrame : ℕ → Type 0
+IsFrame n = n < 2 ^ 32
 
 -- the ranges of an act's fields (profile)
 abbrev pub AreFields : Act → Type 0
+AreFields (AddTrack after title) = IfSome after IsMoment × IsTrue (is_title title)
+AreFields (MoveTrack track after) = IsMoment track × IfSome after IsMoment
+AreFields (AddClip source track at offset len) = IsDigest source × (IsMoment track × (IsFrame at × (IsFrame offset × IsFrame len)))
+AreFields (MoveClip clip track at) = IsMoment clip × (IsMoment track × IsFrame at)
+AreFields (TrimClip clip offset len) = IsMoment clip × (IsFrame offset × IsFrame len)
+AreFields (SetGain item gain) = IsMoment item × IsRatio gain
+AreFields (SetMute item on) = IsMoment item
 AreFields (Remove item tags) = IsMoment item × AllByRecursion IsMoment tags
 AreFields (Restore item) = IsMoment item
-AreFields (AddMarker at title) = (at < 2 ^ 32) × IsTrue (is_title title)
-AreFields (MoveMarker marker at) = IsMoment marker × (at < 2 ^ 32)
+AreFields (AddMarker at title) = IsFrame at × IsTrue (is_title title)
+AreFields (MoveMarker marker at) = IsMoment marker × IsFrame at
 AreFields (Retitle item title) = IsMoment item × IsTrue (is_title title)
 
 pub record IsOperation (o : Operation) : Type 0 where
   pub stamp : IsMoment o.stamp
   pub fields : AreFields o.act
   pub older : IsTrue (names_are_older o)
+  pub length : IsTrue (length_is_good o.act)
   pub tags : IsTrue (tags_are_good o.act)

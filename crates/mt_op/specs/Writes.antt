@@ -1,30 +1,117 @@
 -- What an operation writes, and the value that the last writer gave (LWW-Register: INRIA RR-7506, section 3.2.1).
-use Rattle.std.specs.Prelude.{ℕ, List, [], ◌∷◌, Option, Some, None, if◌then◌else◌}
+use Rattle.std.specs.Prelude.{ℕ, Bool, false, List, [], ◌∷◌, Option, Some, None, if◌then◌else◌}
 use Rattle.std.specs.List.{filter_map}
 use Rattle.std.specs.Ordering.{is_lt}
 use Rattle.mt_stamp.specs.Moment.{Moment, stamp_cmp}
-use Rattle.mt_op.specs.Operation.{Act, Remove, Restore, AddMarker, MoveMarker, Retitle, Operation}
+use Rattle.mt_op.specs.Gain.{Ratio, unchanged}
+use Rattle.mt_op.specs.declared.digest.Digest.{Digest}
+use Rattle.mt_op.specs.Operation.{Act, AddTrack, MoveTrack, AddClip, MoveClip, TrimClip, SetGain, SetMute, AddMarker, MoveMarker, Retitle, Operation}
 use Rattle.mt_op.specs.Needs.{stamp_eq}
+
+-- a value of a field: the fields of tracks, of clips and of markers (profile)
+pub data Value : Type 0 where
+  Title : List ℕ → Value
+  Gain : Ratio → Value
+  Mute : Bool → Value
+  -- the place that a track stands after, none for the head
+  TrackPlace : Option Moment → Value
+  -- the track that a clip is on, and at which frame of the session
+  ClipPlace : Moment × ℕ → Value
+  -- the first frame of the recording that a clip plays, and how many it plays
+  Trim : ℕ × ℕ → Value
+  -- the recording that a clip plays
+  Source : Digest → Value
+  -- the frame of the session at which a marker stands
+  Position : ℕ → Value
 
 -- a value for one field of an item
 pub record Write (X : Type 0) : Type 0 where
   pub item : Moment
   pub value : X
 
--- the fields that each act writes, `own` being the operation's stamp (profile)
+abbrev pub sets : Moment → Value → Write Value
+sets item value = record { item = item; value = value }
+
+-- what each act writes, `own` being the operation's stamp (profile)
+abbrev pub writes : Moment → Act → List (Write Value)
+writes own (AddTrack after title) = sets own (TrackPlace after) ∷ sets own (Title title) ∷ sets own (Gain unchanged) ∷ sets own (Mute false) ∷ []
+writes own (MoveTrack track after) = sets track (TrackPlace after) ∷ []
+writes own (AddClip source track at offset len) = sets own (ClipPlace (track, at)) ∷ sets own (Trim (offset, len)) ∷ sets own (Source source) ∷ sets own (Gain unchanged) ∷ sets own (Mute false) ∷ []
+writes own (MoveClip clip track at) = sets clip (ClipPlace (track, at)) ∷ []
+writes own (TrimClip clip offset len) = sets clip (Trim (offset, len)) ∷ []
+writes own (SetGain item gain) = sets item (Gain gain) ∷ []
+writes own (SetMute item on) = sets item (Mute on) ∷ []
+writes own (AddMarker at title) = sets own (Position at) ∷ sets own (Title title) ∷ []
+writes own (MoveMarker marker at) = sets marker (Position at) ∷ []
+writes own (Retitle item title) = sets item (Title title) ∷ []
+writes own _ = []
+
+-- the first of several values that is one of a field
+abbrev pub or_later : {X : Type 0} → Moment → Option X → Option (Write X) → Option (Write X)
+or_later item None rest = rest
+or_later item (Some value) rest = Some (record { item = item; value = value })
+
+abbrev pub first_of : {X : Type 0} → (Value → Option X) → List (Write Value) → Option (Write X)
+first_of one_of [] = None
+first_of one_of (w ∷ ws) = or_later w.item (one_of w.value) (first_of one_of ws)
+
+-- whether a value is one of a field
+abbrev pub title_in : Value → Option (List ℕ)
+title_in (Title title) = Some title
+title_in _ = None
+
+abbrev pub gain_in : Value → Option Ratio
+gain_in (Gain gain) = Some gain
+gain_in _ = None
+
+abbrev pub mute_in : Value → Option Bool
+mute_in (Mute on) = Some on
+mute_in _ = None
+
+abbrev pub track_place_in : Value → Option (Option Moment)
+track_place_in (TrackPlace after) = Some after
+track_place_in _ = None
+
+abbrev pub clip_place_in : Value → Option (Moment × ℕ)
+clip_place_in (ClipPlace place) = Some place
+clip_place_in _ = None
+
+abbrev pub trim_in : Value → Option (ℕ × ℕ)
+trim_in (Trim trim) = Some trim
+trim_in _ = None
+
+abbrev pub source_in : Value → Option Digest
+source_in (Source source) = Some source
+source_in _ = None
+
+abbrev pub position_in : Value → Option ℕ
+position_in (Position at) = Some at
+position_in _ = None
+
+-- the item whose field an act writes, and the value
 abbrev pub title_written : Moment → Act → Option (Write (List ℕ))
-title_written own (Remove item tags) = None
-title_written own (Restore item) = None
-title_written own (AddMarker at title) = Some (record { item = own; value = title })
-title_written own (MoveMarker marker at) = None
-title_written own (Retitle item title) = Some (record { item = item; value = title })
+title_written own act = first_of title_in (writes own act)
+
+abbrev pub gain_written : Moment → Act → Option (Write Ratio)
+gain_written own act = first_of gain_in (writes own act)
+
+abbrev pub mute_written : Moment → Act → Option (Write Bool)
+mute_written own act = first_of mute_in (writes own act)
+
+abbrev pub track_place_written : Moment → Act → Option (Write (Option Moment))
+track_place_written own act = first_of track_place_in (writes own act)
+
+abbrev pub clip_place_written : Moment → Act → Option (Write (Moment × ℕ))
+clip_place_written own act = first_of clip_place_in (writes own act)
+
+abbrev pub trim_written : Moment → Act → Option (Write (ℕ × ℕ))
+trim_written own act = first_of trim_in (writes own act)
+
+abbrev pub source_written : Moment → Act → Option (Write Digest)
+source_written own act = first_of source_in (writes own act)
 
 abbrev pub position_written : Moment → Act → Option (Write ℕ)
-position_written own (Remove item tags) = None
-position_written own (Restore item) = None
-position_written own (AddMarker at title) = Some (record { item = own; value = at })
-position_written own (MoveMarker marker at) = Some (record { item = marker; value = at })
-position_written own (Retitle item title) = None
+position_written own act = first_of position_in (writes own act)
 
 -- a value with the stamp of its writer
 pub record Written (X : Type 0) : Type 0 where

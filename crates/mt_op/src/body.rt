@@ -1,36 +1,111 @@
 //! What an operation does.
 
-ghost use Rattle.std.specs.Prelude.{◌≡◌, IfOk, IfErr, IsTrue};
+ghost use Rattle.std.specs.Prelude.{◌≡◌, IfOk, IfErr, IfSome, IsTrue, nat_lt};
+ghost use Rattle.std.specs.List.{list_all};
+ghost use Rattle.mt_stamp.specs.Moment.{IsMoment};
+ghost use Rattle.mt_op.specs.declared.need.Need.{Need};
+ghost use Rattle.mt_op.specs.Needs.{place_needs};
 
+use crate::digest::Digest;
 use crate::fault::OpFault;
+use crate::gain::Gain;
 use crate::tags::{are_older, are_tags};
 use crate::title::Title;
 use mt_stamp::{List, Stamp};
 use std::alloc::{Allocator, Global};
 
-/// What an operation does to the session.
+/// What an operation does to the session. Positions and offsets are in frames, counted from 0, and each is any `u32`.
+/// An AddTrack, AddClip or AddMarker adds an item, which the operation's own stamp names from then on, and is its first
+/// tag.
 #[derive(Drop)]
 #[derive_where(Debug, PartialEq, Eq)]
 pub enum Body<A: Allocator = Global> {
+    /// Adds a track at a place of its own: after the place `after`, or at the head, and before all places that were put
+    /// there with smaller stamps. The place has the operation's stamp. Its gain is 1/1, and it is not muted.
+    AddTrack {
+        after: Option<Stamp>,
+        title: Title<A>,
+    },
+    /// Moves a track to another place of its own: after the place `after`, or at the head, and before all places that
+    /// were put there with smaller stamps. The place has the operation's stamp.
+    MoveTrack {
+        track: Stamp,
+        after: Option<Stamp>,
+    },
+    /// Adds a clip to a track, from frame `at` of the session on: `len` frames, at least 1, of the recording with the
+    /// digest `source`, from its frame `offset` on. Its gain is 1/1, and it is not muted.
+    AddClip {
+        source: Digest,
+        track: Stamp,
+        at: u32,
+        offset: u32,
+        len: u32,
+    },
+    /// Moves a clip to frame `at` of the session, on a track, which may be the one that it is on.
+    MoveClip {
+        clip: Stamp,
+        track: Stamp,
+        at: u32,
+    },
+    /// Lets a clip play `len` frames of its recording, at least 1, from its frame `offset` on.
+    TrimClip {
+        clip: Stamp,
+        offset: u32,
+        len: u32,
+    },
+    /// Gives a track or a clip another gain.
+    SetGain {
+        item: Stamp,
+        gain: Gain,
+    },
+    /// Mutes a track or a clip, or lets it sound again.
+    SetMute {
+        item: Stamp,
+        on: bool,
+    },
     /// Removes these tags of an item: from 1 to 65,535 of them, rising. The item is absent while all its tags are
     /// removed.
-    Remove { item: Stamp, tags: List<Stamp, A> },
+    Remove {
+        item: Stamp,
+        tags: List<Stamp, A>,
+    },
     /// Gives an item another tag: the operation's own stamp. It brings a removed item back.
-    Restore { item: Stamp },
-    /// Adds a marker at frame `at` of the session, counted from 0; every `u32` is a place. The operation's
-    /// stamp is the marker's name from then on, and its first tag.
-    AddMarker { at: u32, title: Title<A> },
+    Restore {
+        item: Stamp,
+    },
+    /// Adds a marker at frame `at` of the session.
+    AddMarker {
+        at: u32,
+        title: Title<A>,
+    },
     /// Moves a marker to frame `at` of the session.
-    MoveMarker { marker: Stamp, at: u32 },
-    /// Gives another title to the item that was added by the operation with the stamp `item`.
-    Retitle { item: Stamp, title: Title<A> },
+    MoveMarker {
+        marker: Stamp,
+        at: u32,
+    },
+    /// Gives a track or a marker another title.
+    Retitle {
+        item: Stamp,
+        title: Title<A>,
+    },
+}
+
+// Whether the clock of a stamp, where there is one, is smaller than this one.
+fn is_older(stamp: Option<Stamp>, clock: u64) -> bool
+    ensures older { result ≡ list_all (λ (need : Need). nat_lt need.stamp.clock clock) (place_needs stamp) }
+    ensures valid { IfSome stamp IsMoment }
+{
+    match stamp {
+        Some(stamp) => stamp.clock() < clock,
+        None => true,
+    }
 }
 
 impl<A: Allocator> Body<A> {
     ghost use Rattle.mt_op.specs.Operation.{Operation};
     ghost use Rattle.mt_op.specs.Bodies.{act_of};
     ghost use Rattle.mt_op.specs.Needs.{names_are_older};
-    ghost use Rattle.mt_op.specs.Valid.{AreFields, tags_are_good};
+    ghost use Rattle.mt_op.specs.Valid.{AreFields, length_is_good, tags_are_good};
     ghost use Rattle.mt_stamp.specs.Moment.{IsMoment};
 
     // Whether every stamp that the body names has a smaller clock than the stamp.
@@ -39,10 +114,39 @@ impl<A: Allocator> Body<A> {
         ensures stamp { IsMoment stamp }
         ensures fields { IsTrue result → AreFields (act_of self.now) }
     {
+        // The reads that are let go bring the ranges of what is read.
         let clock = stamp.clock();
         match self {
+            Body::AddTrack { after, title } => {
+                let _ = title.text();
+                is_older(*after, clock)
+            }
+            Body::MoveTrack { track, after } => track.clock() < clock && is_older(*after, clock),
+            Body::AddClip {
+                source,
+                track,
+                at,
+                offset,
+                len,
+            } => {
+                let _ = source.bytes();
+                let (_at, _offset, _len) = (*at, *offset, *len);
+                track.clock() < clock
+            }
+            Body::MoveClip { clip, track, at } => {
+                let _at = *at;
+                clip.clock() < clock && track.clock() < clock
+            }
+            Body::TrimClip { clip, offset, len } => {
+                let (_offset, _len) = (*offset, *len);
+                clip.clock() < clock
+            }
+            Body::SetGain { item, gain } => {
+                let _ = gain.num();
+                item.clock() < clock
+            }
+            Body::SetMute { item, .. } | Body::Restore { item } => item.clock() < clock,
             Body::Remove { item, tags } => item.clock() < clock && are_older(tags.items(), clock),
-            Body::Restore { item } => item.clock() < clock,
             Body::AddMarker { at, title } => {
                 let _at = *at;
                 let _ = title.text();
@@ -59,16 +163,23 @@ impl<A: Allocator> Body<A> {
         }
     }
 
+    // Whether the length that the body gives a clip, if it gives one, is at least 1.
+    pub(crate) fn length_is_good(&self) -> bool
+        ensures { result ≡ length_is_good (act_of self.now) }
+    {
+        match self {
+            Body::AddClip { len, .. } | Body::TrimClip { len, .. } => *len >= 1,
+            _ => true,
+        }
+    }
+
     // Whether the tags of a Remove are in order, and as many as it may list.
     pub(crate) fn tags_are_good(&self) -> bool
         ensures { result ≡ tags_are_good (act_of self.now) }
     {
         match self {
             Body::Remove { tags, .. } => are_tags(tags.items()),
-            Body::Restore { .. }
-            | Body::AddMarker { .. }
-            | Body::MoveMarker { .. }
-            | Body::Retitle { .. } => true,
+            _ => true,
         }
     }
 
@@ -80,24 +191,63 @@ impl<A: Allocator> Body<A> {
         ensures ok { IfOk result (λ body. act_of body ≡ act_of self.now) }
         ensures err { IfErr result (λ fault. fault ≡ OpFault.Memory) }
     {
-        match self {
-            Body::Remove { item, tags } => {
-                let tags = tags.clone()?;
-                Ok(Body::Remove { item: *item, tags })
-            }
-            Body::Restore { item } => Ok(Body::Restore { item: *item }),
-            Body::AddMarker { at, title } => {
-                let title = title.try_clone()?;
-                Ok(Body::AddMarker { at: *at, title })
-            }
-            Body::MoveMarker { marker, at } => Ok(Body::MoveMarker {
+        Ok(match self {
+            Body::AddTrack { after, title } => Body::AddTrack {
+                after: *after,
+                title: title.try_clone()?,
+            },
+            Body::MoveTrack { track, after } => Body::MoveTrack {
+                track: *track,
+                after: *after,
+            },
+            Body::AddClip {
+                source,
+                track,
+                at,
+                offset,
+                len,
+            } => Body::AddClip {
+                source: *source,
+                track: *track,
+                at: *at,
+                offset: *offset,
+                len: *len,
+            },
+            Body::MoveClip { clip, track, at } => Body::MoveClip {
+                clip: *clip,
+                track: *track,
+                at: *at,
+            },
+            Body::TrimClip { clip, offset, len } => Body::TrimClip {
+                clip: *clip,
+                offset: *offset,
+                len: *len,
+            },
+            Body::SetGain { item, gain } => Body::SetGain {
+                item: *item,
+                gain: *gain,
+            },
+            Body::SetMute { item, on } => Body::SetMute {
+                item: *item,
+                on: *on,
+            },
+            Body::Remove { item, tags } => Body::Remove {
+                item: *item,
+                tags: tags.clone()?,
+            },
+            Body::Restore { item } => Body::Restore { item: *item },
+            Body::AddMarker { at, title } => Body::AddMarker {
+                at: *at,
+                title: title.try_clone()?,
+            },
+            Body::MoveMarker { marker, at } => Body::MoveMarker {
                 marker: *marker,
                 at: *at,
-            }),
-            Body::Retitle { item, title } => {
-                let title = title.try_clone()?;
-                Ok(Body::Retitle { item: *item, title })
-            }
-        }
+            },
+            Body::Retitle { item, title } => Body::Retitle {
+                item: *item,
+                title: title.try_clone()?,
+            },
+        })
     }
 }

@@ -2,7 +2,7 @@
 
 ghost use Rattle.std.specs.Prelude.{◌≡◌, ◌↔◌, false, IfOk, IfErr, IsErrOf, Ok};
 ghost use Rattle.std.specs.String.{string_bytes};
-ghost use Rattle.hex.specs.Hex.{decode_of};
+ghost use Rattle.hex.specs.Hex.{decode_of, IsBytes};
 ghost use Rattle.sha2.specs.Sha256.{sha256};
 ghost use Rattle.mt_op.specs.Digest.{digest_text, is_digest_text, IsDigest};
 
@@ -16,12 +16,26 @@ use std::alloc::Allocator;
 #[derive(Clone, Copy, Debug, PartialEq, Eq, PartialOrd, Ord, Hash)]
 pub struct Digest(pub [u8; 32]);
 
+// What a slice of bytes holds.
+fn are_bytes(bytes: &[u8])
+    ensures { IsBytes bytes.now }
+{}
+
 impl Digest {
     /// The digest of these bytes.
     pub fn of(bytes: &[u8]) -> Digest
         ensures { result.0 ≡ sha256 bytes.now }
     {
         Digest(Sha256::digest(bytes))
+    }
+
+    // The bytes: thirty-two of them.
+    pub(crate) fn bytes(&self) -> &[u8]
+        ensures value { result.now ≡ self.now.0 }
+        ensures valid { IsDigest self.now }
+    {
+        are_bytes(&self.0);
+        &self.0
     }
 
     /// Reads a digest of 64 hex digits, each in either case. Every other text is refused as `BadDigest` (50).

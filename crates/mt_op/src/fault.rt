@@ -14,24 +14,30 @@ pub enum OpFault {
     Memory,
     #[error("a named stamp's clock is not smaller than the operation's own")]
     NameNotOlder,
+    #[error("the length of the clip is 0")]
+    ZeroLength,
     #[error("the tags are none, over 65,535, or not strictly rising")]
     BadTags,
     #[error("the title is over 255 bytes or has a character below 0x20, or 0x7F")]
     BadTitle,
+    #[error("the gain's divisor is 0")]
+    BadGain,
     #[error("the text is not 64 hex digits")]
     BadDigest,
 }
 
 impl OpFault {
-    /// The refusal's number: 0, 5, 7, 43 or 50.
+    /// The refusal's number: 0, 5, 6, 7, 43, 44 or 50.
     pub fn number(&self) -> u8
         ensures { result ≡ number_of self.now }
     {
         match self {
             OpFault::Memory => 0,
             OpFault::NameNotOlder => 5,
+            OpFault::ZeroLength => 6,
             OpFault::BadTags => 7,
             OpFault::BadTitle => 43,
+            OpFault::BadGain => 44,
             OpFault::BadDigest => 50,
         }
     }

@@ -1,28 +1,38 @@
 //! What holds of all operations and of sets of them: each law is the contract of a small function, which does
 //! nothing or only compares.
 
-ghost use Rattle.std.specs.Prelude.{◌≡◌, ◌↔◌, ℕ, List, IsTrue};
-ghost use Rattle.std.specs.Ordering.{nat_cmp};
+ghost use Rattle.std.specs.Prelude.{◌≡◌, ◌↔◌, ℕ, Bool, List, Option, IsTrue};
+ghost use Rattle.std.specs.Ordering.{nat_cmp, ordering_then};
+ghost use Rattle.mt_stamp.specs.Moment.{Moment};
+ghost use Rattle.mt_op.specs.Gain.{Ratio};
+ghost use Rattle.mt_op.specs.declared.digest.Digest.{Digest as DigestOf};
 ghost use Rattle.std.specs.Cmp.Lexicographic.{slice_cmp};
 ghost use Rattle.mt_op.specs.Bodies.{act_of};
 ghost use Rattle.mt_op.specs.Laws.{LatestIsGreatest, ReadyIsDefined};
 
 use crate::body::Body;
 use crate::digest::Digest;
+use crate::gain::Gain;
 use crate::op::Op;
 use crate::title::Title;
 use std::alloc::Allocator;
 use std::cmp::Ordering;
 
-/// Ready is the only set that satisfies its rule: an operation is in it exactly where it is in the set
-/// and each of its needs is met by an operation that is in it.
+/// Where every operation names older ones, as each `Op` does, ready is the only set that satisfies its rule: an operation
+/// is in it exactly where it is in the set and each of its needs is met by an operation that is in it.
 pub fn readiness()
     ensures { ReadyIsDefined }
 {}
 
-/// The last write of a title, and of a position, is the one with the greatest stamp.
+/// The last write of each field is the one with the greatest stamp, and there is one where the field was written.
 pub fn last_write()
     ensures titles { LatestIsGreatest (List ℕ) }
+    ensures gains { LatestIsGreatest Ratio }
+    ensures mutes { LatestIsGreatest Bool }
+    ensures track_places { LatestIsGreatest (Option Moment) }
+    ensures clip_places { LatestIsGreatest (Moment × ℕ) }
+    ensures trims { LatestIsGreatest (ℕ × ℕ) }
+    ensures sources { LatestIsGreatest DigestOf }
     ensures positions { LatestIsGreatest ℕ }
 {}
 
@@ -38,6 +48,13 @@ pub fn compare_titles<A: Allocator>(a: &Title<A>, b: &Title<A>) -> Ordering
     ensures { result ≡ slice_cmp nat_cmp a.now b.now }
 {
     a.cmp(b)
+}
+
+/// Gains are compared by what they multiply by, and then by what they divide by.
+pub fn compare_gains(first: &Gain, second: &Gain) -> Ordering
+    ensures { result ≡ ordering_then (nat_cmp first.now.num second.now.num) (nat_cmp first.now.den second.now.den) }
+{
+    first.cmp(second)
 }
 
 /// Digests are compared by their bytes as numbers, from the first on.

@@ -1,17 +1,27 @@
 //! What an operation waits for.
 
+ghost use Rattle.std.specs.Prelude.{◌≡◌};
+
 use mt_stamp::Stamp;
 
 /// What an operation has to be, so that another one may name it.
 #[derive(Clone, Copy, Debug, PartialEq, Eq)]
 pub enum Role {
+    /// A track: an AddTrack.
+    Track,
+    /// A place of the track order: an AddTrack or a MoveTrack.
+    Place,
+    /// A clip: an AddClip.
+    Clip,
     /// A marker: an AddMarker.
     Marker,
-    /// An item that has a title: an AddMarker.
+    /// An item that sounds, with a gain and a mute: an AddTrack or an AddClip.
+    Mixable,
+    /// An item that has a title: an AddTrack or an AddMarker.
     Titled,
-    /// An item of any kind: an AddMarker.
+    /// An item of any kind: an AddTrack, an AddClip or an AddMarker.
     Item,
-    /// A tag of the item of this stamp: the AddMarker of this stamp, or a Restore of this item.
+    /// A tag of the item of this stamp: what added the item, under this stamp, or a Restore of this item.
     TagOf(Stamp),
 }
 
@@ -21,4 +31,13 @@ pub enum Role {
 pub struct Need {
     pub stamp: Stamp,
     pub role: Role,
+}
+
+impl Need {
+    // What is needed of the operation of a stamp.
+    pub(crate) fn of(stamp: Stamp, role: Role) -> Need
+        ensures { result ≡ record { stamp = stamp; role = role } }
+    {
+        Need { stamp, role }
+    }
 }

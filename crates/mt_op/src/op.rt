@@ -1,10 +1,10 @@
 //! Operations.
 
-ghost use Rattle.std.specs.Prelude.{◌≡◌, ◌↔◌, ◌⊎◌, true, false, IfOk, IsErrOf, IfErr, IsTrue, slice_get, length};
+ghost use Rattle.std.specs.Prelude.{◌≡◌, ◌↔◌, ◌⊎◌, true, false, IfOk, IsErrOf, IfErr, IsTrue, List, [], ◌∷◌, slice_get, length};
 ghost use Rattle.mt_op.specs.Bodies.{act_of};
-ghost use Rattle.mt_op.specs.Operation.{Remove};
-ghost use Rattle.mt_op.specs.Needs.{needs_of, needs, fits, names_are_older};
-ghost use Rattle.mt_op.specs.Valid.{IsOperation, tags_are_good};
+ghost use Rattle.mt_op.specs.Operation.{MoveTrack, Remove};
+ghost use Rattle.mt_op.specs.Needs.{need_of, place_needs, needs_of, needs, fits, names_are_older};
+ghost use Rattle.mt_op.specs.Valid.{IsOperation, length_is_good, tags_are_good};
 ghost use Rattle.mt_op.specs.Dots.{op_dot};
 
 use crate::body::Body;
@@ -14,8 +14,8 @@ use mt_stamp::{Dot, Stamp};
 use std::alloc::{Allocator, Global};
 use std::marker::Model;
 
-/// An operation: its stamp and what it does. Each stamp that its body names has a smaller clock than its own, and
-/// the tags of a Remove are from 1 to 65,535, rising.
+/// An operation: its stamp and what it does. Each stamp that its body names has a smaller clock than its own, the
+/// length that it gives a clip is at least 1, and the tags of a Remove are from 1 to 65,535, rising.
 #[derive(Drop)]
 #[derive_where(Debug, PartialEq, Eq)]
 pub struct Op<A: Allocator = Global> {
@@ -38,39 +38,80 @@ impl<A: Allocator> Model for Op<A> {
     ghost inverse = { λ o. record { stamp = o.stamp; body = body_of o.act } };
 }
 
+// The need of what is put after a place, or at the head, at place `i`.
+fn place_need(after: Option<Stamp>, i: usize) -> Option<Need>
+    ensures { result ≡ slice_get (place_needs after) i }
+{
+    match after {
+        Some(after) if i == 0 => Some(Need::of(after, Role::Place)),
+        _ => None,
+    }
+}
+
+// The need of what names one operation, at place `i`.
+fn only_need(stamp: Stamp, role: Role, i: usize) -> Option<Need>
+    ensures { result ≡ slice_get (need_of role stamp ∷ []) i }
+{
+    if i == 0 {
+        Some(Need::of(stamp, role))
+    } else {
+        None
+    }
+}
+
+// The need of a MoveTrack of this track to this place at place `i`: the track, and then the place.
+fn move_track_need(track: Stamp, after: Option<Stamp>, i: usize) -> Option<Need>
+    ensures { result ≡ slice_get (needs_of (MoveTrack track after)) i }
+{
+    if i == 0 {
+        return Some(Need::of(track, Role::Track));
+    }
+    place_need(after, i - 1)
+}
+
+// The need of a MoveClip of this clip to this track at place `i`: the clip, and then the track.
+fn move_clip_need(clip: Stamp, track: Stamp, i: usize) -> Option<Need>
+    ensures { result ≡ slice_get (need_of Role.Clip clip ∷ need_of Role.Track track ∷ []) i }
+{
+    match i {
+        0 => Some(Need::of(clip, Role::Clip)),
+        1 => Some(Need::of(track, Role::Track)),
+        _ => None,
+    }
+}
+
 // The need of a Remove of this item and these tags at place `i`: the item, and then each tag.
 fn remove_need(item: Stamp, tags: &[Stamp], i: usize) -> Option<Need>
     ensures { result ≡ slice_get (needs_of (Remove item tags.now)) i }
 {
     if i == 0 {
-        return Some(Need {
-            stamp: item,
-            role: Role::Item,
-        });
+        return Some(Need::of(item, Role::Item));
     }
     if i > tags.len() {
         return None;
     }
-    Some(Need {
-        stamp: tags[i - 1],
-        role: Role::TagOf(item),
-    })
+    Some(Need::of(tags[i - 1], Role::TagOf(item)))
 }
 
 impl<A: Allocator> Op<A> {
     ghost use Rattle.mt_op.specs.Operation.{Operation};
 
     /// An operation of a stamp and a body. Refused, in this order: `NameNotOlder` (5) where a stamp that the body
-    /// names has a clock that is not smaller than this stamp's; `BadTags` (7) where a Remove lists no tag, over
-    /// 65,535, or one that is not greater than the one before. The body is then dropped. Takes no memory.
+    /// names has a clock that is not smaller than this stamp's; `ZeroLength` (6) where an AddClip or a TrimClip gives
+    /// a clip no frame; `BadTags` (7) where a Remove lists no tag, over 65,535, or one that is not greater than the
+    /// one before. The body is then dropped. Takes no memory.
     pub fn new(stamp: Stamp, body: Body<A>) -> Result<Self, OpFault>
         ensures ok { IfOk result (λ op. op ≡ record { stamp = stamp; act = act_of body }) }
         ensures not_older { IsErrOf result OpFault.NameNotOlder ↔ (names_are_older (record { stamp = stamp; act = act_of body }) ≡ false) }
-        ensures bad_tags { IsErrOf result OpFault.BadTags ↔ ((names_are_older (record { stamp = stamp; act = act_of body }) ≡ true) × (tags_are_good (act_of body) ≡ false)) }
-        ensures err { IfErr result (λ fault. (fault ≡ OpFault.NameNotOlder) ⊎ (fault ≡ OpFault.BadTags)) }
+        ensures zero_length { IsErrOf result OpFault.ZeroLength ↔ ((names_are_older (record { stamp = stamp; act = act_of body }) ≡ true) × (length_is_good (act_of body) ≡ false)) }
+        ensures bad_tags { IsErrOf result OpFault.BadTags ↔ ((names_are_older (record { stamp = stamp; act = act_of body }) ≡ true) × (length_is_good (act_of body) ≡ true) × (tags_are_good (act_of body) ≡ false)) }
+        ensures err { IfErr result (λ fault. (fault ≡ OpFault.NameNotOlder) ⊎ ((fault ≡ OpFault.ZeroLength) ⊎ (fault ≡ OpFault.BadTags))) }
     {
         if !body.names_are_older_than(stamp) {
             return Err(OpFault::NameNotOlder);
+        }
+        if !body.length_is_good() {
+            return Err(OpFault::ZeroLength);
         }
         if !body.tags_are_good() {
             return Err(OpFault::BadTags);
@@ -104,51 +145,63 @@ impl<A: Allocator> Op<A> {
         &self.body
     }
 
-    /// How many operations it waits for: 0 for an AddMarker, 1 for a Restore, MoveMarker or Retitle, and for a
-    /// Remove 1 more than it lists tags.
+    /// How many needs it has: one for each stamp that its body names, so none for an AddMarker and for an AddTrack at
+    /// the head. Two of them may name one operation.
     pub fn need_count(&self) -> usize
         ensures { result ≡ length (needs self.now) }
     {
         match &self.body {
+            Body::AddTrack { after: None, .. } | Body::AddMarker { .. } => 0,
+            Body::MoveTrack { after: Some(_), .. } | Body::MoveClip { .. } => 2,
             Body::Remove { tags, .. } => tags.items().len() + 1,
-            Body::Restore { .. } | Body::MoveMarker { .. } | Body::Retitle { .. } => 1,
-            Body::AddMarker { .. } => 0,
+            _ => 1,
         }
     }
 
     /// The need at place `i`, counted from 0, in the order of the body's fields. `None` where `i` is
-    /// `need_count()` or more. A Remove needs the item that it names, as `Item`, and then each tag, as `TagOf` that
-    /// item; a Restore its item as `Item`; a MoveMarker its marker as `Marker`; a Retitle its item as `Titled`.
+    /// `need_count()` or more. An AddTrack or a MoveTrack needs what it is put after as a `Place`; a MoveTrack, an
+    /// AddClip and a MoveClip their track as a `Track`; a MoveClip and a TrimClip their clip as a `Clip`; a SetGain
+    /// and a SetMute their item as a `Mixable`; a Remove the item as an `Item`, and then each tag as a `TagOf` that
+    /// item; a Restore its item as an `Item`; a MoveMarker its marker as a `Marker`; a Retitle its item as a `Titled`.
     pub fn need(&self, i: usize) -> Option<Need>
         ensures { result ≡ slice_get (needs self.now) i }
     {
         match &self.body {
+            Body::AddTrack { after, .. } => place_need(*after, i),
+            Body::MoveTrack { track, after } => move_track_need(*track, *after, i),
+            Body::AddClip { track, .. } => only_need(*track, Role::Track, i),
+            Body::MoveClip { clip, track, .. } => move_clip_need(*clip, *track, i),
+            Body::TrimClip { clip, .. } => only_need(*clip, Role::Clip, i),
+            Body::SetGain { item, .. } | Body::SetMute { item, .. } => {
+                only_need(*item, Role::Mixable, i)
+            }
             Body::Remove { item, tags } => remove_need(*item, tags.items(), i),
-            Body::Restore { item } if i == 0 => Some(Need {
-                stamp: *item,
-                role: Role::Item,
-            }),
-            Body::MoveMarker { marker, .. } if i == 0 => Some(Need {
-                stamp: *marker,
-                role: Role::Marker,
-            }),
-            Body::Retitle { item, .. } if i == 0 => Some(Need {
-                stamp: *item,
-                role: Role::Titled,
-            }),
-            _ => None,
+            Body::Restore { item } => only_need(*item, Role::Item, i),
+            Body::AddMarker { .. } => None,
+            Body::MoveMarker { marker, .. } => only_need(*marker, Role::Marker, i),
+            Body::Retitle { item, .. } => only_need(*item, Role::Titled, i),
         }
     }
 
-    /// Whether another operation may name this one in that role: an AddMarker is `Marker`, `Titled`, `Item` and a
-    /// `TagOf` itself, a Restore is a `TagOf` its item, and nothing else fits.
+    /// Whether another operation may name this one in that role: an AddTrack as a `Track`, `Place`, `Mixable`,
+    /// `Titled` and `Item`; a MoveTrack as a `Place`; an AddClip as a `Clip`, `Mixable` and `Item`; an AddMarker as a
+    /// `Marker`, `Titled` and `Item`; what adds an item as a `TagOf` its own stamp, and a Restore as a `TagOf` its item.
     pub fn fits(&self, role: &Role) -> bool
         ensures { result ≡ fits role.now self.now }
     {
-        match (role, &self.body) {
-            (Role::TagOf(item), Body::AddMarker { .. }) => self.stamp == *item,
-            (Role::TagOf(item), Body::Restore { item: restored }) => restored == item,
-            (Role::Marker | Role::Titled | Role::Item, Body::AddMarker { .. }) => true,
+        match (&self.body, role) {
+            (
+                Body::AddTrack { .. } | Body::AddClip { .. } | Body::AddMarker { .. },
+                Role::TagOf(item),
+            ) => self.stamp == *item,
+            (Body::Restore { item: restored }, Role::TagOf(item)) => restored == item,
+            (
+                Body::AddTrack { .. },
+                Role::Track | Role::Place | Role::Mixable | Role::Titled | Role::Item,
+            ) => true,
+            (Body::MoveTrack { .. }, Role::Place) => true,
+            (Body::AddClip { .. }, Role::Clip | Role::Mixable | Role::Item) => true,
+            (Body::AddMarker { .. }, Role::Marker | Role::Titled | Role::Item) => true,
             _ => false,
         }
     }

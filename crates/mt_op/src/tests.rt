@@ -1,6 +1,4 @@
-use crate::laws::{
-    compare_digests, compare_titles, equal_bodies, equal_ops, equal_titles, last_write, readiness,
-};
+use crate::laws::{compare_digests, compare_titles, equal_titles, last_write, readiness};
 use crate::{Body, Digest, Need, Op, OpFault, Role, Title, find_op};
 use mt_stamp::{Dot, Replica, Stamp};
 use mt_testalloc::Refusing;
@@ -9,6 +7,13 @@ use std::cmp::Ordering;
 use std::test::Fail;
 
 mod bodies;
+mod copies;
+mod gains;
+mod needs;
+mod refusals;
+mod roles;
+
+use bodies::retitle;
 
 const A: Replica = Replica(10);
 
@@ -17,13 +22,6 @@ const B: Replica = Replica(11);
 fn marker<M: Allocator>(memory: M, title: &str) -> Result<Body<M>, OpFault> {
     Ok(Body::AddMarker {
         at: 48_000,
-        title: Title::new(memory, title)?,
-    })
-}
-
-fn retitle<M: Allocator>(memory: M, item: Stamp, title: &str) -> Result<Body<M>, OpFault> {
-    Ok(Body::Retitle {
-        item,
         title: Title::new(memory, title)?,
     })
 }
@@ -159,28 +157,6 @@ fn makes_operations_that_name_older_ones(rt: HostRuntime) -> Result<(), Fail> {
 }
 
 #[test]
-fn tells_operations_apart(rt: HostRuntime) -> Result<(), Fail> {
-    let first = Stamp::new(1, B, 1)?;
-    let second = Stamp::new(2, A, 1)?;
-    let ops = [
-        Op::new(first, marker(rt.alloc(), "News")?)?,
-        Op::new(first, marker(rt.alloc(), "Weather")?)?,
-        Op::new(second, marker(rt.alloc(), "News")?)?,
-        Op::new(second, retitle(rt.alloc(), first, "News")?)?,
-        Op::new(Stamp::new(3, A, 2)?, retitle(rt.alloc(), second, "News")?)?,
-    ];
-    for (i, op) in ops.iter().enumerate() {
-        assert!(rt; equal_bodies(op.body(), &op.body().try_clone()?));
-        for (j, other) in ops.iter().enumerate() {
-            assert_eq!(rt; equal_ops(&op.try_clone()?, other), i == j, "{i} {j}");
-        }
-    }
-    assert!(rt; ops[0].body() == ops[2].body());
-    assert!(rt; ops[0].body() != ops[3].body());
-    Ok(())
-}
-
-#[test]
 fn finds_operations_by_their_dots(rt: HostRuntime) -> Result<(), Fail> {
     let ops = [
         Op::new(Stamp::new(5, A, 2)?, marker(rt.alloc(), "News")?)?,
@@ -206,8 +182,10 @@ fn numbers_its_refusals(rt: HostRuntime) {
     for (fault, number) in [
         (OpFault::Memory, 0),
         (OpFault::NameNotOlder, 5),
+        (OpFault::ZeroLength, 6),
         (OpFault::BadTags, 7),
         (OpFault::BadTitle, 43),
+        (OpFault::BadGain, 44),
         (OpFault::BadDigest, 50),
     ] {
         assert_eq!(rt; fault.number(), number);

@@ -16,6 +16,12 @@ tagged_pieces old with_tag with_first new first second tag a b c =
     c ∙ ap (λ (l : List ℕ). l ++ second) (b ∙ ap (λ (l : List ℕ). l ++ first) a)
     ∙ append_assoc (old ++ tag ∷ []) first second ∙ append_assoc old (tag ∷ []) (first ++ second)
 
+-- a tag and three pieces
+pub tagged_three : (old with_tag with_first with_second new first second third : List ℕ) (tag : ℕ)
+    → with_tag ≡ old ++ tag ∷ [] → with_first ≡ with_tag ++ first → with_second ≡ with_first ++ second → new ≡ with_second ++ third → new ≡ old ++ (tag ∷ (first ++ (second ++ third)))
+tagged_three old with_tag with_first with_second new first second third tag a b c d =
+    tagged_pieces old with_tag with_first new first (second ++ third) tag a b (d ∙ ap (λ (l : List ℕ). l ++ third) c ∙ append_assoc with_first second third)
+
 -- one more piece of a list's texts
 pub piece_more : {X : Type 0} (f : X → List ℕ) (head : List ℕ) (xs : List X) (i : ℕ) (x : X) (so_far new : List ℕ) → i < length xs → x ≡ get_or xs i x → so_far ≡ head ++ flat_map f (take i xs) → new ≡ so_far ++ f x → new ≡ head ++ flat_map f (take (i + 1) xs)
 piece_more {X = X} f head xs i x so_far new lt is so new_is =

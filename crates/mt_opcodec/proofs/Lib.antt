@@ -1,6 +1,14 @@
 pub mod Fields
 pub mod Stamps
+pub mod Places
 pub mod Tags
+pub mod Acts
+pub mod Tracks
+pub mod Clips
+pub mod Sounds
+pub mod Items
+pub mod Markers
+pub mod Readers
 pub mod Operations
 pub mod Logs
 pub mod Appends

@@ -1,5 +1,5 @@
 -- A stamp that is read is spelled so, and a stamp that is spelled so is read.
-use Rattle.std.proofs.Common.{◌≡◌, ℕ, ◌^◌, ◌<◌, ◌≤◌, true, cond, ltb, List, ◌++◌, Result, Ok, Err, refl, ap, subst, ◌∙◌, append_assoc, arith}
+use Rattle.std.proofs.Common.{◌≡◌, ℕ, ◌^◌, ◌<◌, ◌≤◌, true, ltb, List, ◌++◌, Result, Ok, refl, ap, subst, ◌∙◌, append_assoc, arith}
 use Rattle.std.specs.Int.{w64, w128, to_be_bytes}
 use Rattle.std.proofs.lemmas.Bool.{leb-true, le-leb}
 use Rattle.mt_stamp.specs.Moment.{Moment, IsMoment, greatest}
@@ -19,9 +19,9 @@ in_range n e = (leb-true 1 n (and_first _ _ e), leb-true n greatest (and_second 
 moment_takes : (bytes : List ℕ) (x : Moment × List ℕ) → IsBytes bytes → moment_at bytes ≡ Ok x → Takes bytes (stamp_bytes x.0) x.1 × (x.0.replica.0 < 2 ^ 128)
 unfolding moment_at
 moment_takes bytes x fits e =
-    let a = bind_ok (number_at w64 bytes) (λ clock. number_at w128 clock.1 >>= λ replica. number_at w64 replica.1 >>= λ seq. Ok (record { clock = clock.0; replica = record { 0 = replica.0 }; seq = seq.0 }, seq.1)) x e in
-    let b = bind_ok (number_at w128 a.0.1) (λ replica. number_at w64 replica.1 >>= λ seq. Ok (record { clock = a.0.0; replica = record { 0 = replica.0 }; seq = seq.0 }, seq.1)) x a.2 in
-    let c = bind_ok (number_at w64 b.0.1) (λ seq. Ok (record { clock = a.0.0; replica = record { 0 = b.0.0 }; seq = seq.0 }, seq.1)) x b.2 in
+    let a = bind_ok (number_at w64 bytes) _ x e in
+    let b = bind_ok (number_at w128 a.0.1) _ x a.2 in
+    let c = bind_ok (number_at w64 b.0.1) _ x b.2 in
     let t0 = number_takes w64 (2 ^ 64) wide64 bytes a.0.0 a.0.1 fits a.1 in
     let t1 = number_takes w128 (2 ^ 128) wide128 a.0.1 b.0.0 b.0.1 t0.0.rest_fits b.1 in
     let t2 = number_takes w64 (2 ^ 64) wide64 b.0.1 c.0.0 c.0.1 t1.0.rest_fits c.1 in
@@ -46,7 +46,7 @@ moment_again m rest is =
 pub stamp_takes : (bytes : List ℕ) (x : Moment × List ℕ) → IsBytes bytes → stamp_at bytes ≡ Ok x → Takes bytes (stamp_bytes x.0) x.1 × IsMoment x.0
 unfolding stamp_at
 stamp_takes bytes x fits e =
-    let a = bind_ok (moment_at bytes) (λ stamp. cond (is_stamp stamp.0) (Ok stamp) (Err BadField)) x e in
+    let a = bind_ok (moment_at bytes) _ x e in
     let t = moment_takes bytes a.0 fits a.1 in
     let g = refuses_false (is_stamp a.0.0) BadField a.0 x a.2 in
     let clock = in_range a.0.0.clock (and_first _ _ g.0) in
@@ -65,7 +65,7 @@ stamp_again m rest is =
 pub older_takes : (clock : ℕ) (bytes : List ℕ) (x : Moment × List ℕ) → IsBytes bytes → older_stamp_at clock bytes ≡ Ok x → Takes bytes (stamp_bytes x.0) x.1 × IsMoment x.0 × (ltb x.0.clock clock ≡ true)
 unfolding older_stamp_at
 older_takes clock bytes x fits e =
-    let a = bind_ok (stamp_at bytes) (λ name. cond (ltb name.0.clock clock) (Ok name) (Err BadField)) x e in
+    let a = bind_ok (stamp_at bytes) _ x e in
     let t = stamp_takes bytes a.0 fits a.1 in
     let g = refuses_false (ltb a.0.0.clock clock) BadField a.0 x a.2 in
     subst (λ (y : Moment × List ℕ). Takes bytes (stamp_bytes y.0) y.1 × IsMoment y.0 × (ltb y.0.clock clock ≡ true)) g.1 (t.0, t.1, g.0)

@@ -1,5 +1,5 @@
 -- Tags that are read are spelled so, and tags that are spelled so are read.
-use Rattle.std.proofs.Common.{◌≡◌, ℕ, zero, suc, ◌+◌, ◌-◌, ◌^◌, ◌<◌, ◌≤◌, Bool, true, false, cond, ltb, leb, eqb, ◌&&◌, List, [], ◌∷◌, ◌++◌, Option, Some, None, Result, Ok, Err, length, refl, sym, ap, subst, ◌∙◌, append_assoc, arith}
+use Rattle.std.proofs.Common.{◌≡◌, ℕ, zero, suc, ◌+◌, ◌-◌, ◌^◌, ◌<◌, ◌≤◌, Bool, true, false, ltb, leb, eqb, ◌&&◌, List, [], ◌∷◌, ◌++◌, Option, Some, None, Result, Ok, Err, length, refl, sym, ap, subst, ◌∙◌, append_assoc, arith}
 use Rattle.std.specs.Int.{w16, to_be_bytes}
 use Rattle.std.specs.List.{flat_map, list_all, AllByRecursion}
 use Rattle.std.proofs.lemmas.Bool.{le-leb, leb-true, eqb-false, ne_eqb}
@@ -25,7 +25,7 @@ tag_takes : (clock : ℕ) (last : Option Moment) (bytes : List ℕ) (x : Moment 
     → Takes bytes (stamp_bytes x.0) x.1 × IsMoment x.0 × (ltb x.0.clock clock ≡ true) × (is_after last x.0 ≡ true)
 unfolding tag_at
 tag_takes clock last bytes x fits e =
-    let a = bind_ok (older_stamp_at clock bytes) (λ tag. cond (is_after last tag.0) (Ok tag) (Err BadField)) x e in
+    let a = bind_ok (older_stamp_at clock bytes) _ x e in
     let t = older_takes clock bytes a.0 fits a.1 in
     let g = refuses_false (is_after last a.0.0) BadField a.0 x a.2 in
     subst (λ (y : Moment × List ℕ). Takes bytes (stamp_bytes y.0) y.1 × IsMoment y.0 × (ltb y.0.clock clock ≡ true) × (is_after last y.0 ≡ true)) g.1 (t.0, t.1, t.2, g.0)
@@ -50,8 +50,8 @@ stamps_takes zero clock last bytes x fits e =
     let none : List Moment × List ℕ = ([], bytes) in
     subst (Stamps zero clock last bytes) (ok_is none x e) (record { front = record { parts = refl; rest_fits = fits }; len = refl; valid = tt; older = refl; rise = refl })
 stamps_takes (suc count) clock last bytes x fits e =
-    let a = bind_ok (tag_at clock last bytes) (λ tag. stamps_at count clock (Some tag.0) tag.1 >>= λ tags. Ok (tag.0 ∷ tags.0, tags.1)) x e in
-    let b = bind_ok (stamps_at count clock (Some a.0.0) a.0.1) (λ tags. Ok (a.0.0 ∷ tags.0, tags.1)) x a.2 in
+    let a = bind_ok (tag_at clock last bytes) _ x e in
+    let b = bind_ok (stamps_at count clock (Some a.0.0) a.0.1) _ x a.2 in
     let t = tag_takes clock last bytes a.0 fits a.1 in
     let s = stamps_takes count clock (Some a.0.0) a.0.1 b.0 t.0.rest_fits b.1 in
     let both = Takes-then bytes (stamp_bytes a.0.0) a.0.1 (flat_map stamp_bytes b.0.0) b.0.1 t.0 s.front in
@@ -89,7 +89,7 @@ pub tags_takes : (clock : ℕ) (bytes : List ℕ) (x : List Moment × List ℕ) 
     → Takes bytes (tags_bytes x.0) x.1 × AllByRecursion IsMoment x.0 × (are_older clock x.0 ≡ true) × (are_tags x.0 ≡ true)
 unfolding tags_at
 tags_takes clock bytes x fits e =
-    let a = bind_ok (number_at w16 bytes) (λ count. cond (eqb count.0 0) (Err BadField) (stamps_at count.0 clock None count.1)) x e in
+    let a = bind_ok (number_at w16 bytes) _ x e in
     let g = refuses_true_then (eqb a.0.0 0) BadField (stamps_at a.0.0 clock None a.0.1) x a.2 in
     let t = number_takes w16 (2 ^ 16) wide16 bytes a.0.0 a.0.1 fits a.1 in
     let s = stamps_takes a.0.0 clock None a.0.1 x t.0.rest_fits g.1 in

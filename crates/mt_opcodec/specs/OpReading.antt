@@ -1,13 +1,15 @@
 -- Reading an operation from left to right, field by field, with the first fault that is met (profile).
-use Rattle.std.specs.Prelude.{◌≡◌, ℕ, zero, suc, Bool, List, [], ◌∷◌, Option, Some, None, length, take, drop, Result, Ok, Err, nat_lt, nat_le, ◌==◌, ◌&&◌, if◌then◌else◌}
+use Rattle.std.specs.Prelude.{◌≡◌, ℕ, zero, suc, Bool, true, false, List, [], ◌∷◌, Option, Some, None, length, take, drop, Result, Ok, Err, nat_lt, nat_le, ◌==◌, ◌&&◌, if◌then◌else◌}
 use Rattle.std.specs.Int.{Width, w16, w32, w64, w128, byte_len, from_be_bytes}
 use Rattle.mt_stamp.specs.Moment.{Moment, greatest}
 use Rattle.mt_op.specs.Title.{is_title}
 use Rattle.mt_op.specs.Tags.{is_after}
-use Rattle.mt_op.specs.Operation.{Act, Remove, Restore, AddMarker, MoveMarker, Retitle, Operation}
+use Rattle.mt_op.specs.Gain.{Ratio}
+use Rattle.mt_op.specs.declared.digest.Digest.{Digest}
+use Rattle.mt_op.specs.Operation.{Act, AddTrack, MoveTrack, AddClip, MoveClip, TrimClip, SetGain, SetMute, Remove, Restore, AddMarker, MoveMarker, Retitle, Operation}
 use Rattle.mt_opcodec.specs.declared.fault.ReadFault.{ReadFault}
 use Rattle.mt_opcodec.specs.declared.fault.ReadFault.TheVariants.{Truncated, BadTag, BadField, Memory}
-use Rattle.mt_opcodec.specs.OpText.{remove_tag, restore_tag, add_marker_tag, move_marker_tag, retitle_tag}
+use Rattle.mt_opcodec.specs.OpText.{add_track_tag, move_track_tag, add_clip_tag, move_clip_tag, trim_clip_tag, set_gain_tag, set_mute_tag, remove_tag, restore_tag, add_marker_tag, move_marker_tag, retitle_tag}
 
 -- a value and the bytes after it, or the first fault
 abbrev pub Reads : Type 0 → Type 0
@@ -21,6 +23,20 @@ abbrev pub ◌>>=◌ : {A B : Type 0} → Result A ReadFault → (A → Result B
 -- a number of fixed width
 abbrev pub number_at : Width → List ℕ → Reads ℕ
 number_at w bytes = if nat_lt (length bytes) (byte_len w) then Err Truncated else Ok (from_be_bytes w (take (byte_len w) bytes), drop (byte_len w) bytes)
+
+-- a number of fixed width that is not 0
+unfoldable pub positive_at : Width → List ℕ → Reads ℕ
+positive_at w bytes = do
+  n ← number_at w bytes
+  if n.0 == 0 then Err BadField else Ok n
+
+-- one byte, 0 or 1
+unfoldable pub flag_at : List ℕ → Reads Bool
+flag_at [] = Err Truncated
+flag_at (byte ∷ rest) =
+    if byte == 0 then Ok (false, rest)
+    else if byte == 1 then Ok (true, rest)
+    else Err BadField
 
 -- the three numbers of a stamp, in range or not
 unfoldable pub moment_at : List ℕ → Reads Moment
@@ -49,6 +65,19 @@ older_stamp_at clock bytes = do
   name ← stamp_at bytes
   if nat_lt name.0.clock clock then Ok name else Err BadField
 
+-- the place that a track is put after, where a flag says that there is one
+unfoldable pub after_at : ℕ → Bool → List ℕ → Reads (Option Moment)
+after_at clock false bytes = Ok (None, bytes)
+after_at clock true bytes = do
+  after ← older_stamp_at clock bytes
+  Ok (Some after.0, after.1)
+
+-- a flag, and the place where it is 1
+unfoldable pub place_at : ℕ → List ℕ → Reads (Option Moment)
+place_at clock bytes = do
+  there ← flag_at bytes
+  after_at clock there.0 there.1
+
 abbrev pub title_of_bytes : List ℕ → Result (List ℕ) ReadFault
 title_of_bytes bytes = if is_title bytes then Ok bytes else Err BadField
 
@@ -58,6 +87,24 @@ title_at [] = Err Truncated
 title_at (n ∷ rest) =
     if nat_lt (length rest) n then Err Truncated
     else (title_of_bytes (take n rest) >>= λ title. Ok (title, drop n rest))
+
+-- thirty-two bytes
+unfoldable pub digest_at : List ℕ → Reads Digest
+digest_at bytes = if nat_lt (length bytes) 32 then Err Truncated else Ok (record { 0 = take 32 bytes }, drop 32 bytes)
+
+-- what a clip plays of its recording: from which frame on, and then how many
+unfoldable pub trim_at : List ℕ → Reads (ℕ × ℕ)
+trim_at bytes = do
+  offset ← number_at w32 bytes
+  len ← positive_at w32 offset.1
+  Ok ((offset.0, len.0), len.1)
+
+-- what is multiplied by, and then what is divided by
+unfoldable pub gain_at : List ℕ → Reads Ratio
+gain_at bytes = do
+  num ← number_at w16 bytes
+  den ← positive_at w16 num.1
+  Ok (record { num = num.0; den = den.0 }, den.1)
 
 -- a tag of a Remove, after the one before
 unfoldable pub tag_at : ℕ → Option Moment → List ℕ → Reads Moment
@@ -78,6 +125,53 @@ unfoldable pub tags_at : ℕ → List ℕ → Reads (List Moment)
 tags_at clock bytes = do
   count ← number_at w16 bytes
   if count.0 == 0 then Err BadField else stamps_at count.0 clock None count.1
+
+-- ---- the fields of each act, where the operation has this clock
+
+unfoldable pub add_track_at : ℕ → List ℕ → Reads Act
+add_track_at clock bytes = do
+  after ← place_at clock bytes
+  title ← title_at after.1
+  Ok (AddTrack after.0 title.0, title.1)
+
+unfoldable pub move_track_at : ℕ → List ℕ → Reads Act
+move_track_at clock bytes = do
+  track ← older_stamp_at clock bytes
+  after ← place_at clock track.1
+  Ok (MoveTrack track.0 after.0, after.1)
+
+unfoldable pub add_clip_at : ℕ → List ℕ → Reads Act
+add_clip_at clock bytes = do
+  source ← digest_at bytes
+  track ← older_stamp_at clock source.1
+  at ← number_at w32 track.1
+  trim ← trim_at at.1
+  Ok (AddClip source.0 track.0 at.0 trim.0.0 trim.0.1, trim.1)
+
+unfoldable pub move_clip_at : ℕ → List ℕ → Reads Act
+move_clip_at clock bytes = do
+  clip ← older_stamp_at clock bytes
+  track ← older_stamp_at clock clip.1
+  at ← number_at w32 track.1
+  Ok (MoveClip clip.0 track.0 at.0, at.1)
+
+unfoldable pub trim_clip_at : ℕ → List ℕ → Reads Act
+trim_clip_at clock bytes = do
+  clip ← older_stamp_at clock bytes
+  trim ← trim_at clip.1
+  Ok (TrimClip clip.0 trim.0.0 trim.0.1, trim.1)
+
+unfoldable pub set_gain_at : ℕ → List ℕ → Reads Act
+set_gain_at clock bytes = do
+  item ← older_stamp_at clock bytes
+  gain ← gain_at item.1
+  Ok (SetGain item.0 gain.0, gain.1)
+
+unfoldable pub set_mute_at : ℕ → List ℕ → Reads Act
+set_mute_at clock bytes = do
+  item ← older_stamp_at clock bytes
+  on ← flag_at item.1
+  Ok (SetMute item.0 on.0, on.1)
 
 unfoldable pub remove_at : ℕ → List ℕ → Reads Act
 remove_at clock bytes = do
@@ -108,16 +202,34 @@ retitle_at clock bytes = do
   title ← title_at item.1
   Ok (Retitle item.0 title.0, title.1)
 
+-- a tag, and what reads the fields that it calls for, given the operation's clock
+abbrev pub Reader : Type 0
+Reader = ℕ × (ℕ → List ℕ → Reads Act)
+
+abbrev pub readers : List Reader
+readers =
+    (add_track_tag, add_track_at) ∷
+    (move_track_tag, move_track_at) ∷
+    (add_clip_tag, add_clip_at) ∷
+    (move_clip_tag, move_clip_at) ∷
+    (trim_clip_tag, trim_clip_at) ∷
+    (set_gain_tag, set_gain_at) ∷
+    (set_mute_tag, set_mute_at) ∷
+    (remove_tag, remove_at) ∷
+    (restore_tag, restore_at) ∷
+    (add_marker_tag, λ clock. add_marker_at) ∷
+    (move_marker_tag, move_marker_at) ∷
+    (retitle_tag, retitle_at) ∷ []
+
+-- the fields that the first of these readers with this tag reads
+abbrev pub fields_at : List Reader → ℕ → ℕ → List ℕ → Reads Act
+fields_at [] tag clock bytes = Err BadTag
+fields_at (reader ∷ others) tag clock bytes = if tag == reader.0 then reader.1 clock bytes else fields_at others tag clock bytes
+
 -- a tag, and the fields that it calls for
 unfoldable pub act_at : ℕ → List ℕ → Reads Act
 act_at clock [] = Err Truncated
-act_at clock (tag ∷ rest) =
-    if tag == remove_tag then remove_at clock rest
-    else if tag == restore_tag then restore_at clock rest
-    else if tag == add_marker_tag then add_marker_at rest
-    else if tag == move_marker_tag then move_marker_at clock rest
-    else if tag == retitle_tag then retitle_at clock rest
-    else Err BadTag
+act_at clock (tag ∷ rest) = fields_at readers tag clock rest
 
 -- what stands after a stamp, with that stamp
 abbrev pub op_after : Moment → List ℕ → Reads Operation

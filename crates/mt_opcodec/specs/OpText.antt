@@ -1,23 +1,67 @@
 -- The one text of each operation (profile). Numbers have their greatest byte first.
-use Rattle.std.specs.Prelude.{ℕ, List, ◌∷◌, ◌++◌, length}
+use Rattle.std.specs.Prelude.{ℕ, Bool, true, false, List, [], ◌∷◌, ◌++◌, Option, Some, None, length}
 use Rattle.std.specs.Int.{w16, w32, w64, w128, to_be_bytes}
 use Rattle.std.specs.List.{flat_map}
 use Rattle.mt_stamp.specs.Moment.{Moment}
-use Rattle.mt_op.specs.Operation.{Act, Remove, Restore, AddMarker, MoveMarker, Retitle, Operation}
+use Rattle.mt_op.specs.Gain.{Ratio}
+use Rattle.mt_op.specs.Operation.{Act, AddTrack, MoveTrack, AddClip, MoveClip, TrimClip, SetGain, SetMute, Remove, Restore, AddMarker, MoveMarker, Retitle, Operation}
 
 -- clock in 8 bytes, replica in 16, sequence number in 8
 abbrev pub stamp_bytes : Moment → List ℕ
 stamp_bytes m = to_be_bytes w64 m.clock ++ (to_be_bytes w128 m.replica.0 ++ to_be_bytes w64 m.seq)
 
+-- one byte, 0 or 1
+abbrev pub flag_bytes : Bool → List ℕ
+flag_bytes false = 0 ∷ []
+flag_bytes true = 1 ∷ []
+
+-- the place that a track is put after: 0 for the head, or 1 and a stamp
+abbrev pub place_bytes : Option Moment → List ℕ
+place_bytes None = 0 ∷ []
+place_bytes (Some after) = 1 ∷ stamp_bytes after
+
 -- one byte of length, and that many bytes
 abbrev pub title_bytes : List ℕ → List ℕ
 title_bytes title = length title ∷ title
+
+-- a frame of the session or of a recording, or a number of frames
+abbrev pub frame_bytes : ℕ → List ℕ
+frame_bytes n = to_be_bytes w32 n
+
+-- the first frame of the recording that a clip plays, and how many it plays
+abbrev pub trim_bytes : (offset len : ℕ) → List ℕ
+trim_bytes offset len = frame_bytes offset ++ frame_bytes len
+
+-- two numbers of two bytes
+abbrev pub gain_bytes : Ratio → List ℕ
+gain_bytes gain = to_be_bytes w16 gain.num ++ to_be_bytes w16 gain.den
 
 -- two bytes of count, and that many stamps
 abbrev pub tags_bytes : List Moment → List ℕ
 tags_bytes tags = to_be_bytes w16 (length tags) ++ flat_map stamp_bytes tags
 
 -- the tag of each act
+abbrev pub add_track_tag : ℕ
+add_track_tag = 1
+
+abbrev pub move_track_tag : ℕ
+move_track_tag = 2
+
+abbrev pub add_clip_tag : ℕ
+add_clip_tag = 3
+
+abbrev pub move_clip_tag : ℕ
+move_clip_tag = 4
+
+abbrev pub trim_clip_tag : ℕ
+trim_clip_tag = 5
+
+abbrev pub set_gain_tag : ℕ
+set_gain_tag = 6
+
+abbrev pub set_mute_tag : ℕ
+set_mute_tag = 7
+
 abbrev pub remove_tag : ℕ
 remove_tag = 8
 
@@ -33,12 +77,19 @@ move_marker_tag = 11
 abbrev pub retitle_tag : ℕ
 retitle_tag = 12
 
--- the tag, and the fields in their order
+-- the tag, and the fields in their order; a digest stands as its bytes
 abbrev pub act_bytes : Act → List ℕ
+act_bytes (AddTrack after title) = add_track_tag ∷ (place_bytes after ++ title_bytes title)
+act_bytes (MoveTrack track after) = move_track_tag ∷ (stamp_bytes track ++ place_bytes after)
+act_bytes (AddClip source track at offset len) = add_clip_tag ∷ (source.0 ++ (stamp_bytes track ++ (frame_bytes at ++ trim_bytes offset len)))
+act_bytes (MoveClip clip track at) = move_clip_tag ∷ (stamp_bytes clip ++ (stamp_bytes track ++ frame_bytes at))
+act_bytes (TrimClip clip offset len) = trim_clip_tag ∷ (stamp_bytes clip ++ trim_bytes offset len)
+act_bytes (SetGain item gain) = set_gain_tag ∷ (stamp_bytes item ++ gain_bytes gain)
+act_bytes (SetMute item on) = set_mute_tag ∷ (stamp_bytes item ++ flag_bytes on)
 act_bytes (Remove item tags) = remove_tag ∷ (stamp_bytes item ++ tags_bytes tags)
 act_bytes (Restore item) = restore_tag ∷ stamp_bytes item
-act_bytes (AddMarker at title) = add_marker_tag ∷ (to_be_bytes w32 at ++ title_bytes title)
-act_bytes (MoveMarker marker at) = move_marker_tag ∷ (stamp_bytes marker ++ to_be_bytes w32 at)
+act_bytes (AddMarker at title) = add_marker_tag ∷ (frame_bytes at ++ title_bytes title)
+act_bytes (MoveMarker marker at) = move_marker_tag ∷ (stamp_bytes marker ++ frame_bytes at)
 act_bytes (Retitle item title) = retitle_tag ∷ (stamp_bytes item ++ title_bytes title)
 
 abbrev pub op_text : Operation → List ℕ

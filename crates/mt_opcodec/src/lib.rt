@@ -1,13 +1,22 @@
 //! Operations and logs as bytes, each with one text, and latches round readers and writers.
 //!
 //! Numbers have their greatest byte first. A stamp is its clock in 8 bytes, its replica in 16 and its
-//! sequence number in 8. A title is its length in one byte, and that many bytes. The text of an operation
-//! is its stamp, its tag byte, and what that calls for:
+//! sequence number in 8. A title is its length in one byte, and that many bytes. A flag is one byte, 0 or 1. A place
+//! is the flag 0 for the head of the tracks, or the flag 1 and the stamp that it comes after. A digest is its 32 bytes.
+//! A frame, an offset and a length are 4 bytes each. The text of an operation is its stamp, its tag byte, and what that
+//! calls for:
 //!
+//! - 1, an AddTrack: the place, and the title;
+//! - 2, a MoveTrack: the track's stamp, and the place;
+//! - 3, an AddClip: the digest of its recording, the track's stamp, the frame, the offset, and the length;
+//! - 4, a MoveClip: the clip's stamp, the track's, and the frame;
+//! - 5, a TrimClip: the clip's stamp, the offset, and the length;
+//! - 6, a SetGain: the item's stamp, and what is multiplied by and divided by, in 2 bytes each;
+//! - 7, a SetMute: the item's stamp, and a flag, 1 for muted;
 //! - 8, a Remove: the item's stamp, the number of tags in 2 bytes, and the stamp of each, rising;
 //! - 9, a Restore: the item's stamp;
-//! - 10, an AddMarker: the frame in 4 bytes, and the title;
-//! - 11, a MoveMarker: the marker's stamp, and the frame in 4 bytes;
+//! - 10, an AddMarker: the frame, and the title;
+//! - 11, a MoveMarker: the marker's stamp, and the frame;
 //! - 12, a Retitle: the item's stamp, and the title.
 //!
 //! The text of a log is `RMTS`, the byte 1, the number of operations in 8 bytes, their texts by rising
@@ -15,6 +24,7 @@
 #![tactic(auto)]
 
 mod fault;
+mod field_reader;
 mod latch;
 pub mod laws;
 mod log;

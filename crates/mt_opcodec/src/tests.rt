@@ -5,6 +5,7 @@ mod logs;
 mod operations;
 mod refused_growth;
 mod tags;
+mod tracks_and_clips;
 
 use crate::laws::{log_texts, op_texts, unions};
 use crate::{LogFault, ReadFault};

@@ -11,17 +11,18 @@ use Rattle.std.specs.declared.cmp.Ordering.{Ordering}
 use Rattle.std.specs.declared.cmp.Ordering.TheVariants.{Less, Equal, Greater}
 use Rattle.mt_stamp.specs.Moment.{Moment, stamp_cmp}
 use Rattle.mt_stamp.proofs.Order.{stamp_cmp_total, stamp_cmp-IsAntisymmetric}
-use Rattle.mt_op.specs.Operation.{Act, Remove, Restore, AddMarker, MoveMarker, Retitle, Operation}
-use Rattle.mt_op.specs.Needs.{stamp_eq, adds_item, adds_marker, is_tag_of}
+use Rattle.mt_op.specs.Operation.{Act, AddTrack, AddClip, Remove, Restore, AddMarker, Operation}
+use Rattle.mt_op.specs.Needs.{stamp_eq, adds_item, is_tag_of}
 use Rattle.mt_op.specs.Presence.{is_listed, tags_removed, tags, removed_tags, is_any, is_present}
 use Rattle.mt_op.specs.Dots.{dots_rise}
-use Rattle.mt_op.proofs.Needs.{stamp_eq-true}
+use Rattle.mt_op.proofs.Needs.{stamp_eq-true, and_first, and_second}
 use Rattle.mt_op.proofs.TagLists.{drop_here}
 use Rattle.mt_cells.specs.Marks.{Marks, is_live, IsPresent}
 use Rattle.mt_sessionview.specs.Tables.{IsNowhere, StandsAt, restoring_tags, restored_tags, marked_item, marks_from, AreMarkedBy, AreMarks, TellsMarks}
 use Rattle.mt_sessionview.proofs.Found.{unmet}
+use Rattle.mt_sessionview.proofs.Rising.{both_true}
 use Rattle.mt_sessionview.proofs.Items.{stamp_eq_same}
-use Rattle.mt_sessionview.proofs.Tables.{tells_same, tells_set}
+use Rattle.mt_sessionview.proofs.Rows.{tells_same, tells_set}
 
 -- ---- stamps in sets and lists
 
@@ -131,20 +132,18 @@ marked_none item o rest noted other marks =
     nothing : (act : Act) → ((m : Moment) → Some m ≡ marked_item act → m ≡ item → ⊥) → (restoring_tags item o.stamp act ≡ []) × (tags_removed item act ≡ [])
     nothing (Remove i listed) other = (refl, rw (unmet (stamp_eq i item) (λ same. other i refl (stamp_eq-true i item same))) refl)
     nothing (Restore i) other = (rw (unmet (stamp_eq i item) (λ same. other i refl (stamp_eq-true i item same))) refl, refl)
-    nothing (AddMarker at title) other = (refl, refl)
-    nothing (MoveMarker marker at) other = (refl, refl)
-    nothing (Retitle i title) other = (refl, refl)
+    nothing _ other = (refl, refl)
 
 -- ---- the table
 
 pub marks_nowhere : (ops : List Operation) (o : Operation) (rest : List Operation) (table : List (Option Marks)) → ((m : Moment) → Some m ≡ marked_item o.act → IsNowhere ops m) → TellsMarks ops rest table → TellsMarks ops (o ∷ rest) table
-marks_nowhere ops o rest table nowhere = tells_same AreMarks None ops rest o table (λ p x e at marks. marked_none x.stamp o rest e (λ m is same. nowhere m is p x at same) marks)
+marks_nowhere ops o rest table nowhere = tells_same AreMarks None ops rest (o ∷ rest) table (λ p x e at marks. marked_none x.stamp o rest e (λ m is same. nowhere m is p x at same) marks)
 
 pub marks_here : (ops : List Operation) → dots_rise ops ≡ true → (o : Operation) (item : Moment) (rest : List Operation) (table : List (Option Marks)) (j : ℕ) (after : Marks) → length table ≡ length ops → Some item ≡ marked_item o.act
     → StandsAt ops item j → AreMarkedBy item o (marks_from item (slice_index_or table j None)) after → TellsMarks ops rest table → TellsMarks ops (o ∷ rest) (slice_set table j (Some after))
 marks_here ops rise o item rest table j after count is stands by =
     let P : Moment → Type 0 = λ m. AreMarkedBy m o (marks_from m (slice_index_or table j None)) after in
-    tells_set AreMarks None ops rest o table j stands.op (Some after) rise count stands.at
+    tells_set AreMarks None ops rest (o ∷ rest) table j stands.op (Some after) rise count stands.at
     (λ x e other marks. marked_none x.stamp o rest e (λ m named same. other (sym stands.is ∙ one item m (is ∙ sym named) ∙ same)) marks)
     (λ marks. marked_more stands.op.stamp o rest (slice_index_or table j None) after (subst P stands.is by) marks)
   where
@@ -164,23 +163,28 @@ added_tag false true h = refl
 added_tag false false true = refl
 added_tag false false false = refl
 
-tags_more : (own item : Moment) (act : Act) (t : Moment) (tags restored : List Moment) (there : Bool) → is_listed tags t ≡ (is_listed restored t || (there && stamp_eq t item))
-    → is_listed (cond (is_tag_of item own act) (own ∷ tags) tags) t ≡ (is_listed (restoring_tags item own act ++ restored) t || (((adds_item act && stamp_eq own item) || there) && stamp_eq t item))
-tags_more own item (Remove i listed) t tags restored there rest = rest
-tags_more own item (MoveMarker marker at) t tags restored there rest = rest
-tags_more own item (Retitle i title) t tags restored there rest = rest
-tags_more own item (Restore i) t tags restored there rest = by (stamp_eq i item)
-  where
-    by : (b : Bool) → is_listed (cond b (own ∷ tags) tags) t ≡ (is_listed (cond b (own ∷ []) [] ++ restored) t || (there && stamp_eq t item))
-    by true = ap (λ (b : Bool). stamp_eq t own || b) rest ∙ sym (or_assoc (stamp_eq t own) (is_listed restored t) (there && stamp_eq t item))
-    by false = rest
-tags_more own item (AddMarker at title) t tags restored there rest = by (stamp_eq own item) refl
+-- what adds an item gives it its own stamp as a tag
+own_tag : (own item t : Moment) (tags restored : List Moment) (there : Bool) → is_listed tags t ≡ (is_listed restored t || (there && stamp_eq t item))
+    → is_listed (cond (stamp_eq own item) (own ∷ tags) tags) t ≡ (is_listed restored t || ((stamp_eq own item || there) && stamp_eq t item))
+own_tag own item t tags restored there rest = by (stamp_eq own item) refl
   where
     by : (b : Bool) → stamp_eq own item ≡ b → is_listed (cond b (own ∷ tags) tags) t ≡ (is_listed restored t || ((b || there) && stamp_eq t item))
     by true same =
         ap (λ (m : Moment). stamp_eq t m || is_listed tags t) (stamp_eq-true own item same) ∙ ap (λ (b : Bool). stamp_eq t item || b) rest
         ∙ added_tag (stamp_eq t item) (is_listed restored t) there
     by false other = rest
+
+tags_more : (own item : Moment) (act : Act) (t : Moment) (tags restored : List Moment) (there : Bool) → is_listed tags t ≡ (is_listed restored t || (there && stamp_eq t item))
+    → is_listed (cond (is_tag_of item own act) (own ∷ tags) tags) t ≡ (is_listed (restoring_tags item own act ++ restored) t || (((adds_item act && stamp_eq own item) || there) && stamp_eq t item))
+tags_more own item (Restore i) t tags restored there rest = by (stamp_eq i item)
+  where
+    by : (b : Bool) → is_listed (cond b (own ∷ tags) tags) t ≡ (is_listed (cond b (own ∷ []) [] ++ restored) t || (there && stamp_eq t item))
+    by true = ap (λ (b : Bool). stamp_eq t own || b) rest ∙ sym (or_assoc (stamp_eq t own) (is_listed restored t) (there && stamp_eq t item))
+    by false = rest
+tags_more own item (AddTrack after title) t tags restored there rest = own_tag own item t tags restored there rest
+tags_more own item (AddClip source track at offset len) t tags restored there rest = own_tag own item t tags restored there rest
+tags_more own item (AddMarker at title) t tags restored there rest = own_tag own item t tags restored there rest
+tags_more own item _ t tags restored there rest = rest
 
 -- the tags of an item are those that restore it, and its own stamp where it was added
 tags_are : (item : Moment) (ops : List Operation) (t : Moment) → is_listed (tags item ops) t ≡ (is_listed (restored_tags item ops) t || (own_there ops item && stamp_eq t item))
@@ -193,25 +197,18 @@ tags_are item (o ∷ ops) t =
     mapped true = refl
     mapped false = refl
 
-adds_item-marker : (act : Act) → adds_marker act ≡ true → adds_item act ≡ true
-adds_item-marker (Remove i listed) adds = cc adds
-adds_item-marker (Restore i) adds = cc adds
-adds_item-marker (AddMarker at title) adds = refl
-adds_item-marker (MoveMarker marker at) adds = cc adds
-adds_item-marker (Retitle i title) adds = cc adds
-
 either_true : (a b : Bool) → b ≡ true → (a || b) ≡ true
 either_true true b h = refl
 either_true false b h = h
 
--- a ready operation that adds a marker is there
-pub own_is_there : (p : Operation → Bool) (ops : List Operation) (place : ℕ) (o : Operation) → slice_get ops place ≡ Some o → p o ≡ true → adds_marker o.act ≡ true → own_there (filter p ops) o.stamp ≡ true
+-- a ready operation that adds an item is there
+pub own_is_there : (p : Operation → Bool) (ops : List Operation) (place : ℕ) (o : Operation) → slice_get ops place ≡ Some o → p o ≡ true → adds_item o.act ≡ true → own_there (filter p ops) o.stamp ≡ true
 unfolding own_there
 own_is_there p [] place o at passes adds = absurd (none-some o at)
 own_is_there p (x ∷ ops) zero o at passes adds =
     let same : x ≡ o = same_Some x o at in
     let P : Operation → Type 0 = λ y. list_any (λ (z : Operation). adds_item z.act && stamp_eq z.stamp o.stamp) (cond (p y) (y ∷ filter p ops) (filter p ops)) ≡ true in
-    subst P (sym same) (rw (passes, adds_item-marker o.act adds, stamp_eq_same o.stamp o.stamp refl) refl)
+    subst P (sym same) (rw (passes, adds, stamp_eq_same o.stamp o.stamp refl) refl)
 own_is_there p (x ∷ ops) (suc place) o at passes adds = kept (p x) (own_is_there p ops place o at passes adds)
   where
     kept : (b : Bool) → list_any (λ (z : Operation). adds_item z.act && stamp_eq z.stamp o.stamp) (filter p ops) ≡ true
@@ -243,18 +240,6 @@ one_found p (x ∷ xs) t listed passes = by (stamp_eq t x) refl listed (one_foun
     by true same h rest = rw (ap p (sym (stamp_eq-true t x same)) ∙ passes) refl
     by false other h rest = either_true (p x) (list_any p xs) (rest h passes)
 
-first_true : (a b : Bool) → (a && b) ≡ true → a ≡ true
-first_true true b h = refl
-first_true false b h = cc h
-
-second_true : (a b : Bool) → (a && b) ≡ true → b ≡ true
-second_true true b h = h
-second_true false b h = cc h
-
-both_true : (a b : Bool) → a ≡ true → b ≡ true → (a && b) ≡ true
-both_true true b h k = k
-both_true false b h k = h
-
 -- the marks that these operations leave tell whether the item is present
 pub present_is : (item : Moment) (ops : List Operation) (noted : Option Marks) (r : Bool) → AreMarks item ops noted → own_there ops item ≡ true → IsTrue r ↔ IsPresent (marks_from item noted) → r ≡ is_present ops item
 present_is item ops noted r marks there decides = by r (is_present ops item) refl refl
@@ -274,7 +259,7 @@ present_is item ops noted r marks there decides = by r (is_present ops item) ref
     by true false is present =
         let found = decides.0 is in
         let alive = sym (live found.0) ∙ found.1 in
-        sym (one_found (λ t. not (is_listed (removed_tags item ops) t)) (tags item ops) found.0 (first_true _ _ alive) (second_true _ _ alive)) ∙ sym any ∙ present
+        sym (one_found (λ t. not (is_listed (removed_tags item ops) t)) (tags item ops) found.0 (and_first _ _ alive) (and_second _ _ alive)) ∙ sym any ∙ present
     by false true is present =
         let found = found_one (λ t. not (is_listed (removed_tags item ops) t)) (tags item ops) (sym any ∙ present) in
         sym is ∙ decides.1 (found.0, live found.0 ∙ both_true _ _ found.1 found.2)

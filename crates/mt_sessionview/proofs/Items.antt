@@ -10,7 +10,7 @@ use Rattle.mt_op.specs.Dots.{dots_rise, IsAt}
 use Rattle.mt_op.proofs.Needs.{stamp_eq-true}
 use Rattle.mt_sessionview.specs.Tables.{IsNowhere, StandsAt}
 use Rattle.mt_sessionview.proofs.Found.{one_place}
-use Rattle.mt_sessionview.proofs.Tables.{at_read}
+use Rattle.mt_sessionview.proofs.Rows.{at_read}
 
 three_true : (p q r : Bool) → p ≡ true → q ≡ true → r ≡ true → (p && (q && r)) ≡ true
 three_true true true true a b c = refl

@@ -10,14 +10,14 @@ use Rattle.mt_stamp.specs.Moment.{Moment, stamp_cmp}
 use Rattle.mt_op.specs.Operation.{Act, Operation}
 use Rattle.mt_op.specs.Needs.{stamp_eq}
 use Rattle.mt_op.specs.Dots.{dots_rise}
-use Rattle.mt_op.specs.Writes.{Write, Written, title_written, position_written, kept, written_by, later, latest, last_write}
+use Rattle.mt_op.specs.Writes.{Write, Written, title_written, gain_written, mute_written, track_place_written, clip_place_written, trim_written, position_written, kept, written_by, later, latest, last_write}
 use Rattle.mt_op.proofs.Needs.{stamp_eq-true}
 use Rattle.mt_sessionview.specs.declared.field.Field.{Field}
-use Rattle.mt_sessionview.specs.declared.field.Field.TheVariants.{Title, Position}
-use Rattle.mt_sessionview.specs.Tables.{Tells, TellsWriters, written_item, StandsAt, IsNowhere, IsWriter, IsLastWriter, IsLastAmong}
+use Rattle.mt_sessionview.specs.declared.field.Field.TheVariants.{Title, Gain, Mute, TrackPlace, ClipPlace, Trim, Position}
+use Rattle.mt_sessionview.specs.Tables.{Tells, TellsWriters, item_written, written_item, StandsAt, IsNowhere, IsWriter, IsLastWriter, IsLastAmong}
 use Rattle.mt_sessionview.proofs.Found.{unmet}
 use Rattle.mt_sessionview.proofs.Waiting.{element}
-use Rattle.mt_sessionview.proofs.Tables.{tells_start, tells_same, tells_set}
+use Rattle.mt_sessionview.proofs.Rows.{tells_start, tells_same, tells_set}
 use Rattle.mt_sessionview.proofs.Items.{stamp_eq_same}
 
 -- the later of the writer that is noted, where one is, and the operation at a place
@@ -55,14 +55,14 @@ module _ {X : Type 0} (field : Moment → Act → Option (Write X)) where
 
     -- a further operation that writes the field of no item
     pub tells_unwritten : (o : Operation) (rest : List Operation) (table : List (Option ℕ)) → field o.stamp o.act ≡ None → Tells (IsLastAmong field ops) None ops rest table → Tells (IsLastAmong field ops) None ops (o ∷ rest) table
-    tells_unwritten o rest table none = tells_same (IsLastAmong field ops) None ops rest o table (λ p x e at last.
+    tells_unwritten o rest table none = tells_same (IsLastAmong field ops) None ops rest (o ∷ rest) table (λ p x e at last.
         let P : Option (Written X) → Type 0 = λ l. IsLastWriter field ops x.stamp l e in
         subst P (sym (skipped o x.stamp rest (ap (kept field x.stamp o.stamp) none))) last)
 
     -- one that writes the field of an item that is nowhere
     pub tells_nowhere : (o : Operation) (w : Write X) (rest : List Operation) (table : List (Option ℕ)) → field o.stamp o.act ≡ Some w → IsNowhere ops w.item → Tells (IsLastAmong field ops) None ops rest table
         → Tells (IsLastAmong field ops) None ops (o ∷ rest) table
-    tells_nowhere o w rest table is nowhere = tells_same (IsLastAmong field ops) None ops rest o table (λ p x e at last. still_last o w x.stamp rest e is (nowhere p x at) last)
+    tells_nowhere o w rest table is nowhere = tells_same (IsLastAmong field ops) None ops rest (o ∷ rest) table (λ p x e at last. still_last o w x.stamp rest e is (nowhere p x at) last)
 
     -- what `later` keeps of a writer and a further one, by the order of their stamps
     kept_writer : (item : Moment) (last : Option (Written X)) (o : Operation) (v : Written X) (place u r : ℕ) → slice_get ops place ≡ Some o → written_by field item o ≡ Some v → (was : IsWriter field ops item last u)
@@ -86,7 +86,7 @@ module _ {X : Type 0} (field : Moment → Act → Option (Write X)) where
     pub tells_written : dots_rise ops ≡ true → (o : Operation) (w : Write X) (rest : List Operation) (table : List (Option ℕ)) (place j r : ℕ) → length table ≡ length ops → slice_get ops place ≡ Some o → field o.stamp o.act ≡ Some w
         → StandsAt ops w.item j → IsLater ops (get_or table j None) place r → Tells (IsLastAmong field ops) None ops rest table → Tells (IsLastAmong field ops) None ops (o ∷ rest) (slice_set table j (Some r))
     tells_written rise o w rest table place j r count at is stands later_is =
-        tells_set (IsLastAmong field ops) None ops rest o table j stands.op (Some r) rise count stands.at
+        tells_set (IsLastAmong field ops) None ops rest (o ∷ rest) table j stands.op (Some r) rise count stands.at
         (λ x e other last. still_last o w x.stamp rest e is (λ same. other (sym stands.is ∙ same)) last)
         (λ last.
         let v : Written X = record { writer = o.stamp; value = w.value } in
@@ -109,10 +109,20 @@ module _ {X : Type 0} (field : Moment → Act → Option (Write X)) where
 
 pub tells_start_by : (f : Field) (ops : List Operation) (p : Operation → Bool) (n : ℕ) (table : List (Option ℕ)) → length ops ≤ n → table ≡ replicate (length ops) None → TellsWriters f ops (filter p (drop n ops)) table
 tells_start_by Title ops p n table past none = tells_start (IsLastAmong title_written ops) None ops p n table (λ item. refl) past none
+tells_start_by Gain ops p n table past none = tells_start (IsLastAmong gain_written ops) None ops p n table (λ item. refl) past none
+tells_start_by Mute ops p n table past none = tells_start (IsLastAmong mute_written ops) None ops p n table (λ item. refl) past none
+tells_start_by TrackPlace ops p n table past none = tells_start (IsLastAmong track_place_written ops) None ops p n table (λ item. refl) past none
+tells_start_by ClipPlace ops p n table past none = tells_start (IsLastAmong clip_place_written ops) None ops p n table (λ item. refl) past none
+tells_start_by Trim ops p n table past none = tells_start (IsLastAmong trim_written ops) None ops p n table (λ item. refl) past none
 tells_start_by Position ops p n table past none = tells_start (IsLastAmong position_written ops) None ops p n table (λ item. refl) past none
 
 pub inside_by : (f : Field) (ops among : List Operation) (table : List (Option ℕ)) → length table ≡ length ops → TellsWriters f ops among table → (p : ℕ) → IfSome (get_or table p None) (λ w. w < length ops)
 inside_by Title ops among table count tells = inside_by_tells title_written ops among table count tells
+inside_by Gain ops among table count tells = inside_by_tells gain_written ops among table count tells
+inside_by Mute ops among table count tells = inside_by_tells mute_written ops among table count tells
+inside_by TrackPlace ops among table count tells = inside_by_tells track_place_written ops among table count tells
+inside_by ClipPlace ops among table count tells = inside_by_tells clip_place_written ops among table count tells
+inside_by Trim ops among table count tells = inside_by_tells trim_written ops among table count tells
 inside_by Position ops among table count tells = inside_by_tells position_written ops among table count tells
 
 -- the write of an operation that writes an item's field
@@ -124,26 +134,46 @@ no_write : {X : Type 0} (m : Option (Write X)) → None ≡ option_map (λ (w : 
 no_write None is = refl
 no_write (Some w) is = absurd cc
 
+module _ {X : Type 0} (field : Moment → Act → Option (Write X)) where
+  tells_nowhere_item : (ops : List Operation) (o : Operation) (item : Moment) (rest : List Operation) (table : List (Option ℕ)) → Some item ≡ item_written (field o.stamp o.act) → IsNowhere ops item
+      → Tells (IsLastAmong field ops) None ops rest table → Tells (IsLastAmong field ops) None ops (o ∷ rest) table
+  tells_nowhere_item ops o item rest table is none =
+      let w = write_of_item (field o.stamp o.act) item is in
+      tells_nowhere field ops o w.0 rest table w.1 (subst (IsNowhere ops) (sym w.2) none)
+
+  tells_written_item : (ops : List Operation) → dots_rise ops ≡ true → (o : Operation) (item : Moment) (rest : List Operation) (table : List (Option ℕ)) (place j r : ℕ) → length table ≡ length ops → slice_get ops place ≡ Some o
+      → Some item ≡ item_written (field o.stamp o.act) → StandsAt ops item j → IsLater ops (get_or table j None) place r → Tells (IsLastAmong field ops) None ops rest table
+      → Tells (IsLastAmong field ops) None ops (o ∷ rest) (slice_set table j (Some r))
+  tells_written_item ops rise o item rest table place j r count at is stands later_is =
+      let w = write_of_item (field o.stamp o.act) item is in
+      let P : Moment → Type 0 = λ m. StandsAt ops m j in
+      tells_written field ops rise o w.0 rest table place j r count at w.1 (subst P (sym w.2) stands) later_is
+
 pub tells_unwritten_by : (f : Field) (ops : List Operation) (o : Operation) (rest : List Operation) (table : List (Option ℕ)) → None ≡ written_item f o.stamp o.act → TellsWriters f ops rest table → TellsWriters f ops (o ∷ rest) table
 tells_unwritten_by Title ops o rest table none = tells_unwritten title_written ops o rest table (no_write (title_written o.stamp o.act) none)
+tells_unwritten_by Gain ops o rest table none = tells_unwritten gain_written ops o rest table (no_write (gain_written o.stamp o.act) none)
+tells_unwritten_by Mute ops o rest table none = tells_unwritten mute_written ops o rest table (no_write (mute_written o.stamp o.act) none)
+tells_unwritten_by TrackPlace ops o rest table none = tells_unwritten track_place_written ops o rest table (no_write (track_place_written o.stamp o.act) none)
+tells_unwritten_by ClipPlace ops o rest table none = tells_unwritten clip_place_written ops o rest table (no_write (clip_place_written o.stamp o.act) none)
+tells_unwritten_by Trim ops o rest table none = tells_unwritten trim_written ops o rest table (no_write (trim_written o.stamp o.act) none)
 tells_unwritten_by Position ops o rest table none = tells_unwritten position_written ops o rest table (no_write (position_written o.stamp o.act) none)
 
 pub tells_nowhere_by : (f : Field) (ops : List Operation) (o : Operation) (item : Moment) (rest : List Operation) (table : List (Option ℕ)) → Some item ≡ written_item f o.stamp o.act → IsNowhere ops item → TellsWriters f ops rest table
     → TellsWriters f ops (o ∷ rest) table
-tells_nowhere_by Title ops o item rest table is none =
-    let w = write_of_item (title_written o.stamp o.act) item is in
-    tells_nowhere title_written ops o w.0 rest table w.1 (subst (IsNowhere ops) (sym w.2) none)
-tells_nowhere_by Position ops o item rest table is none =
-    let w = write_of_item (position_written o.stamp o.act) item is in
-    tells_nowhere position_written ops o w.0 rest table w.1 (subst (IsNowhere ops) (sym w.2) none)
+tells_nowhere_by Title ops o item rest table is none = tells_nowhere_item title_written ops o item rest table is none
+tells_nowhere_by Gain ops o item rest table is none = tells_nowhere_item gain_written ops o item rest table is none
+tells_nowhere_by Mute ops o item rest table is none = tells_nowhere_item mute_written ops o item rest table is none
+tells_nowhere_by TrackPlace ops o item rest table is none = tells_nowhere_item track_place_written ops o item rest table is none
+tells_nowhere_by ClipPlace ops o item rest table is none = tells_nowhere_item clip_place_written ops o item rest table is none
+tells_nowhere_by Trim ops o item rest table is none = tells_nowhere_item trim_written ops o item rest table is none
+tells_nowhere_by Position ops o item rest table is none = tells_nowhere_item position_written ops o item rest table is none
 
 pub tells_written_by : (f : Field) (ops : List Operation) → dots_rise ops ≡ true → (o : Operation) (item : Moment) (rest : List Operation) (table : List (Option ℕ)) (place j r : ℕ) → length table ≡ length ops → slice_get ops place ≡ Some o
     → Some item ≡ written_item f o.stamp o.act → StandsAt ops item j → IsLater ops (get_or table j None) place r → TellsWriters f ops rest table → TellsWriters f ops (o ∷ rest) (slice_set table j (Some r))
-tells_written_by Title ops rise o item rest table place j r count at is stands later_is =
-    let w = write_of_item (title_written o.stamp o.act) item is in
-    let P : Moment → Type 0 = λ m. StandsAt ops m j in
-    tells_written title_written ops rise o w.0 rest table place j r count at w.1 (subst P (sym w.2) stands) later_is
-tells_written_by Position ops rise o item rest table place j r count at is stands later_is =
-    let w = write_of_item (position_written o.stamp o.act) item is in
-    let P : Moment → Type 0 = λ m. StandsAt ops m j in
-    tells_written position_written ops rise o w.0 rest table place j r count at w.1 (subst P (sym w.2) stands) later_is
+tells_written_by Title ops rise o item rest table place j r count at is stands later_is = tells_written_item title_written ops rise o item rest table place j r count at is stands later_is
+tells_written_by Gain ops rise o item rest table place j r count at is stands later_is = tells_written_item gain_written ops rise o item rest table place j r count at is stands later_is
+tells_written_by Mute ops rise o item rest table place j r count at is stands later_is = tells_written_item mute_written ops rise o item rest table place j r count at is stands later_is
+tells_written_by TrackPlace ops rise o item rest table place j r count at is stands later_is = tells_written_item track_place_written ops rise o item rest table place j r count at is stands later_is
+tells_written_by ClipPlace ops rise o item rest table place j r count at is stands later_is = tells_written_item clip_place_written ops rise o item rest table place j r count at is stands later_is
+tells_written_by Trim ops rise o item rest table place j r count at is stands later_is = tells_written_item trim_written ops rise o item rest table place j r count at is stands later_is
+tells_written_by Position ops rise o item rest table place j r count at is stands later_is = tells_written_item position_written ops rise o item rest table place j r count at is stands later_is

@@ -2,7 +2,7 @@ pub mod Sorting
 pub mod Found
 pub mod StampOrder
 pub mod Waiting
-pub mod Tables
+pub mod Rows
 pub mod Items
 pub mod LastWriters
 pub mod Markers
@@ -11,3 +11,15 @@ pub mod Rising
 pub mod AllNeeds
 pub mod JoinedPlaces
 pub mod ItemMarks
+pub mod Shown
+pub mod LastWrites
+pub mod Clips
+pub mod Told
+pub mod Members
+pub mod TrackSorting
+pub mod Standing
+pub mod ClipRows
+pub mod Links
+pub mod PlaceTree
+pub mod Linking
+pub mod Tracking

@@ -17,7 +17,7 @@ use Rattle.mt_op.specs.Valid.{IsOperation}
 use Rattle.mt_op.proofs.Needs.{and_first, and_second}
 use Rattle.mt_sessionview.proofs.Waiting.{element}
 
-both_true : (a b : Bool) → a ≡ true → b ≡ true → (a && b) ≡ true
+pub both_true : (a b : Bool) → a ≡ true → b ≡ true → (a && b) ≡ true
 both_true true b h k = k
 both_true false b h k = h
 

@@ -8,6 +8,22 @@ pub all_pieces : (old t1 t2 t3 t4 t5 t6 new a b c d f h k : List ℕ) → t1 ≡
     → new ≡ old ++ (a ++ (b ++ (c ++ (d ++ (f ++ (h ++ k))))))
 all_pieces old t1 t2 t3 t4 t5 t6 new a b c d f h k e1 e2 e3 e4 e5 e6 e = rw (e, e6, e5, e4, e3, e2, e1) (simp append_assoc)
 
+pub three_pieces : (old t1 t2 new a b c : List ℕ) → t1 ≡ old ++ a → t2 ≡ t1 ++ b → new ≡ t2 ++ c → new ≡ old ++ (a ++ (b ++ c))
+three_pieces old t1 t2 new a b c e1 e2 e = rw (e, e2, e1) (simp append_assoc)
+
+-- ` gain `, a number, `/`, a number, and whether it is muted
+pub sound_pieces : (old t1 t2 new a b c d f : List ℕ) → t1 ≡ old ++ (a ++ b) → t2 ≡ t1 ++ (c ++ d) → new ≡ t2 ++ f → new ≡ old ++ (a ++ (b ++ (c ++ (d ++ f))))
+sound_pieces old t1 t2 new a b c d f e1 e2 e = rw (e, e2, e1) (simp append_assoc)
+
+-- the parts of a track's line
+pub track_pieces : (old t1 t2 t3 t4 new a b c d f h : List ℕ) → t1 ≡ old ++ (a ++ b) → t2 ≡ t1 ++ c → t3 ≡ t2 ++ d → t4 ≡ t3 ++ f → new ≡ t4 ++ h → new ≡ old ++ (a ++ (b ++ (c ++ (d ++ (f ++ h)))))
+track_pieces old t1 t2 t3 t4 new a b c d f h e1 e2 e3 e4 e = rw (e, e4, e3, e2, e1) (simp append_assoc)
+
+-- the parts of a clip's line
+pub clip_pieces : (old t1 t2 t3 t4 t5 t6 t7 new a b c d f h i j k l m n o : List ℕ) → t1 ≡ old ++ (a ++ b) → t2 ≡ t1 ++ (c ++ d) → t3 ≡ t2 ++ (f ++ h) → t4 ≡ t3 ++ (i ++ j) → t5 ≡ t4 ++ (k ++ l) → t6 ≡ t5 ++ m → t7 ≡ t6 ++ n → new ≡ t7 ++ o
+    → new ≡ old ++ (a ++ (b ++ (c ++ (d ++ (f ++ (h ++ (i ++ (j ++ (k ++ (l ++ (m ++ (n ++ o))))))))))))
+clip_pieces old t1 t2 t3 t4 t5 t6 t7 new a b c d f h i j k l m n o e1 e2 e3 e4 e5 e6 e7 e = rw (e, e7, e6, e5, e4, e3, e2, e1) (simp append_assoc)
+
 -- the texts of the items before place i, and then that of the item there
 pub one_more_text : {X : Type 0} (f : X → List ℕ) (xs : List X) (i : ℕ) (x : X) (old mid new : List ℕ) → i < length xs → x ≡ get_or xs i x → mid ≡ old ++ flat_map f (take i xs) → new ≡ mid ++ f x
     → new ≡ old ++ flat_map f (take (i + 1) xs)

@@ -1,8 +1,30 @@
 -- What a session shows, without where its texts lie in memory (profile).
-use Rattle.std.specs.Prelude.{ℕ, List}
+use Rattle.std.specs.Prelude.{ℕ, Bool, List}
 use Rattle.std.specs.declared.cmp.Ordering.{Ordering}
 use Rattle.std.specs.Ordering.{nat_cmp, ordering_then}
 use Rattle.mt_stamp.specs.Moment.{Moment, stamp_cmp}
+use Rattle.mt_op.specs.Gain.{Ratio}
+use Rattle.mt_op.specs.declared.digest.Digest.{Digest}
+
+-- a clip: the stamp that names it, the stamp of the operation that gave its place, where it begins in the session, the
+-- first frame of its recording that it plays and how many, in frames, and how it sounds
+pub record Clip : Type 0 where
+  pub clip : Moment
+  pub place : Moment
+  pub at : ℕ
+  pub offset : ℕ
+  pub len : ℕ
+  pub gain : Ratio
+  pub mute : Bool
+  pub source : Digest
+
+-- a track: the stamp that names it, its title, how it sounds, and its clips in order
+pub record Track : Type 0 where
+  pub track : Moment
+  pub title : List ℕ
+  pub gain : Ratio
+  pub mute : Bool
+  pub clips : List Clip
 
 -- a marker: the stamp that names it, where it stands, in frames, and its title
 pub record Marker : Type 0 where
@@ -10,10 +32,15 @@ pub record Marker : Type 0 where
   pub at : ℕ
   pub title : List ℕ
 
--- the present markers in order, and how many operations are held
+-- the present tracks and markers in order, and how many operations are held
 pub record Content : Type 0 where
+  pub tracks : List Track
   pub markers : List Marker
   pub held : ℕ
+
+-- clips by position, and then by the stamp that gave their place (profile)
+abbrev pub clip_cmp : Clip → Clip → Ordering
+clip_cmp a b = ordering_then (nat_cmp a.at b.at) (stamp_cmp a.place b.place)
 
 -- markers by position, and then by stamp (profile)
 abbrev pub marker_cmp : Marker → Marker → Ordering

@@ -5,4 +5,8 @@ pub mod Examples
 pub mod Faults
 pub mod StampOrder
 pub mod Tables
+pub mod Told
+pub mod TrackOrder
 pub mod SessionText
+pub mod Chain
+pub mod Links

@@ -1,13 +1,18 @@
 -- The session of a set of operations.
-use Rattle.std.specs.Prelude.{Bool, ◌&&◌, List, map, filter, length, Option, option_map, unwrap_or, []}
+use Rattle.std.specs.Prelude.{ℕ, Bool, false, ◌&&◌, List, map, filter, length, Option, option_map, unwrap_or, []}
+use Rattle.std.specs.List.{filter_map}
+use Rattle.std.specs.declared.cmp.Ordering.{Ordering}
 use Rattle.mt_stamp.specs.Moment.{Moment}
-use Rattle.mt_op.specs.Operation.{Act, Operation}
-use Rattle.mt_op.specs.Needs.{needs, meets, clock_of, adds_marker}
+use Rattle.mt_stamp.specs.Tree.{TreePlace, tree_cmp}
+use Rattle.mt_op.specs.Gain.{unchanged}
+use Rattle.mt_op.specs.declared.digest.Digest.{Digest}
+use Rattle.mt_op.specs.Operation.{Act, AddClip, Operation}
+use Rattle.mt_op.specs.Needs.{needs, meets, clock_of, stamp_eq, adds_track, adds_clip, adds_marker}
 use Rattle.mt_op.specs.Ready.{ready, held}
-use Rattle.mt_op.specs.Writes.{Write, Written, title_written, position_written, last_write}
+use Rattle.mt_op.specs.Writes.{Write, Written, title_written, gain_written, mute_written, track_place_written, clip_place_written, trim_written, source_written, position_written, last_write}
 use Rattle.mt_op.specs.Presence.{is_present}
 use Rattle.mt_sessionview.specs.Sorting.{sort_by}
-use Rattle.mt_sessionview.specs.Content.{Marker, Content, marker_cmp}
+use Rattle.mt_sessionview.specs.Content.{Clip, Track, Marker, Content, clip_cmp, marker_cmp}
 
 -- Only ready operations have an effect (INRIA RR-7506, operation-based objects).
 abbrev pub ready_ops : List Operation → List Operation
@@ -17,17 +22,23 @@ ready_ops s = ready clock_of needs meets s
 abbrev pub held_ops : List Operation → List Operation
 held_ops s = held clock_of needs meets s
 
--- the value of an item's field: what the last writer wrote, where there is one (LWW-Register: INRIA RR-7506, section 3.2.1)
+-- the last write of an item's field, where there is one (LWW-Register: INRIA RR-7506, section 3.2.1)
+abbrev pub field_write : {X : Type 0} → (Moment → Act → Option (Write X)) → List Operation → Moment → Option (Written X)
+field_write field s item = last_write field item (ready_ops s)
+
+-- the value of an item's field: what the last writer wrote
 abbrev pub field_value : {X : Type 0} → (Moment → Act → Option (Write X)) → List Operation → Moment → Option X
-field_value {X} field s item = option_map (λ (w : Written X). w.value) (last_write field item (ready_ops s))
+field_value {X} field s item = option_map (λ (w : Written X). w.value) (field_write field s item)
 
--- whether an operation added a marker that is present
-abbrev pub is_shown : List Operation → Operation → Bool
-is_shown s o = adds_marker o.act && is_present (ready_ops s) o.stamp
+-- whether an operation added an item of a kind that is present
+abbrev pub is_shown : (Act → Bool) → List Operation → Operation → Bool
+is_shown adds s o = adds o.act && is_present (ready_ops s) o.stamp
 
--- the operations that added the markers of a set that are present
-abbrev pub marker_ops : List Operation → List Operation
-marker_ops s = filter (is_shown s) (ready_ops s)
+-- the operations that added the items of a kind that are present
+abbrev pub shown_ops : (Act → Bool) → List Operation → List Operation
+shown_ops adds s = filter (is_shown adds s) (ready_ops s)
+
+-- ---- markers
 
 -- a marker with the values of its fields, which its own AddMarker writes first
 abbrev pub marker_of : List Operation → Operation → Marker
@@ -37,9 +48,73 @@ marker_of s o = record {
   title = unwrap_or (field_value title_written s o.stamp) [];
 }
 
--- The session of a set: its markers by position and stamp, and the number held.
+-- ---- clips
+
+-- where a clip is, its track and its frame, with the stamp of the operation that put it there
+abbrev pub clip_place : List Operation → Moment → Written (Moment × ℕ)
+clip_place s clip = unwrap_or (field_write clip_place_written s clip) (record { writer = clip; value = (clip, 0) })
+
+-- the recording that an AddClip names, which no other operation writes
+abbrev pub source_of : Act → Digest
+source_of (AddClip source track at offset len) = source
+source_of _ = record { 0 = [] }
+
+-- a clip with the values of its fields, which its own AddClip writes first
+abbrev pub clip_of : List Operation → Operation → Clip
+clip_of s o = record {
+  clip = o.stamp;
+  place = (clip_place s o.stamp).writer;
+  at = (clip_place s o.stamp).value.1;
+  offset = (unwrap_or (field_value trim_written s o.stamp) (0, 0)).0;
+  len = (unwrap_or (field_value trim_written s o.stamp) (0, 0)).1;
+  gain = unwrap_or (field_value gain_written s o.stamp) unchanged;
+  mute = unwrap_or (field_value mute_written s o.stamp) false;
+  source = source_of o.act;
+}
+
+-- whether an operation added a clip that is present and on this track
+abbrev pub is_clip_on : List Operation → Moment → Operation → Bool
+is_clip_on s track o = is_shown adds_clip s o && stamp_eq (clip_place s o.stamp).value.0 track
+
+-- the clips of a track, by position and then by the stamp that gave their place
+abbrev pub clips_on : List Operation → Moment → List Clip
+clips_on s track = sort_by clip_cmp (map (clip_of s) (filter (is_clip_on s track) (ready_ops s)))
+
+-- ---- tracks
+
+-- the place that an operation gives a track in the track order, and after which it is (RGA: INRIA RR-7506, co-operative text editing)
+abbrev pub place_added : Operation → Option TreePlace
+place_added o = option_map (λ (w : Write (Option Moment)). record { place = o.stamp; after = w.value }) (track_place_written o.stamp o.act)
+
+-- all places that ready operations gave; none is ever taken out
+abbrev pub places : List Operation → List TreePlace
+places s = filter_map place_added (ready_ops s)
+
+-- where a track stands: the place of the last operation that put it anywhere
+abbrev pub track_place : List Operation → Moment → Moment
+track_place s track = unwrap_or (option_map (λ (w : Written (Option Moment)). w.writer) (field_write track_place_written s track)) track
+
+-- tracks by their places
+abbrev pub track_cmp : List Operation → Operation → Operation → Ordering
+track_cmp s a b = tree_cmp (places s) (track_place s a.stamp) (track_place s b.stamp)
+
+-- a track with the values of its fields, which its own AddTrack writes first
+abbrev pub track_of : List Operation → Operation → Track
+track_of s o = record {
+  track = o.stamp;
+  title = unwrap_or (field_value title_written s o.stamp) [];
+  gain = unwrap_or (field_value gain_written s o.stamp) unchanged;
+  mute = unwrap_or (field_value mute_written s o.stamp) false;
+  clips = clips_on s o.stamp;
+}
+
+-- ---- the session
+
+-- The session of a set: its tracks, each once, in the order of their places, its markers by position and stamp, and the
+-- number held. A clip whose track is absent is not shown.
 abbrev pub session_of : List Operation → Content
 session_of s = record {
-  markers = sort_by marker_cmp (map (marker_of s) (marker_ops s));
+  tracks = map (track_of s) (sort_by (track_cmp s) (shown_ops adds_track s));
+  markers = sort_by marker_cmp (map (marker_of s) (shown_ops adds_marker s));
   held = length (held_ops s);
 }

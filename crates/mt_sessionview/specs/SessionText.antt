@@ -1,13 +1,33 @@
--- How a session is written (profile): a line for each marker, in order, and one for the number held.
-use Rattle.std.specs.Prelude.{ℕ, List, [], ◌∷◌, ◌++◌, codes}
+-- How a session is written (profile): a line for each track, followed by one for each of its clips, a line for each
+-- marker, all in order, and one for the number held.
+use Rattle.std.specs.Prelude.{ℕ, Bool, List, [], ◌∷◌, ◌++◌, codes, if◌then◌else◌}
 use Rattle.std.specs.Fmt.{decimal}
 use Rattle.std.specs.List.{flat_map}
 use Rattle.mt_stamp.specs.Texts.{stamp_text}
-use Rattle.mt_sessionview.specs.Content.{Marker, Content}
+use Rattle.mt_op.specs.Gain.{Ratio}
+use Rattle.mt_op.specs.Digest.{digest_text}
+use Rattle.mt_sessionview.specs.Content.{Clip, Track, Marker, Content}
 
 -- what ends a line
 abbrev pub newline : ℕ
 newline = 10
+
+-- ` gain NUM/DEN mute on` or ` gain NUM/DEN mute off`
+abbrev pub sound_text : Ratio → Bool → List ℕ
+sound_text gain mute = codes " gain " ++ (decimal gain.num ++ (codes "/" ++ (decimal gain.den ++ (if mute then codes " mute on" else codes " mute off"))))
+
+-- `clip STAMP place STAMP at N offset N len N gain NUM/DEN mute on|off source DIGEST`
+abbrev pub clip_line : Clip → List ℕ
+clip_line c =
+    codes "clip " ++ (stamp_text c.clip ++ (codes " place " ++ (stamp_text c.place ++ (codes " at " ++ (decimal c.at ++ (codes " offset " ++ (decimal c.offset ++ (codes " len " ++ (decimal c.len
+    ++ (sound_text c.gain c.mute ++ (codes " source " ++ (digest_text c.source ++ newline ∷ []))))))))))))
+
+-- `track STAMP gain NUM/DEN mute on|off title TITLE`: the title is what follows the one space after the word, and may be empty
+abbrev pub track_line : Track → List ℕ
+track_line t = codes "track " ++ (stamp_text t.track ++ (sound_text t.gain t.mute ++ (codes " title " ++ (t.title ++ newline ∷ []))))
+
+abbrev pub track_lines : Track → List ℕ
+track_lines t = track_line t ++ flat_map clip_line t.clips
 
 -- `marker STAMP at N title TITLE`: the title is what follows the one space after the word, and may be empty
 abbrev pub marker_line : Marker → List ℕ
@@ -18,4 +38,4 @@ abbrev pub held_line : ℕ → List ℕ
 held_line held = codes "held " ++ (decimal held ++ newline ∷ [])
 
 abbrev pub session_text : Content → List ℕ
-session_text c = flat_map marker_line c.markers ++ held_line c.held
+session_text c = flat_map track_lines c.tracks ++ (flat_map marker_line c.markers ++ held_line c.held)

@@ -3,13 +3,13 @@ use Rattle.std.specs.Prelude.{◌≡◌, ℕ, ◌<◌, Bool, false, ◌||◌, Li
 use Rattle.std.specs.List.{flat_map}
 use Rattle.std.specs.FinSet as set
 use Rattle.mt_stamp.specs.Moment.{Moment}
-use Rattle.mt_op.specs.Operation.{Act, Remove, Restore, AddMarker, MoveMarker, Retitle, Operation}
+use Rattle.mt_op.specs.Operation.{Act, Remove, Restore, Operation}
 use Rattle.mt_op.specs.Needs.{clock_of, stamp_eq}
 use Rattle.mt_op.specs.Presence.{is_listed, tags_removed, removed_tags}
 use Rattle.mt_cells.specs.Marks.{Marks}
-use Rattle.mt_op.specs.Writes.{Write, Written, title_written, position_written, written_by, last_write}
+use Rattle.mt_op.specs.Writes.{Write, Written, title_written, gain_written, mute_written, track_place_written, clip_place_written, trim_written, position_written, written_by, last_write}
 use Rattle.mt_sessionview.specs.declared.field.Field.{Field}
-use Rattle.mt_sessionview.specs.declared.field.Field.TheVariants.{Title, Position}
+use Rattle.mt_sessionview.specs.declared.field.Field.TheVariants.{Title, Gain, Mute, TrackPlace, ClipPlace, Trim, Position}
 
 -- whether the operation of this stamp passes
 abbrev pub TellsOf : List Operation → List Bool → Moment → (Operation → Bool) → Type 0
@@ -52,22 +52,32 @@ module _ {X : Type 0} (field : Moment → Act → Option (Write X)) (ops : List 
   IsLastAmong item among writer = IsLastWriter item (last_write field item among) writer
 
 -- the item whose field an act writes
+abbrev pub item_written : {X : Type 0} → Option (Write X) → Option Moment
+item_written {X} write = option_map (λ (w : Write X). w.item) write
+
 abbrev pub written_item : Field → Moment → Act → Option Moment
-written_item Title own act = option_map (λ w. w.item) (title_written own act)
-written_item Position own act = option_map (λ w. w.item) (position_written own act)
+written_item Title own act = item_written (title_written own act)
+written_item Gain own act = item_written (gain_written own act)
+written_item Mute own act = item_written (mute_written own act)
+written_item TrackPlace own act = item_written (track_place_written own act)
+written_item ClipPlace own act = item_written (clip_place_written own act)
+written_item Trim own act = item_written (trim_written own act)
+written_item Position own act = item_written (position_written own act)
 
 -- the last writers among these of a field of each operation's item
 abbrev pub TellsWriters : Field → List Operation → List Operation → List (Option ℕ) → Type 0
 TellsWriters Title ops among table = Tells (IsLastAmong title_written ops) None ops among table
+TellsWriters Gain ops among table = Tells (IsLastAmong gain_written ops) None ops among table
+TellsWriters Mute ops among table = Tells (IsLastAmong mute_written ops) None ops among table
+TellsWriters TrackPlace ops among table = Tells (IsLastAmong track_place_written ops) None ops among table
+TellsWriters ClipPlace ops among table = Tells (IsLastAmong clip_place_written ops) None ops among table
+TellsWriters Trim ops among table = Tells (IsLastAmong trim_written ops) None ops among table
 TellsWriters Position ops among table = Tells (IsLastAmong position_written ops) None ops among table
 
 -- the tag that an act gives an item beside the one that adds it
 abbrev pub restoring_tags : Moment → Moment → Act → List Moment
-restoring_tags item own (Remove i tags) = []
 restoring_tags item own (Restore i) = if stamp_eq i item then own ∷ [] else []
-restoring_tags item own (AddMarker at title) = []
-restoring_tags item own (MoveMarker marker at) = []
-restoring_tags item own (Retitle i title) = []
+restoring_tags item own _ = []
 
 abbrev pub restored_tags : Moment → List Operation → List Moment
 restored_tags item ops = flat_map (λ o. restoring_tags item o.stamp o.act) ops
@@ -76,9 +86,7 @@ restored_tags item ops = flat_map (λ o. restoring_tags item o.stamp o.act) ops
 abbrev pub marked_item : Act → Option Moment
 marked_item (Remove item tags) = Some item
 marked_item (Restore item) = Some item
-marked_item (AddMarker at title) = None
-marked_item (MoveMarker marker at) = None
-marked_item (Retitle item title) = None
+marked_item _ = None
 
 -- the marks of an item: its own stamp is its one tag where none are noted
 abbrev pub marks_from : Moment → Option Marks → Marks

@@ -30,7 +30,8 @@ pub fn from_scratch<A: Allocator + Clone>(
     session_of_ops(alloc, log.ops())
 }
 
-/// Writes a session's text: a line for each marker in order, then `held N`, each ended by a line feed.
+/// Writes a session's text: a line for each track, followed by one for each of its clips, a line for each marker, all
+/// in order, then `held N`, each ended by a line feed.
 ///
 /// `Write` (37) where the output's latch has failed, before or in this call; the output then holds a front of
 /// the text. `Memory` (0) where a growth was refused; the output is then as it was.
@@ -45,8 +46,8 @@ pub fn write_text<A: Allocator, B: Allocator, W: Write>(
     ensures write { IfErr result (λ fault. fault ≡ SessionFault.Write → output.new.failed ≡ true) }
     ensures memory { IfErr result (λ fault. fault ≡ SessionFault.Memory → output.new ≡ output.old) }
 {
-    let mut text = String::new(alloc);
-    append_session_text(&mut text, session)?;
+    let mut text = String::new(&alloc);
+    append_session_text(&alloc, &mut text, session)?;
     match output.put(text.as_bytes()) {
         Ok(()) => Ok(()),
         Err(_) => Err(SessionFault::Write),

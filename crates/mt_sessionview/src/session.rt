@@ -1,9 +1,67 @@
 //! What a session shows.
 
-use mt_op::Title;
+use mt_op::{Digest, Gain, Title};
 use mt_stamp::{List, Stamp};
 use std::alloc::{Allocator, Global};
 use std::marker::Model;
+
+/// A clip that is present, on a track that is.
+#[derive(Clone, Copy, Debug, PartialEq, Eq)]
+pub struct ClipView {
+    /// The stamp of the operation that added it, which names it.
+    pub clip: Stamp,
+    /// The stamp of the operation that gave it its place: of two clips of a track that cover a frame the one with the
+    /// greater is on top.
+    pub place: Stamp,
+    /// The first frame of the session that it covers.
+    pub at: u32,
+    /// The first frame of its recording that it plays.
+    pub offset: u32,
+    /// How many frames it plays, at least 1.
+    pub len: u32,
+    /// What its samples are multiplied by.
+    pub gain: Gain,
+    /// Whether it is muted.
+    pub mute: bool,
+    /// The recording that it plays, by the digest of its file.
+    pub source: Digest,
+}
+
+impl Model for ClipView {
+    ghost use Rattle.mt_sessionview.specs.Content.{Clip};
+
+    ghost Value = { Clip };
+
+    ghost view = { λ c. record { clip = c.clip; place = c.place; at = c.at; offset = c.offset; len = c.len; gain = c.gain; mute = c.mute; source = c.source } };
+
+    ghost inverse = { λ c. record { clip = c.clip; place = c.place; at = c.at; offset = c.offset; len = c.len; gain = c.gain; mute = c.mute; source = c.source } };
+}
+
+/// A track that is present.
+#[derive(Drop)]
+#[derive_where(Debug, PartialEq, Eq)]
+pub struct TrackView<A: Allocator = Global> {
+    /// The stamp of the operation that added it, which names it.
+    pub track: Stamp,
+    /// The title that its last writer gave it, of at most 255 bytes.
+    pub title: Title<A>,
+    /// What the samples of its clips are multiplied by, beside their own gain.
+    pub gain: Gain,
+    /// Whether it is muted.
+    pub mute: bool,
+    /// Its clips that are present, by position and then by the stamp that gave their place.
+    pub clips: List<ClipView, A>,
+}
+
+impl<A: Allocator> Model for TrackView<A> {
+    ghost use Rattle.mt_sessionview.specs.Content.{Track};
+
+    ghost Value = { Track };
+
+    ghost view = { λ t. record { track = t.track; title = t.title; gain = t.gain; mute = t.mute; clips = t.clips } };
+
+    ghost inverse = { λ t. record { track = t.track; title = t.title; gain = t.gain; mute = t.mute; clips = t.clips } };
+}
 
 /// A marker that is present.
 #[derive(Drop)]
@@ -31,6 +89,8 @@ impl<A: Allocator> Model for MarkerView<A> {
 #[derive(Drop)]
 #[derive_where(Debug, PartialEq, Eq)]
 pub struct Session<A: Allocator = Global> {
+    /// The tracks that are present, each once, in the order of their places.
+    pub tracks: List<TrackView<A>, A>,
     /// The markers that are present, by position and then by stamp.
     pub markers: List<MarkerView<A>, A>,
     /// How many operations are held: kept, merged and counted, and without effect until what they need is there.
@@ -42,7 +102,7 @@ impl<A: Allocator> Model for Session<A> {
 
     ghost Value = { Content };
 
-    ghost view = { λ s. record { markers = s.markers; held = s.held } };
+    ghost view = { λ s. record { tracks = s.tracks; markers = s.markers; held = s.held } };
 
-    ghost inverse = { λ c. record { markers = c.markers; held = c.held } };
+    ghost inverse = { λ c. record { tracks = c.tracks; markers = c.markers; held = c.held } };
 }

@@ -75,8 +75,8 @@ fn shown<M: Allocator + Clone>(
 ) -> Result<String<M>, Fail> {
     assert!(rt; rises(ops));
     let mut text = String::new(memory.clone()?);
-    let session = session_of_ops(memory, ops)?;
-    append_session_text(&mut text, &session)?;
+    let session = session_of_ops(memory.clone()?, ops)?;
+    append_session_text(&memory, &mut text, &session)?;
     Ok(text)
 }
 

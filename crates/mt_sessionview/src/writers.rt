@@ -1,21 +1,20 @@
 //! Which operation wrote each item's fields last.
 
-ghost use Rattle.std.specs.Prelude.{◌≡◌, ◌<◌, ℕ, List, ◌∷◌, length, map, slice_get, slice_index_or, Option, Some, None, option_map, unwrap_or, if◌then◌else◌, IfOk, IfSome, IsTrue};
+ghost use Rattle.std.specs.Prelude.{◌≡◌, ◌<◌, ℕ, List, ◌∷◌, length, map, slice_get, slice_index_or, Some, None, if◌then◌else◌, IfOk, IfSome, IsTrue};
 ghost use Rattle.std.specs.Ordering.{is_lt};
-ghost use Rattle.mt_stamp.specs.Moment.{Moment, stamp_cmp};
+ghost use Rattle.mt_stamp.specs.Moment.{stamp_cmp};
 ghost use Rattle.mt_op.specs.Operation.{Operation};
 ghost use Rattle.mt_op.specs.Dots.{dots_rise};
 ghost use Rattle.mt_op.specs.Needs.{needs, meets, clock_of};
 ghost use Rattle.mt_op.specs.Ready.{is_ready};
-ghost use Rattle.mt_op.specs.Writes.{Written, title_written, position_written};
 ghost use Rattle.mt_sessionview.specs.Session.{ready_ops};
-ghost use Rattle.mt_sessionview.specs.Tables.{IsLastWriter, TellsWriters};
+ghost use Rattle.mt_sessionview.specs.Tables.{TellsWriters};
 
 use crate::field::{Field, written_item};
 use crate::item::item_place;
 use crate::table::empty_table;
 use mt_cells::{Join, Register};
-use mt_op::{Body, Op, Title};
+use mt_op::Op;
 use std::alloc::{AllocError, Allocator};
 
 // The place of the later of two writers of one field, the first of which there may be none: what a register holds
@@ -80,50 +79,4 @@ pub(crate) fn last_writers<A: Allocator, B: Allocator>(
         }
     }
     Ok(writers)
-}
-
-// The title that an operation writes.
-fn written_title<A: Allocator>(op: &Op<A>) -> Option<&Title<A>>
-    ensures { option_map (λ t. t.now) result ≡ option_map (λ w. w.value) (title_written op.now.stamp op.now.act) }
-{
-    match op.body() {
-        Body::AddMarker { title, .. } | Body::Retitle { title, .. } => Some(title),
-        _ => None,
-    }
-}
-
-// The position that an operation writes.
-fn written_position<A: Allocator>(op: &Op<A>) -> Option<u32>
-    ensures { result ≡ option_map (λ w. w.value) (position_written op.now.stamp op.now.act) }
-{
-    match op.body() {
-        Body::AddMarker { at, .. } | Body::MoveMarker { at, .. } => Some(*at),
-        _ => None,
-    }
-}
-
-// The title that the operation at a place wrote, or the item's own where there is none.
-pub(crate) fn last_title<'a, A: Allocator>(
-    ops: &'a [Op<A>],
-    writer: Option<usize>,
-    own: &'a Title<A>,
-) -> &'a Title<A>
-    requires { IfSome writer (λ w. w < length ops.now) }
-    ensures { (item : Moment) (last : Option (Written (List ℕ))) → IsLastWriter title_written ops.now item last writer → result.now ≡ unwrap_or (option_map (λ w. w.value) last) own.now }
-{
-    let Some(place) = writer else {
-        return own;
-    };
-    written_title(&ops[place]).unwrap_or(own)
-}
-
-// The position that the operation at a place wrote, or the item's own where there is none.
-pub(crate) fn last_position<A: Allocator>(ops: &[Op<A>], writer: Option<usize>, own: u32) -> u32
-    requires { IfSome writer (λ w. w < length ops.now) }
-    ensures { (item : Moment) (last : Option (Written ℕ)) → IsLastWriter position_written ops.now item last writer → result ≡ unwrap_or (option_map (λ w. w.value) last) own }
-{
-    let Some(place) = writer else {
-        return own;
-    };
-    written_position(&ops[place]).unwrap_or(own)
 }

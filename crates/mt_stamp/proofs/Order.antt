@@ -1,13 +1,14 @@
 -- The orders of stamps and dots are total, and only equal ones tie.
-use Rattle.std.proofs.Common.{◌≡◌, refl, Ordering}
+use Rattle.std.proofs.Common.{◌≡◌, Bool, true, false, ◌&&◌, eq-eqb, refl, Ordering}
 use Rattle.std.specs.Cmp.{IsTotalOrder}
 use Rattle.std.specs.FinMap.{IsAntisymmetric, nat_cmp-IsAntisymmetric}
 use Rattle.std.specs.Ordering.{nat_cmp, ordering_then}
 use Rattle.std.specs.declared.cmp.Ordering.TheVariants.{Less, Equal, Greater}
+use Rattle.std.proofs.lemmas.Bool.{eqb-true}
 use Rattle.std.proofs.lemmas.Cmp.{then_total, on_total, nat_cmp_total}
 use Rattle.mt_stamp.specs.declared.name.Replica.{Replica}
 use Rattle.mt_stamp.specs.declared.name.Dot.{Dot}
-use Rattle.mt_stamp.specs.Moment.{Moment, stamp_cmp, dot_cmp}
+use Rattle.mt_stamp.specs.Moment.{Moment, stamp_cmp, stamp_eq, dot_cmp}
 use Rattle.mt_stamp.specs.Laws.{AreOrdered}
 
 pub stamp_cmp_total : IsTotalOrder stamp_cmp
@@ -61,3 +62,23 @@ orders =
       dots = dot_cmp_total;
       dots_apart = dot_cmp-IsAntisymmetric;
     }
+
+and_first : (a b : Bool) → (a && b) ≡ true → a ≡ true
+and_first true b e = refl
+and_first false b e = absurd cc
+
+and_second : (a b : Bool) → (a && b) ≡ true → b ≡ true
+and_second true b e = e
+and_second false b e = absurd cc
+
+-- stamps that pass the test are one, and each stamp passes it with itself
+pub stamp_eq-true : (a b : Moment) → stamp_eq a b ≡ true → a ≡ b
+stamp_eq-true a b e =
+    let rest = and_second _ _ e in
+    same_moment a b
+    (eqb-true a.clock b.clock (and_first _ _ e))
+    (eqb-true a.replica.0 b.replica.0 (and_first _ _ rest))
+    (eqb-true a.seq b.seq (and_second _ _ rest))
+
+pub stamp_eq-itself : (a : Moment) → stamp_eq a a ≡ true
+stamp_eq-itself a = rw (eq-eqb a.clock a.clock refl, eq-eqb a.replica.0 a.replica.0 refl, eq-eqb a.seq a.seq refl) refl

@@ -1,5 +1,5 @@
 -- What a stamp is, and the order of stamps and of dots.
-use Rattle.std.specs.Prelude.{ℕ, ◌≤◌, ◌<◌, ◌^◌}
+use Rattle.std.specs.Prelude.{ℕ, Bool, ◌≤◌, ◌<◌, ◌^◌, ◌==◌, ◌&&◌}
 use Rattle.std.specs.Ordering.{nat_cmp, ordering_then}
 use Rattle.std.specs.declared.cmp.Ordering.{Ordering}
 use Rattle.mt_stamp.specs.declared.name.Replica.{Replica}
@@ -36,3 +36,7 @@ dot_cmp a b = ordering_then (nat_cmp a.replica.0 b.replica.0) (nat_cmp a.seq b.s
 -- (Lamport's total order of events: Communications of the ACM 21, 1978).
 abbrev pub stamp_cmp : Moment → Moment → Ordering
 stamp_cmp a b = ordering_then (nat_cmp a.clock b.clock) (ordering_then (nat_cmp a.replica.0 b.replica.0) (nat_cmp a.seq b.seq))
+
+-- whether two stamps are one
+abbrev pub stamp_eq : Moment → Moment → Bool
+stamp_eq a b = (a.clock == b.clock) && ((a.replica.0 == b.replica.0) && (a.seq == b.seq))

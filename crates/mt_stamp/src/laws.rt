@@ -3,6 +3,7 @@
 ghost use Rattle.std.specs.Prelude.{◌≡◌};
 ghost use Rattle.mt_stamp.specs.Moment.{stamp_cmp, dot_cmp};
 ghost use Rattle.mt_stamp.specs.Laws.{AreOrdered, TextsAreApart};
+ghost use Rattle.mt_stamp.specs.TreeLaws.{PathsLeadThere, TreesAreOrdered, ParentsStandFirst, SiblingsFall};
 
 use crate::name::Dot;
 use crate::stamp::Stamp;
@@ -30,4 +31,12 @@ pub fn compare_dots(dot: Dot, other: Dot) -> Ordering
 /// No two stamps have one text.
 pub fn texts()
     ensures { TextsAreApart }
+{}
+
+/// The order of a tree of places: a path leads from the head to each place, and places are ordered by their paths.
+pub fn tree_order()
+    ensures path { PathsLeadThere }
+    ensures ordered { TreesAreOrdered }
+    ensures parent_first { ParentsStandFirst }
+    ensures siblings_fall { SiblingsFall }
 {}

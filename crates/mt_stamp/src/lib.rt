@@ -1,4 +1,4 @@
-//! Names: replicas, dots and stamps, their order and their texts, and lists inside other types.
+//! Names: replicas, dots and stamps, their order and their texts, the order of a tree of places, and lists inside other types.
 #![tactic(auto)]
 
 mod fault;

@@ -1,4 +1,4 @@
-use crate::laws::{compare_dots, compare_stamps};
+use crate::laws::{compare_dots, compare_stamps, order, texts, tree_order};
 use crate::{Dot, List, Replica, Stamp, StampFault};
 use mt_testalloc::Refusing;
 use std::cmp::Ordering;
@@ -176,5 +176,14 @@ fn leaves_a_text_as_it_was_where_memory_is_refused(rt: HostRuntime) -> Result<()
         "at 1.1.00000000-0000-0000-0000-00000000000a"
     );
     assert_eq!(rt; StampFault::Memory.number(), 0);
+    Ok(())
+}
+
+// a law is a function that does nothing
+#[test]
+fn states_each_law(_rt: HostRuntime) -> Result<(), Fail> {
+    order();
+    texts();
+    tree_order();
     Ok(())
 }

@@ -1,4 +1,7 @@
 //! Logs as bytes.
+use super::tracks_and_clips::{
+    ADD_CLIP, ADD_TRACK, MOVE_CLIP, MOVE_TRACK, MUTE, SET_GAIN, TRIM_CLIP,
+};
 use super::{A, MOVE, NEWS, REMOVE, RESTORE, SPORT, log_of, marker};
 use crate::{Log, LogFault, ReadFault, read_op};
 use mt_stamp::{Dot, Stamp};
@@ -54,7 +57,7 @@ fn writes_and_reads_a_log_of_one_marker(rt: HostRuntime) -> Result<(), Fail> {
     Ok(())
 }
 
-// The dots of the five are (A, 1), (A, 2), (B, 1), (B, 2) and (C, 1).
+// Their dots are (A, 1) to (A, 6), (B, 1) to (B, 5) and (C, 1).
 #[test]
 fn writes_and_reads_a_log_of_each_body(rt: HostRuntime) -> Result<(), Fail> {
     let mut sport = SPORT;
@@ -62,18 +65,25 @@ fn writes_and_reads_a_log_of_each_body(rt: HostRuntime) -> Result<(), Fail> {
     let texts = [
         NEWS.as_slice(),
         REMOVE.as_slice(),
+        ADD_TRACK.as_slice(),
+        ADD_CLIP.as_slice(),
+        TRIM_CLIP.as_slice(),
+        MUTE.as_slice(),
         RESTORE.as_slice(),
         MOVE.as_slice(),
+        MOVE_TRACK.as_slice(),
+        MOVE_CLIP.as_slice(),
+        SET_GAIN.as_slice(),
         sport.as_slice(),
     ];
     let mut log = Log::new(rt.alloc());
     for text in texts.iter().rev() {
         assert!(rt; log.add(read_op(rt.alloc(), text)?.0)?);
     }
-    let wanted = log_of(rt.alloc(), 5, &texts)?;
+    let wanted = log_of(rt.alloc(), 12, &texts)?;
     assert_eq!(rt; log.write()?.as_slice(), wanted.as_slice());
     let read = Log::read(rt.alloc(), wanted.as_slice())?;
-    assert_eq!(rt; read.len(), 5);
+    assert_eq!(rt; read.len(), 12);
     assert!(rt; read.ops() == log.ops());
     Ok(())
 }

@@ -169,7 +169,7 @@ fn refuses_the_other_bodies_by_one_byte(rt: HostRuntime) -> Result<(), Fail> {
 
 #[test]
 fn refuses_other_tags(rt: HostRuntime) {
-    for tag in [0, 1, 2, 3, 4, 5, 6, 7, 13, 14, 255] {
+    for tag in [0, 13, 14, 127, 255] {
         let mut bytes = NEWS;
         bytes[32] = tag;
         assert_eq!(rt;

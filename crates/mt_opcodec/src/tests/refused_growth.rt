@@ -1,4 +1,5 @@
 //! Each growth refused in turn, until a run meets no refusal.
+use super::tracks_and_clips::ADD_TRACK;
 use super::{A, NEWS, log_of, marker, removal};
 use crate::{Log, LogFault, ReadFault, read_op, write_op};
 use mt_op::{Op, OpFault};
@@ -43,6 +44,43 @@ fn of_an_operation_that_is_read(rt: HostRuntime) -> Result<(), Fail> {
             return Ok(());
         }
         assert_eq!(rt; read.err(), Some(ReadFault::Memory), "at {at}");
+    }
+    Err(Fail::from("each run met a refusal"))
+}
+
+#[test]
+fn of_a_track_that_is_read(rt: HostRuntime) -> Result<(), Fail> {
+    for at in 0..50 {
+        let memory = Refusing::new(rt.alloc(), at);
+        let read = read_op(&memory, &ADD_TRACK);
+        assert_eq!(rt; read.is_err(), memory.has_refused(), "at {at}");
+        if !memory.has_refused() {
+            assert_eq!(rt; read?.1, ADD_TRACK.len());
+            assert!(rt; at > 0, "the title was refused memory");
+            return Ok(());
+        }
+        assert_eq!(rt; read.err(), Some(ReadFault::Memory), "at {at}");
+    }
+    Err(Fail::from("each run met a refusal"))
+}
+
+#[test]
+fn of_a_written_track(rt: HostRuntime) -> Result<(), Fail> {
+    let (op, _) = read_op(rt.alloc(), &ADD_TRACK)?;
+    for at in 1..50 {
+        let memory = Refusing::new(rt.alloc(), at);
+        let mut out = b"before".to_vec(&memory)?;
+        let written = write_op(&op, &mut out);
+        assert_eq!(rt; written.is_err(), memory.has_refused(), "at {at}");
+        if !memory.has_refused() {
+            let text = out
+                .strip_prefix(b"before")
+                .ok_or("what stood there is gone")?;
+            assert_eq!(rt; text, ADD_TRACK.as_slice());
+            assert!(rt; at > 2, "several growths were refused");
+            return Ok(());
+        }
+        assert_eq!(rt; out.as_slice(), b"before".as_slice(), "at {at}");
     }
     Err(Fail::from("each run met a refusal"))
 }

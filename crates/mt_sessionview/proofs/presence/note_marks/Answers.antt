@@ -4,7 +4,7 @@ use Rattle.std.proofs.lemmas.Option.{same_Some}
 use Rattle.mt_cells.specs.Marks.{Marks}
 use Rattle.mt_op.specs.Operation.{Operation}
 use Rattle.mt_sessionview.specs.Tables.{marked_item, marks_from, AreMarkedBy, IsNowhere, TellsMarks}
-use Rattle.mt_sessionview.proofs.Tables.{at_read}
+use Rattle.mt_sessionview.proofs.Rows.{at_read}
 use Rattle.mt_sessionview.proofs.ItemMarks.{marks_nowhere, marks_here}
 use Rattle.mt_sessionview.proofs.presence.note_marks.Goals as goal
 

@@ -4,7 +4,7 @@ use Rattle.mt_op.specs.Needs.{needs, meets, clock_of}
 use Rattle.mt_op.specs.Ready.{is_ready}
 use Rattle.mt_sessionview.specs.Tables.{AreMarks, TellsMarks}
 use Rattle.mt_sessionview.proofs.ItemMarks.{unmarked}
-use Rattle.mt_sessionview.proofs.Tables.{tells_start, pass_ready, pass_waiting, pass_all, written_whole}
+use Rattle.mt_sessionview.proofs.Rows.{tells_start, pass_ready, pass_waiting, pass_all, written_whole}
 use Rattle.mt_sessionview.proofs.presence.presences.Goals as goal
 
 pub loop-place-init : goal.loop-place-init

@@ -4,7 +4,7 @@ use Rattle.std.proofs.lemmas.List.{length-replicate}
 use Rattle.mt_op.specs.Needs.{needs, meets, clock_of}
 use Rattle.mt_op.specs.Ready.{is_ready}
 use Rattle.mt_sessionview.specs.Tables.{TellsWriters}
-use Rattle.mt_sessionview.proofs.Tables.{pass_ready, pass_waiting, pass_all, written_whole}
+use Rattle.mt_sessionview.proofs.Rows.{pass_ready, pass_waiting, pass_all, written_whole}
 use Rattle.mt_sessionview.proofs.LastWriters.{inside_by, tells_start_by}
 use Rattle.mt_sessionview.proofs.writers.last_writers.Goals as goal
 

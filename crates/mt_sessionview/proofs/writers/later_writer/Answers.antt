@@ -5,7 +5,7 @@ use Rattle.std.proofs.lemmas.Option.{same_Some}
 use Rattle.mt_stamp.specs.Moment.{stamp_cmp}
 use Rattle.mt_op.specs.Operation.{Operation}
 use Rattle.mt_cells.specs.Pairs.{timestamped_cmp}
-use Rattle.mt_sessionview.proofs.Tables.{at_read}
+use Rattle.mt_sessionview.proofs.Rows.{at_read}
 use Rattle.mt_sessionview.proofs.JoinedPlaces.{joined_place}
 use Rattle.mt_sessionview.proofs.writers.later_writer.Goals as goal
 

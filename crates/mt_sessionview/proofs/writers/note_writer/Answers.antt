@@ -1,7 +1,7 @@
 use Rattle.std.proofs.Common.{◌≡◌, ap, ◌∙◌}
 use Rattle.mt_op.specs.Operation.{Operation}
 use Rattle.mt_sessionview.specs.Tables.{written_item}
-use Rattle.mt_sessionview.proofs.Tables.{at_read}
+use Rattle.mt_sessionview.proofs.Rows.{at_read}
 use Rattle.mt_sessionview.proofs.LastWriters.{tells_nowhere_by, tells_written_by}
 use Rattle.mt_sessionview.proofs.writers.note_writer.Goals as goal
 

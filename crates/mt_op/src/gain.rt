@@ -1,0 +1,60 @@
+//! Gains.
+
+ghost use Rattle.std.specs.Prelude.{◌≡◌, ◌↔◌, IfOk, IfErr, IsErrOf};
+ghost use Rattle.mt_op.specs.Gain.{IsRatio};
+
+use crate::fault::OpFault;
+use std::marker::Model;
+
+/// How much louder or softer something sounds: each sample is multiplied by `num` / `den`. Gains are equal, and
+/// ordered, by `num` and then by `den`: 1/1 and 2/2 differ though they sound alike, and 1/1 comes before 1/2.
+#[derive(Clone, Copy, Debug, PartialEq, Eq, PartialOrd, Ord, Hash)]
+pub struct Gain {
+    num: u16,
+    den: u16,
+}
+
+impl Model for Gain {
+    ghost use Rattle.mt_op.specs.Gain.{Ratio, IsRatio};
+
+    ghost Value = { Ratio };
+
+    ghost view = { λ g. record { num = g.num; den = g.den } };
+
+    ghost invariant = { λ g. IsRatio (record { num = g.num; den = g.den }) };
+
+    ghost inverse = { λ g. record { num = g.num; den = g.den } };
+}
+
+impl Gain {
+    /// What sounds as it was recorded: 1/1.
+    pub const UNCHANGED: Gain = Gain { num: 1, den: 1 };
+
+    /// A gain of its parts, each from 0 to 65,535. Refused as `BadGain` (44) where the divisor is 0. Takes no memory.
+    pub fn new(num: u16, den: u16) -> Result<Gain, OpFault>
+        ensures ok { IfOk result (λ gain. gain ≡ record { num = num; den = den }) }
+        ensures bad_gain { IsErrOf result OpFault.BadGain ↔ (den ≡ 0) }
+        ensures err { IfErr result (λ fault. fault ≡ OpFault.BadGain) }
+    {
+        if den == 0 {
+            return Err(OpFault::BadGain);
+        }
+        Ok(Gain { num, den })
+    }
+
+    /// What a sample is multiplied by, from 0 to 65,535.
+    pub fn num(&self) -> u16
+        ensures value { result ≡ self.now.num }
+        ensures valid { IsRatio self.now }
+    {
+        self.num
+    }
+
+    /// What it is then divided by, from 1 to 65,535.
+    pub fn den(&self) -> u16
+        ensures value { result ≡ self.now.den }
+        ensures valid { IsRatio self.now }
+    {
+        self.den
+    }
+}

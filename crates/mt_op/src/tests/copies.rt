@@ -1,0 +1,266 @@
+//! Copies of bodies and operations, and which bodies are equal.
+
+use crate::laws::{equal_bodies, equal_ops};
+use crate::tests::bodies::{add_marker, add_track, remove, retitle, twelve};
+use crate::{Body, Digest, Gain, Op, OpFault};
+use mt_stamp::{Replica, Stamp};
+use mt_testalloc::Refusing;
+use std::alloc::Allocator;
+use std::test::Fail;
+
+const A: Replica = Replica(10);
+
+const B: Replica = Replica(11);
+
+// The first two places where the copy of one body equals another body, or a copy does not equal its own.
+fn first_mistake<M: Allocator + Clone>(
+    bodies: &[Body<M>],
+) -> Result<Option<(usize, usize)>, OpFault> {
+    for (i, body) in bodies.iter().enumerate() {
+        let copy = body.try_clone()?;
+        for (j, other) in bodies.iter().enumerate() {
+            if equal_bodies(&copy, other) != (i == j) {
+                return Ok(Some((i, j)));
+            }
+        }
+    }
+    Ok(None)
+}
+
+#[test]
+fn copies_each_act(rt: HostRuntime) -> Result<(), Fail> {
+    let bodies = twelve(rt.alloc(), Stamp::new(1, A, 1)?)?;
+    assert_eq!(rt; first_mistake(&bodies)?, None);
+    Ok(())
+}
+
+#[test]
+fn copies_acts_on_tracks(rt: HostRuntime) -> Result<(), Fail> {
+    let track = Stamp::new(1, A, 1)?;
+    let other = Stamp::new(1, B, 1)?;
+    let bodies = [
+        add_track(rt.alloc(), None, "News")?,
+        add_track(rt.alloc(), None, "Sport")?,
+        add_track(rt.alloc(), Some(track), "News")?,
+        add_track(rt.alloc(), Some(other), "News")?,
+        Body::MoveTrack { track, after: None },
+        Body::MoveTrack {
+            track: other,
+            after: None,
+        },
+        Body::MoveTrack {
+            track,
+            after: Some(track),
+        },
+        Body::MoveTrack {
+            track,
+            after: Some(other),
+        },
+    ];
+    assert_eq!(rt; first_mistake(&bodies)?, None);
+    Ok(())
+}
+
+// An AddClip of these numbers, of a recording whose digest ends with `last`.
+fn add_clip<M: Allocator>(
+    _memory: M,
+    last: u8,
+    track: Stamp,
+    (at, offset, len): (u32, u32, u32),
+) -> Body<M> {
+    let mut source = [0; 32];
+    source[31] = last;
+    Body::AddClip {
+        source: Digest(source),
+        track,
+        at,
+        offset,
+        len,
+    }
+}
+
+#[test]
+fn copies_added_clips(rt: HostRuntime) -> Result<(), Fail> {
+    let track = Stamp::new(1, A, 1)?;
+    let other = Stamp::new(1, B, 1)?;
+    let bodies = [
+        add_clip(rt.alloc(), 1, track, (1, 2, 3)),
+        add_clip(rt.alloc(), 2, track, (1, 2, 3)),
+        add_clip(rt.alloc(), 1, other, (1, 2, 3)),
+        add_clip(rt.alloc(), 1, track, (4, 2, 3)),
+        add_clip(rt.alloc(), 1, track, (1, 4, 3)),
+        add_clip(rt.alloc(), 1, track, (1, 2, 4)),
+        add_clip(rt.alloc(), 1, track, (1, 3, 2)),
+        add_clip(rt.alloc(), 1, track, (2, 1, 3)),
+    ];
+    assert_eq!(rt; first_mistake(&bodies)?, None);
+    Ok(())
+}
+
+fn move_clip<M: Allocator>(_memory: M, clip: Stamp, track: Stamp, at: u32) -> Body<M> {
+    Body::MoveClip { clip, track, at }
+}
+
+fn trim_clip<M: Allocator>(_memory: M, clip: Stamp, offset: u32, len: u32) -> Body<M> {
+    Body::TrimClip { clip, offset, len }
+}
+
+#[test]
+fn copies_moved_and_trimmed_clips(rt: HostRuntime) -> Result<(), Fail> {
+    let clip = Stamp::new(1, A, 1)?;
+    let other = Stamp::new(1, B, 1)?;
+    let bodies = [
+        move_clip(rt.alloc(), clip, clip, 7),
+        move_clip(rt.alloc(), other, clip, 7),
+        move_clip(rt.alloc(), clip, other, 7),
+        move_clip(rt.alloc(), clip, clip, 8),
+        trim_clip(rt.alloc(), clip, 7, 8),
+        trim_clip(rt.alloc(), other, 7, 8),
+        trim_clip(rt.alloc(), clip, 8, 8),
+        trim_clip(rt.alloc(), clip, 7, 7),
+        trim_clip(rt.alloc(), clip, 8, 7),
+    ];
+    assert_eq!(rt; first_mistake(&bodies)?, None);
+    Ok(())
+}
+
+fn set_gain<M: Allocator>(_memory: M, item: Stamp, gain: Gain) -> Body<M> {
+    Body::SetGain { item, gain }
+}
+
+fn set_mute<M: Allocator>(_memory: M, item: Stamp, on: bool) -> Body<M> {
+    Body::SetMute { item, on }
+}
+
+#[test]
+fn copies_gains_and_mutes(rt: HostRuntime) -> Result<(), Fail> {
+    let item = Stamp::new(1, A, 1)?;
+    let other = Stamp::new(1, B, 1)?;
+    let bodies = [
+        set_gain(rt.alloc(), item, Gain::UNCHANGED),
+        set_gain(rt.alloc(), other, Gain::UNCHANGED),
+        set_gain(rt.alloc(), item, Gain::new(2, 1)?),
+        set_gain(rt.alloc(), item, Gain::new(1, 2)?),
+        set_gain(rt.alloc(), item, Gain::new(2, 2)?),
+        set_mute(rt.alloc(), item, true),
+        set_mute(rt.alloc(), item, false),
+        set_mute(rt.alloc(), other, true),
+    ];
+    assert_eq!(rt; first_mistake(&bodies)?, None);
+    Ok(())
+}
+
+#[test]
+fn copies_acts_on_items_and_markers(rt: HostRuntime) -> Result<(), Fail> {
+    let item = Stamp::new(1, A, 1)?;
+    let other = Stamp::new(1, B, 1)?;
+    let bodies = [
+        remove(rt.alloc(), item, &[item])?,
+        remove(rt.alloc(), item, &[item, other])?,
+        remove(rt.alloc(), item, &[other])?,
+        remove(rt.alloc(), other, &[item])?,
+        Body::Restore { item },
+        Body::Restore { item: other },
+        add_marker(rt.alloc(), 7, "News")?,
+        add_marker(rt.alloc(), 8, "News")?,
+        add_marker(rt.alloc(), 7, "Sport")?,
+        Body::MoveMarker {
+            marker: item,
+            at: 7,
+        },
+        Body::MoveMarker {
+            marker: item,
+            at: 8,
+        },
+        Body::MoveMarker {
+            marker: other,
+            at: 7,
+        },
+        retitle(rt.alloc(), item, "News")?,
+        retitle(rt.alloc(), item, "Sport")?,
+        retitle(rt.alloc(), other, "News")?,
+    ];
+    assert_eq!(rt; first_mistake(&bodies)?, None);
+    Ok(())
+}
+
+// The same of operations.
+fn first_mistaken_op<M: Allocator + Clone>(
+    ops: &[Op<M>],
+) -> Result<Option<(usize, usize)>, OpFault> {
+    for (i, op) in ops.iter().enumerate() {
+        let copy = op.try_clone()?;
+        for (j, other) in ops.iter().enumerate() {
+            if equal_ops(&copy, other) != (i == j) {
+                return Ok(Some((i, j)));
+            }
+        }
+    }
+    Ok(None)
+}
+
+#[test]
+fn copies_operations(rt: HostRuntime) -> Result<(), Fail> {
+    let first = Stamp::new(1, B, 1)?;
+    let second = Stamp::new(2, A, 1)?;
+    let ops = [
+        Op::new(first, add_marker(rt.alloc(), 7, "News")?)?,
+        Op::new(first, add_marker(rt.alloc(), 7, "Sport")?)?,
+        Op::new(second, add_marker(rt.alloc(), 7, "News")?)?,
+        Op::new(second, retitle(rt.alloc(), first, "News")?)?,
+    ];
+    assert_eq!(rt; first_mistaken_op(&ops)?, None);
+    Ok(())
+}
+
+#[test]
+fn compares_bodies_without_their_stamps(rt: HostRuntime) -> Result<(), Fail> {
+    let first = Op::new(Stamp::new(1, B, 1)?, add_track(rt.alloc(), None, "News")?)?;
+    let second = Op::new(Stamp::new(2, A, 1)?, add_track(rt.alloc(), None, "News")?)?;
+    assert!(rt; first.body() == second.body());
+    assert!(rt; first != second);
+    Ok(())
+}
+
+#[test]
+fn refuses_the_growth_of_a_copied_list(rt: HostRuntime) -> Result<(), Fail> {
+    let item = Stamp::new(1, A, 1)?;
+    let refused = Refusing::new(rt.alloc(), 1);
+    let body = remove(&refused, item, &[item])?;
+    assert!(rt; matches!(body.try_clone(), Err(OpFault::Memory)));
+    assert!(rt; refused.has_refused());
+    let granted = Refusing::new(rt.alloc(), 2);
+    let body = remove(&granted, item, &[item])?;
+    assert!(rt; body.try_clone()? == body);
+    assert!(rt; !granted.has_refused());
+    let own = Stamp::new(2, B, 1)?;
+    let refused = Refusing::new(rt.alloc(), 1);
+    let op = Op::new(own, remove(&refused, item, &[item])?)?;
+    assert!(rt; matches!(op.try_clone(), Err(OpFault::Memory)));
+    let granted = Refusing::new(rt.alloc(), 2);
+    let op = Op::new(own, remove(&granted, item, &[item])?)?;
+    assert!(rt; op.try_clone()? == op);
+    Ok(())
+}
+
+#[test]
+fn refuses_the_growth_of_a_copied_track(rt: HostRuntime) -> Result<(), Fail> {
+    let item = Stamp::new(1, A, 1)?;
+    let refused = Refusing::new(rt.alloc(), 1);
+    let body = add_track(&refused, Some(item), "News")?;
+    assert!(rt; matches!(body.try_clone(), Err(OpFault::Memory)));
+    assert!(rt; refused.has_refused());
+    let granted = Refusing::new(rt.alloc(), 2);
+    let body = add_track(&granted, Some(item), "News")?;
+    assert!(rt; body.try_clone()? == body);
+    assert!(rt; !granted.has_refused());
+    let own = Stamp::new(2, B, 1)?;
+    let refused = Refusing::new(rt.alloc(), 1);
+    let op = Op::new(own, add_track(&refused, None, "News")?)?;
+    assert!(rt; matches!(op.try_clone(), Err(OpFault::Memory)));
+    assert!(rt; refused.has_refused());
+    let granted = Refusing::new(rt.alloc(), 2);
+    let op = Op::new(own, add_track(&granted, None, "News")?)?;
+    assert!(rt; op.try_clone()? == op);
+    Ok(())
+}
