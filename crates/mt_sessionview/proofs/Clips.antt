@@ -79,7 +79,7 @@ one_clip ops rise a b of_a of_b tied =
     let one : of_a.op ≡ of_b.op = same_Some of_a.op of_b.op (sym of_a.at ∙ ap (slice_get ops) place ∙ of_b.at) in
     of_a.is ∙ ap (clip_of ops) one ∙ sym of_b.is
 
-clip_cmp_total : IsTotalOrder clip_cmp
+pub clip_cmp_total : IsTotalOrder clip_cmp
 clip_cmp_total = then_total (on_total (λ (c : Clip). c.at) nat_cmp_total) (on_total (λ (c : Clip). c.place) stamp_cmp_total)
 
 -- the last write of a field that is written
@@ -88,7 +88,7 @@ written_last None d some = absurd (some refl)
 written_last (Some w) d some = refl
 
 -- a ready operation that adds a clip gives it a place
-place_given : (ops : List Operation) (p : ℕ) (o : Operation) → slice_get ops p ≡ Some o → is_ready clock_of needs meets ops o ≡ true → adds_clip o.act ≡ true → Gives (written_by clip_place_written o.stamp) (is_ready clock_of needs meets ops) ops (clip_place ops o.stamp)
+pub place_given : (ops : List Operation) (p : ℕ) (o : Operation) → slice_get ops p ≡ Some o → is_ready clock_of needs meets ops o ≡ true → adds_clip o.act ≡ true → Gives (written_by clip_place_written o.stamp) (is_ready clock_of needs meets ops) ops (clip_place ops o.stamp)
 place_given ops p o stands passes adds =
     last_written clip_place_written o.stamp (is_ready clock_of needs meets ops) ops (clip_place ops o.stamp)
     (written_last (field_write clip_place_written ops o.stamp) (own_place o.stamp o.stamp 0) (by o.act refl adds))

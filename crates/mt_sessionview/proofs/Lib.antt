@@ -23,3 +23,5 @@ pub mod Links
 pub mod PlaceTree
 pub mod Linking
 pub mod Tracking
+pub mod Differing
+pub mod Rules

@@ -7,7 +7,7 @@ use Rattle.std.specs.declared.cmp.Ordering.{Ordering}
 use Rattle.std.specs.declared.cmp.Ordering.TheVariants.{Less, Equal, Greater}
 use Rattle.std.specs.List.{AllByRecursion, filter}
 use Rattle.std.proofs.lemmas.Option.{same_Some, none-some}
-use Rattle.mt_sessionview.specs.Sorting.{insert_by, sort_by}
+use Rattle.mt_sessionview.specs.Sorting.{insert_by, sort_by, RisesStrictly}
 
 -- x is one of them
 abbrev pub IsMember : {X : Type 0} → X → List X → Type 0
@@ -52,11 +52,6 @@ member_of_kept {X} p (y ∷ xs) x m = by (p y) refl m (member_of_kept p xs x)
     by false is later rest = let r = rest later in (inr r.0, r.1)
 
 module _ {X : Type 0} (cmp : X → X → Ordering) (order : IsTotalOrder cmp) where
-  -- each item is smaller than every later one
-  abbrev pub RisesStrictly : List X → Type 0
-  RisesStrictly [] = Unit {0}
-  RisesStrictly (x ∷ xs) = AllByRecursion (λ y. cmp x y ≡ Less) xs × RisesStrictly xs
-
   -- no two of them tie
   abbrev pub AreApart : List X → Type 0
   AreApart [] = Unit {0}
@@ -83,7 +78,7 @@ module _ {X : Type 0} (cmp : X → X → Ordering) (order : IsTotalOrder cmp) wh
   rest_member x y v xs ys first less m (inr later) = later
 
   -- strictly rising lists with the same members
-  pub one_list : (xs ys : List X) → RisesStrictly xs → RisesStrictly ys → ((v : X) → IsMember v xs → IsMember v ys) → ((v : X) → IsMember v ys → IsMember v xs) → xs ≡ ys
+  pub one_list : (xs ys : List X) → RisesStrictly cmp xs → RisesStrictly cmp ys → ((v : X) → IsMember v xs → IsMember v ys) → ((v : X) → IsMember v ys → IsMember v xs) → xs ≡ ys
   one_list [] [] x_rise y_rise there back = refl
   one_list [] (y ∷ ys) x_rise y_rise there back = absurd (back y (inl refl))
   one_list (x ∷ xs) [] x_rise y_rise there back = absurd (there x (inl refl))
@@ -105,11 +100,11 @@ module _ {X : Type 0} (cmp : X → X → Ordering) (order : IsTotalOrder cmp) wh
   all_less x y [] less all = tt
   all_less x y (z ∷ ys) less all = (order.trans x y z less all.0, all_less x y ys less all.1)
 
-  strict_insert : (x : X) (ys : List X) → AllByRecursion (λ y. cmp x y ≢ Equal) ys → RisesStrictly ys → RisesStrictly (insert_by cmp x ys)
+  strict_insert : (x : X) (ys : List X) → AllByRecursion (λ y. cmp x y ≢ Equal) ys → RisesStrictly cmp ys → RisesStrictly cmp (insert_by cmp x ys)
   strict_insert x [] apart rise = (tt, tt)
   strict_insert x (y ∷ ys) apart rise = by (cmp x y) refl (strict_insert x ys apart.1 rise.1)
     where
-      by : (o : Ordering) → cmp x y ≡ o → RisesStrictly (insert_by cmp x ys) → RisesStrictly (match_ordering o (x ∷ y ∷ ys) (x ∷ y ∷ ys) (y ∷ insert_by cmp x ys))
+      by : (o : Ordering) → cmp x y ≡ o → RisesStrictly cmp (insert_by cmp x ys) → RisesStrictly cmp (match_ordering o (x ∷ y ∷ ys) (x ∷ y ∷ ys) (y ∷ insert_by cmp x ys))
       by Less is rest = ((is, all_less x y ys is rise.0), rise)
       by Equal is rest = absurd (apart.0 is)
       by Greater is rest = (all_insert (λ z. cmp y z ≡ Less) x ys (order.antisymm y x ∙ ap ordering_reverse is) rise.0, rest)
@@ -119,7 +114,7 @@ module _ {X : Type 0} (cmp : X → X → Ordering) (order : IsTotalOrder cmp) wh
   all_sorted P (x ∷ xs) all = all_insert P x (sort_by cmp xs) all.0 (all_sorted P xs all.1)
 
   -- sorting what does not tie
-  pub sort_strict : (xs : List X) → AreApart xs → RisesStrictly (sort_by cmp xs)
+  pub sort_strict : (xs : List X) → AreApart xs → RisesStrictly cmp (sort_by cmp xs)
   sort_strict [] apart = tt
   sort_strict (x ∷ xs) apart = strict_insert x (sort_by cmp xs) (all_sorted (λ y. cmp x y ≢ Equal) xs apart.0) (sort_strict xs apart.1)
 

@@ -15,13 +15,15 @@ use Rattle.mt_op.specs.Ready.{is_ready}
 use Rattle.mt_op.specs.Dots.{dots_rise}
 use Rattle.mt_op.specs.Writes.{Written, track_place_written, written_by}
 use Rattle.mt_op.proofs.Needs.{and_first}
-use Rattle.mt_sessionview.specs.Session.{ready_ops, field_write, is_shown, shown_ops, places, track_place, track_cmp}
-use Rattle.mt_sessionview.specs.Sorting.{sort_by}
+use Rattle.mt_sessionview.specs.Session.{ready_ops, field_write, is_shown, shown_ops, places, track_place, track_cmp, track_of}
+use Rattle.mt_sessionview.specs.Sorting.{sort_by, RisesStrictly, DifferBy}
+use Rattle.mt_sessionview.specs.Content.{Track}
 use Rattle.mt_sessionview.specs.Told.{AreAt}
 use Rattle.mt_sessionview.specs.TrackOrder.{IsTrackAt, IsTrackOrder}
+use Rattle.mt_sessionview.proofs.Differing.{stamp_of, differ_kept, differ_sorted, differ_mapped}
 use Rattle.mt_sessionview.proofs.Found.{one_place}
 use Rattle.mt_sessionview.proofs.LastWrites.{Gives, last_written, one_item}
-use Rattle.mt_sessionview.proofs.Members.{IsMember, member_at, StandsIn, member_stands, member_kept, member_of_kept, RisesStrictly, AreApart, one_list, sort_strict, member_sorted, member_unsorted}
+use Rattle.mt_sessionview.proofs.Members.{IsMember, member_at, StandsIn, member_stands, member_kept, member_of_kept, AreApart, one_list, sort_strict, member_sorted, member_unsorted}
 use Rattle.mt_sessionview.proofs.Shown.{field_is}
 
 -- the last write of a track's place is there
@@ -77,12 +79,7 @@ module _ (ops : List Operation) (rise : dots_rise ops ≡ true) where
       let stands = member_stands ops o ready.0 in
       record { place = stands.place; at = stands.at; ready = ready.1; adds = and_first _ _ shown.1 }
 
-  -- no stamp stands twice
-  abbrev AreDistinct : List Operation → Type 0
-  AreDistinct [] = Unit {0}
-  AreDistinct (o ∷ os) = AllByRecursion (λ x. o.stamp ≢ x.stamp) os × AreDistinct os
-
-  distinct_from : (os : List Operation) (n : ℕ) → ((k : ℕ) (o : Operation) → slice_get os k ≡ Some o → slice_get ops (n + k) ≡ Some o) → AreDistinct os
+  pub distinct_from : (os : List Operation) (n : ℕ) → ((k : ℕ) (o : Operation) → slice_get os k ≡ Some o → slice_get ops (n + k) ≡ Some o) → DifferBy stamp_of os
   distinct_from [] n at = tt
   distinct_from (o ∷ os) n at = (others os 0 (λ k x e. let moved : n + suc (0 + k) ≡ n + suc k = omega arith in ap (slice_get ops) moved ∙ at (suc k) x e), distinct_from os (n + 1) (λ k x e. let moved : n + 1 + k ≡ n + suc k = omega arith in ap (slice_get ops) moved ∙ at (suc k) x e))
     where
@@ -96,23 +93,7 @@ module _ (ops : List Operation) (rise : dots_rise ops ≡ true) where
         others xs (j + 1) (λ k y e. let moved : n + suc (j + 1 + k) ≡ n + suc (j + suc k) = omega arith in ap (slice_get ops) moved ∙ found (suc k) y e),
       )
 
-  all_kept : (P : Operation → Type 0) (p : Operation → Bool) (os : List Operation) → AllByRecursion P os → AllByRecursion P (filter p os)
-  all_kept P p [] all = tt
-  all_kept P p (o ∷ os) all = by (p o) (all_kept P p os all.1)
-    where
-      by : (b : Bool) → AllByRecursion P (filter p os) → AllByRecursion P (cond b (o ∷ filter p os) (filter p os))
-      by true rest = (all.0, rest)
-      by false rest = rest
-
-  distinct_kept : (p : Operation → Bool) (os : List Operation) → AreDistinct os → AreDistinct (filter p os)
-  distinct_kept p [] d = tt
-  distinct_kept p (o ∷ os) d = by (p o) (distinct_kept p os d.1)
-    where
-      by : (b : Bool) → AreDistinct (filter p os) → AreDistinct (cond b (o ∷ filter p os) (filter p os))
-      by true rest = (all_kept (λ x. o.stamp ≢ x.stamp) p os d.0, rest)
-      by false rest = rest
-
-  apart_from : (os : List Operation) → ((o : Operation) → IsMember o os → IsTrackOf ops o) → AreDistinct os → AreApart (track_cmp ops) (track_cmp_total ops) os
+  apart_from : (os : List Operation) → ((o : Operation) → IsMember o os → IsTrackOf ops o) → DifferBy stamp_of os → AreApart (track_cmp ops) (track_cmp_total ops) os
   apart_from [] tracks d = tt
   apart_from (o ∷ os) tracks d = (each os (λ x m. tracks x (inr m)) d.0, apart_from os (λ x m. tracks x (inr m)) d.1)
     where
@@ -123,12 +104,12 @@ module _ (ops : List Operation) (rise : dots_rise ops ≡ true) where
   shown_apart : AreApart (track_cmp ops) (track_cmp_total ops) (shown_ops adds_track ops)
   shown_apart =
       apart_from (shown_ops adds_track ops) is_track
-      (distinct_kept (is_shown adds_track ops) (ready_ops ops) (distinct_kept (is_ready clock_of needs meets ops) ops (distinct_from ops 0 (λ k o e. let moved : 0 + k ≡ k = omega arith in ap (slice_get ops) moved ∙ e))))
+      (differ_kept stamp_of (is_shown adds_track ops) (ready_ops ops) (differ_kept stamp_of (is_ready clock_of needs meets ops) ops (distinct_from ops 0 (λ k o e. let moved : 0 + k ≡ k = omega arith in ap (slice_get ops) moved ∙ e))))
 
   -- the operations at places that rise by their tracks' places
   shown_rise : (order : List ℕ) (shown : List Operation) → AreAt ops order shown
       → ((j k p q : ℕ) (a b : Operation) → j < k → slice_get order j ≡ Some p → slice_get order k ≡ Some q → slice_get ops p ≡ Some a → slice_get ops q ≡ Some b → track_cmp ops a b ≡ Less)
-      → RisesStrictly (track_cmp ops) (track_cmp_total ops) shown
+      → RisesStrictly (track_cmp ops) shown
   shown_rise [] [] at rises = tt
   shown_rise [] (o ∷ shown) at rises = absurd at
   shown_rise (p ∷ order) [] at rises = absurd at
@@ -189,3 +170,14 @@ those_at ops (p ∷ order) within =
     let here = within 0 p refl in
     let rest = those_at ops order (λ k q e. within (suc k) q e) in
     (here.op ∷ rest.0, (here.at, rest.1))
+
+-- no stamp stands twice
+pub every_stamp : (ops : List Operation) → dots_rise ops ≡ true → DifferBy stamp_of ops
+every_stamp ops rise = distinct_from ops rise ops 0 (λ k o e. let moved : 0 + k ≡ k = omega arith in ap (slice_get ops) moved ∙ e)
+
+-- a session has each track once
+pub tracks_once : (ops : List Operation) → dots_rise ops ≡ true → DifferBy (λ (t : Track). t.track) (map (track_of ops) (sort_by (track_cmp ops) (shown_ops adds_track ops)))
+tracks_once ops rise =
+    let shown : List Operation = shown_ops adds_track ops in
+    let distinct : DifferBy stamp_of shown = differ_kept stamp_of (is_shown adds_track ops) (ready_ops ops) (differ_kept stamp_of (is_ready clock_of needs meets ops) ops (every_stamp ops rise)) in
+    differ_mapped (track_of ops) (λ (t : Track). t.track) (sort_by (track_cmp ops) shown) (differ_sorted stamp_of (track_cmp ops) shown distinct)

@@ -1,10 +1,11 @@
 -- What a session shows, without where its texts lie in memory (profile).
-use Rattle.std.specs.Prelude.{ℕ, Bool, List}
+use Rattle.std.specs.Prelude.{ℕ, ◌≤◌, Bool, List}
 use Rattle.std.specs.declared.cmp.Ordering.{Ordering}
 use Rattle.std.specs.Ordering.{nat_cmp, ordering_then}
 use Rattle.mt_stamp.specs.Moment.{Moment, stamp_cmp}
 use Rattle.mt_op.specs.Gain.{Ratio}
 use Rattle.mt_op.specs.declared.digest.Digest.{Digest}
+use Rattle.mt_sessionview.specs.Sorting.{RisesStrictly, DifferBy}
 
 -- a clip: the stamp that names it, the stamp of the operation that gave its place, where it begins in the session, the
 -- first frame of its recording that it plays and how many, in frames, and how it sounds
@@ -45,3 +46,20 @@ clip_cmp a b = ordering_then (nat_cmp a.at b.at) (stamp_cmp a.place b.place)
 -- markers by position, and then by stamp (profile)
 abbrev pub marker_cmp : Marker → Marker → Ordering
 marker_cmp a b = ordering_then (nat_cmp a.at b.at) (stamp_cmp a.marker b.marker)
+
+-- a clip plays at least one frame
+abbrev pub IsClip : Clip → Type 0
+IsClip c = 1 ≤ c.len
+
+-- the clips of a track rise by position and by the stamp of their place, and no two have the same place
+pub record AreClips (clips : List Clip) : Type 0 where
+  pub rise : RisesStrictly clip_cmp clips
+  pub apart : DifferBy (λ (c : Clip). c.place) clips
+
+abbrev pub IsTrack : Track → Type 0
+IsTrack t = AreClips t.clips
+
+-- a track is there once, and the markers rise by position and stamp
+pub record IsContent (c : Content) : Type 0 where
+  pub once : DifferBy (λ (t : Track). t.track) c.tracks
+  pub rise : RisesStrictly marker_cmp c.markers

@@ -5,7 +5,7 @@ use mt_stamp::{List, Stamp};
 use std::alloc::{Allocator, Global};
 use std::marker::Model;
 
-/// A clip that is present, on a track that is.
+/// A clip that is present, on a track that is. Its length is at least 1.
 #[derive(Clone, Copy, Debug, PartialEq, Eq)]
 pub struct ClipView {
     /// The stamp of the operation that added it, which names it.
@@ -28,16 +28,18 @@ pub struct ClipView {
 }
 
 impl Model for ClipView {
-    ghost use Rattle.mt_sessionview.specs.Content.{Clip};
+    ghost use Rattle.mt_sessionview.specs.Content.{Clip, IsClip};
 
     ghost Value = { Clip };
 
     ghost view = { λ c. record { clip = c.clip; place = c.place; at = c.at; offset = c.offset; len = c.len; gain = c.gain; mute = c.mute; source = c.source } };
 
+    ghost invariant = { λ c. IsClip (record { clip = c.clip; place = c.place; at = c.at; offset = c.offset; len = c.len; gain = c.gain; mute = c.mute; source = c.source }) };
+
     ghost inverse = { λ c. record { clip = c.clip; place = c.place; at = c.at; offset = c.offset; len = c.len; gain = c.gain; mute = c.mute; source = c.source } };
 }
 
-/// A track that is present.
+/// A track that is present. Its clips are in order, and no two of them have the same place.
 #[derive(Drop)]
 #[derive_where(Debug, PartialEq, Eq)]
 pub struct TrackView<A: Allocator = Global> {
@@ -54,11 +56,13 @@ pub struct TrackView<A: Allocator = Global> {
 }
 
 impl<A: Allocator> Model for TrackView<A> {
-    ghost use Rattle.mt_sessionview.specs.Content.{Track};
+    ghost use Rattle.mt_sessionview.specs.Content.{Track, IsTrack};
 
     ghost Value = { Track };
 
     ghost view = { λ t. record { track = t.track; title = t.title; gain = t.gain; mute = t.mute; clips = t.clips } };
+
+    ghost invariant = { λ t. IsTrack (record { track = t.track; title = t.title; gain = t.gain; mute = t.mute; clips = t.clips }) };
 
     ghost inverse = { λ t. record { track = t.track; title = t.title; gain = t.gain; mute = t.mute; clips = t.clips } };
 }
@@ -85,7 +89,7 @@ impl<A: Allocator> Model for MarkerView<A> {
     ghost inverse = { λ m. record { marker = m.marker; at = m.at; title = m.title } };
 }
 
-/// The session of a set of operations.
+/// The session of a set of operations. No track is there twice, and the markers are in order.
 #[derive(Drop)]
 #[derive_where(Debug, PartialEq, Eq)]
 pub struct Session<A: Allocator = Global> {
@@ -98,11 +102,13 @@ pub struct Session<A: Allocator = Global> {
 }
 
 impl<A: Allocator> Model for Session<A> {
-    ghost use Rattle.mt_sessionview.specs.Content.{Content};
+    ghost use Rattle.mt_sessionview.specs.Content.{Content, IsContent};
 
     ghost Value = { Content };
 
     ghost view = { λ s. record { tracks = s.tracks; markers = s.markers; held = s.held } };
+
+    ghost invariant = { λ s. IsContent (record { tracks = s.tracks; markers = s.markers; held = s.held }) };
 
     ghost inverse = { λ c. record { tracks = c.tracks; markers = c.markers; held = c.held } };
 }

@@ -24,6 +24,7 @@ fn track_at<A: Allocator + Clone>(
     place: usize,
     clips: Vec<ClipView, A>,
 ) -> Result<Option<TrackView<A>>, SessionFault>
+    requires rise { IsTrue (dots_rise ops.now) }
     requires inside { place < length ops.now }
     requires shown { (o : Operation) → slice_get ops.now place ≡ Some o → (is_ready clock_of needs meets ops.now o ≡ true) × (adds_track o.act ≡ true) }
     requires tables { AreTables ops.now tables.now }

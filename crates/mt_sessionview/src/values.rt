@@ -1,6 +1,6 @@
 //! What the last writers of fields wrote.
 
-ghost use Rattle.std.specs.Prelude.{◌≡◌, ◌<◌, ℕ, Bool, List, length, Option, Some, option_map, unwrap_or, IfSome};
+ghost use Rattle.std.specs.Prelude.{◌≡◌, ◌<◌, ◌≤◌, ℕ, Bool, List, length, Option, Some, option_map, unwrap_or, IfSome};
 ghost use Rattle.mt_stamp.specs.Moment.{Moment};
 ghost use Rattle.mt_op.specs.Gain.{Ratio};
 ghost use Rattle.mt_op.specs.Writes.{Written, title_written, gain_written, mute_written, clip_place_written, trim_written, position_written};
@@ -82,9 +82,10 @@ pub(crate) fn last_mute<A: Allocator>(ops: &[Op<A>], writer: Option<usize>, own:
     written_mute(&ops[place]).unwrap_or(own)
 }
 
-// The first frame and the length that an operation writes.
+// The first frame and the length, at least 1, that an operation writes.
 fn written_trim<A: Allocator>(op: &Op<A>) -> Option<(u32, u32)>
-    ensures { result ≡ option_map (λ w. w.value) (trim_written op.now.stamp op.now.act) }
+    ensures value { result ≡ option_map (λ w. w.value) (trim_written op.now.stamp op.now.act) }
+    ensures positive { IfSome result (λ t. 1 ≤ t.1) }
 {
     match op.body() {
         Body::AddClip { offset, len, .. } | Body::TrimClip { offset, len, .. } => {
@@ -100,8 +101,10 @@ pub(crate) fn last_trim<A: Allocator>(
     writer: Option<usize>,
     own: (u32, u32),
 ) -> (u32, u32)
-    requires { IfSome writer (λ w. w < length ops.now) }
-    ensures { (item : Moment) (last : Option (Written (ℕ × ℕ))) → IsLastWriter trim_written ops.now item last writer → result ≡ unwrap_or (option_map (λ w. w.value) last) own }
+    requires inside { IfSome writer (λ w. w < length ops.now) }
+    requires own { 1 ≤ own.1 }
+    ensures value { (item : Moment) (last : Option (Written (ℕ × ℕ))) → IsLastWriter trim_written ops.now item last writer → result ≡ unwrap_or (option_map (λ w. w.value) last) own }
+    ensures positive { 1 ≤ result.1 }
 {
     let Some(place) = writer else {
         return own;

@@ -1,6 +1,6 @@
 use super::{from_scratch, write_text};
 use crate::{Session, SessionFault};
-use mt_op::{Body, Op, Title};
+use mt_op::{Body, Digest, Op, Title};
 use mt_opcodec::{Latch, Log};
 use mt_stamp::{Replica, Stamp};
 use mt_testalloc::Refusing;
@@ -8,7 +8,12 @@ use std::alloc::Allocator;
 use std::io::{Error, ErrorKind, Result as IoResult, Write};
 use std::test::Fail;
 
-const TEXT: &str = "marker 1.1.00000000-0000-0000-0000-00000000000a at 480 title News\nheld 1\n";
+const TEXT: &str = "\
+track 2.2.00000000-0000-0000-0000-00000000000a gain 1/1 mute off title Voice
+clip 3.3.00000000-0000-0000-0000-00000000000a place 3.3.00000000-0000-0000-0000-00000000000a at 48 offset 4 len 8 gain 1/1 mute off source 0707070707070707070707070707070707070707070707070707070707070707
+marker 1.1.00000000-0000-0000-0000-00000000000a at 480 title News
+held 1
+";
 
 /// Takes one byte at each write, and fails at the write of this number, counted from 0.
 #[derive(Drop)]
@@ -32,9 +37,38 @@ impl Write for Narrow {
     }
 }
 
-/// A marker, and a retitle of another one that is not there, if there is memory for them.
+/// Adds a track that is moved, if there is memory for it.
+fn add_track<M: Allocator>(memory: M, log: &mut Log<M>, track: Stamp) -> Option<()> {
+    let title = Title::new(memory, "Voice").ok()?;
+    let added = Body::AddTrack { after: None, title };
+    let _new = log.add(Op::new(track, added).ok()?).ok()?;
+    let after = Some(track);
+    let moved = Stamp::new(4, Replica(10), 4).ok()?;
+    let moved = Op::new(moved, Body::MoveTrack { track, after }).ok()?;
+    let _new = log.add(moved).ok()?;
+    Some(())
+}
+
+/// Adds a clip of a track, if there is memory for it.
+fn add_clip<M: Allocator>(log: &mut Log<M>, track: Stamp) -> Option<()> {
+    let clip = Body::AddClip {
+        source: Digest([7; 32]),
+        track,
+        at: 48,
+        offset: 4,
+        len: 8,
+    };
+    let own = Stamp::new(3, Replica(10), 3).ok()?;
+    let _new = log.add(Op::new(own, clip).ok()?).ok()?;
+    Some(())
+}
+
+/// A marker, a retitle of another one that is not there, and a track with a clip, if there is memory for them.
 fn log<M: Allocator + Clone>(memory: M) -> Option<Log<M>> {
     let mut log = Log::new(memory.clone().ok()?);
+    let track = Stamp::new(2, Replica(10), 2).ok()?;
+    add_track(memory.clone().ok()?, &mut log, track)?;
+    add_clip(&mut log, track)?;
     let title = Title::new(memory.clone().ok()?, "News").ok()?;
     let marker = Stamp::new(1, Replica(10), 1).ok()?;
     let marker = Op::new(marker, Body::AddMarker { at: 480, title }).ok()?;
@@ -57,6 +91,7 @@ fn session(rt: &HostRuntime) -> Result<Session, Fail> {
 #[test]
 fn shows_a_log(rt: HostRuntime) -> Result<(), Fail> {
     let session = session(&rt)?;
+    assert_eq!(rt; session.tracks.items().len(), 1);
     assert_eq!(rt; session.markers.items().len(), 1);
     assert_eq!(rt; session.held, 1);
     let mut output = Latch::new(Vec::new(rt.alloc()));
@@ -124,6 +159,7 @@ fn makes_no_session_without_memory(rt: HostRuntime) -> Result<(), Fail> {
         let made = from_scratch(&memory, &log);
         if !memory.has_refused() {
             let session = made?;
+            assert_eq!(rt; session.tracks.items().len(), 1);
             assert_eq!(rt; session.markers.items().len(), 1);
             assert_eq!(rt; session.held, 1);
             assert!(rt; refused, "a growth of the session was refused");

@@ -1,8 +1,12 @@
-use Rattle.std.proofs.Common.{◌≡◌, Some, List, ℕ, [], sym, ap, ◌∙◌, Option}
+use Rattle.std.proofs.Common.{◌≡◌, Some, List, ℕ, [], length, refl, sym, ap, ◌∙◌, subst, Option}
+use Rattle.std.specs.Prelude.{slice_get}
+use Rattle.std.proofs.lemmas.Option.{slice_get_read}
 use Rattle.mt_op.specs.Operation.{AddTrack, Operation}
 use Rattle.mt_op.specs.Bodies.{act_of}
 use Rattle.mt_op.specs.Writes.{title_written, gain_written, mute_written}
 use Rattle.mt_sessionview.specs.Session.{field_write, track_of}
+use Rattle.mt_sessionview.specs.Content.{AreClips}
+use Rattle.mt_sessionview.proofs.Rules.{clips_are}
 use Rattle.mt_sessionview.proofs.Shown.{field_is, given_or}
 use Rattle.mt_sessionview.proofs.Told.{last_told, told_inside}
 use Rattle.mt_sessionview.proofs.Rows.{at_read}
@@ -33,3 +37,10 @@ returns-clause-ok g c =
     let mute = c.last_mute.ensures o.stamp (field_write mute_written ops o.stamp) (last_told mute_written ops c.args.place o c.args.tables.now.mutes.items c.index-3.result.now at c.requires.tables.mutes.count c.requires.tables.mutes.tells c.index-3.ensures) in
     let clips = c.new.ensures ∙ c.requires.clips o at in
     λ i. Some (record { track = stamps i; title = title i; gain = gain i; mute = mute i; clips = clips i })
+
+pub invariant_of-result : goal.invariant_of-result
+invariant_of-result g c =
+    let ops = c.args.ops.now in
+    let o = c.index-ops-place.result in
+    let at : slice_get ops c.args.place ≡ Some o = slice_get_read ops (length ops) c.args.place o refl c.requires.inside c.index-ops-place.is in
+    subst AreClips (sym (c.new.ensures ∙ c.requires.clips o at)) (clips_are ops c.requires.rise o.stamp)
