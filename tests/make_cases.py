@@ -1,5 +1,5 @@
 #!/usr/bin/env python3
-"""Writes tests/cases anew. Each case is a folder: the words after the program's name (a line each), the files that lie
+"""Writes tests/cases anew, and examples/programme.log and examples/jingle.wav. Each case is a folder: the words after the program's name (a line each), the files that lie
 where it runs, its input, and the output, the errors and the status that are wanted. The wanted texts are written here by
 hand; nothing here runs the program."""
 import hashlib
@@ -212,6 +212,9 @@ view("tracks_each_after_the_last", [add_track((n, A, n), (n - 1, A, n - 1) if n 
 view("tracks_all_after_the_first", [add_track((n, A, n), (1, A, 1) if n > 1 else None, str(n)) for n in range(1, 41)], track_line((1, A, 1), "1") + "".join(track_line((n, A, n), str(n)) for n in range(40, 1, -1)) + "held 0\n")
 view("tracks_all_at_the_head", [add_track((n, A, n), None, str(n)) for n in range(1, 41)], "".join(track_line((n, A, n), str(n)) for n in range(40, 0, -1)) + "held 0\n")
 
+view("places_below_the_later_sibling", [a, add_track((3, B, 1), (1, A, 1), "d"), add_track((4, B, 2), (3, B, 1), "f"), add_track((2, A, 2), (1, A, 1), "b")],
+     track_line((1, A, 1), "a") + track_line((3, B, 1), "d") + track_line((4, B, 2), "f") + track_line((2, A, 2), "b") + "held 0\n")
+
 # tracks that move: each stands once, at its place of greatest stamp
 p, q, r = add_track((1, A, 1), None, "p"), add_track((2, A, 2), (1, A, 1), "q"), add_track((3, A, 3), (2, A, 2), "r")
 P, Q, R = track_line((1, A, 1), "p"), track_line((2, A, 2), "q"), track_line((3, A, 3), "r")
@@ -261,6 +264,28 @@ view("clip_on_a_move_waits", [p, move_track((2, A, 2), T, None), add_clip((3, A,
 view("track_after_a_clip_waits", [p, clip, add_track((3, B, 1), (2, A, 2), "n")], shown((2, A, 2), 1).replace("held 0", "held 1"))
 view("trim_of_a_track_waits", [p, trim_clip((2, A, 2), T, 0, 1)], P + "held 1\n")
 view("trim_of_a_clip_that_waits", [add_clip((2, A, 2), D, T, 0, 0, 1), trim_clip((3, A, 3), (2, A, 2), 0, 1)], "held 2\n")
+
+# roles that do not fit: a move is a place alone, a clip is neither a track nor a place, and a tag is its own item's
+moved = move_track((3, A, 3), T, None)
+PT = track_line(T, "p")
+view("move_of_a_move_waits", [p, moved, move_track((4, A, 4), (3, A, 3), None)], PT + "held 1\n")
+view("title_of_a_move_waits", [p, moved, retitle((4, A, 4), (3, A, 3), "m")], PT + "held 1\n")
+view("gain_of_a_move_waits", [p, moved, set_gain((4, A, 4), (3, A, 3), 1, 2)], PT + "held 1\n")
+view("mute_of_a_move_waits", [p, moved, set_mute((4, A, 4), (3, A, 3), 1)], PT + "held 1\n")
+view("removal_of_a_move_waits", [p, moved, remove((4, A, 4), (3, A, 3), [(3, A, 3)])], PT + "held 1\n")
+view("removal_of_a_track_by_its_move_waits", [p, moved, remove((4, A, 4), T, [T, (3, A, 3)])], PT + "held 1\n")
+view("removal_of_a_clip_by_its_track_waits", [p, clip, remove((4, A, 4), (2, A, 2), [T])], shown((2, A, 2), 1).replace("held 0", "held 1"))
+view("clip_on_a_clip_waits", [p, clip, add_clip((4, A, 4), D, (2, A, 2), 0, 0, 1)], shown((2, A, 2), 1).replace("held 0", "held 1"))
+view("clip_moved_onto_a_clip_waits", [p, clip, move_clip((4, A, 4), (2, A, 2), (2, A, 2), 0)], shown((2, A, 2), 1).replace("held 0", "held 1"))
+view("track_moved_as_a_clip_waits", [p, move_clip((4, A, 4), T, T, 0)], PT + "held 1\n")
+view("track_moved_after_a_clip_waits", [p, clip, move_track((4, A, 4), T, (2, A, 2))], shown((2, A, 2), 1).replace("held 0", "held 1"))
+view("track_moved_as_a_marker_waits", [p, move_marker((4, A, 4), T, 5)], PT + "held 1\n")
+view("restore_of_a_trim_waits", [p, clip, trim_clip((4, A, 4), (2, A, 2), 2, 3), restore((5, A, 5), (4, A, 4))], shown((2, A, 2), 1).replace("held 0", "held 1"))
+view("clip_with_one_of_two_tags_removed", [p, clip, restore((3, B, 1), (2, A, 2)), remove((4, A, 4), (2, A, 2), [(2, A, 2)])], shown((2, A, 2), 1))
+in_two = {"a": log([p, clip, move_clip((5, B, 1), (2, A, 2), T, 70)]), "b": log([p, clip, remove((5, A, 5), (2, A, 2), [(2, A, 2)])])}
+for order in ["ab", "ba"]:
+    case("moved_and_removed_clip_in_logs_" + order, ["view"] + list(order), files=in_two, stdout=P + "held 0\n")
+view("track_with_a_title_of_255_bytes", [add_track((1, A, 1), None, "n" * 255)], track_line((1, A, 1), "n" * 255) + "held 0\n")
 
 # the largest and the smallest of every number, and titles in several scripts and none
 MOST = 2**32 - 1
@@ -434,8 +459,13 @@ EXAMPLES = os.path.join(os.path.dirname(os.path.dirname(os.path.abspath(__file__
 with open(os.path.join(EXAMPLES, "morning.log"), "rb") as file:
     MORNING = file.read()
 case("example_log", ["view", "log"], files={"log": MORNING}, stdout=marker_line((1, A, 1), 480, "Headlines") + marker_line((2, A, 2), 96000, "Weather for the coast") + "held 0\n")
-with open(os.path.join(EXAMPLES, "jingle.wav"), "rb") as file:
-    JINGLE_DIGEST = hashlib.sha256(file.read()).digest()
+JINGLE = riff(
+    chunk(b"bext", bext(b"Jingle of the morning programme", b"Davonelume", b"DE-0001", b"2026-11-22", b"06:00:00", 1036800000, 0, b"A=PCM,F=48000,W=16,M=mono\r\n")),
+    fmt(bits=16), data(bytes(range(96))), cue(point(1, 0), point(2, 24)), adtl(labl(1, b"Bell\0"), labl(2, b"Voice\0")),
+)
+with open(os.path.join(EXAMPLES, "jingle.wav"), "wb") as file:
+    file.write(JINGLE)
+JINGLE_DIGEST = hashlib.sha256(JINGLE).digest()
 PROGRAMME = log([
     add_track((1, A, 1), None, "Speech"), add_track((2, A, 2), (1, A, 1), "Music"), add_clip((3, A, 3), JINGLE_DIGEST, (1, A, 1), 0, 0, 480000), add_marker((4, A, 4), 480, "Headlines"),
     retitle((5, B, 1), (1, A, 1), "Voice"), set_gain((6, B, 2), (3, A, 3), 1, 2), move_clip((7, B, 3), (3, A, 3), (1, A, 1), 48000), set_mute((8, B, 4), (2, A, 2), 1), trim_clip((9, B, 5), (6, C, 1), 0, 96000),
@@ -443,12 +473,6 @@ PROGRAMME = log([
 with open(os.path.join(EXAMPLES, "programme.log"), "wb") as file:
     file.write(PROGRAMME)
 case("example_programme", ["view", "log"], files={"log": PROGRAMME}, stdout=track_line((1, A, 1), "Voice") + clip_line((3, A, 3), (7, B, 3), 48000, 0, 480000, JINGLE_DIGEST, gain=(1, 2)) + track_line((2, A, 2), "Music", mute=True) + marker_line((4, A, 4), 480, "Headlines") + "held 1\n")
-JINGLE = riff(
-    chunk(b"bext", bext(b"Jingle of the morning programme", b"Davonelume", b"DE-0001", b"2026-11-22", b"06:00:00", 1036800000, 0, b"A=PCM,F=48000,W=16,M=mono\r\n")),
-    fmt(bits=16), data(bytes(range(96))), cue(point(1, 0), point(2, 24)), adtl(labl(1, b"Bell\0"), labl(2, b"Voice\0")),
-)
-with open(os.path.join(EXAMPLES, "jingle.wav"), "wb") as file:
-    file.write(JINGLE)
 told("example_wave", JINGLE, bits=16, frames=48, extension=["bext 0", "description Jingle of the morning programme", "originator Davonelume", "reference DE-0001", "date 2026-11-22", "time 06:00:00", "time-reference 1036800000", "history A=PCM,F=48000,W=16,M=mono\\x0d\\x0a"],
      cues=["cue 1 at 0 label Bell", "cue 2 at 24 label Voice"])
 case("wave_called_dash", ["info", "-"], files={"-": SMALLEST}, stdout=info(SMALLEST, **EIGHT))

@@ -21,7 +21,7 @@ use std::alloc::{Allocator, Global};
 #[derive_where(Debug, PartialEq, Eq)]
 pub enum Body<A: Allocator = Global> {
     /// Adds a track at a place of its own: after the place `after`, or at the head, and before all places that were put
-    /// there with smaller stamps. The place has the operation's stamp. Its gain is 1/1, and it is not muted.
+    /// there with smaller stamps. The place has the operation's stamp. The track's gain is 1/1, and it is not muted.
     AddTrack {
         after: Option<Stamp>,
         title: Title<A>,
@@ -33,7 +33,7 @@ pub enum Body<A: Allocator = Global> {
         after: Option<Stamp>,
     },
     /// Adds a clip to a track, from frame `at` of the session on: `len` frames, at least 1, of the recording with the
-    /// digest `source`, from its frame `offset` on. Its gain is 1/1, and it is not muted.
+    /// digest `source`, from its frame `offset` on. The clip's gain is 1/1, and it is not muted.
     AddClip {
         source: Digest,
         track: Stamp,

@@ -25,3 +25,10 @@ pub mod Linking
 pub mod Tracking
 pub mod Differing
 pub mod Rules
+pub mod FromReady
+pub mod HeldOps
+pub mod SameItems
+pub mod SameReady
+pub mod SameWrites
+pub mod SamePlaces
+pub mod SameSession

@@ -136,3 +136,8 @@ module _ {X : Type 0} (cmp : X → X → Ordering) (order : IsTotalOrder cmp) wh
       unique P apart ys (sort_by cmp xs) (rises_from_far ys (sorted_far precedes weak ys sorted)) (rises_sort xs)
       (recursion_from_All P ys (All-permutation P xs ys moved all)) (all_sort P xs (recursion_from_All P xs all))
       (λ f. sum_by-IsPermutation f xs ys moved ∙ sym (sum_sort f xs))
+
+  -- lists with the same items are one once they are sorted, where items that tie are one
+  pub sort_same : (P : X → Type 0) → ((a b : X) → P a → P b → cmp a b ≡ Equal → a ≡ b) → (xs ys : List X) → AllByRecursion P xs → AllByRecursion P ys → ((f : X → ℕ) → sum_by f xs ≡ sum_by f ys) → sort_by cmp xs ≡ sort_by cmp ys
+  sort_same P apart xs ys all_x all_y sums =
+      unique P apart (sort_by cmp xs) (sort_by cmp ys) (rises_sort xs) (rises_sort ys) (all_sort P xs all_x) (all_sort P ys all_y) (λ f. sum_sort f xs ∙ sums f ∙ sym (sum_sort f ys))

@@ -10,3 +10,4 @@ pub mod TrackOrder
 pub mod SessionText
 pub mod Chain
 pub mod Links
+pub mod SessionLaws

@@ -7,7 +7,7 @@ ghost use Rattle.mt_op.specs.Dots.{dots_rise, op_dot};
 ghost use Rattle.mt_op.specs.Valid.{IsOperation};
 
 use crate::build::session_of_ops;
-use crate::laws::sorted_markers;
+use crate::laws::{any_listing, held_operation, sorted_clips, sorted_markers, sorted_tracks};
 use crate::text::{append_held_line, append_marker_line, append_session_text};
 use crate::{MarkerView, SessionFault};
 use mt_op::{Body, Op, OpFault, Title};
@@ -262,5 +262,9 @@ fn numbers_its_refusals(rt: HostRuntime) -> Result<(), Fail> {
     assert_eq!(rt; SessionFault::Memory.number(), 0);
     assert_eq!(rt; SessionFault::Write.number(), 37);
     sorted_markers();
+    sorted_clips();
+    sorted_tracks();
+    any_listing();
+    held_operation();
     Ok(())
 }

@@ -40,7 +40,7 @@ fn is_writer(writer: Option<usize>, place: usize) -> bool
     }
 }
 
-// Where the present track stands among the operations that has its place from the operation at this one.
+// Where the AddTrack of the present track stands whose last place the operation at a place gave, where there is one.
 fn track_standing_at<A: Allocator>(ops: &[Op<A>], tables: &Tables<A>, place: usize) -> Option<usize>
     requires rise { IsTrue (dots_rise ops.now) }
     requires valid { AllByRecursion IsOperation ops.now }

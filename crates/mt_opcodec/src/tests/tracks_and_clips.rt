@@ -250,7 +250,7 @@ fn refuses_a_field_at_once(rt: HostRuntime) -> Result<(), Fail> {
         (MOVE_TRACK.as_slice(), 40, 6, 65), // the track's clock is its own
         (MOVE_TRACK.as_slice(), 65, 2, 66), // the place's flag
         (MOVE_TRACK.as_slice(), 73, 6, 98), // the place's clock is its own
-        (MOVE_TRACK.as_slice(), 66, 0x40, 98), // the place's clock is above 2^62
+        (MOVE_TRACK.as_slice(), 90, 0x40, 98), // the place's number is above 2^62
         (ADD_CLIP.as_slice(), 72, 7, 97), // the track's clock is its own
         (ADD_CLIP.as_slice(), 96, 0, 97), // the track's number is 0
         (MOVE_CLIP.as_slice(), 40, 9, 65), // the clip's clock is its own

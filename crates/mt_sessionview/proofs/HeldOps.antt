@@ -1,0 +1,68 @@
+-- An operation that is held changes nothing but the number held.
+use Rattle.std.proofs.Common.{◌≡◌, ◌+◌, Bool, true, false, not, cond, List, [], ◌∷◌, ◌||◌, length, refl, sym, ap, ◌∙◌, arith}
+use Rattle.std.specs.Prelude.{IsTrue}
+use Rattle.std.specs.List.{AllByRecursion, filter, list_any, list_all}
+use Rattle.mt_op.specs.Operation.{Operation}
+use Rattle.mt_op.specs.Needs.{needs, meets, clock_of, names_are_older}
+use Rattle.mt_op.specs.Ready.{is_met, is_ready}
+use Rattle.mt_op.proofs.Needs.{ready_is_defined}
+use Rattle.mt_sessionview.specs.Session.{ready_ops, held_ops}
+use Rattle.mt_sessionview.specs.SessionLaws.{HeldIsCounted}
+use Rattle.mt_sessionview.proofs.FromReady.{tracks_in, markers_in, tracks_are, markers_are}
+
+-- what does not pass is not found
+unfound : {D : Type 0} (r : D → Bool) (o : D) (xs : List D) (b : Bool) → r o ≡ false → list_any r (cond b (o ∷ xs) xs) ≡ list_any r xs
+unfound r o xs true fails = ap (λ (t : Bool). t || list_any r xs) fails
+unfound r o xs false fails = refl
+
+-- no need is met by it
+met_without : (r : Operation → Bool) (o : Operation) (s : List Operation) → r o ≡ false → (x : Operation) → is_met clock_of needs meets (o ∷ s) r x ≡ is_met clock_of needs meets s r x
+met_without r o s fails x = each (needs x)
+  where
+    each : (ns : List _) → list_all (λ need. list_any r (filter (meets need) (o ∷ s))) ns ≡ list_all (λ need. list_any r (filter (meets need) s)) ns
+    each [] = refl
+    each (n ∷ ns) = cc (unfound r o (filter (meets n) s) (meets n o) fails, each ns)
+
+-- a test that satisfies the rule with it satisfies the rule without it
+rule_without : (r : Operation → Bool) (o : Operation) (s : List Operation) → r o ≡ false → (xs : List Operation) → AllByRecursion (λ x. r x ≡ is_met clock_of needs meets (o ∷ s) r x) xs
+    → AllByRecursion (λ x. r x ≡ is_met clock_of needs meets s r x) xs
+rule_without r o s fails [] rule = tt
+rule_without r o s fails (x ∷ xs) rule = (rule.0 ∙ met_without r o s fails x, rule_without r o s fails xs rule.1)
+
+kept_same : (p q : Operation → Bool) (xs : List Operation) → AllByRecursion (λ x. p x ≡ q x) xs → filter p xs ≡ filter q xs
+kept_same p q [] same = refl
+kept_same p q (x ∷ xs) same = by (p x) (q x) same.0 (kept_same p q xs same.1)
+  where
+    by : (a b : Bool) → a ≡ b → filter p xs ≡ filter q xs → cond a (x ∷ filter p xs) (filter p xs) ≡ cond b (x ∷ filter q xs) (filter q xs)
+    by a b e rest = λ i. cond (e i) (x ∷ rest i) (rest i)
+
+turned_same : (p q : Operation → Bool) (xs : List Operation) → AllByRecursion (λ x. p x ≡ q x) xs → AllByRecursion (λ x. not (p x) ≡ not (q x)) xs
+turned_same p q [] same = tt
+turned_same p q (x ∷ xs) same = (ap not same.0, turned_same p q xs same.1)
+
+module _ (s : List Operation) (o : Operation) (older : AllByRecursion (λ x. IsTrue (names_are_older x)) (o ∷ s)) (waits : is_ready clock_of needs meets (o ∷ s) o ≡ false) where
+  -- ready with it is ready without it
+  ready_without : AllByRecursion (λ x. is_ready clock_of needs meets (o ∷ s) x ≡ is_ready clock_of needs meets s x) s
+  ready_without =
+      let r : Operation → Bool = is_ready clock_of needs meets (o ∷ s) in
+      (ready_is_defined s older.1).only r (rule_without r o s waits s (ready_is_defined (o ∷ s) older).satisfies.1)
+
+  pub ready_ops_without : ready_ops (o ∷ s) ≡ ready_ops s
+  ready_ops_without =
+      let r : Operation → Bool = is_ready clock_of needs meets (o ∷ s) in
+      ap (λ (b : Bool). cond b (o ∷ filter r s) (filter r s)) waits ∙ kept_same r (is_ready clock_of needs meets s) s ready_without
+
+  pub held_with : length (held_ops (o ∷ s)) ≡ length (held_ops s) + 1
+  held_with =
+      let r : Operation → Bool = is_ready clock_of needs meets (o ∷ s) in
+      let h : Operation → Bool = λ x. not (r x) in
+      ap (λ (b : Bool). length (cond (not b) (o ∷ filter h s) (filter h s))) waits
+      ∙ (let rest = ap length (kept_same h (λ x. not (is_ready clock_of needs meets s x)) s (turned_same r (is_ready clock_of needs meets s) s ready_without)) in omega (arith, rest))
+
+pub held_is_counted : HeldIsCounted
+held_is_counted s o older waits =
+    let ready = ready_ops_without s o older waits in
+    let tracks = tracks_are (o ∷ s) ∙ ap tracks_in ready ∙ sym (tracks_are s) in
+    let markers = markers_are (o ∷ s) ∙ ap markers_in ready ∙ sym (markers_are s) in
+    let count = held_with s o older waits in
+    λ i. record { tracks = tracks i; markers = markers i; held = count i }

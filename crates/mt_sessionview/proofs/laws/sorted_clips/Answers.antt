@@ -1,0 +1,7 @@
+use Rattle.mt_sessionview.specs.Content.{clip_cmp}
+use Rattle.mt_sessionview.proofs.Clips.{clip_cmp_total}
+use Rattle.mt_sessionview.proofs.Sorting.{sorts}
+use Rattle.mt_sessionview.proofs.laws.sorted_clips.Goals as goal
+
+pub returns : goal.returns
+returns c = sorts clip_cmp clip_cmp_total
