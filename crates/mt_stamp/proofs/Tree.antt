@@ -1,18 +1,19 @@
 -- Paths in a tree of places, and the laws of its order.
-use Rattle.std.proofs.Common.{◌≡◌, ◌≢◌, ℕ, zero, suc, ◌+◌, ◌<◌, ◌≤◌, Bool, true, false, cond, List, [], ◌∷◌, ◌++◌, length, Option, Some, None, refl, sym, ap, ◌∙◌, subst, arith, ◌⊎◌, inl, inr}
+use Rattle.std.proofs.Common.{◌≡◌, ◌≢◌, ℕ, zero, suc, ◌+◌, ◌<◌, ◌≤◌, Bool, true, false, cond, List, [], ◌∷◌, ◌++◌, length, Option, Some, None, refl, sym, ap, ◌∙◌, subst, append_assoc, arith, ◌⊎◌, inl, inr}
 use Rattle.std.specs.Prelude.{slice_get}
 use Rattle.std.specs.List.{AllByRecursion}
 use Rattle.std.specs.Cmp.{IsTotalOrder, tied_itself}
 use Rattle.std.specs.FinMap.{IsAntisymmetric}
+use Rattle.std.specs.Ordering.{ordering_then}
 use Rattle.std.specs.declared.cmp.Ordering.{Ordering}
 use Rattle.std.specs.declared.cmp.Ordering.TheVariants.{Less, Equal, Greater}
 use Rattle.std.proofs.lemmas.Cmp.{on_total}
 use Rattle.std.proofs.lemmas.Option.{same_Some, none-some}
 use Rattle.mt_stamp.specs.Moment.{Moment, stamp_cmp, stamp_eq}
 use Rattle.mt_stamp.specs.Tree.{TreePlace, after_of, path_to, path_within, path, path_cmp, tree_cmp, IsPlaceOf, IsTree}
-use Rattle.mt_stamp.specs.TreeLaws.{PathsLeadThere, TreesAreOrdered, ParentsStandFirst, SiblingsFall}
+use Rattle.mt_stamp.specs.TreeLaws.{PathsLeadThere, TreesAreOrdered, ParentsStandFirst, SiblingsFall, SubtreesStandTogether}
 use Rattle.mt_stamp.proofs.Order.{stamp_cmp_total, stamp_eq-true, stamp_eq-itself}
-use Rattle.mt_stamp.proofs.Paths.{path_cmp_total, path_cmp-IsAntisymmetric, before_longer, greater_first, AllSmaller, smaller_push}
+use Rattle.mt_stamp.proofs.Paths.{path_cmp_total, path_cmp-IsAntisymmetric, same_beginning, before_longer, greater_first, AllSmaller, smaller_push}
 
 -- what a place was added after, as it stands in the list
 
@@ -219,3 +220,10 @@ parents_stand_first places tree i s t at after =
 pub siblings_fall : SiblingsFall
 siblings_fall places tree i j s t at_i at_j same less =
     greater_sibling_first places (afters_are_older places tree) s.place t.place (after_at places tree i s at_i ∙ same ∙ sym (after_at places tree j t at_j)) less
+
+pub subtrees_stand_together : SubtreesStandTogether
+subtrees_stand_together places tree i j s t p rest at_i at_j same less goes =
+    let base : List Moment = path_to (path places) t.after in
+    let below : path places p ≡ base ++ (t.place ∷ rest) = goes ∙ ap (λ (way : List Moment). way ++ rest) (paths_lead_there places tree j t at_j) ∙ append_assoc base (t.place ∷ []) rest in
+    let beside : path places s.place ≡ base ++ (s.place ∷ []) = paths_lead_there places tree i s at_i ∙ ap (λ (o : Option Moment). path_to (path places) o ++ s.place ∷ []) same in
+    (λ k. path_cmp (below k) (beside k)) ∙ same_beginning base (t.place ∷ rest) (s.place ∷ []) ∙ ap (λ (o : Ordering). ordering_then o (path_cmp rest [])) less

@@ -3,7 +3,7 @@ use Rattle.std.specs.Prelude.{◌≡◌, ℕ, List, [], ◌∷◌, ◌++◌, Som
 use Rattle.std.specs.Cmp.{IsTotalOrder}
 use Rattle.std.specs.FinMap.{IsAntisymmetric}
 use Rattle.std.specs.declared.cmp.Ordering.TheVariants.{Less}
-use Rattle.mt_stamp.specs.Moment.{stamp_cmp}
+use Rattle.mt_stamp.specs.Moment.{Moment, stamp_cmp}
 use Rattle.mt_stamp.specs.Tree.{TreePlace, IsTree, path_to, path, tree_cmp}
 
 -- The path to a place is the path to what it was added after, and then its own stamp.
@@ -28,3 +28,8 @@ ParentsStandFirst = (places : List TreePlace) → IsTree places → (i : ℕ) (s
 abbrev pub SiblingsFall : Type 0
 SiblingsFall = (places : List TreePlace) → IsTree places → (i j : ℕ) (s t : TreePlace) → slice_get places i ≡ Some s → slice_get places j ≡ Some t
     → s.after ≡ t.after → stamp_cmp s.place t.place ≡ Less → tree_cmp places t.place s.place ≡ Less
+
+-- What goes on from the one with the greater stamp stands first too: all that is under a place stands together.
+abbrev pub SubtreesStandTogether : Type 0
+SubtreesStandTogether = (places : List TreePlace) → IsTree places → (i j : ℕ) (s t : TreePlace) (p : Moment) (rest : List Moment) → slice_get places i ≡ Some s → slice_get places j ≡ Some t
+    → s.after ≡ t.after → stamp_cmp s.place t.place ≡ Less → path places p ≡ path places t.place ++ rest → tree_cmp places p s.place ≡ Less

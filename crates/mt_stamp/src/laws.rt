@@ -3,7 +3,7 @@
 ghost use Rattle.std.specs.Prelude.{◌≡◌};
 ghost use Rattle.mt_stamp.specs.Moment.{stamp_cmp, dot_cmp};
 ghost use Rattle.mt_stamp.specs.Laws.{AreOrdered, TextsAreApart};
-ghost use Rattle.mt_stamp.specs.TreeLaws.{PathsLeadThere, TreesAreOrdered, ParentsStandFirst, SiblingsFall};
+ghost use Rattle.mt_stamp.specs.TreeLaws.{PathsLeadThere, TreesAreOrdered, ParentsStandFirst, SiblingsFall, SubtreesStandTogether};
 
 use crate::name::Dot;
 use crate::stamp::Stamp;
@@ -33,10 +33,13 @@ pub fn texts()
     ensures { TextsAreApart }
 {}
 
-/// The order of a tree of places: a path leads from the head to each place, and places are ordered by their paths.
+/// The order of a tree of places, which is its walk: a path leads from the head to each place, and places are ordered by
+/// their paths; a place stands before those put after it, and of two put after one place, or at the head, the one with the
+/// greater stamp stands first, with all that is under it.
 pub fn tree_order()
     ensures path { PathsLeadThere }
     ensures ordered { TreesAreOrdered }
     ensures parent_first { ParentsStandFirst }
     ensures siblings_fall { SiblingsFall }
+    ensures subtrees { SubtreesStandTogether }
 {}
