@@ -44,8 +44,10 @@ differ_also {X} key other P tells (x ∷ xs) all d = (each xs all.1 d.0, differ_
     each [] some apart = tt
     each (y ∷ ys) some apart = (λ same. apart.0 (tells x y all.0 some.0 same), each ys some.1 apart.1)
 
-module _ {X Y : Type 0} (key : X → Y) (cmp : X → X → Ordering) where
-  all_insert : (P : X → Type 0) (x : X) (ys : List X) → P x → AllByRecursion P ys → AllByRecursion P (insert_by cmp x ys)
+-- ---- what holds of all items of a list that is sorted
+
+module _ {X : Type 0} (cmp : X → X → Ordering) where
+  pub all_insert : (P : X → Type 0) (x : X) (ys : List X) → P x → AllByRecursion P ys → AllByRecursion P (insert_by cmp x ys)
   all_insert P x [] here all = (here, tt)
   all_insert P x (y ∷ ys) here all = by (cmp x y) (all_insert P x ys here all.1)
     where
@@ -54,6 +56,11 @@ module _ {X Y : Type 0} (key : X → Y) (cmp : X → X → Ordering) where
       by Equal rest = (here, all)
       by Greater rest = (all.0, rest)
 
+  pub all_sorted : (P : X → Type 0) (xs : List X) → AllByRecursion P xs → AllByRecursion P (sort_by cmp xs)
+  all_sorted P [] all = tt
+  all_sorted P (x ∷ xs) all = all_insert P x (sort_by cmp xs) all.0 (all_sorted P xs all.1)
+
+module _ {X Y : Type 0} (key : X → Y) (cmp : X → X → Ordering) where
   differ_insert : (x : X) (ys : List X) → AllByRecursion (λ y. key x ≢ key y) ys → DifferBy key ys → DifferBy key (insert_by cmp x ys)
   differ_insert x [] apart d = (tt, tt)
   differ_insert x (y ∷ ys) apart d = by (cmp x y) (differ_insert x ys apart.1 d.1)
@@ -61,12 +68,8 @@ module _ {X Y : Type 0} (key : X → Y) (cmp : X → X → Ordering) where
       by : (o : Ordering) → DifferBy key (insert_by cmp x ys) → DifferBy key (match_ordering o (x ∷ y ∷ ys) (x ∷ y ∷ ys) (y ∷ insert_by cmp x ys))
       by Less rest = (apart, d)
       by Equal rest = (apart, d)
-      by Greater rest = (all_insert (λ z. key y ≢ key z) x ys (λ same. apart.0 (sym same)) d.0, rest)
-
-  all_sorted : (P : X → Type 0) (xs : List X) → AllByRecursion P xs → AllByRecursion P (sort_by cmp xs)
-  all_sorted P [] all = tt
-  all_sorted P (x ∷ xs) all = all_insert P x (sort_by cmp xs) all.0 (all_sorted P xs all.1)
+      by Greater rest = (all_insert cmp (λ z. key y ≢ key z) x ys (λ same. apart.0 (sym same)) d.0, rest)
 
   pub differ_sorted : (xs : List X) → DifferBy key xs → DifferBy key (sort_by cmp xs)
   differ_sorted [] d = tt
-  differ_sorted (x ∷ xs) d = differ_insert x (sort_by cmp xs) (all_sorted (λ y. key x ≢ key y) xs d.0) (differ_sorted xs d.1)
+  differ_sorted (x ∷ xs) d = differ_insert x (sort_by cmp xs) (all_sorted cmp (λ y. key x ≢ key y) xs d.0) (differ_sorted xs d.1)

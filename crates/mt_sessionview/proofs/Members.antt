@@ -8,6 +8,7 @@ use Rattle.std.specs.declared.cmp.Ordering.TheVariants.{Less, Equal, Greater}
 use Rattle.std.specs.List.{AllByRecursion, filter}
 use Rattle.std.proofs.lemmas.Option.{same_Some, none-some}
 use Rattle.mt_sessionview.specs.Sorting.{insert_by, sort_by, RisesStrictly}
+use Rattle.mt_sessionview.proofs.Differing.{all_insert, all_sorted}
 
 -- x is one of them
 abbrev pub IsMember : {X : Type 0} → X → List X → Type 0
@@ -87,15 +88,6 @@ module _ {X : Type 0} (cmp : X → X → Ordering) (order : IsTotalOrder cmp) wh
       let rest : xs ≡ ys = one_list xs ys x_rise.1 y_rise.1 (λ v m. rest_member x y v xs ys first x_rise.0 m (there v (inr m))) (λ v m. rest_member y x v ys xs (sym first) y_rise.0 m (back v (inr m))) in
       λ i. first i ∷ rest i
 
-  all_insert : (P : X → Type 0) (x : X) (ys : List X) → P x → AllByRecursion P ys → AllByRecursion P (insert_by cmp x ys)
-  all_insert P x [] here all = (here, tt)
-  all_insert P x (y ∷ ys) here all = by (cmp x y) (all_insert P x ys here all.1)
-    where
-      by : (o : Ordering) → AllByRecursion P (insert_by cmp x ys) → AllByRecursion P (match_ordering o (x ∷ y ∷ ys) (x ∷ y ∷ ys) (y ∷ insert_by cmp x ys))
-      by Less rest = (here, all)
-      by Equal rest = (here, all)
-      by Greater rest = (all.0, rest)
-
   all_less : (x y : X) (ys : List X) → cmp x y ≡ Less → AllByRecursion (λ z. cmp y z ≡ Less) ys → AllByRecursion (λ z. cmp x z ≡ Less) ys
   all_less x y [] less all = tt
   all_less x y (z ∷ ys) less all = (order.trans x y z less all.0, all_less x y ys less all.1)
@@ -107,16 +99,12 @@ module _ {X : Type 0} (cmp : X → X → Ordering) (order : IsTotalOrder cmp) wh
       by : (o : Ordering) → cmp x y ≡ o → RisesStrictly cmp (insert_by cmp x ys) → RisesStrictly cmp (match_ordering o (x ∷ y ∷ ys) (x ∷ y ∷ ys) (y ∷ insert_by cmp x ys))
       by Less is rest = ((is, all_less x y ys is rise.0), rise)
       by Equal is rest = absurd (apart.0 is)
-      by Greater is rest = (all_insert (λ z. cmp y z ≡ Less) x ys (order.antisymm y x ∙ ap ordering_reverse is) rise.0, rest)
-
-  all_sorted : (P : X → Type 0) (xs : List X) → AllByRecursion P xs → AllByRecursion P (sort_by cmp xs)
-  all_sorted P [] all = tt
-  all_sorted P (x ∷ xs) all = all_insert P x (sort_by cmp xs) all.0 (all_sorted P xs all.1)
+      by Greater is rest = (all_insert cmp (λ z. cmp y z ≡ Less) x ys (order.antisymm y x ∙ ap ordering_reverse is) rise.0, rest)
 
   -- sorting what does not tie
   pub sort_strict : (xs : List X) → AreApart xs → RisesStrictly cmp (sort_by cmp xs)
   sort_strict [] apart = tt
-  sort_strict (x ∷ xs) apart = strict_insert x (sort_by cmp xs) (all_sorted (λ y. cmp x y ≢ Equal) xs apart.0) (sort_strict xs apart.1)
+  sort_strict (x ∷ xs) apart = strict_insert x (sort_by cmp xs) (all_sorted cmp (λ y. cmp x y ≢ Equal) xs apart.0) (sort_strict xs apart.1)
 
   member_inserted : (v x : X) (ys : List X) → IsMember v (x ∷ ys) → IsMember v (insert_by cmp x ys)
   member_inserted v x [] m = m

@@ -10,6 +10,7 @@ use Rattle.std.proofs.lemmas.List.Sums.{sum_by-cons}
 use Rattle.std.proofs.lemmas.List.Elements.{recursion_from_All}
 use Rattle.std.proofs.lemmas.List.Sorted.{ranks_by, sorted_far, sum_by-IsPermutation, All-permutation}
 use Rattle.mt_sessionview.specs.Sorting as rising
+use Rattle.mt_sessionview.proofs.Differing.{all_insert, all_sorted}
 use Rattle.mt_sessionview.specs.Sorting.{insert_by, sort_by, Sorts}
 
 less_turned : (o p : Ordering) → o ≡ ordering_reverse p → is_lt o ≡ true → is_lt p ≡ false
@@ -55,14 +56,6 @@ module _ {X : Type 0} (cmp : X → X → Ordering) (order : IsTotalOrder cmp) wh
   same : (x : X) → precedes x x ≡ false
   same x = elim (precedes x x) as (λ b. precedes x x ≡ b → b ≡ false) [ true ↦ (λ e. sym e ∙ weak.one_way x x e) | false ↦ (λ e. refl) ] refl
 
-  all_insert : (P : X → Type 0) (x : X) (ys : List X) → P x → AllByRecursion P ys → AllByRecursion P (insert_by cmp x ys)
-  all_insert P x [] here rest = (here, tt)
-  all_insert P x (y ∷ ys) here rest = elim (cmp x y) as (λ o. AllByRecursion P (match_ordering o (x ∷ y ∷ ys) (x ∷ y ∷ ys) (y ∷ insert_by cmp x ys))) [
-    | Less ↦ (here, rest)
-    | Equal ↦ (here, rest)
-    | Greater ↦ (rest.0, all_insert P x ys here rest.1)
-  ]
-
   all_after : (x y : X) (zs : List X) → precedes y x ≡ false → AllByRecursion (λ z. precedes z y ≡ false) zs → AllByRecursion (λ z. precedes z x ≡ false) zs
   all_after x y [] h all = tt
   all_after x y (z ∷ zs) h all = (weak.chain z y x all.0 h, all_after x y zs h all.1)
@@ -81,16 +74,12 @@ module _ {X : Type 0} (cmp : X → X → Ordering) (order : IsTotalOrder cmp) wh
   rises_insert x (y ∷ ys) rise = elim (cmp x y) as (λ o. cmp x y ≡ o → Rises (match_ordering o (x ∷ y ∷ ys) (x ∷ y ∷ ys) (y ∷ insert_by cmp x ys))) [
     | Less ↦ (λ e. rises_before x y ys (turned_less x y e) rise)
     | Equal ↦ (λ e. rises_before x y ys (turned_equal x y e) rise)
-    | Greater ↦ (λ e. (all_insert (λ z. precedes z y ≡ false) x ys (ap is_lt e) rise.0, rises_insert x ys rise.1))
+    | Greater ↦ (λ e. (all_insert cmp (λ z. precedes z y ≡ false) x ys (ap is_lt e) rise.0, rises_insert x ys rise.1))
   ] refl
 
   rises_sort : (xs : List X) → Rises (sort_by cmp xs)
   rises_sort [] = tt
   rises_sort (x ∷ xs) = rises_insert x (sort_by cmp xs) (rises_sort xs)
-
-  all_sort : (P : X → Type 0) (xs : List X) → AllByRecursion P xs → AllByRecursion P (sort_by cmp xs)
-  all_sort P [] all = tt
-  all_sort P (x ∷ xs) all = all_insert P x (sort_by cmp xs) all.0 (all_sort P xs all.1)
 
   sum_insert : (f : X → ℕ) (x : X) (ys : List X) → sum_by f (insert_by cmp x ys) ≡ f x + sum_by f ys
   sum_insert f x [] = sum_by-cons f x []
@@ -134,10 +123,10 @@ module _ {X : Type 0} (cmp : X → X → Ordering) (order : IsTotalOrder cmp) wh
   pub sorted_is_sort_by : (P : X → Type 0) → ((a b : X) → P a → P b → cmp a b ≡ Equal → a ≡ b) → (xs ys : List X) → All P xs → IsPermutation xs ys → IsSorted cmp ys → ys ≡ sort_by cmp xs
   sorted_is_sort_by P apart xs ys all moved sorted =
       unique P apart ys (sort_by cmp xs) (rises_from_far ys (sorted_far precedes weak ys sorted)) (rises_sort xs)
-      (recursion_from_All P ys (All-permutation P xs ys moved all)) (all_sort P xs (recursion_from_All P xs all))
+      (recursion_from_All P ys (All-permutation P xs ys moved all)) (all_sorted cmp P xs (recursion_from_All P xs all))
       (λ f. sum_by-IsPermutation f xs ys moved ∙ sym (sum_sort f xs))
 
   -- lists with the same items are one once they are sorted, where items that tie are one
   pub sort_same : (P : X → Type 0) → ((a b : X) → P a → P b → cmp a b ≡ Equal → a ≡ b) → (xs ys : List X) → AllByRecursion P xs → AllByRecursion P ys → ((f : X → ℕ) → sum_by f xs ≡ sum_by f ys) → sort_by cmp xs ≡ sort_by cmp ys
   sort_same P apart xs ys all_x all_y sums =
-      unique P apart (sort_by cmp xs) (sort_by cmp ys) (rises_sort xs) (rises_sort ys) (all_sort P xs all_x) (all_sort P ys all_y) (λ f. sum_sort f xs ∙ sums f ∙ sym (sum_sort f ys))
+      unique P apart (sort_by cmp xs) (sort_by cmp ys) (rises_sort xs) (rises_sort ys) (all_sorted cmp P xs all_x) (all_sorted cmp P ys all_y) (λ f. sum_sort f xs ∙ sums f ∙ sym (sum_sort f ys))
