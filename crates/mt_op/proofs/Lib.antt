@@ -4,4 +4,6 @@ pub mod Dots
 pub mod Equal
 pub mod Digests
 pub mod LastWrite
+pub mod Written
+pub mod LastWriter
 pub mod TagLists

@@ -1,4 +1,5 @@
 -- What a body in memory says.
+use Rattle.std.specs.Prelude.{Bool, true, false}
 use Rattle.mt_op.specs.declared.body.Body.{Body}
 use Rattle.mt_op.specs.declared.body.Body.TheVariants as body
 use Rattle.mt_op.specs.Operation.{Act, AddTrack, MoveTrack, AddClip, MoveClip, TrimClip, SetGain, SetMute, Remove, Restore, AddMarker, MoveMarker, Retitle}
@@ -30,3 +31,11 @@ body_of (Restore item) = body.Restore item
 body_of (AddMarker at title) = body.AddMarker at title
 body_of (MoveMarker marker at) = body.MoveMarker marker at
 body_of (Retitle item title) = body.Retitle item title
+
+-- whether an act's fields are of a fixed size, which all are but titles and tags (profile)
+abbrev pub is_fixed_size : Act → Bool
+is_fixed_size (AddTrack after title) = false
+is_fixed_size (Remove item tags) = false
+is_fixed_size (AddMarker at title) = false
+is_fixed_size (Retitle item title) = false
+is_fixed_size _ = true

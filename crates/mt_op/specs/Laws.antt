@@ -1,10 +1,10 @@
 -- What holds of every set of operations.
-use Rattle.std.specs.Prelude.{◌≡◌, ℕ, false, List, [], Some, None, IsTrue}
-use Rattle.std.specs.List.{AllByRecursion, slice_get}
+use Rattle.std.specs.Prelude.{◌≡◌, ℕ, false, List, [], Option, Some, None, IsTrue}
+use Rattle.std.specs.List.{AllByRecursion, Contains, slice_get}
 use Rattle.std.specs.Ordering.{is_lt}
-use Rattle.mt_stamp.specs.Moment.{stamp_cmp}
-use Rattle.mt_op.specs.Writes.{Written, latest}
-use Rattle.mt_op.specs.Operation.{Operation}
+use Rattle.mt_stamp.specs.Moment.{Moment, stamp_cmp}
+use Rattle.mt_op.specs.Writes.{Value, Write, Written, sets, writes, latest, last_write}
+use Rattle.mt_op.specs.Operation.{Act, Operation}
 use Rattle.mt_op.specs.Needs.{needs, meets, clock_of, names_are_older}
 use Rattle.mt_op.specs.Ready.{IsTheOnlyReady}
 
@@ -21,3 +21,24 @@ pub record IsLatest {X : Type 0} (ws : List (Written X)) (w : Written X) : Type 
 -- The last write of several is the one with the greatest stamp, and there is one wherever there is a write.
 abbrev pub LatestIsGreatest : Type 0 → Type 0
 LatestIsGreatest X = ((ws : List (Written X)) (w : Written X) → latest ws ≡ Some w → IsLatest ws w) × ((ws : List (Written X)) → latest ws ≡ None → ws ≡ [])
+
+-- `make` makes the values of a field. An act writes at most one of them, and `field` tells that one and its item.
+pub record IsFieldOf {X : Type 0} (make : X → Value) (field : Moment → Act → Option (Write X)) : Type 0 where
+  -- what is told is written
+  pub written : (own : Moment) (act : Act) (w : Write X) → field own act ≡ Some w → Contains (writes own act) (sets w.item (make w.value))
+  -- what is written is told
+  pub only : (own : Moment) (act : Act) (item : Moment) (value : X) → Contains (writes own act) (sets item (make value)) → field own act ≡ Some (record { item = item; value = value })
+
+-- one of the operations writes it to this item's field, and no operation with a greater stamp writes there
+pub record IsLastWrite {X : Type 0} (make : X → Value) (item : Moment) (ops : List Operation) (w : Written X) : Type 0 where
+  pub operation : Operation
+  pub is : Contains ops operation
+  pub writer : w.writer ≡ operation.stamp
+  pub value : Contains (writes operation.stamp operation.act) (sets item (make w.value))
+  pub greatest : (o : Operation) (value : X) → Contains ops o → Contains (writes o.stamp o.act) (sets item (make value)) → is_lt (stamp_cmp w.writer o.stamp) ≡ false
+
+-- The last write of an item's field is by the operation with the greatest stamp of those that write there, and there is one
+-- wherever an operation writes there.
+pub record LastWriteIsGreatest {X : Type 0} (make : X → Value) (field : Moment → Act → Option (Write X)) : Type 0 where
+  pub is_last : (item : Moment) (ops : List Operation) (w : Written X) → last_write field item ops ≡ Some w → IsLastWrite make item ops w
+  pub none : (item : Moment) (ops : List Operation) → last_write field item ops ≡ None → (o : Operation) (value : X) → Contains ops o → Contains (writes o.stamp o.act) (sets item (make value)) → ⊥

@@ -1,5 +1,5 @@
 -- What an operation waits for, and what it may be waited for as (the precondition of an update: INRIA RR-7506, operation-based objects).
-use Rattle.std.specs.Prelude.{ℕ, Bool, true, false, List, [], ◌∷◌, Option, Some, None, map, nat_lt, ◌==◌, ◌&&◌}
+use Rattle.std.specs.Prelude.{ℕ, Bool, true, false, List, [], ◌∷◌, Option, Some, None, map, nat_lt, ◌&&◌}
 use Rattle.std.specs.List.{list_all}
 use Rattle.mt_stamp.specs.Moment.{Moment}
 pub use Rattle.mt_stamp.specs.Moment.{stamp_eq}

@@ -1,6 +1,6 @@
 //! What an operation does.
 
-ghost use Rattle.std.specs.Prelude.{◌≡◌, IfOk, IfErr, IfSome, IsTrue, nat_lt};
+ghost use Rattle.std.specs.Prelude.{◌≡◌, IfOk, IfErr, IfSome, IsOk, IsTrue, nat_lt};
 ghost use Rattle.std.specs.List.{list_all};
 ghost use Rattle.mt_stamp.specs.Moment.{IsMoment};
 ghost use Rattle.mt_op.specs.declared.need.Need.{Need};
@@ -103,7 +103,7 @@ fn is_older(stamp: Option<Stamp>, clock: u64) -> bool
 
 impl<A: Allocator> Body<A> {
     ghost use Rattle.mt_op.specs.Operation.{Operation};
-    ghost use Rattle.mt_op.specs.Bodies.{act_of};
+    ghost use Rattle.mt_op.specs.Bodies.{act_of, is_fixed_size};
     ghost use Rattle.mt_op.specs.Needs.{names_are_older};
     ghost use Rattle.mt_op.specs.Valid.{AreFields, length_is_good, tags_are_good};
     ghost use Rattle.mt_stamp.specs.Moment.{IsMoment};
@@ -184,12 +184,13 @@ impl<A: Allocator> Body<A> {
     }
 
     /// An equal body, on a clone of the allocator. Refused as `Memory` (0) where the clone of its title or its
-    /// tags gets no memory, and for nothing else.
+    /// tags gets no memory, and for nothing else: a body that has neither is never refused.
     pub fn try_clone(&self) -> Result<Self, OpFault>
     where
         A: Clone,
         ensures ok { IfOk result (λ body. act_of body ≡ act_of self.now) }
         ensures err { IfErr result (λ fault. fault ≡ OpFault.Memory) }
+        ensures fixed_size { IsTrue (is_fixed_size (act_of self.now)) → IsOk result }
     {
         Ok(match self {
             Body::AddTrack { after, title } => Body::AddTrack {

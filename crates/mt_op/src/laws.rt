@@ -4,11 +4,12 @@
 ghost use Rattle.std.specs.Prelude.{◌≡◌, ◌↔◌, ℕ, Bool, List, Option, IsTrue};
 ghost use Rattle.std.specs.Ordering.{nat_cmp, ordering_then};
 ghost use Rattle.mt_stamp.specs.Moment.{Moment};
-ghost use Rattle.mt_op.specs.Gain.{Ratio};
+ghost use Rattle.mt_op.specs.Gain.{Ratio, unchanged};
 ghost use Rattle.mt_op.specs.declared.digest.Digest.{Digest as DigestOf};
 ghost use Rattle.std.specs.Cmp.Lexicographic.{slice_cmp};
 ghost use Rattle.mt_op.specs.Bodies.{act_of};
-ghost use Rattle.mt_op.specs.Laws.{LatestIsGreatest, ReadyIsDefined};
+ghost use Rattle.mt_op.specs.Writes as field;
+ghost use Rattle.mt_op.specs.Laws.{IsFieldOf, LastWriteIsGreatest, LatestIsGreatest, ReadyIsDefined};
 
 use crate::body::Body;
 use crate::digest::Digest;
@@ -24,6 +25,18 @@ pub fn readiness()
     ensures { ReadyIsDefined }
 {}
 
+/// An act writes at most one value of each field, and what is told of a field is that value of its list.
+pub fn writes()
+    ensures titles { IsFieldOf field.Title field.title_written }
+    ensures gains { IsFieldOf field.Gain field.gain_written }
+    ensures mutes { IsFieldOf field.Mute field.mute_written }
+    ensures track_places { IsFieldOf field.TrackPlace field.track_place_written }
+    ensures clip_places { IsFieldOf field.ClipPlace field.clip_place_written }
+    ensures trims { IsFieldOf field.Trim field.trim_written }
+    ensures sources { IsFieldOf field.Source field.source_written }
+    ensures positions { IsFieldOf field.Position field.position_written }
+{}
+
 /// The last write of each field is the one with the greatest stamp, and there is one where the field was written.
 pub fn last_write()
     ensures titles { LatestIsGreatest (List ℕ) }
@@ -34,6 +47,19 @@ pub fn last_write()
     ensures trims { LatestIsGreatest (ℕ × ℕ) }
     ensures sources { LatestIsGreatest DigestOf }
     ensures positions { LatestIsGreatest ℕ }
+{}
+
+/// The last write of an item's field is the value that one of the operations writes there, and no operation that writes
+/// there has a greater stamp. There is one wherever an operation writes there.
+pub fn last_writer()
+    ensures titles { LastWriteIsGreatest field.Title field.title_written }
+    ensures gains { LastWriteIsGreatest field.Gain field.gain_written }
+    ensures mutes { LastWriteIsGreatest field.Mute field.mute_written }
+    ensures track_places { LastWriteIsGreatest field.TrackPlace field.track_place_written }
+    ensures clip_places { LastWriteIsGreatest field.ClipPlace field.clip_place_written }
+    ensures trims { LastWriteIsGreatest field.Trim field.trim_written }
+    ensures sources { LastWriteIsGreatest field.Source field.source_written }
+    ensures positions { LastWriteIsGreatest field.Position field.position_written }
 {}
 
 /// Titles are equal where their bytes are.
@@ -48,6 +74,13 @@ pub fn compare_titles<A: Allocator>(a: &Title<A>, b: &Title<A>) -> Ordering
     ensures { result ≡ slice_cmp nat_cmp a.now b.now }
 {
     a.cmp(b)
+}
+
+/// `Gain::UNCHANGED` is 1/1, the gain with which tracks and clips are added.
+pub fn unchanged_gain() -> Gain
+    ensures { result ≡ unchanged }
+{
+    Gain::UNCHANGED
 }
 
 /// Gains are compared by what they multiply by, and then by what they divide by.

@@ -1,7 +1,7 @@
 //! Operations.
 
-ghost use Rattle.std.specs.Prelude.{◌≡◌, ◌↔◌, ◌⊎◌, true, false, IfOk, IsErrOf, IfErr, IsTrue, List, [], ◌∷◌, slice_get, length};
-ghost use Rattle.mt_op.specs.Bodies.{act_of};
+ghost use Rattle.std.specs.Prelude.{◌≡◌, ◌↔◌, ◌⊎◌, true, false, IfOk, IsErrOf, IfErr, IsOk, IsTrue, List, [], ◌∷◌, slice_get, length};
+ghost use Rattle.mt_op.specs.Bodies.{act_of, is_fixed_size};
 ghost use Rattle.mt_op.specs.Operation.{MoveTrack, Remove};
 ghost use Rattle.mt_op.specs.Needs.{need_of, place_needs, needs_of, needs, fits, names_are_older};
 ghost use Rattle.mt_op.specs.Valid.{IsOperation, length_is_good, tags_are_good};
@@ -207,12 +207,13 @@ impl<A: Allocator> Op<A> {
     }
 
     /// An equal operation, on a clone of the allocator. Refused as `Memory` (0) where the clone of its title or its
-    /// tags gets no memory, and for nothing else.
+    /// tags gets no memory, and for nothing else: one whose body has neither is never refused.
     pub fn try_clone(&self) -> Result<Self, OpFault>
     where
         A: Clone,
         ensures ok { IfOk result (λ op. op ≡ self.now) }
         ensures err { IfErr result (λ fault. fault ≡ OpFault.Memory) }
+        ensures fixed_size { IsTrue (is_fixed_size self.now.act) → IsOk result }
     {
         let body = self.body.try_clone()?;
         Ok(Op {

@@ -1,4 +1,6 @@
-use crate::laws::{compare_digests, compare_titles, equal_titles, last_write, readiness};
+use crate::laws::{
+    compare_digests, compare_titles, equal_titles, last_write, last_writer, readiness, writes,
+};
 use crate::{Body, Digest, Need, Op, OpFault, Role, Title, find_op};
 use mt_stamp::{Dot, Replica, Stamp};
 use mt_testalloc::Refusing;
@@ -152,7 +154,9 @@ fn makes_operations_that_name_older_ones(rt: HostRuntime) -> Result<(), Fail> {
     assert_eq!(rt; op.need(0), None);
     assert!(rt; op.fits(&Role::Titled));
     readiness();
+    writes();
     last_write();
+    last_writer();
     Ok(())
 }
 

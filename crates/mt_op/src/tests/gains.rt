@@ -1,6 +1,6 @@
 //! Gains.
 
-use crate::laws::compare_gains;
+use crate::laws::{compare_gains, unchanged_gain};
 use crate::{Gain, OpFault};
 use std::cmp::Ordering;
 use std::test::Fail;
@@ -24,6 +24,7 @@ fn makes_gains_with_a_divisor(rt: HostRuntime) -> Result<(), Fail> {
         assert_eq!(rt; Gain::new(num, 0), Err(OpFault::BadGain), "{num}");
     }
     assert_eq!(rt; Gain::UNCHANGED, Gain::new(1, 1)?);
+    assert_eq!(rt; unchanged_gain(), Gain::UNCHANGED);
     assert_eq!(rt; Gain::UNCHANGED.num(), 1);
     assert_eq!(rt; Gain::UNCHANGED.den(), 1);
     Ok(())
