@@ -1,10 +1,9 @@
 -- The clips of each track, by the place of the track.
-use Rattle.std.proofs.Common.{◌≡◌, ℕ, zero, suc, ◌+◌, ◌≤◌, ◌<◌, Bool, true, false, cond, List, [], ◌∷◌, ◌++◌, ◌&&◌, Option, Some, None, length, get_or, take, map, replicate, refl, sym, ap, ◌∙◌, subst, arith}
+use Rattle.std.proofs.Common.{◌≡◌, ℕ, zero, suc, ◌+◌, Bool, true, false, cond, List, [], ◌∷◌, ◌++◌, ◌&&◌, Option, Some, None, length, get_or, take, map, replicate, refl, sym, ap, ◌∙◌, subst}
 use Rattle.std.specs.Prelude.{slice_get, slice_set, unwrap_or}
 use Rattle.std.specs.List.{filter}
-use Rattle.std.specs.List.Sorted.{IsPermutation, IsSorted}
 use Rattle.std.proofs.lemmas.Option.{same_Some, none-some, slice_get_within, get_or_from_slice_get}
-use Rattle.std.proofs.lemmas.List.{take_more, take_all, map-append, append-nil, get_or-replicate}
+use Rattle.std.proofs.lemmas.List.{take_more, map-append, append-nil, get_or-replicate}
 use Rattle.std.proofs.lemmas.List.Elements.{filter-append}
 use Rattle.mt_stamp.specs.Moment.{Moment}
 use Rattle.mt_op.specs.Operation.{Operation}
@@ -13,8 +12,8 @@ use Rattle.mt_op.specs.Ready.{is_ready}
 use Rattle.mt_op.specs.Dots.{dots_rise}
 use Rattle.mt_op.proofs.Needs.{stamp_eq-true}
 use Rattle.mt_sessionview.specs.Content.{Clip}
-use Rattle.mt_sessionview.specs.Session.{ready_ops, is_shown, clip_place, clip_of, is_clip_on}
-use Rattle.mt_sessionview.specs.Tables.{Tells, IsNowhere, StandsAt}
+use Rattle.mt_sessionview.specs.Session.{is_shown, clip_place, clip_of, is_clip_on}
+use Rattle.mt_sessionview.specs.Tables.{IsNowhere, StandsAt}
 use Rattle.mt_sessionview.specs.Told.{AreClipsOn, TellsClips, AreAt}
 use Rattle.mt_sessionview.specs.declared.clip.OnTrack.{OnTrack}
 use Rattle.mt_sessionview.proofs.Found.{unmet}

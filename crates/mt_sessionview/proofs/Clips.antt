@@ -1,18 +1,17 @@
 -- The clips of ready operations.
-use Rattle.std.proofs.Common.{◌≡◌, ℕ, ◌<◌, Bool, true, false, cond, List, [], Option, Some, None, length, get_or, map, refl, sym, ap, ◌∙◌, subst}
-use Rattle.std.specs.Prelude.{slice_get, option_map, unwrap_or, ◌&&◌}
+use Rattle.std.proofs.Common.{◌≡◌, ℕ, Bool, true, cond, List, Option, Some, None, get_or, map, refl, sym, ap, ◌∙◌, subst}
+use Rattle.std.specs.Prelude.{slice_get, unwrap_or}
 use Rattle.std.specs.List.{filter, All}
 use Rattle.std.specs.List.Sorted.{IsPermutation, IsSorted}
 use Rattle.std.specs.Cmp.{IsTotalOrder}
 use Rattle.std.specs.Ordering.{nat_cmp}
-use Rattle.std.specs.declared.cmp.Ordering.{Ordering}
-use Rattle.std.specs.declared.cmp.Ordering.TheVariants.{Less, Equal, Greater}
+use Rattle.std.specs.declared.cmp.Ordering.TheVariants.{Equal}
 use Rattle.std.proofs.lemmas.Cmp.{then_total, on_total, nat_cmp_total}
 use Rattle.std.proofs.lemmas.Option.{same_Some, slice_get-get_or}
 use Rattle.std.proofs.lemmas.List.Elements.{All-map, All-filter, filter_passes}
 use Rattle.mt_stamp.specs.Moment.{Moment, stamp_cmp, dot_of}
 use Rattle.mt_stamp.proofs.Order.{stamp_cmp_total, stamp_cmp-IsAntisymmetric}
-use Rattle.mt_op.specs.Gain.{Ratio, unchanged}
+use Rattle.mt_op.specs.Gain.{Ratio}
 use Rattle.mt_op.specs.declared.digest.Digest.{Digest}
 use Rattle.mt_op.specs.Operation.{Act, AddClip, Operation}
 use Rattle.mt_op.specs.Needs.{needs, meets, clock_of, adds_clip}
@@ -20,10 +19,9 @@ use Rattle.mt_op.specs.Presence.{is_present}
 use Rattle.mt_op.specs.Ready.{is_ready}
 use Rattle.mt_op.specs.Dots.{dots_rise}
 use Rattle.mt_op.specs.Writes.{Written, clip_place_written, trim_written, written_by, last_write}
-use Rattle.mt_op.proofs.Needs.{and_first, and_second}
+use Rattle.mt_op.proofs.Needs.{and_first}
 use Rattle.mt_sessionview.specs.Content.{Clip, clip_cmp}
 use Rattle.mt_sessionview.specs.Session.{ready_ops, field_write, field_value, is_shown, source_of, clip_place, clip_of, is_clip_on, clips_on}
-use Rattle.mt_sessionview.specs.Sorting.{sort_by}
 use Rattle.mt_sessionview.specs.declared.clip.OnTrack.{OnTrack}
 use Rattle.mt_sessionview.proofs.Found.{one_place}
 use Rattle.mt_sessionview.proofs.LastWrites.{Gives, last_written, one_item}

@@ -327,12 +327,10 @@ module _ (ops : List Operation) (order : List Place) (items : List ℕ) (n : ℕ
       true≢false (sym place.is_ready ∙ ap (is_ready clock_of needs meets ops) same ∙ waits)) linked
 
 -- the entry at n, as a loop reads it
-pub next_at : (ops : List Operation) (order items : List Place) (n : ℕ) (e : Place) → dots_rise ops ≡ true → AllByRecursion IsOperation ops → items ≡ order → IsStampOrder ops order → n < length items → e ≡ get_or items n e
-    → (o : Operation) × IsNext ops items n e o
-next_at ops order items n e rise valid is ordered lt read =
-    let InOrder : List Place → Type 0 = IsStampOrder ops in
-    let by_stamp : IsStampOrder ops items = subst InOrder (sym is) ordered in
-    let at : slice_get items n ≡ Some e = slice_get_read items (length items) n e refl lt read in
+pub next_at : (ops : List Operation) (order : List Place) (n : ℕ) (e : Place) → dots_rise ops ≡ true → AllByRecursion IsOperation ops → IsStampOrder ops order → n < length order → e ≡ get_or order n e
+    → (o : Operation) × IsNext ops order n e o
+next_at ops order n e rise valid by_stamp lt read =
+    let at : slice_get order n ≡ Some e = slice_get_read order (length order) n e refl lt read in
     let stands = by_stamp.within n e at in
     (stands.op, record { rise = rise; valid = valid; by_stamp = by_stamp; entry_at = at; op_at = stands.at })
 

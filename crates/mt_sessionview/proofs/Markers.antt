@@ -1,25 +1,23 @@
 -- The markers of ready operations.
-use Rattle.std.proofs.Common.{◌≡◌, ℕ, zero, suc, ◌+◌, Bool, true, false, cond, List, [], ◌∷◌, ◌++◌, Option, Some, None, length, get_or, take, map, refl, sym, ap, ◌∙◌, subst}
-use Rattle.std.specs.Prelude.{slice_get, option_map, unwrap_or, not}
-use Rattle.std.specs.List.{filter, filter_map, cons_option, All, count_by}
+use Rattle.std.proofs.Common.{◌≡◌, ℕ, Bool, true, cond, List, [], Option, Some, None, get_or, map, refl, sym, ap, ◌∙◌, subst}
+use Rattle.std.specs.Prelude.{slice_get, option_map, unwrap_or}
+use Rattle.std.specs.List.{All}
 use Rattle.std.specs.List.Sorted.{IsPermutation, IsSorted}
 use Rattle.std.specs.Cmp.{IsTotalOrder}
-use Rattle.std.specs.Ordering.{is_lt, nat_cmp, ordering_then}
+use Rattle.std.specs.Ordering.{nat_cmp, ordering_then}
 use Rattle.std.specs.declared.cmp.Ordering.{Ordering}
 use Rattle.std.specs.declared.cmp.Ordering.TheVariants.{Less, Equal, Greater}
 use Rattle.std.proofs.lemmas.Cmp.{then_total, on_total, nat_cmp_total}
-use Rattle.std.proofs.lemmas.Option.{same_Some, none-some, slice_get_within, get_or_from_slice_get, slice_get-get_or}
-use Rattle.std.proofs.lemmas.List.{take_more, map-append, append-nil}
-use Rattle.std.proofs.lemmas.List.Elements.{filter-append, All-map, All-filter}
-use Rattle.std.proofs.lemmas.List.Sums.{sum_by-cons, length-filter}
-use Rattle.mt_stamp.specs.Moment.{Moment, stamp_cmp, dot_of}
+use Rattle.std.proofs.lemmas.Option.{same_Some, slice_get-get_or}
+use Rattle.std.proofs.lemmas.List.Elements.{All-map, All-filter}
+use Rattle.mt_stamp.specs.Moment.{stamp_cmp, dot_of}
 use Rattle.mt_stamp.proofs.Order.{stamp_cmp_total, stamp_cmp-IsAntisymmetric}
-use Rattle.mt_op.specs.Operation.{Act, AddMarker, Operation}
+use Rattle.mt_op.specs.Operation.{AddMarker, Operation}
 use Rattle.mt_op.specs.Needs.{needs, meets, clock_of, adds_marker}
 use Rattle.mt_op.specs.Presence.{is_present}
 use Rattle.mt_op.specs.Ready.{is_ready}
 use Rattle.mt_op.specs.Dots.{dots_rise}
-use Rattle.mt_op.specs.Writes.{Write, Written, title_written, position_written, written_by, later, latest, last_write}
+use Rattle.mt_op.specs.Writes.{Written, title_written, position_written, last_write}
 use Rattle.mt_sessionview.specs.Content.{Marker, marker_cmp}
 use Rattle.mt_sessionview.specs.Session.{ready_ops, is_shown, shown_ops, marker_of}
 use Rattle.mt_sessionview.specs.Sorting.{sort_by}

@@ -1,5 +1,5 @@
 -- What holds of the clips of a track and of the markers of a session.
-use Rattle.std.proofs.Common.{◌≡◌, ◌≢◌, ℕ, true, List, [], ◌∷◌, map, get_or, refl, sym, ap, ◌∙◌}
+use Rattle.std.proofs.Common.{◌≡◌, ◌≢◌, ℕ, true, List, [], ◌∷◌, map, get_or}
 use Rattle.std.specs.Prelude.{slice_get, Some}
 use Rattle.std.specs.List.{All, AllByRecursion, filter}
 use Rattle.std.specs.Cmp.{IsTotalOrder}
@@ -11,10 +11,10 @@ use Rattle.std.proofs.lemmas.List.Elements.{All-filter, filter_passes, recursion
 use Rattle.mt_stamp.specs.Moment.{Moment, stamp_cmp}
 use Rattle.mt_stamp.proofs.Order.{stamp_cmp-IsAntisymmetric}
 use Rattle.mt_op.specs.Operation.{Operation}
-use Rattle.mt_op.specs.Needs.{needs, meets, clock_of, adds_clip, adds_marker}
+use Rattle.mt_op.specs.Needs.{needs, meets, clock_of, adds_marker}
 use Rattle.mt_op.specs.Ready.{is_ready}
 use Rattle.mt_op.specs.Dots.{dots_rise}
-use Rattle.mt_op.specs.Writes.{Written, clip_place_written, written_by}
+use Rattle.mt_op.specs.Writes.{clip_place_written, written_by}
 use Rattle.mt_op.proofs.Needs.{and_first}
 use Rattle.mt_sessionview.specs.Content.{Clip, Marker, clip_cmp, marker_cmp, AreClips}
 use Rattle.mt_sessionview.specs.Session.{ready_ops, is_shown, shown_ops, clip_place, clip_of, is_clip_on, clips_on, marker_of}

@@ -151,8 +151,7 @@ one_more_place ops places n o first at = record {
 }
 
 -- what stands in the order stands among the operations
-pub stands_within : (ops : List Operation) (order items : List Place) → items ≡ order → IsStampOrder ops order → (n : ℕ) (e : Place) → n < length items → e ≡ get_or items n e → e.place < length ops
-stands_within ops order items is by_stamp n e lt read =
-    let P : List Place → Type 0 = IsStampOrder ops in
-    let stands = (subst P (sym is) by_stamp).within n e (slice_get_read items (length items) n e refl lt read) in
+pub stands_within : (ops : List Operation) (order : List Place) → IsStampOrder ops order → (n : ℕ) (e : Place) → n < length order → e ≡ get_or order n e → e.place < length ops
+stands_within ops order by_stamp n e lt read =
+    let stands = by_stamp.within n e (slice_get_read order (length order) n e refl lt read) in
     slice_get_within ops e.place stands.op stands.at

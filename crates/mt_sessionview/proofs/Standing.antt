@@ -1,28 +1,26 @@
 -- Which track stands at the place that an operation gives.
-use Rattle.std.proofs.Common.{◌≡◌, ℕ, ◌<◌, Bool, true, false, List, ◌&&◌, Option, Some, None, length, get_or, refl, sym, ap, ◌∙◌, subst, true≢false, zero, suc, [], ◌∷◌, ◌||◌, ◌⊎◌, inl, inr}
+use Rattle.std.proofs.Common.{◌≡◌, ℕ, Bool, true, false, List, Option, Some, None, refl, sym, ap, ◌∙◌, subst, zero, suc, [], ◌∷◌, ◌||◌, inl, inr}
 use Rattle.std.specs.Prelude.{slice_get, option_map, unwrap_or, IsTrue}
 use Rattle.std.specs.List.{AllByRecursion, filter, list_any, list_all}
-use Rattle.std.proofs.lemmas.Option.{same_Some, none-some, slice_get_within}
-use Rattle.std.proofs.lemmas.List.{get_or_default}
+use Rattle.std.proofs.lemmas.Option.{same_Some, none-some}
 use Rattle.mt_stamp.specs.Moment.{Moment, dot_of}
 use Rattle.mt_op.specs.declared.need.Need.{Need}
 use Rattle.mt_op.specs.declared.need.Role.TheVariants.{Track}
 use Rattle.mt_op.specs.Operation.{Act, AddTrack, MoveTrack, Operation}
-use Rattle.mt_op.specs.Needs.{need_of, needs_of, needs, meets, clock_of, stamp_eq, adds_track, adds_item, names_are_older}
+use Rattle.mt_op.specs.Needs.{need_of, needs_of, needs, meets, clock_of, adds_track, adds_item, names_are_older}
 use Rattle.mt_op.specs.Ready.{is_met, is_ready}
 use Rattle.mt_op.specs.Dots.{dots_rise}
 use Rattle.mt_op.specs.Valid.{IsOperation}
-use Rattle.mt_op.specs.Writes.{Write, Written, track_place_written, written_by}
+use Rattle.mt_op.specs.Writes.{Write, Written, track_place_written}
 use Rattle.mt_op.proofs.Needs.{and_first, and_second, stamp_eq-true, needs_are_older, all_older}
 use Rattle.mt_op.proofs.Readiness.{is_ready-met}
-use Rattle.mt_sessionview.specs.Session.{ready_ops, field_write, is_shown, track_place}
-use Rattle.mt_sessionview.specs.Tables.{Tells, IsLastAmong, IsLastWriter, IsNowhere, StandsAt}
-use Rattle.mt_sessionview.specs.TrackOrder.{placed_track, IsTrackAt, IsStanding, IsNoneStanding}
+use Rattle.mt_sessionview.specs.Session.{field_write, track_place}
+use Rattle.mt_sessionview.specs.Tables.{IsLastWriter}
+use Rattle.mt_sessionview.specs.TrackOrder.{placed_track, IsStanding}
 use Rattle.mt_sessionview.proofs.Found.{one_place}
 use Rattle.mt_sessionview.proofs.LastWrites.{is_write_of}
-use Rattle.mt_sessionview.proofs.Members.{IsMember, member_at, StandsIn, member_stands, member_kept, member_of_kept}
+use Rattle.mt_sessionview.proofs.Members.{IsMember, member_stands, member_of_kept}
 use Rattle.mt_sessionview.proofs.TrackSorting.{has_place, last_place, never_unplaced}
-use Rattle.mt_sessionview.proofs.Told.{last_told}
 use Rattle.mt_sessionview.proofs.Waiting.{by_recursion_at}
 
 -- one that passes is found, and what is found passes

@@ -1,13 +1,12 @@
 -- Shown tracks in the order of their places are those that sorting by place gives.
-use Rattle.std.proofs.Common.{◌≡◌, ◌≢◌, ℕ, zero, suc, ◌+◌, ◌<◌, Bool, true, false, cond, List, [], ◌∷◌, Option, Some, None, map, refl, sym, ap, ◌∙◌, subst, arith, ◌⊎◌, inl, inr}
+use Rattle.std.proofs.Common.{◌≡◌, ◌≢◌, ℕ, zero, suc, ◌+◌, ◌<◌, true, List, [], ◌∷◌, Option, Some, None, map, refl, sym, ap, ◌∙◌, subst, arith, inl, inr}
 use Rattle.std.specs.Prelude.{slice_get, option_map, unwrap_or}
-use Rattle.std.specs.List.{AllByRecursion, filter}
+use Rattle.std.specs.List.{AllByRecursion}
 use Rattle.std.specs.Cmp.{IsTotalOrder}
 use Rattle.std.specs.declared.cmp.Ordering.TheVariants.{Less, Equal}
 use Rattle.std.proofs.lemmas.Cmp.{on_total}
 use Rattle.std.proofs.lemmas.Option.{same_Some, none-some}
 use Rattle.mt_stamp.specs.Moment.{Moment, dot_of}
-use Rattle.mt_stamp.specs.Tree.{tree_cmp}
 use Rattle.mt_stamp.proofs.Tree.{trees_are_ordered}
 use Rattle.mt_op.specs.Operation.{Act, AddTrack, Operation}
 use Rattle.mt_op.specs.Needs.{needs, meets, clock_of, adds_track}
@@ -23,7 +22,7 @@ use Rattle.mt_sessionview.specs.TrackOrder.{IsTrackAt, IsTrackOrder}
 use Rattle.mt_sessionview.proofs.Differing.{stamp_of, differ_kept, differ_sorted, differ_mapped}
 use Rattle.mt_sessionview.proofs.Found.{one_place}
 use Rattle.mt_sessionview.proofs.LastWrites.{Gives, last_written, one_item}
-use Rattle.mt_sessionview.proofs.Members.{IsMember, member_at, StandsIn, member_stands, member_kept, member_of_kept, AreApart, one_list, sort_strict, member_sorted, member_unsorted}
+use Rattle.mt_sessionview.proofs.Members.{IsMember, member_at, member_stands, member_kept, member_of_kept, AreApart, one_list, sort_strict, member_sorted, member_unsorted}
 use Rattle.mt_sessionview.proofs.Shown.{field_is}
 
 -- the last write of a track's place is there

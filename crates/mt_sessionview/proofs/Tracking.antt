@@ -1,7 +1,6 @@
 -- The tracks that stand at the places of an order, one place after another.
-use Rattle.std.proofs.Common.{◌≡◌, ℕ, zero, suc, ◌+◌, ◌<◌, ◌≤◌, true, List, [], ◌∷◌, ◌++◌, Option, Some, None, length, refl, sym, ap, ◌∙◌, subst, arith, inl, inr}
+use Rattle.std.proofs.Common.{◌≡◌, ℕ, zero, suc, ◌+◌, ◌<◌, ◌≤◌, true, List, [], ◌∷◌, ◌++◌, Option, Some, length, refl, sym, ap, ◌∙◌, subst, arith, inl, inr}
 use Rattle.std.specs.Prelude.{slice_get}
-use Rattle.std.specs.declared.cmp.Ordering.{Ordering}
 use Rattle.std.specs.declared.cmp.Ordering.TheVariants.{Less}
 use Rattle.std.proofs.lemmas.Option.{same_Some, none-some, slice_get_within}
 use Rattle.std.proofs.lemmas.Bool.{cases_lt}
@@ -9,13 +8,12 @@ use Rattle.std.proofs.lemmas.List.{length_push}
 use Rattle.mt_stamp.specs.Moment.{Moment, dot_of}
 use Rattle.mt_stamp.specs.Tree.{tree_cmp}
 use Rattle.mt_op.specs.Operation.{Act, AddTrack, MoveTrack, Operation}
-use Rattle.mt_op.specs.Needs.{needs, meets, clock_of, adds_place}
-use Rattle.mt_op.specs.Ready.{is_ready}
+use Rattle.mt_op.specs.Needs.{adds_place}
 use Rattle.mt_op.specs.Dots.{dots_rise}
 use Rattle.mt_op.specs.Writes.{Write, Written, track_place_written}
 use Rattle.mt_op.proofs.Needs.{and_first}
 use Rattle.mt_sessionview.specs.Session.{places, track_place, track_cmp}
-use Rattle.mt_sessionview.specs.TrackOrder.{IsPlaceAt, IsPlaceOrder, IsTrackAt, IsStanding, IsNoneStanding, IsTrackOrder}
+use Rattle.mt_sessionview.specs.TrackOrder.{IsPlaceOrder, IsTrackAt, IsStanding, IsNoneStanding, IsTrackOrder}
 use Rattle.mt_sessionview.proofs.Found.{one_place}
 use Rattle.mt_sessionview.proofs.LastWrites.{is_write_of}
 use Rattle.mt_sessionview.proofs.StampOrder.{slice_get_push_before, slice_get_push_at}

@@ -9,6 +9,7 @@ ghost use Rattle.mt_sessionview.specs.Session.{session_of};
 use crate::clip::clips_by_track;
 use crate::fault::SessionFault;
 use crate::marker::{markers, sort_markers};
+use crate::order::places_by_stamp;
 use crate::session::Session;
 use crate::tables::tables_of;
 use crate::track::tracks;
@@ -35,8 +36,10 @@ pub(crate) fn session_of_ops<A: Allocator + Clone>(
     ensures ok { IfOk result (λ session. session ≡ session_of ops.now) }
     ensures err { IfErr result (λ fault. fault ≡ SessionFault.Memory) }
 {
-    let tables = tables_of(&alloc, ops)?;
-    let order = track_order(&alloc, ops, &tables)?;
+    let by_stamp = places_by_stamp(alloc.clone()?, ops)?;
+    let tables = tables_of(&alloc, ops, &by_stamp)?;
+    let order = track_order(&alloc, ops, &tables, &by_stamp)?;
+    drop(by_stamp);
     let clips = clips_by_track(&alloc, ops, &tables)?;
     let tracks = tracks(&alloc, ops, &tables, &order, &clips)?;
     let mut markers = markers(alloc, ops, &tables)?;

@@ -9,13 +9,14 @@ ghost use Rattle.mt_op.specs.Needs.{needs, meets, clock_of};
 ghost use Rattle.mt_op.specs.Ready.{is_ready};
 ghost use Rattle.mt_op.specs.Valid.{IsOperation};
 ghost use Rattle.mt_sessionview.specs.Chain.{has};
+ghost use Rattle.mt_sessionview.specs.StampOrder.{IsStampOrder};
 ghost use Rattle.mt_sessionview.specs.Tables.{StandsAt};
 ghost use Rattle.mt_sessionview.specs.TrackOrder.{after_written, IsPutIn, IsPlaceOrder};
 
 use crate::chain::Chain;
 use crate::fault::SessionFault;
 use crate::item::item_place;
-use crate::order::places_by_stamp;
+use crate::place::Place;
 use mt_op::{Body, Op};
 use mt_stamp::Stamp;
 use std::alloc::Allocator;
@@ -58,16 +59,17 @@ pub(crate) fn place_order<A: Allocator + Clone>(
     alloc: &A,
     ops: &[Op<A>],
     ready: &[bool],
+    by_stamp: &[Place],
 ) -> Result<Vec<usize, A>, SessionFault>
     requires rise { IsTrue (dots_rise ops.now) }
     requires valid { AllByRecursion IsOperation ops.now }
     requires table { ready.now ≡ map (is_ready clock_of needs meets ops.now) ops.now }
+    requires order { IsStampOrder ops.now by_stamp.now }
     ensures ok { IfOk result (λ order. IsPlaceOrder ops.now order.items) }
     ensures err { IfErr result (λ fault. fault ≡ SessionFault.Memory) }
 {
-    let by_stamp = places_by_stamp(alloc.clone()?, ops)?;
     let mut chain = Chain::new(alloc.clone()?, ops.len())?;
-    for entry in &by_stamp {
+    for entry in by_stamp {
         if ready[entry.place] {
             link_place(&mut chain, ops, entry.place);
         }

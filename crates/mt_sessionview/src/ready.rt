@@ -8,9 +8,10 @@ ghost use Rattle.mt_op.specs.Dots.{dots_rise};
 ghost use Rattle.mt_op.specs.Needs.{needs, meets, clock_of};
 ghost use Rattle.mt_op.specs.Ready.{is_met, is_ready};
 ghost use Rattle.mt_op.specs.Valid.{IsOperation};
+ghost use Rattle.mt_sessionview.specs.StampOrder.{IsStampOrder};
 ghost use Rattle.mt_sessionview.specs.Tables.{TellsOf, TellsBelow};
 
-use crate::order::places_by_stamp;
+use crate::place::Place;
 use mt_op::{Need, Op, find_op};
 use std::alloc::{AllocError, Allocator};
 
@@ -61,17 +62,18 @@ fn is_ready_by<A: Allocator>(ops: &[Op<A>], ready: &[bool], op: &Op<A>) -> bool
 }
 
 // Which operations are ready, by place. Each is looked at once, after those with smaller stamps.
-pub(crate) fn ready_table<A: Allocator + Clone, B: Allocator>(
+pub(crate) fn ready_table<A: Allocator, B: Allocator>(
     alloc: A,
     ops: &[Op<B>],
+    by_stamp: &[Place],
 ) -> Result<Vec<bool, A>, AllocError>
     requires rise { IsTrue (dots_rise ops.now) }
     requires valid { AllByRecursion IsOperation ops.now }
+    requires order { IsStampOrder ops.now by_stamp.now }
     ensures { IfOk result (λ table. table.items ≡ map (is_ready clock_of needs meets ops.now) ops.now) }
 {
-    let order = places_by_stamp(alloc.clone()?, ops)?;
     let mut ready = vec![in alloc; false; ops.len()]?;
-    for entry in &order {
+    for entry in by_stamp {
         let is_ready = is_ready_by(ops, &ready, &ops[entry.place]);
         ready[entry.place] = is_ready;
     }

@@ -9,10 +9,12 @@ ghost use Rattle.mt_op.specs.Presence as presence;
 ghost use Rattle.mt_op.specs.Ready.{is_ready};
 ghost use Rattle.mt_op.specs.Valid.{IsOperation};
 ghost use Rattle.mt_sessionview.specs.Session.{ready_ops};
+ghost use Rattle.mt_sessionview.specs.StampOrder.{IsStampOrder};
 ghost use Rattle.mt_sessionview.specs.Told.{AreTables};
 
 use crate::fault::SessionFault;
 use crate::field::Field;
+use crate::place::Place;
 use crate::presence::{is_present, presences};
 use crate::ready::ready_table;
 use crate::writers::last_writers;
@@ -39,13 +41,15 @@ pub(crate) struct Tables<A: Allocator> {
 pub(crate) fn tables_of<A: Allocator + Clone>(
     alloc: &A,
     ops: &[Op<A>],
+    by_stamp: &[Place],
 ) -> Result<Tables<A>, SessionFault>
     requires rise { IsTrue (dots_rise ops.now) }
     requires valid { AllByRecursion IsOperation ops.now }
+    requires order { IsStampOrder ops.now by_stamp.now }
     ensures ok { IfOk result (AreTables ops.now) }
     ensures err { IfErr result (λ fault. fault ≡ SessionFault.Memory) }
 {
-    let ready = ready_table(alloc.clone()?, ops)?;
+    let ready = ready_table(alloc.clone()?, ops, by_stamp)?;
     let titles = last_writers(alloc.clone()?, ops, &ready, Field::Title)?;
     let gains = last_writers(alloc.clone()?, ops, &ready, Field::Gain)?;
     let mutes = last_writers(alloc.clone()?, ops, &ready, Field::Mute)?;

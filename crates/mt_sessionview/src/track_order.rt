@@ -8,11 +8,13 @@ ghost use Rattle.mt_op.specs.Needs.{needs, meets, clock_of, adds_track};
 ghost use Rattle.mt_op.specs.Ready.{is_ready};
 ghost use Rattle.mt_op.specs.Valid.{IsOperation};
 ghost use Rattle.std.specs.List.{AllByRecursion};
+ghost use Rattle.mt_sessionview.specs.StampOrder.{IsStampOrder};
 ghost use Rattle.mt_sessionview.specs.Told.{AreTables};
 ghost use Rattle.mt_sessionview.specs.TrackOrder.{placed_track, IsStanding, IsNoneStanding, IsPlaceOrder, IsTrackOrder};
 
 use crate::fault::SessionFault;
 use crate::item::item_place;
+use crate::place::Place;
 use crate::place_order::place_order;
 use crate::tables::{Tables, is_item_present};
 use mt_op::{Body, Op};
@@ -67,14 +69,16 @@ pub(crate) fn track_order<A: Allocator + Clone>(
     alloc: &A,
     ops: &[Op<A>],
     tables: &Tables<A>,
+    by_stamp: &[Place],
 ) -> Result<Vec<usize, A>, SessionFault>
     requires rise { IsTrue (dots_rise ops.now) }
     requires valid { AllByRecursion IsOperation ops.now }
     requires tables { AreTables ops.now tables.now }
+    requires order { IsStampOrder ops.now by_stamp.now }
     ensures ok { IfOk result (λ order. IsTrackOrder ops.now order.items) }
     ensures err { IfErr result (λ fault. fault ≡ SessionFault.Memory) }
 {
-    let places = place_order(alloc, ops, &tables.ready)?;
+    let places = place_order(alloc, ops, &tables.ready, by_stamp)?;
     let mut tracks = Vec::new(alloc.clone()?);
     for place in &places {
         if let Some(track) = track_standing_at(ops, tables, *place) {

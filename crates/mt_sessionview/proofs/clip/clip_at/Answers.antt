@@ -1,13 +1,12 @@
-use Rattle.std.proofs.Common.{◌≡◌, Some, sym, ap, ◌∙◌, Option}
+use Rattle.std.proofs.Common.{◌≡◌, Some, sym, ap, ◌∙◌}
 use Rattle.std.specs.Prelude.{unwrap_or}
 use Rattle.mt_op.specs.Operation.{AddClip, Operation}
 use Rattle.mt_op.specs.Bodies.{act_of}
-use Rattle.mt_op.specs.Needs.{adds_clip, adds_item}
+use Rattle.mt_op.specs.Needs.{adds_item}
 use Rattle.mt_op.specs.Writes.{clip_place_written, trim_written, gain_written, mute_written}
 use Rattle.mt_stamp.specs.Moment.{Moment}
 use Rattle.mt_sessionview.specs.Session.{field_write}
 use Rattle.mt_sessionview.specs.Told.{placed}
-use Rattle.mt_sessionview.specs.declared.clip.OnTrack.{OnTrack}
 use Rattle.mt_sessionview.proofs.Clips.{clip_made, made_clip}
 use Rattle.mt_sessionview.proofs.Told.{last_told, told_inside}
 use Rattle.mt_sessionview.proofs.Rows.{at_read}

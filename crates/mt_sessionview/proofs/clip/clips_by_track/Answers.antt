@@ -1,7 +1,6 @@
-use Rattle.std.proofs.Common.{◌≡◌, ◌+◌, Bool, List, Option, [], None, length, take, get_or, ap, sym, subst, ◌∙◌, arith}
+use Rattle.std.proofs.Common.{◌≡◌, ◌+◌, Bool, List, Option, None, length, take, ap, sym, subst, ◌∙◌, arith}
 use Rattle.std.specs.List.{filter}
-use Rattle.std.proofs.lemmas.List.{length-replicate, get_or-replicate, take_all}
-use Rattle.std.proofs.lemmas.Option.{slice_get_within}
+use Rattle.std.proofs.lemmas.List.{length-replicate, take_all}
 use Rattle.mt_op.specs.Operation.{Operation}
 use Rattle.mt_op.specs.Needs.{needs, meets, clock_of}
 use Rattle.mt_op.specs.Ready.{is_ready}

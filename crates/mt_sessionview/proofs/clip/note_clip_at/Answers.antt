@@ -1,5 +1,4 @@
-use Rattle.std.proofs.Common.{◌≡◌, ◌++◌, ◌∷◌, [], List, Option, sym, ap, ◌∙◌, subst}
-use Rattle.mt_op.specs.Operation.{Operation}
+use Rattle.std.proofs.Common.{◌++◌, ◌∷◌, [], List, Option, sym, ◌∙◌, subst}
 use Rattle.mt_sessionview.specs.Content.{Clip}
 use Rattle.mt_sessionview.specs.Told.{TellsClips}
 use Rattle.mt_sessionview.proofs.ClipRows.{clips_unshown, clips_nowhere, clips_noted}

@@ -1,9 +1,7 @@
-use Rattle.std.proofs.Common.{◌≡◌, Some, length, refl, sym, ap, ◌∙◌, Option}
-use Rattle.std.specs.Prelude.{slice_get}
-use Rattle.std.proofs.lemmas.Option.{slice_get_read}
+use Rattle.std.proofs.Common.{◌≡◌, Some, sym, ap, ◌∙◌, Option}
 use Rattle.mt_op.specs.Operation.{AddMarker, Operation}
 use Rattle.mt_op.specs.Bodies.{act_of}
-use Rattle.mt_op.specs.Needs.{adds_marker, adds_item}
+use Rattle.mt_op.specs.Needs.{adds_item}
 use Rattle.mt_op.specs.Writes.{title_written, position_written, last_write}
 use Rattle.mt_sessionview.specs.Content.{Marker}
 use Rattle.mt_sessionview.specs.Session.{ready_ops}

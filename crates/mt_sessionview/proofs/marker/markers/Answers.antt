@@ -1,13 +1,11 @@
-use Rattle.std.proofs.Common.{◌≡◌, ◌∙◌, Bool, List, Option, None, map, get_or, sym, ap, subst, arith}
+use Rattle.std.proofs.Common.{◌∙◌, Bool, List, map, sym, ap, arith}
 use Rattle.std.specs.List.{filter}
-use Rattle.std.proofs.lemmas.List.{take_all, get_or_default}
+use Rattle.std.proofs.lemmas.List.{take_all}
 use Rattle.mt_op.specs.Operation.{Operation}
 use Rattle.mt_op.specs.Needs.{needs, meets, clock_of, adds_marker}
 use Rattle.mt_op.specs.Ready.{is_ready}
-use Rattle.mt_cells.specs.Marks.{Marks}
 use Rattle.mt_sessionview.specs.Content.{Marker}
-use Rattle.mt_sessionview.specs.Session.{ready_ops, is_shown, marker_of}
-use Rattle.mt_sessionview.specs.Tables.{AreMarks}
+use Rattle.mt_sessionview.specs.Session.{is_shown, marker_of}
 use Rattle.mt_sessionview.proofs.Waiting.{element}
 use Rattle.mt_sessionview.proofs.Told.{ready_told}
 use Rattle.mt_sessionview.proofs.Shown.{more_shown, none_shown, waiting_unshown}

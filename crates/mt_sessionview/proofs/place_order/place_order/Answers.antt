@@ -1,10 +1,8 @@
-use Rattle.std.proofs.Common.{◌+◌, List, length, sym, ap, ◌∙◌, subst, arith}
+use Rattle.std.proofs.Common.{◌+◌, length, sym, ap, ◌∙◌, subst, arith}
 use Rattle.std.proofs.lemmas.List.{length-map}
 use Rattle.mt_op.specs.Needs.{needs, meets, clock_of}
 use Rattle.mt_op.specs.Ready.{is_ready}
 use Rattle.mt_sessionview.specs.Chain.{ChainList}
-use Rattle.mt_sessionview.specs.StampOrder.{IsStampOrder}
-use Rattle.mt_sessionview.specs.declared.place.Place.{Place}
 use Rattle.mt_sessionview.specs.TrackOrder.{IsPlaceOrder}
 use Rattle.mt_sessionview.proofs.Rows.{told_at}
 use Rattle.mt_sessionview.proofs.StampOrder.{stands_within}
@@ -15,38 +13,38 @@ use Rattle.mt_sessionview.proofs.place_order.place_order.Goals.{then-ready-entry
 pub loop-entry-init : goal.loop-entry-init
 loop-entry-init g c = record {
   count = ap (λ (chain : ChainList). chain.count) c.in_ok-chain.ensures;
-  linked = linked_start c.args.ops.now c.deref-entry-items.result.now c.in_ok-chain.chain.items (ap (λ (chain : ChainList). chain.items) c.in_ok-chain.ensures);
+  linked = linked_start c.args.ops.now c.args.by_stamp.now c.in_ok-chain.chain.items (ap (λ (chain : ChainList). chain.items) c.in_ok-chain.ensures);
 }
 
 pub bounds-ready-entry : goal.bounds-ready-entry
 bounds-ready-entry g c =
-    let inside = stands_within c.args.ops.now c.in_ok-by_stamp.by_stamp.items c.deref-entry-items.result.now c.deref-entry-items.ensures.value c.in_ok-by_stamp.ensures c.loop-entry.entry-index c.entry-item.result (omega arith) c.entry-item.is in
+    let inside = stands_within c.args.ops.now c.args.by_stamp.now c.requires.order c.loop-entry.entry-index c.entry-item.result (omega arith) c.entry-item.is in
     omega (arith, inside, ap length c.requires.table, length-map c.args.ops.now (is_ready clock_of needs meets c.args.ops.now))
 
 pub link_place-requires-clause-inside : goal.link_place-requires-clause-inside
 link_place-requires-clause-inside g c =
-    stands_within c.args.ops.now c.in_ok-by_stamp.by_stamp.items c.deref-entry-items.result.now c.deref-entry-items.ensures.value c.in_ok-by_stamp.ensures c.loop-entry.entry-index c.entry-item.result (omega arith) c.entry-item.is
+    stands_within c.args.ops.now c.args.by_stamp.now c.requires.order c.loop-entry.entry-index c.entry-item.result (omega arith) c.entry-item.is
 
 pub link_place-requires-clause-new : goal.link_place-requires-clause-new
 link_place-requires-clause-new g c =
-    let next = next_at c.args.ops.now c.in_ok-by_stamp.by_stamp.items c.deref-entry-items.result.now c.loop-entry.entry-index c.entry-item.result c.requires.rise c.requires.valid c.deref-entry-items.ensures.value c.in_ok-by_stamp.ensures (omega arith) c.entry-item.is in
-    is_new c.args.ops.now c.deref-entry-items.result.now c.loop-entry.chain.items c.loop-entry.entry-index c.entry-item.result next.0 next.1 c.loop-entry.invariant.linked
+    let next = next_at c.args.ops.now c.args.by_stamp.now c.loop-entry.entry-index c.entry-item.result c.requires.rise c.requires.valid c.requires.order (omega arith) c.entry-item.is in
+    is_new c.args.ops.now c.args.by_stamp.now c.loop-entry.chain.items c.loop-entry.entry-index c.entry-item.result next.0 next.1 c.loop-entry.invariant.linked
 
 pub link_place-requires-clause-there : goal.link_place-requires-clause-there
 link_place-requires-clause-there g c = λ x p j at is stands.
-    let next = next_at c.args.ops.now c.in_ok-by_stamp.by_stamp.items c.deref-entry-items.result.now c.loop-entry.entry-index c.entry-item.result c.requires.rise c.requires.valid c.deref-entry-items.ensures.value c.in_ok-by_stamp.ensures (omega arith) c.entry-item.is in
+    let next = next_at c.args.ops.now c.args.by_stamp.now c.loop-entry.entry-index c.entry-item.result c.requires.rise c.requires.valid c.requires.order (omega arith) c.entry-item.is in
     let next_is = next.1 in
     let ready = sym (told_at c.args.ops.now (is_ready clock_of needs meets c.args.ops.now) c.args.ready.now c.entry-item.result.place next.0 c.requires.table next_is.op_at) ∙ c.if-ready-entry.true in
-    parent_had c.args.ops.now c.deref-entry-items.result.now c.loop-entry.chain.items c.loop-entry.entry-index c.entry-item.result next.0 next.1 c.loop-entry.invariant.linked x p j ready at is stands
+    parent_had c.args.ops.now c.args.by_stamp.now c.loop-entry.chain.items c.loop-entry.entry-index c.entry-item.result next.0 next.1 c.loop-entry.invariant.linked x p j ready at is stands
 
 pub loop-entry-preserved : goal.loop-entry-preserved
 loop-entry-preserved g c =
     let ops = c.args.ops.now in
-    let order = c.deref-entry-items.result.now in
+    let order = c.args.by_stamp.now in
     let items = c.loop-entry.chain.items in
     let n = c.loop-entry.entry-index in
     let e = c.entry-item.result in
-    let next = next_at ops c.in_ok-by_stamp.by_stamp.items order n e c.requires.rise c.requires.valid c.deref-entry-items.ensures.value c.in_ok-by_stamp.ensures (omega arith) c.entry-item.is in
+    let next = next_at ops order n e c.requires.rise c.requires.valid c.requires.order (omega arith) c.entry-item.is in
     let next_is = next.1 in
     let told = told_at ops (is_ready clock_of needs meets ops) c.args.ready.now e.place next.0 c.requires.table next_is.op_at in
     let Linked : ChainList → Type 0 = λ chain. IsLinkedTo ops order chain.items (n + 1) in
@@ -64,8 +62,6 @@ loop-entry-preserved g c =
 pub returns-clause-ok : goal.returns-clause-ok
 returns-clause-ok g c =
     let ops = c.args.ops.now in
-    let order = c.deref-entry-items.result.now in
-    let InOrder : List Place → Type 0 = IsStampOrder ops in
-    let by_stamp : IsStampOrder ops order = subst InOrder (sym c.deref-entry-items.ensures.value) c.in_ok-by_stamp.ensures in
-    let done = linked_all ops order c.loop-entry.chain.items c.loop-entry.entry-index by_stamp (omega arith) c.loop-entry.invariant.linked in
+    let order = c.args.by_stamp.now in
+    let done = linked_all ops order c.loop-entry.chain.items c.loop-entry.entry-index c.requires.order (omega arith) c.loop-entry.invariant.linked in
     subst (IsPlaceOrder ops) (sym c.in_ok-to_vec.ensures) done

@@ -1,5 +1,5 @@
-use Rattle.std.proofs.Common.{◌≡◌, true, ◌<◌, ◌++◌, ◌∷◌, [], ℕ, List, Option, Some, None, length, get_or, take, map, refl, sym, ap, ◌∙◌, subst, arith}
-use Rattle.std.specs.Prelude.{slice_get, unwrap_or}
+use Rattle.std.proofs.Common.{◌≡◌, true, ◌++◌, ◌∷◌, [], List, Option, None, get_or, take, map, sym, ap, ◌∙◌, subst, arith}
+use Rattle.std.specs.Prelude.{unwrap_or}
 use Rattle.std.proofs.lemmas.Option.{same_Some, none-some, slice_get_within, slice_get-get_or}
 use Rattle.std.proofs.lemmas.List.{get_or_default, take_all}
 use Rattle.mt_op.specs.Operation.{Operation}

@@ -1,8 +1,7 @@
-use Rattle.std.proofs.Common.{◌≡◌, Bool, true, false, Some, None, get_or, refl, sym, ap, ◌∙◌, subst, true≢false, ◌&&◌}
+use Rattle.std.proofs.Common.{◌≡◌, true, Some, sym, ap, ◌∙◌, true≢false}
 use Rattle.std.proofs.lemmas.Option.{same_Some, none-some}
-use Rattle.mt_stamp.specs.Moment.{Moment}
-use Rattle.mt_op.specs.Operation.{Act, AddTrack, Operation}
-use Rattle.mt_op.specs.Needs.{needs, meets, clock_of, adds_track, adds_item}
+use Rattle.mt_op.specs.Operation.{Operation}
+use Rattle.mt_op.specs.Needs.{needs, meets, clock_of, adds_track}
 use Rattle.mt_op.specs.Ready.{is_ready}
 use Rattle.mt_op.specs.Writes.{track_place_written}
 use Rattle.mt_op.proofs.Needs.{and_first, and_second}
