@@ -1,0 +1,64 @@
+"""How a case is written, and what several subjects share. Each case is a folder: the words after the program's name (a line
+each), the files that lie where it runs, its input, and the output, the errors and the status that are wanted."""
+import os
+
+from logs import A, B, C, add_marker, head, log, marker_line, retitle, seal
+from waves import info
+
+CASES = os.path.join(os.path.dirname(os.path.abspath(__file__)), "cases")
+NEWS = add_marker((1, A, 1), 480, "News")
+LATE = retitle((2, B, 1), (1, A, 1), "Late")
+ONE = log([NEWS])
+# two markers by name, what NEWS shows where nothing changes it, and a second marker with what it shows
+M, N = (1, A, 1), (2, C, 1)
+SHOWN = marker_line(M, 480, "News")
+TALK = add_marker(N, 960, "Talk")
+TALKED = marker_line(N, 960, "Talk")
+
+
+def case(name, words, files=None, stdin=b"", stdout="", status=0, stderr=None, output=None, setup=None):
+    folder = os.path.join(CASES, name)
+    os.makedirs(os.path.join(folder, "files"))
+    if stderr is None:
+        stderr = ""
+    parts = {
+        "words": b"".join((word if isinstance(word, bytes) else word.encode()) + b"\n" for word in words),
+        "stdin": stdin,
+        "stdout": stdout.encode(),
+        "stderr": stderr.encode(),
+        "status": b"%d\n" % status,
+    }
+    if output is not None:
+        parts["output"] = output.encode() + b"\n"
+    if setup is not None:
+        parts["setup"] = setup.encode() + b"\n"
+    for part, data in parts.items():
+        with open(os.path.join(folder, part), "wb") as file:
+            file.write(data)
+    for file_name, data in (files or {}).items():
+        with open(os.path.join(folder, "files", file_name), "wb") as file:
+            file.write(data)
+    if not files:
+        open(os.path.join(folder, "files", ".keep"), "wb").close()
+
+
+def fault(name, number, words, **more):
+    case(name, words, status=1, stderr="radio: fault %d\n" % number, **more)
+
+
+def view(name, ops, stdout):
+    case(name, ["view", "log"], files={"log": log(ops)}, stdout=stdout)
+
+
+def bad_record(name, *records):
+    """A log that is sealed and counted, and one of its records is no operation."""
+    fault(name, 14, ["view", "log"], files={"log": seal(head(len(records)) + b"".join(records))})
+
+
+def told(name, file, **facts):
+    """`info` of this file, which has one frame of 24 bits at 48000 unless the facts say otherwise."""
+    case(name, ["info", "wave"], files={"wave": file}, stdout=info(file, **facts))
+
+
+def not_told(name, number, file):
+    fault(name, number, ["info", "wave"], files={"wave": file})

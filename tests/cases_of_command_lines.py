@@ -1,0 +1,64 @@
+"""Cases of files and streams, and of command lines."""
+from case import ONE, case, fault
+from cases_of_waves import SMALLEST
+
+# files and streams
+fault("missing_file", 45, ["view", "missing"])
+fault("missing_before_damaged", 45, ["view", "bad", "missing"], files={"bad": ONE[:-1]})
+fault("a_directory", 45, ["view", "folder"], setup="mkdir folder")
+fault("a_file_as_folder", 45, ["view", "log/log"], files={"log": ONE})
+fault("unreadable_file", 45, ["view", "log"], files={"log": ONE}, setup="chmod 000 log")
+fault("output_closed", 37, ["view", "log"], files={"log": ONE}, output="closed")
+fault("output_full", 37, ["view", "log"], files={"log": ONE}, output="full")
+fault("output_to_a_closed_pipe", 37, ["view", "log"], files={"log": ONE}, output="pipe")
+
+# command lines
+USAGE = "Usage: radio <COMMAND>\n\nFor more information, try '--help'.\n"
+case("no_argument", [], status=2, stderr="error: 'radio' requires a subcommand but one was not provided\n  [subcommands: view, info, help]\n\n" + USAGE)
+case("frob", ["frob"], status=2, stderr="error: unrecognized subcommand 'frob'\n\n" + USAGE)
+case("unknown_option", ["view", "--frob"], status=2, stderr="error: unexpected argument '--frob' found\n\n  tip: to pass '--frob' as a value, use '-- --frob'\n\nUsage: radio view [LOG]...\n\nFor more information, try '--help'.\n")
+case("word_of_no_text", ["view", b"\xff\xfe"], status=2, stderr="error: invalid UTF-8 was detected in one or more arguments\n\n" + USAGE)
+case("version", ["--version"], stdout="radio 0.1.0\n")
+case("version_in_short", ["-V"], stdout="radio 0.1.0\n")
+HELP = """A nondestructive multitrack audio editor whose sessions are replicated
+
+Usage: radio <COMMAND>
+
+Commands:
+  view  Prints the session of the union of the logs
+  info  Prints what a wave file says of itself
+  help  Print this message or the help of the given subcommand(s)
+
+Options:
+  -h, --help     Print help
+  -V, --version  Print version
+"""
+case("help", ["--help"], stdout=HELP)
+case("help_in_short", ["-h"], stdout=HELP)
+case("help_command", ["help"], stdout=HELP)
+VIEW = """Prints the session of the union of the logs
+
+Usage: radio view [LOG]...
+
+Arguments:
+  [LOG]...  Logs, joined from left to right; with none, one log from standard input
+
+Options:
+  -h, --help  Print help
+"""
+case("help_of_view", ["view", "--help"], stdout=VIEW)
+fault("help_to_a_full_disk", 37, ["--help"], output="full")
+INFO = """Prints what a wave file says of itself
+
+Usage: radio info <WAVE>
+
+Arguments:
+  <WAVE>  A wave file
+
+Options:
+  -h, --help  Print help
+"""
+case("help_of_info", ["info", "--help"], stdout=INFO)
+INFO_USAGE = "Usage: radio info <WAVE>\n\nFor more information, try '--help'.\n"
+case("info_of_nothing", ["info"], status=2, stderr="error: the following required arguments were not provided:\n  <WAVE>\n\n" + INFO_USAGE)
+case("info_of_two", ["info", "a", "b"], files={"a": SMALLEST, "b": SMALLEST}, status=2, stderr="error: unexpected argument 'b' found\n\n" + INFO_USAGE)
