@@ -1,0 +1,237 @@
+#!/usr/bin/env python3
+"""Compares `radio view` with a model of the session in Python: tests/model.py PROGRAM [--sets N] [--seed N]
+
+The model is written from docs/formats.md alone, in the plainest way: what is ready by a fixed point, a field's value by a
+maximum, the order of tracks by sorting whole paths. The sets are drawn at random: a few replicas whose numbers may have gaps,
+names of operations that are there, that are not, that have another clock or do not fit the role. Each set is handed to the
+program as one log, or as several that share operations. Stops at the first set of which the two tell different texts."""
+import argparse
+import os
+import random
+import subprocess
+import sys
+import tempfile
+
+sys.dont_write_bytecode = True
+sys.path.insert(0, os.path.dirname(os.path.abspath(__file__)))
+import logs
+
+ADDS = {"add_track", "add_clip", "add_marker"}
+FITS = {
+    "Track": {"add_track"},
+    "Place": {"add_track", "move_track"},
+    "Clip": {"add_clip"},
+    "Marker": {"add_marker"},
+    "Mixable": {"add_track", "add_clip"},
+    "Titled": {"add_track", "add_marker"},
+    "Item": ADDS,
+}
+TITLES = ["", "News", "  two  ", "held 9", "Wetter für morgen", "新聞", "t" * 255]
+SOURCES = [bytes(32), b"\xff" * 32, bytes(range(32))]
+FRAMES = [0, 0, 1, 1, 2, 480, 2**32 - 1]
+LENGTHS = [1, 1, 2, 480, 2**32 - 1]
+SHORTS = [1, 1, 2, 65535]
+
+
+class Op:
+    """An operation: its stamp, what it does, and the fields of its body by name, in the order of the format."""
+
+    def __init__(self, own, kind, **fields):
+        self.own, self.kind, self.fields = own, kind, fields
+
+    def __getattr__(self, name):
+        return self.fields[name]
+
+    def text(self):
+        return getattr(logs, self.kind)(self.own, *self.fields.values())
+
+    def needs(self):
+        after = [(self.after, "Place")] if self.fields.get("after") is not None else []
+        return {
+            "add_track": lambda: after,
+            "move_track": lambda: [(self.track, "Track")] + after,
+            "add_clip": lambda: [(self.track, "Track")],
+            "move_clip": lambda: [(self.clip, "Clip"), (self.track, "Track")],
+            "trim_clip": lambda: [(self.clip, "Clip")],
+            "set_gain": lambda: [(self.item, "Mixable")],
+            "set_mute": lambda: [(self.item, "Mixable")],
+            "remove": lambda: [(self.item, "Item")] + [(tag, self.item) for tag in self.tags],
+            "restore": lambda: [(self.item, "Item")],
+            "add_marker": lambda: [],
+            "move_marker": lambda: [(self.marker, "Marker")],
+            "retitle": lambda: [(self.item, "Titled")],
+        }[self.kind]()
+
+    def fits(self, role):
+        """A role is a name, or the item that the operation has to be a tag of."""
+        if isinstance(role, str):
+            return self.kind in FITS[role]
+        return self.own == role if self.kind in ADDS else self.kind == "restore" and self.item == role
+
+
+def ready_of(ops):
+    ready = []
+    while True:
+        more = [op for op in ops if op not in ready and all(any(other.own == name and other.fits(role) for other in ready) for name, role in op.needs())]
+        if not more:
+            return ready
+        ready += more
+
+
+def session_text(ops):
+    ready = ready_of(ops)
+
+    def last(item, field, writers):
+        """What the writer with the greatest stamp gave a field, and that stamp. `writers` says by kind which field names the item."""
+        writes = [(op.own, field(op)) for op in ready if op.kind in writers and (op.own if op.kind in ADDS else op.fields[writers[op.kind]]) == item]
+        return max(writes, key=lambda write: write[0])
+
+    def is_present(item):
+        tags = {item} | {op.own for op in ready if op.kind == "restore" and op.item == item}
+        return bool(tags - {tag for op in ready if op.kind == "remove" and op.item == item for tag in op.tags})
+
+    def title(item):
+        return last(item, lambda op: op.title, {"add_track": "", "add_marker": "", "retitle": "item"})[1]
+
+    def sound(item):
+        added = {"add_track": "", "add_clip": ""}
+        gain = last(item, lambda op: (op.num, op.den) if op.kind == "set_gain" else (1, 1), {**added, "set_gain": "item"})[1]
+        return gain, bool(last(item, lambda op: op.flag if op.kind == "set_mute" else 0, {**added, "set_mute": "item"})[1])
+
+    after = {op.own: op.after for op in ready if op.kind in FITS["Place"]}
+
+    def path(place):
+        way = []
+        while place is not None:
+            way.append(tuple(-part for part in place))
+            place = after[place]
+        return way[::-1]
+
+    present = {kind: [op for op in ready if op.kind == kind and is_present(op.own)] for kind in ADDS}
+    clips = []
+    for op in present["add_clip"]:
+        place, (track, at) = last(op.own, lambda op: (op.track, op.at), {"add_clip": "", "move_clip": "clip"})
+        offset, length = last(op.own, lambda op: (op.offset, op.length), {"add_clip": "", "trim_clip": "clip"})[1]
+        clips.append((track, at, place, logs.clip_line(op.own, place, at, offset, length, op.source, *sound(op.own))))
+    text = ""
+    for op in sorted(present["add_track"], key=lambda op: path(last(op.own, lambda op: None, {"add_track": "", "move_track": "track"})[0])):
+        text += logs.track_line(op.own, title(op.own), *sound(op.own))
+        text += "".join(line for track, at, place, line in sorted(clips) if track == op.own)
+    markers = [(last(op.own, lambda op: op.at, {"add_marker": "", "move_marker": "marker"})[1], op.own) for op in present["add_marker"]]
+    text += "".join(logs.marker_line(own, at, title(own)) for at, own in sorted(markers))
+    return text + "held %d\n" % (len(ops) - len(ready))
+
+
+NAMED = {
+    "move_track": "Track", "add_clip": "Track", "move_clip": "Clip", "trim_clip": "Clip", "set_gain": "Mixable", "set_mute": "Mixable",
+    "remove": "Item", "restore": "Item", "move_marker": "Marker", "retitle": "Titled"}
+KINDS = sorted(ADDS) + ["add_track", "add_clip", "move_track", "remove"] + sorted(NAMED.keys() - {"add_clip", "move_track"})
+
+
+class History:
+    """Operations that could all be in one log, drawn one after another; a name's clock is smaller than the operation's."""
+
+    def __init__(self, draw):
+        self.draw, self.clock, self.seqs, self.ops = draw, 0, {}, []
+        self.replicas = draw.sample([0, 1, 10, 11, 2**128 - 1], draw.randint(1, 4))
+
+    def name(self, kinds):
+        """The stamp of an operation that fits, and now and then of one that does not or is not there."""
+        draw = self.draw
+        odd = draw.random()
+        some = self.older if odd < 0.02 else [op for op in self.older if op.kind in kinds]
+        if odd > 0.98 and self.own[0] > 1:
+            return (draw.randint(1, self.own[0] - 1), draw.choice(self.replicas), draw.randint(1, 9))
+        if not some:
+            return None
+        clock, replica, seq = draw.choice(some).own
+        return (draw.randint(1, self.own[0] - 1) if draw.random() < 0.01 else clock, replica, seq)
+
+    def place(self):
+        return self.name(FITS["Place"]) if self.draw.random() < 0.7 else None
+
+    def tags(self, item):
+        """Most of the tags that the item has, and now and then what is none."""
+        known = [op.own for op in self.older if op.own == item or op.kind == "restore" and op.item == item]
+        more = [self.draw.choice(self.older).own] if self.older and self.draw.random() < 0.03 else []
+        return sorted({tag for tag in known if self.draw.random() < 0.8} | set(more))
+
+    def fields(self, kind, item):
+        draw = self.draw
+        frame, length = draw.choice(FRAMES), draw.choice(LENGTHS)
+        return {
+            "add_track": lambda: {"after": self.place(), "title": draw.choice(TITLES)},
+            "move_track": lambda: {"track": item, "after": self.place()},
+            "add_clip": lambda: {"source": draw.choice(SOURCES), "track": item, "at": frame, "offset": draw.choice(FRAMES), "length": length},
+            "move_clip": lambda: {"clip": item, "track": self.name(FITS["Track"]) or item, "at": frame},
+            "trim_clip": lambda: {"clip": item, "offset": frame, "length": length},
+            "set_gain": lambda: {"item": item, "num": draw.choice([0] + SHORTS), "den": draw.choice(SHORTS)},
+            "set_mute": lambda: {"item": item, "flag": draw.randint(0, 1)},
+            "remove": lambda: {"item": item, "tags": self.tags(item)},
+            "restore": lambda: {"item": item},
+            "add_marker": lambda: {"at": frame, "title": draw.choice(TITLES)},
+            "move_marker": lambda: {"marker": item, "at": frame},
+            "retitle": lambda: {"item": item, "title": draw.choice(TITLES)},
+        }[kind]()
+
+    def add(self):
+        """One more operation, where what is drawn can be one."""
+        draw = self.draw
+        self.clock = max(self.clock + draw.choice([0, 1, 1, 1, 3]), 1)
+        replica = draw.choice(self.replicas)
+        self.seqs[replica] = self.seqs.get(replica, 0) + draw.choice([1, 1, 1, 1, 2, 7])
+        self.own = (self.clock, replica, self.seqs[replica])
+        self.older = [op for op in self.ops if op.own[0] < self.clock]
+        kind = draw.choice(KINDS)
+        item = self.name(FITS[NAMED[kind]]) if kind in NAMED else None
+        if kind in NAMED and item is None:
+            return
+        fields = self.fields(kind, item)
+        if fields.get("tags") != []:
+            self.ops.append(Op(self.own, kind, **fields))
+
+
+def drawn(draw):
+    """A set of operations, of which some may be missing that others name."""
+    history = History(draw)
+    for _ in range(draw.choice([3, 10, 30, 60])):
+        history.add()
+    return [op for op in history.ops if draw.random() < 0.98]
+
+
+def files_of(draw, ops, folder):
+    """The set in one log, or in four that share operations."""
+    parts = [ops] if draw.random() < 0.5 else [[op for op in ops if draw.random() < 0.6] for _ in range(2)] + [ops[::2], ops[1::2]]
+    draw.shuffle(parts)
+    files = [os.path.join(folder, "log%d" % i) for i in range(len(parts))]
+    for name, part in zip(files, parts):
+        with open(name, "wb") as file:
+            file.write(logs.log([op.text() for op in part]))
+    return files
+
+
+def main():
+    parser = argparse.ArgumentParser(description=__doc__.split("\n")[0])
+    parser.add_argument("program")
+    parser.add_argument("--sets", type=int, default=500)
+    parser.add_argument("--seed", type=int, default=1)
+    options = parser.parse_args()
+    program = os.path.abspath(options.program)
+    shown = held = 0
+    with tempfile.TemporaryDirectory() as folder:
+        for seed in range(options.seed, options.seed + options.sets):
+            draw = random.Random(seed)
+            ops = drawn(draw)
+            told = subprocess.run([program, "view"] + files_of(draw, ops, folder), capture_output=True)
+            wanted = session_text(ops)
+            if told.stdout.decode() != wanted or told.stderr or told.returncode != 0:
+                print("seed %d: the program says\n%s%s\nand the model\n%s" % (seed, told.stdout.decode(), told.stderr.decode(), wanted))
+                return 1
+            shown += wanted.count("\n") - 1
+            held += int(wanted.rsplit(" ", 1)[1])
+    print("%d sets agree with the model: %d lines of tracks, clips and markers, %d operations held" % (options.sets, shown, held))
+    return 0
+
+
+if __name__ == "__main__":
+    sys.exit(main())
