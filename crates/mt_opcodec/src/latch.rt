@@ -236,6 +236,8 @@ impl<R: Read> Latch<R> {
         ensures sound_when_read { OnOk result (self.new.failed ≡ false) }
         ensures stays_failed { self.old.failed ≡ true → self.new ≡ self.old }
         ensures counted { OnOk result (self.new.reads_left < self.old.reads_left) }
+        ensures counted_without_memory { IfErr result (λ fault.
+            fault ≡ Memory → self.new.reads_left < self.old.reads_left) }
         ensures never_more { self.new.reads_left ≤ self.old.reads_left }
         ensures used_up { self.old.reads_left ≡ 0 → self.new.inner ≡ self.old.inner }
     {

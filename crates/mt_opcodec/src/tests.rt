@@ -111,6 +111,7 @@ fn numbers_its_refusals(rt: HostRuntime) {
     }
 }
 
+// a law is a function that does nothing
 #[test]
 fn states_its_laws() {
     op_texts();

@@ -34,7 +34,8 @@ pub fn from_scratch<A: Allocator + Clone>(
 /// in order, then `held N`, each ended by a line feed.
 ///
 /// `Write` (37) where the output's latch has failed, before or in this call; the output then holds a front of
-/// the text. `Memory` (0) where a growth was refused; the output is then as it was.
+/// the text, and is as it was where the latch had failed before. `Memory` (0) where a growth was refused; the output is
+/// then as it was.
 pub fn write_text<A: Allocator, B: Allocator, W: Write>(
     alloc: A,
     session: &Session<B>,
@@ -44,6 +45,7 @@ pub fn write_text<A: Allocator, B: Allocator, W: Write>(
     ensures front { AppendsFront (W.contents output.old.inner) (W.contents output.new.inner) (session_text session.now) }
     ensures sound { OnOk result (output.new.failed ≡ false) }
     ensures write { IfErr result (λ fault. fault ≡ SessionFault.Write → output.new.failed ≡ true) }
+    ensures stays_failed { output.old.failed ≡ true → output.new ≡ output.old }
     ensures memory { IfErr result (λ fault. fault ≡ SessionFault.Memory → output.new ≡ output.old) }
 {
     let mut text = String::new(&alloc);

@@ -10,8 +10,7 @@ use std::marker::Model;
 pub struct ClipView {
     /// The stamp of the operation that added it, which names it.
     pub clip: Stamp,
-    /// The stamp of the operation that gave it its place: of the unmuted clips of a track that cover a frame, the one
-    /// with the greatest sounds.
+    /// The stamp of the operation that gave it its place.
     pub place: Stamp,
     /// The first frame of the session that it covers.
     pub at: u32,

@@ -198,6 +198,7 @@ fn compares_sessions(rt: HostRuntime) -> Result<(), Fail> {
     assert!(rt; one != other);
     assert_eq!(rt; one.held, 0);
     assert_eq!(rt; other.held, 1);
+    assert_eq!(rt; one.markers.items().len(), 1);
     for view in one.markers.items() {
         assert_eq!(rt; view.at, 480);
         assert_eq!(rt; view.title.text(), "News");
