@@ -15,3 +15,5 @@ pub mod Appends
 pub mod Records
 pub mod LogTexts
 pub mod Union
+pub mod Merging
+pub mod EqualLogs

@@ -30,7 +30,8 @@ get-union a b dot =
     ∙ ap (λ (o : Option Operation). cond (is_some o) o (find dot_cmp dot (fin.entries b))) (sym (fin.get-entries a dot))
     ∙ ap (λ (o : Option Operation). cond (is_some (fin.get a dot)) (fin.get a dot) o) (sym (fin.get-entries b dot))
 
-same_log : (a b : LogMap) → ((dot : Dot) → fin.get a dot ≡ fin.get b dot) → a ≡ b
+-- logs that have the same under each dot are one
+pub same_log : (a b : LogMap) → ((dot : Dot) → fin.get a dot ≡ fin.get b dot) → a ≡ b
 same_log a b h = fin.same_map dot_cmp_total dot_cmp-IsAntisymmetric a b h
 
 both_ways : (x y : Option Operation) → ((o p : Operation) → x ≡ Some o → y ≡ Some p → o ≡ p) → cond (is_some x) x y ≡ cond (is_some y) y x

@@ -4,6 +4,7 @@ pub mod LogText
 pub mod LogReading
 pub mod LogValue
 pub mod Union
+pub mod Merging
 pub mod Laws
 pub mod Faults
 pub mod Latch

@@ -17,9 +17,13 @@ version = 1
 abbrev pub log_head : ℕ → List ℕ
 log_head count = magic ++ (version ∷ to_be_bytes w64 count)
 
+-- the texts of operations, one after another
+abbrev pub op_texts : List Operation → List ℕ
+op_texts ops = flat_map op_text ops
+
 -- all that the digest is made of
 abbrev pub log_body : List Operation → List ℕ
-log_body ops = log_head (length ops) ++ flat_map op_text ops
+log_body ops = log_head (length ops) ++ op_texts ops
 
 -- the text of operations by rising dot
 abbrev pub log_text : List Operation → List ℕ

@@ -1,6 +1,11 @@
-//! What holds of texts and of unions: each law is the contract of a function that does nothing.
+//! What holds of texts, of logs and of unions: each law is the contract of a small function, which does nothing or only
+//! compares.
 
+ghost use Rattle.std.specs.Prelude.{◌≡◌, ◌↔◌, IsTrue};
 ghost use Rattle.mt_opcodec.specs.Laws.{OpTextsAreApart, LogTextsAreApart, IsUnion};
+
+use crate::log::Log;
+use std::alloc::Allocator;
 
 /// An operation has one text, and no operation's text begins another's.
 pub fn op_texts()
@@ -17,3 +22,13 @@ pub fn log_texts()
 pub fn unions()
     ensures { IsUnion }
 {}
+
+/// Logs are equal where they have the same operations.
+pub fn equal_logs<A: Allocator>(a: &Log<A>, b: &Log<A>) -> bool
+    ensures { IsTrue result ↔ (a.now ≡ b.now) }
+{
+    // what they hold are operations, each with a text of its own
+    let _ = a.ops();
+    let _ = b.ops();
+    a == b
+}

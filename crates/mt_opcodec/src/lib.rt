@@ -29,6 +29,7 @@ mod latch;
 pub mod laws;
 mod log;
 mod log_reader;
+mod merge;
 mod op_reader;
 mod op_writer;
 #[cfg(test)]

@@ -7,6 +7,7 @@ ghost use Rattle.mt_opcodec.specs.LogText.{log_body};
 
 use crate::fault::LogFault;
 use crate::log_reader::logged_ops;
+use crate::merge::{copied_ops, merged_ops};
 use crate::op_writer::put_op;
 use mt_op::laws::equal_ops;
 use mt_op::{Op, find_op};
@@ -15,7 +16,8 @@ use sha2::{Digest, Sha256};
 use std::alloc::{AllocError, Allocator, Global};
 use std::marker::Model;
 
-/// A log: operations by rising dot, no two of them with one dot. Seen as the finite map from dot to operation.
+/// A log: operations by rising dot, no two of them with one dot. Seen as the finite map from dot to operation. Logs are equal
+/// where they have the same operations.
 #[derive(Drop)]
 pub struct Log<A: Allocator = Global> {
     ops: Vec<Op<A>, A>,
@@ -42,6 +44,7 @@ impl<A: Allocator> Log<A> {
     ghost use Rattle.mt_opcodec.specs.LogValue.{AreLogged, Adds, operations, log_of};
     ghost use Rattle.mt_opcodec.specs.LogText.{log_text};
     ghost use Rattle.mt_opcodec.specs.LogReading.{LogGives, log_at};
+    ghost use Rattle.mt_opcodec.specs.Union.{Agree, union, MergeFails};
 
     /// The log of no operation. Takes no memory.
     pub fn new(alloc: A) -> Self
@@ -133,6 +136,31 @@ impl<A: Allocator> Log<A> {
         }
     }
 
+    /// The union of two logs: each operation that either has, once. Refused as `Conflict` (17) with the least dot
+    /// that names one operation in the left log and another in the right one, and as `Memory` (0) where a growth was
+    /// refused. Walks both logs at once: its time is linear in their operations.
+    pub fn merge(alloc: A, left: &Self, right: &Self) -> Result<Self, LogFault>
+    where
+        A: Clone,
+        ensures ok { IfOk result (λ log. Agree left.now right.now × (log ≡ union left.now right.now)) }
+        ensures err { IfErr result (MergeFails left.now right.now) }
+    {
+        let ops = merged_ops(alloc, left.ops(), right.ops())?;
+        Ok(Log { ops })
+    }
+
+    /// An equal log, on a clone of the allocator. Refused as `Memory` (0) where a growth was refused, and for nothing
+    /// else.
+    pub fn try_clone(&self) -> Result<Self, LogFault>
+    where
+        A: Clone,
+        ensures ok { IfOk result (λ log. log ≡ self.now) }
+        ensures err { IfErr result (λ fault. fault ≡ LogFault.Memory) }
+    {
+        let ops = copied_ops(self.allocator().clone()?, self.ops())?;
+        Ok(Log { ops })
+    }
+
     // The allocator that the log keeps.
     fn allocator(&self) -> &A {
         self.ops.allocator()
@@ -152,6 +180,32 @@ impl<A: Allocator> Log<A> {
         text.extend_from_slice(&digest)?;
         Ok(text)
     }
+}
+
+// By their texts, of which each operation has its own.
+impl<A: Allocator> PartialEq for Log<A> {
+    ghost use Rattle.std.specs.Prelude.{nat_eq};
+    ghost use Rattle.std.specs.Cmp.{on_per, partial_equiv_from_equiv};
+    ghost use Rattle.std.specs.Cmp.Lexicographic.{pointwise, nat_list_eq_equiv};
+    ghost use Rattle.mt_opcodec.specs.LogValue.{operations};
+    ghost use Rattle.mt_opcodec.specs.LogText.{op_texts};
+
+    ghost eq = { λ a b. pointwise nat_eq (op_texts (operations a)) (op_texts (operations b)) };
+
+    ghost laws = { on_per (λ log. op_texts (operations log)) (partial_equiv_from_equiv nat_list_eq_equiv) };
+
+    fn eq(&self, other: &Self) -> bool {
+        self.ops() == other.ops()
+    }
+}
+
+impl<A: Allocator> Eq for Log<A> {
+    ghost use Rattle.std.specs.Cmp.{on_equiv};
+    ghost use Rattle.std.specs.Cmp.Lexicographic.{nat_list_eq_equiv};
+    ghost use Rattle.mt_opcodec.specs.LogValue.{operations};
+    ghost use Rattle.mt_opcodec.specs.LogText.{op_texts};
+
+    ghost laws = { on_equiv (λ log. op_texts (operations log)) nat_list_eq_equiv };
 }
 
 // Writes all that the digest is made of.

@@ -2,6 +2,7 @@
 //! every call succeeds where there is memory.
 mod changes;
 mod logs;
+mod merges;
 mod operations;
 mod refused_growth;
 mod tags;

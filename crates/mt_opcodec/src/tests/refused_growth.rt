@@ -195,6 +195,57 @@ fn of_a_written_log(rt: HostRuntime) -> Result<(), Fail> {
     Err(Fail::from("each run met a refusal"))
 }
 
+/// A log of `MANY` markers, and one of a further one.
+fn two_logs<M: Allocator + Copy>(memory: M) -> Result<(Log<M>, Log<M>), LogFault> {
+    let mut many = Log::new(memory);
+    fill(&mut many, memory)?;
+    let mut one = Log::new(memory);
+    let _new = one.add(numbered(memory, MANY + 1)?)?;
+    Ok((many, one))
+}
+
+#[test]
+fn of_merged_logs(rt: HostRuntime) -> Result<(), Fail> {
+    let ample = Refusing::new(rt.alloc(), u64::MAX);
+    let _logs = two_logs(&ample)?;
+    let before = ample.allocations();
+    for at in 0..50 {
+        let memory = Refusing::new(rt.alloc(), before.saturating_add(at));
+        let (many, one) = two_logs(&memory)?;
+        let merged = Log::merge(&memory, &many, &one);
+        assert_eq!(rt; merged.is_err(), memory.has_refused(), "at {at}");
+        if !memory.has_refused() {
+            assert_eq!(rt; merged?.len(), 11);
+            assert!(rt; at > 12, "titles and the log were refused memory");
+            return Ok(());
+        }
+        assert_eq!(rt; merged.err(), Some(LogFault::Memory), "at {at}");
+    }
+    Err(Fail::from("each run met a refusal"))
+}
+
+#[test]
+fn of_a_copied_log(rt: HostRuntime) -> Result<(), Fail> {
+    let ample = Refusing::new(rt.alloc(), u64::MAX);
+    let mut log = Log::new(&ample);
+    fill(&mut log, &ample)?;
+    let before = ample.allocations();
+    for at in 0..50 {
+        let memory = Refusing::new(rt.alloc(), before.saturating_add(at));
+        let mut log = Log::new(&memory);
+        fill(&mut log, &memory)?;
+        let copy = log.try_clone();
+        assert_eq!(rt; copy.is_err(), memory.has_refused(), "at {at}");
+        if !memory.has_refused() {
+            assert!(rt; copy? == log);
+            assert!(rt; at > 11, "titles and the log were refused memory");
+            return Ok(());
+        }
+        assert_eq!(rt; copy.err(), Some(LogFault::Memory), "at {at}");
+    }
+    Err(Fail::from("each run met a refusal"))
+}
+
 #[test]
 fn of_a_log_that_is_read(rt: HostRuntime) -> Result<(), Fail> {
     let mut log = Log::new(rt.alloc());

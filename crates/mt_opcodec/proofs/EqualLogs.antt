@@ -1,0 +1,56 @@
+-- What `==` tells of logs.
+use Rattle.std.proofs.Common.{◌≡◌, Bool, true, false, List, [], ◌∷◌, refl, sym, ap, ◌∙◌, subst}
+use Rattle.std.specs.Prelude.{IsTrue, nat_eq, ◌↔◌}
+use Rattle.std.specs.List.{AllByRecursion}
+use Rattle.std.specs.Cmp.Lexicographic.{pointwise}
+use Rattle.std.specs.declared.alloc.Allocator.{Ghosts}
+use Rattle.mt_op.specs.Operation.{Operation}
+use Rattle.mt_op.specs.Valid.{IsOperation}
+use Rattle.mt_op.proofs.Needs.{and_first, and_second}
+use Rattle.mt_op.proofs.Equal.{op_test, op_decides, bytes_same, bytes_itself}
+use Rattle.mt_opcodec.specs.LogText.{op_texts}
+use Rattle.mt_opcodec.specs.LogValue.{LogMap, operations, log_of, AreLogged}
+use Rattle.mt_opcodec.proofs.Operations.{op_text-apart}
+
+-- the texts of operations, one after another, determine them
+texts_same : (a b : List Operation) → AllByRecursion IsOperation a → AllByRecursion IsOperation b → op_texts a ≡ op_texts b → a ≡ b
+texts_same [] [] valid_a valid_b e = refl
+texts_same [] (y ∷ b) valid_a valid_b e = absurd cc
+texts_same (x ∷ a) [] valid_a valid_b e = absurd cc
+texts_same (x ∷ a) (y ∷ b) valid_a valid_b e =
+    let apart = op_text-apart x y (op_texts a) (op_texts b) valid_a.0 valid_b.0 e in
+    let rest = texts_same a b valid_a.1 valid_b.1 apart.1 in
+    λ i. apart.0 i ∷ rest i
+
+one_answer : (x y : Bool) → (x ≡ true → y ≡ true) → (y ≡ true → x ≡ true) → x ≡ y
+one_answer true y there back = sym (there refl)
+one_answer false true there back = back refl
+one_answer false false there back = refl
+
+module _ (A : denote.RattleType.RattleType) (alloc : Ghosts A.Denot) (d e : mir.Syntax.Dict) where
+  ops_same : (a b : List Operation) → pointwise (op_test A alloc d e) a b ≡ true → a ≡ b
+  ops_same [] [] h = refl
+  ops_same [] (y ∷ b) h = absurd cc
+  ops_same (x ∷ a) [] h = absurd cc
+  ops_same (x ∷ a) (y ∷ b) h =
+      let first = (op_decides A alloc d e x y (op_test A alloc d e x y) refl).0 (and_first _ _ h) in
+      let rest = ops_same a b (and_second _ _ h) in
+      λ i. first i ∷ rest i
+
+  ops_itself : (a : List Operation) → pointwise (op_test A alloc d e) a a ≡ true
+  ops_itself [] = refl
+  ops_itself (x ∷ a) = rw ((op_decides A alloc d e x x (op_test A alloc d e x x) refl).1 refl) (ops_itself a)
+
+  -- operations are the same where their texts are
+  pub by_texts : (a b : List Operation) → AreLogged a → AreLogged b → (r : Bool) → r ≡ pointwise (op_test A alloc d e) a b → r ≡ pointwise nat_eq (op_texts a) (op_texts b)
+  by_texts a b logged_a logged_b r is =
+      is ∙ one_answer (pointwise (op_test A alloc d e) a b) (pointwise nat_eq (op_texts a) (op_texts b))
+      (λ h. subst (λ (c : List Operation). pointwise nat_eq (op_texts a) (op_texts c) ≡ true) (ops_same a b h) (bytes_itself (op_texts a)))
+      (λ h. subst (λ (c : List Operation). pointwise (op_test A alloc d e) a c ≡ true) (texts_same a b logged_a.valid logged_b.valid (bytes_same (op_texts a) (op_texts b) h)) (ops_itself a))
+
+-- the same, of logs
+pub logs_decided : (a b : LogMap) (r : Bool) → AreLogged (operations a) → AreLogged (operations b) → log_of (operations a) ≡ a → log_of (operations b) ≡ b → r ≡ pointwise nat_eq (op_texts (operations a)) (op_texts (operations b)) → IsTrue r ↔ (a ≡ b)
+logs_decided a b r logged_a logged_b whole_a whole_b is = (
+  λ h. sym whole_a ∙ ap log_of (texts_same (operations a) (operations b) logged_a.valid logged_b.valid (bytes_same _ _ (sym is ∙ h))) ∙ whole_b,
+  λ h. is ∙ subst (λ (c : LogMap). pointwise nat_eq (op_texts (operations a)) (op_texts (operations c)) ≡ true) h (bytes_itself (op_texts (operations a))),
+)
