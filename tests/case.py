@@ -16,7 +16,8 @@ TALK = add_marker(N, 960, "Talk")
 TALKED = marker_line(N, 960, "Talk")
 
 
-def case(name, words, files=None, stdin=b"", stdout="", status=0, stderr=None, output=None, setup=None):
+def case(name, words, files=None, stdin=b"", stdout="", status=0, stderr=None, output=None, setup=None, made=None, gone=None):
+    """`made`: the files that it makes or writes anew, with their bytes; `gone`: the names of those that it takes away."""
     folder = os.path.join(CASES, name)
     os.makedirs(os.path.join(folder, "files"))
     if stderr is None:
@@ -32,12 +33,16 @@ def case(name, words, files=None, stdin=b"", stdout="", status=0, stderr=None, o
         parts["output"] = output.encode() + b"\n"
     if setup is not None:
         parts["setup"] = setup.encode() + b"\n"
+    if gone is not None:
+        parts["gone"] = b"".join(name.encode() + b"\n" for name in gone)
     for part, data in parts.items():
         with open(os.path.join(folder, part), "wb") as file:
             file.write(data)
-    for file_name, data in (files or {}).items():
-        with open(os.path.join(folder, "files", file_name), "wb") as file:
-            file.write(data)
+    for kind, of_kind in (("files", files), ("made", made)):
+        for file_name, data in (of_kind or {}).items():
+            os.makedirs(os.path.join(folder, kind), exist_ok=True)
+            with open(os.path.join(folder, kind, file_name), "wb") as file:
+                file.write(data)
     if not files:
         open(os.path.join(folder, "files", ".keep"), "wb").close()
 

@@ -14,7 +14,7 @@ fault("output_to_a_closed_pipe", 37, ["view", "log"], files={"log": ONE}, output
 
 # command lines
 USAGE = "Usage: radio <COMMAND>\n\nFor more information, try '--help'.\n"
-case("no_argument", [], status=2, stderr="error: 'radio' requires a subcommand but one was not provided\n  [subcommands: view, info, help]\n\n" + USAGE)
+case("no_argument", [], status=2, stderr="error: 'radio' requires a subcommand but one was not provided\n  [subcommands: view, merge, info, help]\n\n" + USAGE)
 case("frob", ["frob"], status=2, stderr="error: unrecognized subcommand 'frob'\n\n" + USAGE)
 case("unknown_option", ["view", "--frob"], status=2, stderr="error: unexpected argument '--frob' found\n\n  tip: to pass '--frob' as a value, use '-- --frob'\n\nUsage: radio view [LOG]...\n\nFor more information, try '--help'.\n")
 case("word_of_no_text", ["view", b"\xff\xfe"], status=2, stderr="error: invalid UTF-8 was detected in one or more arguments\n\n" + USAGE)
@@ -25,9 +25,10 @@ HELP = """A nondestructive multitrack audio editor whose sessions are replicated
 Usage: radio <COMMAND>
 
 Commands:
-  view  Prints the session of the union of the logs
-  info  Prints what a wave file says of itself
-  help  Print this message or the help of the given subcommand(s)
+  view   Prints the session of the union of the logs
+  merge  Writes the union of the logs as one log
+  info   Prints what a wave file says of itself
+  help   Print this message or the help of the given subcommand(s)
 
 Options:
   -h, --help     Print help
@@ -47,6 +48,19 @@ Options:
   -h, --help  Print help
 """
 case("help_of_view", ["view", "--help"], stdout=VIEW)
+MERGE = """Writes the union of the logs as one log
+
+Usage: radio merge <OUT> [LOG]...
+
+Arguments:
+  <OUT>     The log to write
+  [LOG]...  Logs, joined from left to right; with none, the log of no operation
+
+Options:
+  -h, --help  Print help
+"""
+case("help_of_merge", ["merge", "--help"], stdout=MERGE)
+case("merge_of_nothing", ["merge"], status=2, stderr="error: the following required arguments were not provided:\n  <OUT>\n\nUsage: radio merge <OUT> [LOG]...\n\nFor more information, try '--help'.\n")
 fault("help_to_a_full_disk", 37, ["--help"], output="full")
 INFO = """Prints what a wave file says of itself
 

@@ -1,5 +1,5 @@
 #!/usr/bin/env python3
-"""Writes tests/cases anew, and examples/programme.log and examples/jingle.wav. The wanted texts are written by hand in
+"""Writes tests/cases anew, and the files of examples/. The wanted texts are written by hand in
 cases_of_*.py, each of which writes its cases as it is read (case.py); nothing here runs the program."""
 import os
 import shutil
@@ -13,5 +13,6 @@ shutil.rmtree(CASES, ignore_errors=True)
 import cases_of_markers
 import cases_of_tracks
 import cases_of_logs
+import cases_of_merges
 import cases_of_waves
 import cases_of_command_lines

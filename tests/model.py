@@ -1,10 +1,11 @@
 #!/usr/bin/env python3
-"""Compares `radio view` with a model of the session in Python: tests/model.py PROGRAM [--sets N] [--seed N]
+"""Compares `radio view` and `radio merge` with a model of the session in Python: tests/model.py PROGRAM [--sets N] [--seed N]
 
 The model is written from docs/formats.md alone, in the plainest way: what is ready by a fixed point, a field's value by a
 maximum, the order of tracks by sorting whole paths. The sets are drawn at random: a few replicas whose numbers may have gaps,
 names of operations that are there, that are not, that have another clock or do not fit the role. Each set is handed to the
-program as one log, or as several that share operations. Stops at the first set of which the two tell different texts."""
+program as one log, or as several that share operations, and merging these has to give the one log of the set. Stops at the
+first set of which the two tell different texts."""
 import argparse
 import os
 import random
@@ -210,6 +211,15 @@ def files_of(draw, ops, folder):
     return files
 
 
+def merges(program, files, wanted, out):
+    """Whether `merge` of these files tells nothing and writes these bytes."""
+    told = subprocess.run([program, "merge", out] + files, capture_output=True)
+    if told.stdout or told.stderr or told.returncode != 0:
+        return False
+    with open(out, "rb") as file:
+        return file.read() == wanted
+
+
 def main():
     parser = argparse.ArgumentParser(description=__doc__.split("\n")[0])
     parser.add_argument("program")
@@ -222,10 +232,14 @@ def main():
         for seed in range(options.seed, options.seed + options.sets):
             draw = random.Random(seed)
             ops = drawn(draw)
-            told = subprocess.run([program, "view"] + files_of(draw, ops, folder), capture_output=True)
+            files = files_of(draw, ops, folder)
+            told = subprocess.run([program, "view"] + files, capture_output=True)
             wanted = session_text(ops)
             if told.stdout.decode() != wanted or told.stderr or told.returncode != 0:
                 print("seed %d: the program says\n%s%s\nand the model\n%s" % (seed, told.stdout.decode(), told.stderr.decode(), wanted))
+                return 1
+            if not merges(program, files, logs.log([op.text() for op in ops]), os.path.join(folder, "both")):
+                print("seed %d: %d logs are not merged into the one log of the set" % (seed, len(files)))
                 return 1
             shown += wanted.count("\n") - 1
             held += int(wanted.rsplit(" ", 1)[1])

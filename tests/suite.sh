@@ -1,7 +1,9 @@
 #!/bin/sh
 # Runs the cases of tests/cases on a built program: sh tests/suite.sh PROGRAM
 # In a case: words (a line each), files/ (they lie where the program runs), stdin, stdout, stderr, status; `setup` is run
-# there first; `output` says where standard output goes if not into a file: closed, full (a full device), pipe (no reader).
+# there first; `output` says where standard output goes if not into a file: closed, full (a full device), pipe (no reader);
+# made/ has the files that the program makes or writes anew, and `gone` names those that it takes away. No other name may
+# come or go.
 # The program runs as nobody where this script runs as root, since root may read every file.
 set -u
 program=$1
@@ -20,15 +22,20 @@ skipped=0
 for case in "$cases"/*/; do
   name=$(basename "$case")
   here=$place/$name
-  if [ "$name" = unreadable_file ] && [ "$(id -u)" = 0 ] && [ -z "$as" ]; then
-    echo "skipped $name: root reads every file, and there is no setpriv"
-    skipped=$((skipped + 1))
-    continue
-  fi
+  case $name in unreadable_file | merge_into_a_closed_folder)
+    if [ "$(id -u)" = 0 ] && [ -z "$as" ]; then
+      echo "skipped $name: root may read and write everywhere, and there is no setpriv"
+      skipped=$((skipped + 1))
+      continue
+    fi ;;
+  esac
   mkdir -p "$here/in" "$here/out"
   cp -R "$case/files/." "$here/in/"
   rm -f "$here/in/.keep"
   if [ -f "$case/setup" ]; then (cd "$here/in" && sh "$case/setup"); fi
+  gone=/dev/null
+  [ ! -f "$case/gone" ] || gone=$case/gone
+  (ls -A "$here/in"; ls -A "$case/made" 2>/dev/null) | grep -vxF -f "$gone" | sort -u > "$place/wanted"
   [ -z "$as" ] || chown -R 65534:65534 "$here"
   set --
   while IFS= read -r word; do set -- "$@" "$word"; done < "$case/words"
@@ -40,13 +47,19 @@ for case in "$cases"/*/; do
     *) (cd "$here/in" && exec $as "$place/radio" "$@" < "$case/stdin" > "$here/out/stdout" 2> "$here/out/stderr"); status=$? ;;
   esac
   [ -f "$here/out/stdout" ] || : > "$here/out/stdout"
-  if [ "$status" = "$(cat "$case/status")" ] && cmp -s "$here/out/stdout" "$case/stdout" && cmp -s "$here/out/stderr" "$case/stderr"; then
+  files=same
+  ls -A "$here/in" | sort -u | cmp -s - "$place/wanted" || files=other
+  for made in "$case"/made/*; do
+    [ ! -e "$made" ] || cmp -s "$made" "$here/in/$(basename "$made")" || files=other
+  done
+  if [ "$status" = "$(cat "$case/status")" ] && [ $files = same ] && cmp -s "$here/out/stdout" "$case/stdout" && cmp -s "$here/out/stderr" "$case/stderr"; then
     passed=$((passed + 1))
   else
     failed=$((failed + 1))
     echo "FAILED $name: status $status, wanted $(cat "$case/status")"
     diff "$case/stdout" "$here/out/stdout" | head -5
     diff "$case/stderr" "$here/out/stderr" | head -8
+    [ $files = same ] || echo "other files: $(cd "$here/in" && cksum * 2>/dev/null | head -5)"
   fi
 done
 echo "$passed passed, $failed failed, $skipped skipped"

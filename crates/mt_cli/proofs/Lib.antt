@@ -1,5 +1,5 @@
 pub mod Joining
 pub mod Readers
-pub mod Viewing
+pub mod Writing
 pub mod Buffering
 pub mod Labels

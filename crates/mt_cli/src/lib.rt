@@ -3,8 +3,10 @@
 
 mod buffer;
 mod fault;
+mod files;
 mod info;
 mod join;
+mod merge;
 mod program;
 mod read;
 #[cfg(test)]
@@ -13,5 +15,6 @@ mod view;
 
 pub use fault::CliFault;
 pub use info::write_info;
+pub use merge::merge_logs;
 pub use program::command;
 pub use view::{view_log, view_logs};

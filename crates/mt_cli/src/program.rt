@@ -3,14 +3,15 @@
 ghost use Rattle.std.specs.Prelude.{◌≡◌, ◌≤◌};
 
 use crate::fault::CliFault;
+use crate::files::{create, finish, open, open_all, part_of};
 use crate::info::write_info;
+use crate::merge::merge_logs;
 use crate::read::read_all;
 use crate::view::{view_log, view_logs};
 use clap::error::ErrorKind;
 use clap::{Arg, ArgAction, ArgMatches, Command};
 use mt_opcodec::Latch;
 use std::alloc::{AllocError, Global};
-use std::fs;
 use std::io::{Read, Write};
 use std::rt::Files;
 
@@ -85,6 +86,7 @@ fn run<F: Files + AllocGlobal, R: Read, W: Write>(
     };
     match matches.subcommand() {
         Some(("view", view)) => run_view(rt, view, input, output),
+        Some(("merge", merge)) => run_merge(rt, merge),
         Some(("info", info)) => run_info(rt, info, output),
         _ => Ok(()),
     }
@@ -104,15 +106,32 @@ fn told(alloc: Global, error: clap::Error) -> Stop {
     }
 }
 
-// The command line of `radio`.
-fn radio<'a>(alloc: Global) -> Result<Command<'a>, AllocError> {
-    let logs = Arg::new(alloc, "LOG")
+// The words of a command that names logs.
+fn logs<'a>(alloc: Global, help: &'a str) -> Arg<'a> {
+    Arg::new(alloc, "LOG")
         .action(ArgAction::Append)
         .num_args(0..)
-        .help("Logs, joined from left to right; with none, one log from standard input");
+        .help(help)
+}
+
+// The command line of `radio`.
+fn radio<'a>(alloc: Global) -> Result<Command<'a>, AllocError> {
     let view = Command::new(alloc, "view")
         .about("Prints the session of the union of the logs")
-        .arg(logs)?;
+        .arg(logs(
+            alloc,
+            "Logs, joined from left to right; with none, one log from standard input",
+        ))?;
+    let out = Arg::new(alloc, "OUT")
+        .required(true)
+        .help("The log to write");
+    let merge = Command::new(alloc, "merge")
+        .about("Writes the union of the logs as one log")
+        .arg(out)?
+        .arg(logs(
+            alloc,
+            "Logs, joined from left to right; with none, the log of no operation",
+        ))?;
     let wave = Arg::new(alloc, "WAVE").required(true).help("A wave file");
     let info = Command::new(alloc, "info")
         .about("Prints what a wave file says of itself")
@@ -124,6 +143,7 @@ fn radio<'a>(alloc: Global) -> Result<Command<'a>, AllocError> {
         .no_binary_name(true)
         .subcommand_required(true)
         .subcommand(view)?
+        .subcommand(merge)?
         .subcommand(info)
 }
 
@@ -142,6 +162,15 @@ fn run_view<F: Files + AllocGlobal, R: Read, W: Write>(
     }
 }
 
+fn run_merge<F: Files + AllocGlobal>(rt: &F, words: &ArgMatches<'_>) -> Result<(), Stop> {
+    let out = words.get_str("OUT").unwrap_or("");
+    let mut inputs = open_all(rt, words.get_strs("LOG").unwrap_or(&[]))?;
+    let part = part_of(rt.alloc(), out)?;
+    let mut output = create(rt, &part)?;
+    let merged = merge_logs(rt.alloc(), &mut inputs, &mut output);
+    Ok(finish(rt, &part, out, merged)?)
+}
+
 fn run_info<F: Files + AllocGlobal, W: Write>(
     rt: &F,
     words: &ArgMatches<'_>,
@@ -150,28 +179,4 @@ fn run_info<F: Files + AllocGlobal, W: Write>(
     let mut file = open(rt, 0, words.get_str("WAVE").unwrap_or(""))?;
     let bytes = read_all(rt.alloc(), 0, &mut file)?;
     Ok(write_info(rt.alloc(), &bytes, output)?)
-}
-
-// Opens the files from left to right.
-fn open_all<F: Files + AllocGlobal>(
-    rt: &F,
-    names: &[&str],
-) -> Result<Vec<Latch<F::File>>, CliFault> {
-    let mut files = Vec::new(rt.alloc());
-    for (place, name) in names.iter().enumerate() {
-        files.push(open(rt, place, name)?)?;
-    }
-    Ok(files)
-}
-
-// Opens the file of this place. One that cannot be opened is refused as one that cannot be read.
-fn open<F: Files + AllocGlobal>(
-    rt: &F,
-    place: usize,
-    name: &str,
-) -> Result<Latch<F::File>, CliFault> {
-    match fs::open(rt, name) {
-        Ok(file) => Ok(Latch::new(file)),
-        Err(_) => Err(CliFault::Read(place)),
-    }
 }

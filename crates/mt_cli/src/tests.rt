@@ -3,6 +3,7 @@
 mod commands;
 mod fakes;
 mod infos;
+mod merges;
 mod refused_growth;
 mod views;
 

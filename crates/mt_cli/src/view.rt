@@ -5,7 +5,8 @@ ghost use Rattle.std.specs.Io.KnownBytes.{Appends};
 ghost use Rattle.mt_opcodec.specs.LogValue.{LogMap};
 ghost use Rattle.mt_opcodec.specs.Union.{AllAgree};
 ghost use Rattle.mt_cli.specs.Reading.{text_of, Gave, GaveLogs};
-ghost use Rattle.mt_cli.specs.Viewing.{log_view, view_text, ShowFails, JoinedFails, ViewFails, ViewsNoLog};
+ghost use Rattle.mt_cli.specs.Viewing.{log_view, view_text};
+ghost use Rattle.mt_cli.specs.Writing.{WriteFails, WriteUnionFails, InputsFail, InputFails};
 
 use crate::fault::CliFault;
 use crate::join::join_all;
@@ -22,7 +23,7 @@ fn show<A: Allocator + Clone, W: Write>(
     output: &mut Latch<W>,
 ) -> Result<(), CliFault>
     ensures ok { OnOk result (Appends (W.contents output.old.inner) (W.contents output.new.inner) (log_view log.now)) }
-    ensures err { IfErr result (ShowFails W.contents log.now output.old output.new) }
+    ensures err { IfErr result (WriteFails log_view W.contents log.now output.old output.new) }
 {
     let Ok(session) = from_scratch(alloc.clone()?, log) else {
         return Err(CliFault::Memory);
@@ -41,7 +42,7 @@ fn show_all<A: Allocator + Clone, W: Write>(
     output: &mut Latch<W>,
 ) -> Result<(), CliFault>
     ensures ok { OnOk result (AllAgree logs.items × Appends (W.contents output.old.inner) (W.contents output.new.inner) (view_text logs.items)) }
-    ensures err { IfErr result (JoinedFails W.contents logs.items output.old output.new) }
+    ensures err { IfErr result (WriteUnionFails log_view W.contents logs.items output.old output.new) }
 {
     match join_all(alloc.clone()?, logs) {
         Ok(all) => show(alloc, &all, output),
@@ -62,7 +63,7 @@ pub fn view_logs<A: Allocator + Clone, R: Read, W: Write>(
     output: &mut Latch<W>,
 ) -> Result<(), CliFault>
     ensures ok { OnOk result ((logs : List LogMap) × (GaveLogs R.remaining inputs.old logs × AllAgree logs × Appends (W.contents output.old.inner) (W.contents output.new.inner) (view_text logs))) }
-    ensures err { IfErr result (ViewFails W.contents R.remaining inputs.old inputs.new output.old output.new) }
+    ensures err { IfErr result (InputsFail log_view W.contents R.remaining inputs.old inputs.new output.old output.new) }
 {
     match read_logs(alloc.clone()?, inputs) {
         Ok(logs) => show_all(alloc, logs, output),
@@ -77,7 +78,7 @@ pub fn view_log<A: Allocator + Clone, R: Read, W: Write>(
     output: &mut Latch<W>,
 ) -> Result<(), CliFault>
     ensures ok { OnOk result ((log : LogMap) × (Gave R.remaining input.old (text_of log) × Appends (W.contents output.old.inner) (W.contents output.new.inner) (log_view log))) }
-    ensures err { IfErr result (ViewsNoLog W.contents R.remaining input.old input.new output.old output.new) }
+    ensures err { IfErr result (InputFails log_view W.contents R.remaining input.old input.new output.old output.new) }
 {
     match read_log(alloc.clone()?, 0, input) {
         Ok(log) => show(alloc, &log, output),

@@ -68,6 +68,44 @@ fn tells_a_refusal_by_its_number(rt: HostRuntime) -> Result<(), Fail> {
     Ok(())
 }
 
+// command_lines
+#[test]
+fn merges_into_a_file_that_is_viewed(rt: HostRuntime) -> Result<(), Fail> {
+    for (words, output) in [
+        (["merge", "o"].as_slice(), ""),
+        (&["view", "o"], "held 0\n"),
+        (&["merge", "p", "o", "o"], ""),
+        (&["view", "p"], "held 0\n"),
+    ] {
+        let told = run(&rt, words, b"")?;
+        assert_eq!(rt; told.status, 0);
+        assert_eq!(rt; told.output.as_slice(), output.as_bytes());
+        assert!(rt; told.errors.is_empty());
+    }
+    Ok(())
+}
+
+// nothing is left of a merge that is refused
+#[test]
+fn makes_no_file_where_it_is_refused(rt: HostRuntime) -> Result<(), Fail> {
+    for (words, line) in [
+        (
+            ["merge", "no such folder/o"].as_slice(),
+            "radio: fault 37\n",
+        ),
+        (&["view", "no such folder/o"], "radio: fault 45\n"),
+        (&["merge", "q", "no such file"], "radio: fault 45\n"),
+        (&["view", "q"], "radio: fault 45\n"),
+        (&["view", "q.part"], "radio: fault 45\n"),
+    ] {
+        let told = run(&rt, words, b"")?;
+        assert_eq!(rt; told.status, 1);
+        assert!(rt; told.output.is_empty());
+        assert_eq!(rt; told.errors.as_slice(), line.as_bytes());
+    }
+    Ok(())
+}
+
 #[test]
 fn takes_one_wave_file(rt: HostRuntime) -> Result<(), Fail> {
     let told = run(&rt, &["info", "no such file"], b"")?;
@@ -116,6 +154,7 @@ fn is_mistake(rt: &HostRuntime, words: &[&str]) -> Result<bool, Fail> {
 fn tells_words_that_do_not_parse(rt: HostRuntime) -> Result<(), Fail> {
     assert!(rt; is_mistake(&rt, &["frob"])?);
     assert!(rt; is_mistake(&rt, &["view", "--frob"])?);
+    assert!(rt; is_mistake(&rt, &["merge"])?);
     assert!(rt; is_mistake(&rt, &[])?);
     Ok(())
 }

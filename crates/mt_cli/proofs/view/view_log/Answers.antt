@@ -2,7 +2,7 @@ use Rattle.std.specs.Io.KnownBytes.{Appends}
 use Rattle.mt_opcodec.specs.LogValue.{LogMap}
 use Rattle.mt_cli.specs.Reading.{text_of, Gave}
 use Rattle.mt_cli.specs.Viewing.{log_view}
-use Rattle.mt_cli.proofs.Viewing.{shown, not_shown}
+use Rattle.mt_cli.proofs.Writing.{shown, not_shown}
 use Rattle.mt_cli.proofs.view.view_log.Goals as goal
 
 pub returns-in-Ok-clause-ok : goal.returns-in-Ok-clause-ok
@@ -13,4 +13,4 @@ returns-in-Ok-clause-ok g c =
 
 pub returns-in-Ok-clause-err : goal.returns-in-Ok-clause-err
 returns-in-Ok-clause-err g c =
-    not_shown g.W.Write.contents g.R.Read.remaining c.show.result c.in-Ok.log c.args.input.now c.read_log.new.input c.args.output.now c.show.new.output c.in-Ok.ensures.ok c.show.ensures.err
+    not_shown log_view g.W.Write.contents g.R.Read.remaining c.show.result c.in-Ok.log c.args.input.now c.read_log.new.input c.args.output.now c.show.new.output c.in-Ok.ensures.ok c.show.ensures.err

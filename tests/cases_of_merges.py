@@ -1,0 +1,68 @@
+"""Cases of merging: what the new log holds, which files are there afterwards, and what is refused."""
+import os
+
+from case import LATE, NEWS, ONE, case, fault
+from cases_of_tracks import twelve
+from logs import A, B, C, add_marker, log, marker_line, move_marker, retitle
+
+X, Y = ONE, log([NEWS, LATE])
+COAST = add_marker((1, B, 7), 960, "Coast")
+Z = log([COAST])
+XYZ = log([NEWS, LATE, COAST])
+
+
+def merged(name, logs, out, **more):
+    """`merge` of the logs that have these names and bytes, in this order, into `out`."""
+    case(name, ["merge", "out"] + [name for name, _ in logs], files=dict(logs), made={"out": out}, **more)
+
+
+def not_merged(name, number, words, files, **more):
+    """No file comes, none goes, and each keeps its bytes."""
+    fault(name, number, ["merge"] + words, files=files, made=files, **more)
+
+
+# what is merged
+merged("merge_no_log", [], log([]))
+merged("merge_the_empty_log", [("none", log([]))], log([]))
+merged("merge_one_log", [("x", X)], X)
+merged("merge_a_log_with_itself", [("y", Y), ("again", Y)], Y)
+# three_logs
+for order in ("xyz", "xzy", "yxz", "yzx", "zxy", "zyx"):
+    merged("merge_" + order, [(name, {"x": X, "y": Y, "z": Z}[name]) for name in order], XYZ)
+merged("merge_held_operations", [("late", log([LATE])), ("z", Z)], log([LATE, COAST]))
+merged("merge_twelve_bodies", [("even", log(twelve[0::2])), ("odd", log(twelve[1::2]))], log(twelve))
+# the example that the README shows
+EXAMPLES = os.path.join(os.path.dirname(os.path.dirname(os.path.abspath(__file__))), "examples")
+MORNING = [
+    add_marker((1, A, 1), 480, "News"), add_marker((2, A, 2), 96000, "Weather"),
+    retitle((3, B, 1), (1, A, 1), "Headlines"), retitle((4, B, 2), (2, A, 2), "Weather for the coast")]
+DESK = [move_marker((5, C, 1), (2, A, 2), 144000), add_marker((6, C, 2), 240000, "Traffic")]
+with open(os.path.join(EXAMPLES, "morning.log"), "wb") as file:
+    file.write(log(MORNING))
+with open(os.path.join(EXAMPLES, "desk.log"), "wb") as file:
+    file.write(log(DESK))
+merged("example_merge", [("morning.log", log(MORNING)), ("desk.log", log(DESK))], log(MORNING + DESK))
+MARKERS = [marker_line((1, A, 1), 480, "Headlines"), marker_line((2, A, 2), 144000, "Weather for the coast"), marker_line((6, C, 2), 240000, "Traffic")]
+case("example_merge_viewed", ["view", "both.log"], files={"both.log": log(MORNING + DESK)}, stdout="".join(MARKERS) + "held 0\n")
+
+# what is refused
+OTHER = add_marker((1, A, 1), 480, "Other")
+LATER = add_marker((9, A, 1), 480, "News")
+not_merged("merge_other_operation", 17, ["out", "x", "other"], {"x": X, "other": log([OTHER])})
+not_merged("merge_other_clock", 17, ["out", "x", "later"], {"x": X, "later": log([LATER])})
+not_merged("merge_third_log_in_conflict", 17, ["out", "y", "z", "other"], {"y": Y, "z": Z, "other": log([OTHER])})
+not_merged("merge_no_log_text", 11, ["out", "x", "text"], {"x": X, "text": b"abc"})
+not_merged("merge_damaged_before_conflict", 13, ["out", "x", "other", "cut"], {"x": X, "other": log([OTHER]), "cut": Y[:-1]})
+not_merged("merge_missing_file", 45, ["out", "x", "missing"], {"x": X})
+not_merged("merge_missing_before_damaged", 45, ["out", "cut", "missing"], {"cut": Y[:-1]})
+
+# OUT and OUT.part
+case("merge_into_an_input", ["merge", "x", "x", "z"], files={"x": X, "z": Z}, made={"x": log([NEWS, COAST]), "z": Z})
+case("merge_over_an_old_part", ["merge", "out", "x"], files={"x": X, "out.part": b"left by a crash"}, made={"out": X}, gone=["out.part"])
+case("merge_a_part", ["merge", "out", "out.part", "z"], files={"out.part": X, "z": Z}, made={"out": log([NEWS, COAST])}, gone=["out.part"])
+not_merged("merge_refused_keeps_out", 17, ["out", "x", "other"], {"x": X, "other": log([OTHER]), "out": Z})
+not_merged("merge_into_a_missing_folder", 37, ["folder/out", "x"], {"x": X})
+not_merged("merge_onto_a_folder", 37, ["folder", "x"], {"x": X}, setup="mkdir folder")
+not_merged("merge_onto_a_part_that_is_a_folder", 37, ["out", "x"], {"x": X}, setup="mkdir out.part")
+not_merged("merge_onto_no_name", 37, ["", "x"], {"x": X})
+not_merged("merge_into_a_closed_folder", 37, ["out", "x"], {"x": X}, setup="chmod a-w .")
