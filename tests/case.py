@@ -16,8 +16,8 @@ TALK = add_marker(N, 960, "Talk")
 TALKED = marker_line(N, 960, "Talk")
 
 
-def case(name, words, files=None, stdin=b"", stdout="", status=0, stderr=None, output=None, setup=None, made=None, gone=None):
-    """`made`: the files that it makes or writes anew, with their bytes; `gone`: the names of those that it takes away."""
+def case(name, words, files=None, stdin=b"", stdout="", status=0, stderr=None, output=None, setup=None, made=None):
+    """`made`: the files that it makes or writes anew, with their bytes."""
     folder = os.path.join(CASES, name)
     os.makedirs(os.path.join(folder, "files"))
     if stderr is None:
@@ -33,8 +33,6 @@ def case(name, words, files=None, stdin=b"", stdout="", status=0, stderr=None, o
         parts["output"] = output.encode() + b"\n"
     if setup is not None:
         parts["setup"] = setup.encode() + b"\n"
-    if gone is not None:
-        parts["gone"] = b"".join(name.encode() + b"\n" for name in gone)
     for part, data in parts.items():
         with open(os.path.join(folder, part), "wb") as file:
             file.write(data)

@@ -17,8 +17,8 @@ def merged(name, logs, out, **more):
 
 
 def not_merged(name, number, words, files, **more):
-    """No file comes, none goes, and each keeps its bytes."""
-    fault(name, number, ["merge"] + words, files=files, made=files, **more)
+    """No file comes, goes or changes."""
+    fault(name, number, ["merge"] + words, files=files, **more)
 
 
 # what is merged
@@ -56,13 +56,19 @@ not_merged("merge_damaged_before_conflict", 13, ["out", "x", "other", "cut"], {"
 not_merged("merge_missing_file", 45, ["out", "x", "missing"], {"x": X})
 not_merged("merge_missing_before_damaged", 45, ["out", "cut", "missing"], {"cut": Y[:-1]})
 
-# OUT and OUT.part
-case("merge_into_an_input", ["merge", "x", "x", "z"], files={"x": X, "z": Z}, made={"x": log([NEWS, COAST]), "z": Z})
-case("merge_over_an_old_part", ["merge", "out", "x"], files={"x": X, "out.part": b"left by a crash"}, made={"out": X}, gone=["out.part"])
-case("merge_a_part", ["merge", "out", "out.part", "z"], files={"out.part": X, "z": Z}, made={"out": log([NEWS, COAST])}, gone=["out.part"])
+# OUT and OUT.part, which is made once the inputs are open and before they are read
+case("merge_into_an_input", ["merge", "x", "x", "z"], files={"x": X, "z": Z}, made={"x": log([NEWS, COAST])})
+case("merge_over_an_old_log", ["merge", "out", "x"], files={"out": Z, "x": X}, made={"out": X})
 not_merged("merge_refused_keeps_out", 17, ["out", "x", "other"], {"x": X, "other": log([OTHER]), "out": Z})
+not_merged("merge_beside_another_part", 37, ["out", "x"], {"x": X, "out.part": b"left by a crash"})
+not_merged("merge_a_part", 37, ["out", "out.part", "z"], {"out.part": X, "z": Z})
+not_merged("merge_missing_beside_another_part", 45, ["out", "missing"], {"out.part": X})
+not_merged("merge_damaged_beside_another_part", 37, ["out", "cut"], {"out.part": X, "cut": Y[:-1]})
 not_merged("merge_into_a_missing_folder", 37, ["folder/out", "x"], {"x": X})
+not_merged("merge_missing_into_a_missing_folder", 45, ["folder/out", "missing"], {})
+not_merged("merge_damaged_into_a_missing_folder", 37, ["folder/out", "cut"], {"cut": Y[:-1]})
 not_merged("merge_onto_a_folder", 37, ["folder", "x"], {"x": X}, setup="mkdir folder")
 not_merged("merge_onto_a_part_that_is_a_folder", 37, ["out", "x"], {"x": X}, setup="mkdir out.part")
+not_merged("merge_onto_a_part_that_is_a_link", 37, ["out", "x"], {"x": X, "other": Z}, setup="ln -s other out.part")
 not_merged("merge_onto_no_name", 37, ["", "x"], {"x": X})
 not_merged("merge_into_a_closed_folder", 37, ["out", "x"], {"x": X}, setup="chmod a-w .")

@@ -2,8 +2,7 @@
 # Runs the cases of tests/cases on a built program: sh tests/suite.sh PROGRAM
 # In a case: words (a line each), files/ (they lie where the program runs), stdin, stdout, stderr, status; `setup` is run
 # there first; `output` says where standard output goes if not into a file: closed, full (a full device), pipe (no reader);
-# made/ has the files that the program makes or writes anew, and `gone` names those that it takes away. No other name may
-# come or go.
+# made/ has the files that the program makes or writes anew. Else no file may come, go or change.
 # The program runs as nobody where this script runs as root, since root may read every file.
 set -u
 program=$1
@@ -29,13 +28,14 @@ for case in "$cases"/*/; do
       continue
     fi ;;
   esac
-  mkdir -p "$here/in" "$here/out"
-  cp -R "$case/files/." "$here/in/"
-  rm -f "$here/in/.keep"
-  if [ -f "$case/setup" ]; then (cd "$here/in" && sh "$case/setup"); fi
-  gone=/dev/null
-  [ ! -f "$case/gone" ] || gone=$case/gone
-  (ls -A "$here/in"; ls -A "$case/made" 2>/dev/null) | grep -vxF -f "$gone" | sort -u > "$place/wanted"
+  mkdir -p "$here/in" "$here/out" "$here/wanted"
+  for there in "$here/in" "$here/wanted"; do
+    cp -R "$case/files/." "$there/"
+    rm -f "$there/.keep"
+    if [ -f "$case/setup" ]; then (cd "$there" && sh "$case/setup"); fi
+  done
+  chmod -R u+rwX "$here/wanted"
+  if [ -d "$case/made" ]; then cp -R "$case/made/." "$here/wanted/"; fi
   [ -z "$as" ] || chown -R 65534:65534 "$here"
   set --
   while IFS= read -r word; do set -- "$@" "$word"; done < "$case/words"
@@ -47,11 +47,9 @@ for case in "$cases"/*/; do
     *) (cd "$here/in" && exec $as "$place/radio" "$@" < "$case/stdin" > "$here/out/stdout" 2> "$here/out/stderr"); status=$? ;;
   esac
   [ -f "$here/out/stdout" ] || : > "$here/out/stdout"
+  chmod -R u+rwX "$here/in"
   files=same
-  ls -A "$here/in" | sort -u | cmp -s - "$place/wanted" || files=other
-  for made in "$case"/made/*; do
-    [ ! -e "$made" ] || cmp -s "$made" "$here/in/$(basename "$made")" || files=other
-  done
+  diff -r "$here/wanted" "$here/in" > "$place/files" || files=other
   if [ "$status" = "$(cat "$case/status")" ] && [ $files = same ] && cmp -s "$here/out/stdout" "$case/stdout" && cmp -s "$here/out/stderr" "$case/stderr"; then
     passed=$((passed + 1))
   else
@@ -59,7 +57,7 @@ for case in "$cases"/*/; do
     echo "FAILED $name: status $status, wanted $(cat "$case/status")"
     diff "$case/stdout" "$here/out/stdout" | head -5
     diff "$case/stderr" "$here/out/stderr" | head -8
-    [ $files = same ] || echo "other files: $(cd "$here/in" && cksum * 2>/dev/null | head -5)"
+    head -5 "$place/files"
   fi
 done
 echo "$passed passed, $failed failed, $skipped skipped"

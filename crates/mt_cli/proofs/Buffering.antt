@@ -1,11 +1,11 @@
 -- Handing bytes to a buffer, one piece after another.
-use Rattle.std.proofs.Common.{arith, ◌≡◌, ℕ, ◌+◌, ◌≤◌, Bool, true, false, List, [], ◌∷◌, ◌++◌, length, take, refl, sym, ap, subst, ◌∙◌, append_assoc}
+use Rattle.std.proofs.Common.{arith, ◌≡◌, ℕ, ◌+◌, Bool, true, false, List, [], ◌∷◌, ◌++◌, length, take, refl, sym, ap, subst, ◌∙◌, append_assoc}
 use Rattle.std.specs.Prelude.{Option, Some, min, Ok, Err, is_ok, is_err, OnOk, OnErr}
 use Rattle.std.specs.declared.result.Result.{Result}
 use Rattle.std.specs.Io.KnownBytes.{Appends}
 use Rattle.std.proofs.KnownBytes.{Appends-nil, Appends-trans}
 use Rattle.std.specs.List.{flat_map, slice_get}
-use Rattle.std.proofs.lemmas.List.{take-append-le, take_min, take_more, take_all, append-nil}
+use Rattle.std.proofs.lemmas.List.{take-append-le, take_min, take_more, append-nil}
 use Rattle.std.proofs.lemmas.List.Concat.{flat_map-append}
 use Rattle.std.proofs.lemmas.Option.{slice_get_within, get_or_from_slice_get}
 use Rattle.std.proofs.Math.Seq.{take-append-add}
@@ -38,14 +38,6 @@ taken_in (Ok x) P sound h = h
 taken_in (Err e) P sound h = cc sound
 
 module _ {W : Type 0} (contents : W → Option (List ℕ)) where
-  -- nothing is handed
-  pub hands_nothing : (out : Latched W) (buffer : List ℕ) → Hands contents out out buffer buffer []
-  hands_nothing out buffer = record {
-    moved = λ _. record { written = []; put = Appends-nil (contents out.inner); all = append-nil buffer };
-    front = (0, Appends-nil (contents out.inner));
-    stays = λ _. refl;
-  }
-
   moves_on : (o m n : Latched W) (a b c x y : List ℕ) → Moves contents o m a b x → Moves contents m n b c y → Moves contents o n a c (x ++ y)
   moves_on o m n a b c x y first second = record {
     written = first.written ++ second.written;
@@ -112,11 +104,6 @@ module _ {W : Type 0} (contents : W → Option (List ℕ)) where
       let same : flat_map f (take i xs) ++ f x ≡ flat_map f (take (i + 1) xs) =
       ap (λ (l : List ℕ). flat_map f (take i xs) ++ l) (sym (append-nil (f x))) ∙ sym (flat_map-append f (take i xs) (x ∷ [])) ∙ ap (flat_map f) (sym more_taken) in
       hands_same same (then_hands so_far more)
-
-  -- the texts of all items
-  pub all_handed : {X : Type 0} (f : X → List ℕ) (xs : List X) (i : ℕ) {o n : Latched W} {a c : List ℕ} → length xs ≤ i
-      → Hands contents o n a c (flat_map f (take i xs)) → Hands contents o n a c (flat_map f xs)
-  all_handed f xs i past so_far = hands_same (ap (flat_map f) (take_all i xs past)) so_far
 
   -- from an empty buffer to an empty one, all was written, or a front of it
   pub all_written : {o n : Latched W} {a c bytes : List ℕ} → a ≡ [] → c ≡ [] → Hands contents o n a c bytes → n.failed ≡ false → Appends (contents o.inner) (contents n.inner) bytes

@@ -15,7 +15,7 @@ use thiserror::Error;
 pub enum CliFault {
     #[error("out of memory")]
     Memory,
-    /// The input of this place failed.
+    /// The input of this place failed, or cannot be opened.
     #[error("input {0} cannot be read")]
     Read(usize),
     /// The bytes of the input of this place are no log's text.
@@ -27,7 +27,7 @@ pub enum CliFault {
     /// The bytes of the recording of this place are no wave file.
     #[error("recording {0} is no wave file: {1}")]
     Source(usize, WaveFault),
-    /// The output failed.
+    /// The output failed, or cannot be made or get its name.
     #[error("the output cannot be written")]
     Write,
 }

@@ -3,7 +3,7 @@
 use crate::fault::CliFault;
 use mt_opcodec::Latch;
 use std::alloc::{AllocError, Global};
-use std::fs;
+use std::fs::{self, File};
 use std::rt::Files;
 
 /// Opens the files from left to right.
@@ -37,11 +37,10 @@ pub(crate) fn part_of(alloc: Global, out: &str) -> Result<String, AllocError> {
     Ok(part)
 }
 
-/// Makes a file. One that has the name is taken away first and not written over, since it may be open as an input.
-/// Refused as `Write` where the file cannot be made.
-pub(crate) fn create<F: Files>(rt: &F, name: &str) -> Result<Latch<F::File>, CliFault> {
-    let _ = fs::remove_file(rt, name);
-    match fs::create(rt, name) {
+/// Makes the part. Refused as `Write` where it cannot be made, and where there is something of its name, which is not
+/// touched: it may be a log, or the part of another program that is at work.
+pub(crate) fn create<F: Files>(rt: &F, part: &str) -> Result<Latch<F::File>, CliFault> {
+    match File::create_new(rt, part) {
         Ok(file) => Ok(Latch::new(file)),
         Err(_) => Err(CliFault::Write),
     }

@@ -49,8 +49,8 @@ fn put_union<A: Allocator + Clone, W: Write>(
 /// Writes the log of the union of the inputs' logs, and nothing else; of no input, the log of no operation.
 ///
 /// Refused, in this order: `Read` with the place of an input whose latch has failed, or `Log` with the place of
-/// one whose bytes are no log's text, from left to right; `Merge` with the least dot under which a log has another
-/// operation than the logs before it; `Write` where the output's latch has failed, which then holds a front of the
+/// one whose bytes are no log's text, from left to right; `Merge` where a log has another operation under a dot than
+/// the logs before it, with the least such dot of the first such log; `Write` where the output's latch has failed, which then holds a front of the
 /// log's text. Nothing is written before every log has been read and accepted. `Memory` where a growth was refused, and
 /// nothing was written then.
 pub fn merge_logs<A: Allocator + Clone, R: Read, W: Write>(

@@ -53,8 +53,8 @@ fn show_all<A: Allocator + Clone, W: Write>(
 /// Writes the text of the session of the union of the inputs' logs, and nothing else.
 ///
 /// Refused, in this order: `Read` with the place of an input whose latch has failed, or `Log` with the place of
-/// one whose bytes are no log's text, from left to right; `Merge` with the least dot under which a log has another
-/// operation than the logs before it; `Write` where the output's latch has failed, which then holds a front of the
+/// one whose bytes are no log's text, from left to right; `Merge` where a log has another operation under a dot than
+/// the logs before it, with the least such dot of the first such log; `Write` where the output's latch has failed, which then holds a front of the
 /// text. Nothing is written before every log has been read and accepted. `Memory` where a growth was refused, and
 /// nothing was written then.
 pub fn view_logs<A: Allocator + Clone, R: Read, W: Write>(

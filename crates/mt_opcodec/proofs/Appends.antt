@@ -6,10 +6,6 @@ use Rattle.mt_op.specs.Operation.{Operation}
 use Rattle.mt_opcodec.specs.LogText.{log_body, log_text}
 use Rattle.std.proofs.lemmas.List.{flat_map_more, take_more}
 
--- a tag and a piece
-pub tagged_piece : (old with_tag new piece : List ℕ) (tag : ℕ) → with_tag ≡ old ++ tag ∷ [] → new ≡ with_tag ++ piece → new ≡ old ++ (tag ∷ piece)
-tagged_piece old with_tag new piece tag a b = b ∙ ap (λ (l : List ℕ). l ++ piece) a ∙ append_assoc old (tag ∷ []) piece
-
 -- a tag and two pieces
 pub tagged_pieces : (old with_tag with_first new first second : List ℕ) (tag : ℕ) → with_tag ≡ old ++ tag ∷ [] → with_first ≡ with_tag ++ first → new ≡ with_first ++ second → new ≡ old ++ (tag ∷ (first ++ second))
 tagged_pieces old with_tag with_first new first second tag a b c =

@@ -419,6 +419,3 @@ of_logs a b left right ops is_a is_b h = (
   subst (λ (m : LogMap). Agree m b) is_a (subst (Agree (log_of left)) is_b h.0),
   h.1 ∙ ap (λ (m : LogMap). union m (log_of right)) is_a ∙ ap (union a) is_b,
 )
-
-pub fails_of_logs : (a b : LogMap) (left right : List Operation) (fault : LogFault) → log_of left ≡ a → log_of right ≡ b → MergeFails (log_of left) (log_of right) fault → MergeFails a b fault
-fails_of_logs a b left right fault is_a is_b h = subst (λ (m : LogMap). MergeFails m b fault) is_a (subst (λ (m : LogMap). MergeFails (log_of left) m fault) is_b h)

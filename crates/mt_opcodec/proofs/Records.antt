@@ -12,13 +12,6 @@ use Rattle.mt_opcodec.specs.declared.fault.LogFault.TheVariants as log
 use Rattle.mt_opcodec.specs.OpReading.{op_at, Fails}
 use Rattle.mt_opcodec.specs.LogReading.{◌>>=◌, record_of, fault_of, records_at, LogFails}
 
--- a record that is no operation is refused so
-pub fault_of-fails : (index : ℕ) (last : Option Dot) (cause : ReadFault) (r : Result (Operation × List ℕ) ReadFault) → Fails cause r → LogFails (fault_of index cause) (record_of index last r)
-fault_of-fails index last read.Memory r h = tt
-fault_of-fails index last read.Truncated r h = ap (record_of index last) h
-fault_of-fails index last read.BadTag r h = ap (record_of index last) h
-fault_of-fails index last read.BadField r h = ap (record_of index last) h
-
 -- what was read before, and what is still read
 abbrev pub with_front : List Operation → Result (List Operation) LogFault → Result (List Operation) LogFault
 with_front front r = r >>= λ ops. Ok (front ++ ops)

@@ -61,7 +61,7 @@ impl<T: Drop> From<AllocFailed<T>> for ReadFault {
     }
 }
 
-/// Why bytes are not the text of a log, or an operation cannot join a log.
+/// Why bytes are not the text of a log, an operation cannot join a log, or two logs cannot be merged.
 #[derive(Clone, Copy, Debug, PartialEq, Eq, Error)]
 pub enum LogFault {
     /// A growth was refused.
@@ -86,7 +86,7 @@ pub enum LogFault {
     /// Bytes stand between the last record and the digest.
     #[error("bytes stand after the last record")]
     Trailing,
-    /// The log has another operation with this dot.
+    /// The log has another operation with this dot; of two logs, each has another one.
     #[error("two operations have one name")]
     Conflict(Dot),
 }
