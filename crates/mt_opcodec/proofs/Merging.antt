@@ -20,8 +20,7 @@ use Rattle.mt_op.specs.Valid.{IsOperation}
 use Rattle.mt_op.proofs.Dots.{dots_rise-at}
 use Rattle.mt_op.proofs.Needs.{and_first, and_second}
 use Rattle.mt_opcodec.specs.LogValue.{LogMap, log_of, AreLogged}
-use Rattle.mt_opcodec.specs.Union.{Agree, union, IsFirstClash, MergeFails}
-use Rattle.mt_opcodec.specs.declared.fault.LogFault.{LogFault}
+use Rattle.mt_opcodec.specs.Union.{Agree, union, IsFirstClash}
 use Rattle.mt_opcodec.specs.Merging.{ComesNext}
 use Rattle.mt_opcodec.specs.declared.merge.Next.TheVariants as next
 use Rattle.mt_opcodec.proofs.Logs.{get-log_of, get-at, get-gap, log_of-insert, log_of-nil, AreLogged-insert}

@@ -5,12 +5,10 @@ use Rattle.std.proofs.lemmas.Bool.{eqb-true}
 use Rattle.mt_stamp.specs.declared.name.Dot.{Dot}
 use Rattle.mt_op.specs.Operation.{Operation}
 use Rattle.mt_op.specs.Dots.{op_dot}
-use Rattle.mt_opcodec.specs.declared.fault.ReadFault.{ReadFault}
-use Rattle.mt_opcodec.specs.declared.fault.ReadFault.TheVariants as read
 use Rattle.mt_opcodec.specs.declared.fault.LogFault.{LogFault}
 use Rattle.mt_opcodec.specs.declared.fault.LogFault.TheVariants as log
-use Rattle.mt_opcodec.specs.OpReading.{op_at, Fails}
-use Rattle.mt_opcodec.specs.LogReading.{◌>>=◌, record_of, fault_of, records_at, LogFails}
+use Rattle.mt_opcodec.specs.OpReading.{op_at}
+use Rattle.mt_opcodec.specs.LogReading.{◌>>=◌, record_of, records_at, LogFails}
 
 -- what was read before, and what is still read
 abbrev pub with_front : List Operation → Result (List Operation) LogFault → Result (List Operation) LogFault
