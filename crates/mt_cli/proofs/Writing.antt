@@ -3,20 +3,20 @@ use Rattle.std.proofs.Common.{◌≡◌, ℕ, List, Option, Result, Ok, Err, inr
 use Rattle.std.specs.Prelude.{OnOk, IfErr}
 use Rattle.mt_opcodec.specs.Latch.{Latched}
 use Rattle.mt_opcodec.specs.LogValue.{LogMap}
+use Rattle.mt_opcodec.specs.Union.{union_all, AllAgree}
 use Rattle.mt_cli.specs.declared.fault.CliFault.{CliFault}
 use Rattle.mt_cli.specs.Reading.{text_of, Gave}
-use Rattle.mt_opcodec.specs.Union.{union_all, AllAgree}
 use Rattle.mt_cli.specs.declared.fault.CliFault.TheVariants as faults
 use Rattle.mt_cli.specs.Writing.{WriteFails, WriteUnionFails, InputFails}
 
-pub shown : (result : Result (Unit {0}) CliFault) (log : LogMap) (Given : LogMap → Type 0) (Shows : LogMap → Type 0) → Given log → OnOk result (Shows log) → OnOk result ((m : LogMap) × (Given m × Shows m))
-shown (Ok unit) log Given Shows given shows = (log, (given, shows))
-shown (Err fault) log Given Shows given shows = shows
+pub log_written : (result : Result (Unit {0}) CliFault) (log : LogMap) (Given : LogMap → Type 0) (Writes : LogMap → Type 0) → Given log → OnOk result (Writes log) → OnOk result ((m : LogMap) × (Given m × Writes m))
+log_written (Ok unit) log Given Writes given writes = (log, (given, writes))
+log_written (Err fault) log Given Writes given writes = writes
 
-pub not_shown : {R W : Type 0} (text : LogMap → List ℕ) (contents : W → Option (List ℕ)) (remaining : R → Option (List ℕ)) (result : Result (Unit {0}) CliFault) (log : LogMap) (before after : Latched R) (old new : Latched W)
+pub log_not_written : {R W : Type 0} (text : LogMap → List ℕ) (contents : W → Option (List ℕ)) (remaining : R → Option (List ℕ)) (result : Result (Unit {0}) CliFault) (log : LogMap) (before after : Latched R) (old new : Latched W)
     → Gave remaining before (text_of log) → IfErr result (WriteFails text contents log old new) → IfErr result (InputFails text contents remaining before after old new)
-not_shown text contents remaining (Ok unit) log before after old new gave fails = fails
-not_shown text contents remaining (Err fault) log before after old new gave fails = inr (log, (gave, fails))
+log_not_written text contents remaining (Ok unit) log before after old new gave fails = fails
+log_not_written text contents remaining (Err fault) log before after old new gave fails = inr (log, (gave, fails))
 
 -- ---- of the union of logs
 

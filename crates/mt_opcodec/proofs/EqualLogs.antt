@@ -1,6 +1,7 @@
 -- What `==` tells of logs.
-use Rattle.std.proofs.Common.{◌≡◌, Bool, true, false, List, [], ◌∷◌, refl, sym, ap, ◌∙◌, subst}
+use Rattle.std.proofs.Common.{◌≡◌, Bool, true, List, [], ◌∷◌, refl, sym, ap, ◌∙◌, subst}
 use Rattle.std.specs.Prelude.{IsTrue, nat_eq, ◌↔◌}
+use Rattle.std.specs.Bool.{Decides, one_answer}
 use Rattle.std.specs.List.{AllByRecursion}
 use Rattle.std.specs.Cmp.Lexicographic.{pointwise}
 use Rattle.std.specs.declared.alloc.Allocator.{Ghosts}
@@ -22,10 +23,12 @@ texts_same (x ∷ a) (y ∷ b) valid_a valid_b e =
     let rest = texts_same a b valid_a.1 valid_b.1 apart.1 in
     λ i. apart.0 i ∷ rest i
 
-one_answer : (x y : Bool) → (x ≡ true → y ≡ true) → (y ≡ true → x ≡ true) → x ≡ y
-one_answer true y there back = sym (there refl)
-one_answer false true there back = back refl
-one_answer false false there back = refl
+-- their texts tell whether operations are the same
+texts_decide : (a b : List Operation) → AllByRecursion IsOperation a → AllByRecursion IsOperation b → Decides (pointwise nat_eq (op_texts a) (op_texts b)) (a ≡ b)
+texts_decide a b valid_a valid_b = (
+  λ h. texts_same a b valid_a valid_b (bytes_same (op_texts a) (op_texts b) h),
+  λ e. subst (λ (c : List Operation). pointwise nat_eq (op_texts a) (op_texts c) ≡ true) e (bytes_itself (op_texts a)),
+)
 
 module _ (A : denote.RattleType.RattleType) (alloc : Ghosts A.Denot) (d e : mir.Syntax.Dict) where
   ops_same : (a b : List Operation) → pointwise (op_test A alloc d e) a b ≡ true → a ≡ b
@@ -41,16 +44,17 @@ module _ (A : denote.RattleType.RattleType) (alloc : Ghosts A.Denot) (d e : mir.
   ops_itself [] = refl
   ops_itself (x ∷ a) = rw ((op_decides A alloc d e x x (op_test A alloc d e x x) refl).1 refl) (ops_itself a)
 
-  -- operations are the same where their texts are
+  -- and so does `==` of slices
+  ops_decide : (a b : List Operation) → Decides (pointwise (op_test A alloc d e) a b) (a ≡ b)
+  ops_decide a b = (ops_same a b, λ same. subst (λ (c : List Operation). pointwise (op_test A alloc d e) a c ≡ true) same (ops_itself a))
+
   pub by_texts : (a b : List Operation) → AreLogged a → AreLogged b → (r : Bool) → r ≡ pointwise (op_test A alloc d e) a b → r ≡ pointwise nat_eq (op_texts a) (op_texts b)
-  by_texts a b logged_a logged_b r is =
-      is ∙ one_answer (pointwise (op_test A alloc d e) a b) (pointwise nat_eq (op_texts a) (op_texts b))
-      (λ h. subst (λ (c : List Operation). pointwise nat_eq (op_texts a) (op_texts c) ≡ true) (ops_same a b h) (bytes_itself (op_texts a)))
-      (λ h. subst (λ (c : List Operation). pointwise (op_test A alloc d e) a c ≡ true) (texts_same a b logged_a.valid logged_b.valid (bytes_same (op_texts a) (op_texts b) h)) (ops_itself a))
+  by_texts a b logged_a logged_b r is = is ∙ one_answer (pointwise (op_test A alloc d e) a b) (pointwise nat_eq (op_texts a) (op_texts b)) (ops_decide a b) (texts_decide a b logged_a.valid logged_b.valid)
 
 -- the same, of logs
 pub logs_decided : (a b : LogMap) (r : Bool) → AreLogged (operations a) → AreLogged (operations b) → log_of (operations a) ≡ a → log_of (operations b) ≡ b → r ≡ pointwise nat_eq (op_texts (operations a)) (op_texts (operations b)) → IsTrue r ↔ (a ≡ b)
-logs_decided a b r logged_a logged_b whole_a whole_b is = (
-  λ h. sym whole_a ∙ ap log_of (texts_same (operations a) (operations b) logged_a.valid logged_b.valid (bytes_same _ _ (sym is ∙ h))) ∙ whole_b,
-  λ h. is ∙ subst (λ (c : LogMap). pointwise nat_eq (op_texts (operations a)) (op_texts (operations c)) ≡ true) h (bytes_itself (op_texts (operations a))),
-)
+logs_decided a b r logged_a logged_b whole_a whole_b is =
+    let told = texts_decide (operations a) (operations b) logged_a.valid logged_b.valid in (
+      λ h. sym whole_a ∙ ap log_of (told.0 (sym is ∙ h)) ∙ whole_b,
+      λ h. is ∙ told.1 (ap operations h),
+    )

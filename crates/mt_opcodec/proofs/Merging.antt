@@ -5,7 +5,7 @@ use Rattle.std.specs.List.{AllByRecursion}
 use Rattle.std.specs.FinMap as fin
 use Rattle.std.specs.FinMap.Entries.{find, below_all}
 use Rattle.std.specs.Ordering.{is_eq, is_lt, eq_by_cmp, ordering_reverse}
-use Rattle.std.specs.declared.cmp.Ordering.{Ordering}
+use Rattle.std.specs.Cmp.{Equal-is}
 use Rattle.std.specs.declared.cmp.Ordering.TheVariants.{Less, Equal, Greater}
 use Rattle.std.proofs.lemmas.Option.{none-some, same_Some, slice_get_within, slice_get_read}
 use Rattle.std.proofs.lemmas.List.{length-take, take_all}
@@ -26,21 +26,11 @@ use Rattle.mt_opcodec.specs.declared.merge.Next.TheVariants as next
 use Rattle.mt_opcodec.proofs.Logs.{get-log_of, get-at, get-gap, log_of-insert, log_of-nil, AreLogged-insert}
 use Rattle.mt_opcodec.proofs.Union.{same_log, get-union}
 
-tied : (r : Ordering) → is_eq r ≡ true → r ≡ Equal
-tied Less e = absurd cc
-tied Equal e = refl
-tied Greater e = absurd cc
-
 -- ---- which operation comes next
 
 -- what a slice gives at a place
 pub there : (ops : List Operation) (i : ℕ) (o : Operation) → i < length ops → o ≡ slice_index_or ops i o → slice_get ops i ≡ Some o
 there ops i o within is = slice_get_read ops (length ops) i o refl within is
-
-pub past : (ops : List Operation) (i : ℕ) → length ops ≤ i → slice_get ops i ≡ None
-past [] i le = refl
-past (x ∷ ops) zero le = absurd (omega arith)
-past (x ∷ ops) (suc i) le = past ops i (omega arith)
 
 module _ (x y : Option Operation) (o p : Operation) (in_left : x ≡ Some o) (in_right : y ≡ Some p) where
   pub left_is_less : dot_cmp (op_dot o) (op_dot p) ≡ Less → ComesNext x y next.Left
@@ -86,7 +76,7 @@ neither (Some o) y e = absurd (none-some o (sym e))
 
 module _ (a b : LogMap) (o : Operation) where
   at_dot : (q : Dot) → eq_by_cmp dot_cmp q (op_dot o) ≡ true → q ≡ op_dot o
-  at_dot q e = dot_cmp-IsAntisymmetric q (op_dot o) (tied (dot_cmp q (op_dot o)) e)
+  at_dot q e = dot_cmp-IsAntisymmetric q (op_dot o) ((Equal-is (dot_cmp q (op_dot o))).0 e)
 
   more : (m : LogMap) (q : Dot) → fin.get (fin.insert m (op_dot o) o) q ≡ cond (eq_by_cmp dot_cmp q (op_dot o)) (Some o) (fin.get m q)
   more m q = fin.get-insert dot_cmp_total m (op_dot o) o q
@@ -134,12 +124,9 @@ agree_first : (a b : LogMap) (o : Operation) → fin.get b (op_dot o) ≡ None �
 agree_first a b o none agree = turned b (fin.insert a (op_dot o) o) (agree_second b a o (λ p there. absurd (none-some p (sym none ∙ there))) (turned a b agree))
 
 inserted : (a : LogMap) (o : Operation) → fin.get (fin.insert a (op_dot o) o) (op_dot o) ≡ Some o
-inserted a o = fin.get-insert dot_cmp_total a (op_dot o) o (op_dot o) ∙ itself (dot_cmp (op_dot o) (op_dot o)) (tied_itself dot_cmp_total (op_dot o))
-  where
-    itself : (r : Ordering) → r ≡ Equal → cond (is_eq r) (Some o) (fin.get a (op_dot o)) ≡ Some o
-    itself Less e = absurd cc
-    itself Equal e = refl
-    itself Greater e = absurd cc
+inserted a o =
+    fin.get-insert dot_cmp_total a (op_dot o) o (op_dot o)
+    ∙ ap (λ (b : Bool). cond b (Some o) (fin.get a (op_dot o))) ((Equal-is (dot_cmp (op_dot o) (op_dot o))).1 (tied_itself dot_cmp_total (op_dot o)))
 
 -- ---- the front of a log's operations
 
@@ -194,7 +181,7 @@ find_place (x ∷ ops) dot p e = step (is_eq (dot_cmp dot (op_dot x))) refl (fin
     step true is rest =
         let here : Some x ≡ Some p = rw is at e in
         let same : x ≡ p = same_Some x p here in
-        (0, (here, ap op_dot (sym same) ∙ sym (dot_cmp-IsAntisymmetric dot (op_dot x) (tied (dot_cmp dot (op_dot x)) is))))
+        (0, (here, ap op_dot (sym same) ∙ sym (dot_cmp-IsAntisymmetric dot (op_dot x) ((Equal-is (dot_cmp dot (op_dot x))).0 is))))
     step false is rest =
         let further : find dot_cmp dot (map entry_of ops) ≡ Some p = rw is at e in
         let found = rest further in
@@ -295,7 +282,7 @@ module _ (left right : List Operation) (left_logged : AreLogged left) (right_log
   still_logged : (o : Operation) → IsOperation o → IsGapFor ops (op_dot o) (length ops) → AreLogged (ops ++ (o ∷ []))
   still_logged o valid gap = subst AreLogged (push_is_insert ops o) (AreLogged-insert ops o (length ops) h.logged valid gap)
 
-  pub takes_left : (o : Operation) → slice_get left i ≡ Some o → ((p : Operation) → slice_get right j ≡ Some p → dot_cmp (op_dot o) (op_dot p) ≡ Less) → HasMerged left right (suc i) j (ops ++ (o ∷ []))
+  takes_left : (o : Operation) → slice_get left i ≡ Some o → ((p : Operation) → slice_get right j ≡ Some p → dot_cmp (op_dot o) (op_dot p) ≡ Less) → HasMerged left right (suc i) j (ops ++ (o ∷ []))
   takes_left o at smaller =
       let gap = gap_at_end ops o (h.before_left o at) in
       let none = absent (log_of (take i left)) (log_of (take j right)) o (none_yet o gap) in
@@ -310,7 +297,7 @@ module _ (left right : List Operation) (left_logged : AreLogged left) (right_log
         before_right = λ q at_q. still_before ops o q (h.before_right q at_q) (smaller q at_q);
       }
 
-  pub takes_right : (o : Operation) → slice_get right j ≡ Some o → ((p : Operation) → slice_get left i ≡ Some p → dot_cmp (op_dot o) (op_dot p) ≡ Less) → HasMerged left right i (suc j) (ops ++ (o ∷ []))
+  takes_right : (o : Operation) → slice_get right j ≡ Some o → ((p : Operation) → slice_get left i ≡ Some p → dot_cmp (op_dot o) (op_dot p) ≡ Less) → HasMerged left right i (suc j) (ops ++ (o ∷ []))
   takes_right o at smaller =
       let gap = gap_at_end ops o (h.before_right o at) in
       let none = absent (log_of (take i left)) (log_of (take j right)) o (none_yet o gap) in
@@ -325,7 +312,7 @@ module _ (left right : List Operation) (left_logged : AreLogged left) (right_log
         before_right = after_right o at;
       }
 
-  pub takes_both : (o : Operation) → slice_get left i ≡ Some o → slice_get right j ≡ Some o → HasMerged left right (suc i) (suc j) (ops ++ (o ∷ []))
+  takes_both : (o : Operation) → slice_get left i ≡ Some o → slice_get right j ≡ Some o → HasMerged left right (suc i) (suc j) (ops ++ (o ∷ []))
   takes_both o in_left in_right =
       let gap = gap_at_end ops o (h.before_left o in_left) in
       let none = absent (log_of (take i left)) (log_of (take j right)) o (none_yet o gap) in
@@ -346,7 +333,7 @@ module _ (left right : List Operation) (left_logged : AreLogged left) (right_log
         before_right = after_right o in_right;
       }
 
-  pub clashes : (o p : Operation) → slice_get left i ≡ Some o → slice_get right j ≡ Some p → op_dot o ≡ op_dot p → o ≢ p → IsFirstClash (log_of left) (log_of right) (op_dot o)
+  clashes : (o p : Operation) → slice_get left i ≡ Some o → slice_get right j ≡ Some p → op_dot o ≡ op_dot p → o ≢ p → IsFirstClash (log_of left) (log_of right) (op_dot o)
   clashes o p in_left in_right same apart = record {
     clashes = (o, (p, (get-at left o (op_dot o) i left_logged.rise in_left refl, get-at right p (op_dot o) j right_logged.rise in_right (sym same), apart)));
     first = λ dot lt clash.

@@ -2,15 +2,15 @@ use Rattle.std.specs.Io.KnownBytes.{Appends}
 use Rattle.mt_opcodec.specs.LogValue.{LogMap}
 use Rattle.mt_cli.specs.Reading.{text_of, Gave}
 use Rattle.mt_cli.specs.Viewing.{log_view}
-use Rattle.mt_cli.proofs.Writing.{shown, not_shown}
+use Rattle.mt_cli.proofs.Writing.{log_written, log_not_written}
 use Rattle.mt_cli.proofs.view.view_log.Goals as goal
 
 pub returns-in-Ok-clause-ok : goal.returns-in-Ok-clause-ok
 returns-in-Ok-clause-ok g c =
-    shown c.show.result c.in-Ok.log (λ (m : LogMap). Gave g.R.Read.remaining c.args.input.now (text_of m))
+    log_written c.show.result c.in-Ok.log (λ (m : LogMap). Gave g.R.Read.remaining c.args.input.now (text_of m))
     (λ (m : LogMap). Appends (g.W.Write.contents c.args.output.now.inner) (g.W.Write.contents c.show.new.output.inner) (log_view m))
     c.in-Ok.ensures.ok c.show.ensures.ok
 
 pub returns-in-Ok-clause-err : goal.returns-in-Ok-clause-err
 returns-in-Ok-clause-err g c =
-    not_shown log_view g.W.Write.contents g.R.Read.remaining c.show.result c.in-Ok.log c.args.input.now c.read_log.new.input c.args.output.now c.show.new.output c.in-Ok.ensures.ok c.show.ensures.err
+    log_not_written log_view g.W.Write.contents g.R.Read.remaining c.show.result c.in-Ok.log c.args.input.now c.read_log.new.input c.args.output.now c.show.new.output c.in-Ok.ensures.ok c.show.ensures.err

@@ -1,8 +1,9 @@
 use Rattle.std.proofs.Common.{◌≡◌, Less, Equal, Greater, ap, sym, ◌∙◌, true≢false}
+use Rattle.std.proofs.lemmas.Option.{slice_get_past}
 use Rattle.mt_stamp.specs.declared.name.Dot.{Dot}
 use Rattle.mt_stamp.specs.Moment.{dot_cmp}
 use Rattle.mt_op.specs.Dots.{op_dot}
-use Rattle.mt_opcodec.proofs.Merging.{there, past, left_is_less, left_is_greater, same_in_both, two_of_one_dot, left_alone, right_alone}
+use Rattle.mt_opcodec.proofs.Merging.{there, left_is_less, left_is_greater, same_in_both, two_of_one_dot, left_alone, right_alone}
 use Rattle.mt_opcodec.proofs.merge.next_of.Goals as goal
 
 pub returns-in-Less : goal.returns-in-Less
@@ -39,12 +40,12 @@ returns-in-Equal-2 g c =
 pub returns-in-Some-None : goal.returns-in-Some-None
 returns-in-Some-None g c =
     let o = c.in-Some-None.field-0-0.now in
-    left_alone _ _ o (there c.args.left.now c.args.from_left o c.in-Some-None.ensures.lookup.3.0 c.in-Some-None.ensures.lookup.1) (past c.args.right.now c.args.from_right c.in-Some-None.ensures'.lookup.3)
+    left_alone _ _ o (there c.args.left.now c.args.from_left o c.in-Some-None.ensures.lookup.3.0 c.in-Some-None.ensures.lookup.1) (slice_get_past c.args.right.now c.args.from_right c.in-Some-None.ensures'.lookup.3)
 
 pub returns-in-None-Some : goal.returns-in-None-Some
 returns-in-None-Some g c =
     let o = c.in-None-Some.field-0-1.now in
-    right_alone _ _ o (past c.args.left.now c.args.from_left c.in-None-Some.ensures.lookup.3) (there c.args.right.now c.args.from_right o c.in-None-Some.ensures'.lookup.3.0 c.in-None-Some.ensures'.lookup.1)
+    right_alone _ _ o (slice_get_past c.args.left.now c.args.from_left c.in-None-Some.ensures.lookup.3) (there c.args.right.now c.args.from_right o c.in-None-Some.ensures'.lookup.3.0 c.in-None-Some.ensures'.lookup.1)
 
 pub returns-in-None-None : goal.returns-in-None-None
-returns-in-None-None g c = (past c.args.left.now c.args.from_left c.in-None-None.ensures.lookup.3, past c.args.right.now c.args.from_right c.in-None-None.ensures'.lookup.3)
+returns-in-None-None g c = (slice_get_past c.args.left.now c.args.from_left c.in-None-None.ensures.lookup.3, slice_get_past c.args.right.now c.args.from_right c.in-None-None.ensures'.lookup.3)
