@@ -1,6 +1,6 @@
 -- What `==` tells of operations and their parts.
 use Rattle.std.proofs.Common.{◌≡◌, ℕ, Bool, true, false, List, [], ◌∷◌, eqb, ◌&&◌, refl, sym, ap, ◌∙◌, subst}
-use Rattle.std.proofs.lemmas.Bool.{eqb-true, eq-eqb}
+use Rattle.std.proofs.lemmas.Bool.{eqb-true, eq-eqb, false≢true}
 use Rattle.std.proofs.lemmas.Cmp.{nat_list_eq_equiv}
 use Rattle.std.specs.Prelude.{IsTrue, ◌↔◌, Option, Some, None}
 use Rattle.std.specs.Option.{option_eq}
@@ -115,7 +115,7 @@ module _ (A : denote.RattleType.RattleType) (alloc : Ghosts A.Denot) (d e : mir.
       let markers = stamp_eq-true marker marker' (and_first _ _ h) in let places = eqb-true at at' (and_second _ _ h) in λ i. MoveMarker (markers i) (places i)
   body_same (body.Retitle item title) (body.Retitle item' title') h =
       let items = stamp_eq-true item item' (and_first _ _ h) in let titles = bytes_same title title' (and_second _ _ h) in λ i. Retitle (items i) (titles i)
-  body_same _ _ h = absurd cc
+  body_same _ _ h = absurd (false≢true h)
 
   body_itself : (a : Body A.Denot) → body_test a a ≡ true
   body_itself (body.AddTrack after title) = rw (place_itself after, bytes_itself title) refl
