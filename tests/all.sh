@@ -4,6 +4,7 @@ set -e
 cd "$(dirname "$0")/.."
 rt ci
 sh tests/suite.sh "$PWD/crates/radio/out/radio"
+sh tests/refusals.sh "$PWD/crates/radio/out/radio"
 if command -v python3 >/dev/null 2>&1; then
   python3 tests/model.py "$PWD/crates/radio/out/radio" --sets 300
   python3 tests/real_waves.py "$PWD/crates/radio/out/radio"

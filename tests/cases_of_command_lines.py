@@ -13,8 +13,9 @@ fault("output_full", 37, ["view", "log"], files={"log": ONE}, output="full")
 fault("output_to_a_closed_pipe", 37, ["view", "log"], files={"log": ONE}, output="pipe")
 
 # command lines
+STATUS = "\nExit status: 0 done, 1 refused (`radio explain` tells why), 2 the command line does not parse.\n"
 USAGE = "Usage: radio <COMMAND>\n\nFor more information, try '--help'.\n"
-case("no_argument", [], status=2, stderr="error: 'radio' requires a subcommand but one was not provided\n  [subcommands: view, merge, info, help]\n\n" + USAGE)
+case("no_argument", [], status=2, stderr="error: 'radio' requires a subcommand but one was not provided\n  [subcommands: view, merge, info, explain, help]\n\n" + USAGE)
 case("frob", ["frob"], status=2, stderr="error: unrecognized subcommand 'frob'\n\n" + USAGE)
 case("unknown_option", ["view", "--frob"], status=2, stderr="error: unexpected argument '--frob' found\n\n  tip: to pass '--frob' as a value, use '-- --frob'\n\nUsage: radio view [LOG]...\n\nFor more information, try '--help'.\n")
 case("word_of_no_text", ["view", b"\xff\xfe"], status=2, stderr="error: invalid UTF-8 was detected in one or more arguments\n\n" + USAGE)
@@ -25,14 +26,19 @@ HELP = """A nondestructive multitrack audio editor whose sessions are replicated
 Usage: radio <COMMAND>
 
 Commands:
-  view   Prints the session of the union of the logs
-  merge  Writes the union of the logs as one log
-  info   Prints what a wave file says of itself
-  help   Print this message or the help of the given subcommand(s)
+  view     Prints the session of the union of the logs
+  merge    Writes the union of the logs as one log
+  info     Prints what a wave file says of itself
+  explain  Prints what a refusal means, and what can be done about it
+  help     Print this message or the help of the given subcommand(s)
 
 Options:
   -h, --help     Print help
   -V, --version  Print version
+
+Example: radio merge both.log desk.log home.log
+
+Exit status: 0 done, 1 refused (the line `radio: fault N`; `radio explain N` tells why), 2 the command line does not parse.
 """
 case("help", ["--help"], stdout=HELP)
 case("help_in_short", ["-h"], stdout=HELP)
@@ -46,7 +52,9 @@ Arguments:
 
 Options:
   -h, --help  Print help
-"""
+
+Example: radio view desk.log home.log
+""" + STATUS
 case("help_of_view", ["view", "--help"], stdout=VIEW)
 MERGE = """Writes the union of the logs as one log
 
@@ -58,7 +66,9 @@ Arguments:
 
 Options:
   -h, --help  Print help
-"""
+
+Example: radio merge both.log desk.log home.log
+""" + STATUS
 case("help_of_merge", ["merge", "--help"], stdout=MERGE)
 case("merge_of_nothing", ["merge"], status=2, stderr="error: the following required arguments were not provided:\n  <OUT>\n\nUsage: radio merge <OUT> [LOG]...\n\nFor more information, try '--help'.\n")
 fault("help_to_a_full_disk", 37, ["--help"], output="full")
@@ -71,7 +81,9 @@ Arguments:
 
 Options:
   -h, --help  Print help
-"""
+
+Example: radio info jingle.wav
+""" + STATUS
 case("help_of_info", ["info", "--help"], stdout=INFO)
 INFO_USAGE = "Usage: radio info <WAVE>\n\nFor more information, try '--help'.\n"
 case("info_of_nothing", ["info"], status=2, stderr="error: the following required arguments were not provided:\n  <WAVE>\n\n" + INFO_USAGE)

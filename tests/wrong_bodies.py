@@ -3,8 +3,11 @@
 
 The edits are those of crates/CRATE/wrong-bodies, or of the folder named, in the form of must-fail edits. `rt must-fail` checks a crate
 once for each edit; here a round applies one edit to each of many functions, checks the crate once, and wants each edited function
-to be refused for itself: by a goal at a line of it, or by an answer of its proof that no longer holds. A function that is refused only
-since it calls one that is not proved does not count. It works on a copy of the project, with what earlier checks kept in out/."""
+to be refused for itself: by a goal of its own that is left open, or by an answer of its proof that no longer holds. A function that is
+refused only since it calls one that is not proved does not count, and one that is refused only since its proof names what the edit
+took away (as a branch that is gone) is told, since that says little of the contract. An edit of what is no function's body is a round of
+its own, and names the function that has to be refused in a line `refused: NAME`. It works on copies of the crates, over what their checks
+keep in out/, which it makes first where it is not there."""
 import argparse
 import concurrent.futures
 import glob
@@ -44,12 +47,14 @@ class Edit:
 
     def __init__(self, path, crate):
         self.name = os.path.basename(path)[: -len(".edit")]
-        self.pairs, file, old = [], None, None
+        self.pairs, self.refused, file, old = [], None, None, None
         with open(path) as lines:
             for line in lines.read().rstrip("\n").split("\n"):
                 word, _, rest = line.partition(": ")
                 if word == "file":
                     file = rest
+                elif word == "refused":
+                    self.refused = rest
                 elif word == "old":
                     old = rest
                 else:
@@ -65,9 +70,13 @@ class Edit:
     def keys(self):
         return {one.key for one in self.touched.values() if one}
 
+    def brings(self):
+        """The names of the functions that it brings in: two edits of one round may not bring in one name."""
+        return {name for _, old, new in self.pairs for name in re.findall(r"\bfn (\w+)", new) if "fn %s" % name not in old}
+
     def is_alone(self):
         """Whether it changes what is no function's body, so that another function's goal shows it."""
-        return None in self.touched.values()
+        return any(one is None and not old.startswith("use ") for (_, old), one in self.touched.items())
 
 
 def rounds(edits, crate):
@@ -75,7 +84,9 @@ def rounds(edits, crate):
     made = []
     for edit in edits:
         for one, texts in made:
-            apart = not edit.is_alone() and not any(other.is_alone() or other.keys() & edit.keys() for other in one)
+            apart = not edit.is_alone() and not any(
+                other.is_alone() or other.keys() & edit.keys() or other.brings() & edit.brings() for other in one
+            )
             if apart and edited(edit, texts, crate):
                 one.append(edit)
                 break
@@ -111,48 +122,84 @@ def apply(edit, crate):
     return None
 
 
-def is_refused(one, report):
-    """Whether the report refuses a function for itself."""
-    for line in re.findall(r"note: %s:(\d+):" % re.escape(one.path), report):
-        if one.first <= int(line) <= one.last:
-            return True
+NAMES_GONE = r"has no field|has no `|is not in scope|was not admitted"
+
+
+def refusals(one, report, names):
+    """How a report refuses a function for itself: by what it is to ensure, by names of its proof that are gone alone, or not at all."""
+    own = [
+        line
+        for line in re.findall(r"(?:note: )?%s:(\d+):" % re.escape(one.path), report)
+        if one.first <= int(line) <= one.last
+    ]
     # what stands in the place of others is on as many lines, so the lines of functions stay
-    module = os.path.splitext(one.path)[0][len("src/"):]
-    return re.search(r"proofs/%s/(\w+/)*%s/\w+\.antt:\d+:\d+: error" % (re.escape(module), one.name), report) is not None
+    module = os.path.splitext(one.path)[0][len("src/") :]
+    # an impl of another module's type has its proofs under that type's name: its function's name alone tells it, where it is the only one
+    places = [r"proofs/%s/(?:\w+/)*\+?%s/" % (re.escape(module), one.name)]
+    if names.count(one.name) == 1:
+        places.append(r"proofs/(?:\w+/)*\+?%s/" % one.name)
+    for place in places:
+        errors = re.findall(place + r"\w+\.antt:\d+:\d+: error(.*)", report)
+        expected = re.search(r"expected answers in \./" + place, report)
+        if own or expected or any(not re.search(NAMES_GONE, error) for error in errors):
+            return "for itself"
+        if errors:
+            return "names"
+    return None
 
 
 def try_round(edits, crate, name, kept):
-    """What is wrong with each edit of a round, by its name."""
+    """What is wrong with each edit of a round, by its name, and those that are refused only since names of a proof are gone."""
     for folder in ["src", "proofs", "specs"]:
         if os.path.isdir(os.path.join(kept, folder)):
             shutil.rmtree(os.path.join(crate, folder), ignore_errors=True)
             shutil.copytree(os.path.join(kept, folder), os.path.join(crate, folder))
     wrong = {edit.name: apply(edit, crate) for edit in edits}
-    report = subprocess.run(["rt", "check"], cwd=crate, capture_output=True, text=True)
+    weak = []
+    report = subprocess.run(["rt", "check", "--jobs", "1"], cwd=crate, capture_output=True, text=True)
     report = report.stdout + report.stderr
-    own = report[report.rfind("for " + name + "\n"):]
+    own = report[max(report.rfind("for " + name + "\n"), 0) :]
     stops = [line for line in own.split("\n") if re.match(r"(so far: )?(\./)?src/\S+: error", line)]
+    names = [one.name for edit in edits for one in edit.touched.values() if one]
     for edit in edits:
-        if wrong[edit.name] is None and stops:
+        if wrong[edit.name] is not None:
+            continue
+        if stops:
             wrong[edit.name] = "the round does not compile: " + stops[0]
-        elif wrong[edit.name] is None and edit.is_alone():
-            wrong[edit.name] = None if "not proved" in own else "it was proved"
-        elif wrong[edit.name] is None and not any(is_refused(one, own) for one in edit.touched.values()):
-            wrong[edit.name] = "its function was not refused for itself"
-    return {edit: why for edit, why in wrong.items() if why}
+        elif edit.is_alone():
+            status = r"fn \S*\b%s: (not proved|no proof: expected answers)" % edit.refused
+            if edit.refused is None:
+                wrong[edit.name] = "it changes no function's body, and names none that has to be refused"
+            elif not re.search(status, own):
+                wrong[edit.name] = "%s was not refused for itself" % edit.refused
+        else:
+            how = [refusals(one, own, names) for one in edit.touched.values()]
+            if "for itself" not in how and "names" in how:
+                weak.append(edit.name)
+            elif "for itself" not in how:
+                wrong[edit.name] = "its function was not refused for itself"
+    return {edit: why for edit, why in wrong.items() if why}, weak
 
 
-def copy_project(name, top):
-    """Copies a crate and those that it stands on, with what their checks kept, and lists them alone."""
-    with open(os.path.join(TOP, "crates.txt")) as file:
-        lines = {line.partition(":")[0].strip(): line for line in file if not line.startswith("#") and ":" in line}
-    wanted, reached = [name], set()
+def crates_below(name, lines):
+    """The crates of the project that a crate stands on, and itself."""
+    wanted, reached = [name], []
     while wanted:
         one = wanted.pop()
         if one in lines and one not in reached:
-            reached.add(one)
+            reached.append(one)
             wanted += lines[one].partition(":")[2].split()
-            shutil.copytree(os.path.join(TOP, "crates", one), os.path.join(top, "crates", one), ignore=shutil.ignore_patterns("must-fail", "wrong-bodies"))
+    return reached
+
+
+def copy_project(name, top):
+    """Copies a crate and those that it stands on, with what is needed of what their checks kept, and lists them alone."""
+    with open(os.path.join(TOP, "crates.txt")) as file:
+        lines = {line.partition(":")[0].strip(): line for line in file if not line.startswith("#") and ":" in line}
+    reached = crates_below(name, lines)
+    for one in reached:
+        passed = ["must-fail", "wrong-bodies"] + (["incremental"] if one != name else [])
+        shutil.copytree(os.path.join(TOP, "crates", one), os.path.join(top, "crates", one), ignore=shutil.ignore_patterns(*passed))
     with open(os.path.join(top, "crates.txt"), "w") as file:
         file.writelines(line for one, line in lines.items() if one in reached)
     shutil.copy(os.path.join(TOP, "HANDLES"), top)
@@ -163,17 +210,21 @@ def copy_project(name, top):
 def try_crate(name, folder):
     kept = os.path.join(TOP, "crates", name)
     edits = [Edit(path, kept) for path in sorted(glob.glob(os.path.join(kept, folder, "*.edit")))]
-    wrong, tried = {}, rounds(edits, kept)
+    wrong, weak, tried = {}, [], rounds(edits, kept)
     with tempfile.TemporaryDirectory() as top:
         crate = copy_project(name, top)
-        first = subprocess.run(["rt", "check"], cwd=crate, capture_output=True, text=True)
+        first = subprocess.run(["rt", "check", "--jobs", "1"], cwd=crate, capture_output=True, text=True)
         if "not proved" in first.stdout + first.stderr or first.returncode != 0:
             print("%s: the crate itself is not proved" % name)
             return 1
         for one in tried:
-            wrong.update(try_round(one, crate, name, kept))
+            of_round, by_names = try_round(one, crate, name, kept)
+            wrong.update(of_round)
+            weak += by_names
     for edit in sorted(wrong):
         print("%s: %s: %s" % (name, edit, wrong[edit]))
+    if weak:
+        print("%s: refused only since names of the proof are gone: %s" % (name, " ".join(sorted(weak))))
     print("%s: %d wrong bodies in %d rounds, %d not refused" % (name, len(edits), len(tried), len(wrong)), flush=True)
     return len(wrong)
 
@@ -185,6 +236,9 @@ def main():
     parser.add_argument("--jobs", type=int, default=1, help="how many crates at a time")
     options = parser.parse_args()
     crates = options.crates or sorted(os.path.basename(os.path.dirname(path)) for path in glob.glob(os.path.join(TOP, "crates", "*", options.folder)))
+    if subprocess.run(["rt", "all", "check", "--jobs", str(options.jobs)], cwd=TOP, capture_output=True).returncode != 0:
+        print("rt all check: the project itself is not proved")
+        return 1
     with concurrent.futures.ThreadPoolExecutor(options.jobs) as pool:
         return 1 if sum(pool.map(lambda name: try_crate(name, options.folder), crates)) else 0
 

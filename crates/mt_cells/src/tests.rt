@@ -97,33 +97,74 @@ fn is_shown<M: Allocator + Clone>(
     Ok(tags.as_slice() == live && presence.is_present() != live.is_empty())
 }
 
+// Whether a presence with these tags and removals, the removals first, shows these live tags.
+fn marked_shows<M: Allocator + Clone>(
+    memory: M,
+    tags: &[Stamp],
+    removed: &[Stamp],
+    live: &[Stamp],
+) -> Result<bool, CellFault> {
+    is_shown(&marked(memory, tags, removed)?, live)
+}
+
 // removed_and_restored
 #[test]
 fn keeps_the_tag_that_was_not_removed(rt: HostRuntime) -> Result<(), Fail> {
     let first = Stamp::new(1, A, 1)?;
     let again = Stamp::new(2, B, 1)?;
-    let mut presence = Presence::new(rt.alloc());
-    presence.add_tag(first)?;
-    assert!(rt; is_shown(&presence, &[first])?);
-    presence.remove_tag(first)?;
-    assert!(rt; is_shown(&presence, &[])?);
-    presence.add_tag(again)?;
-    assert!(rt; is_shown(&presence, &[again])?);
-    presence.remove_tag(again)?;
-    assert!(rt; is_shown(&presence, &[])?);
+    assert!(rt; marked_shows(rt.alloc(), &[first], &[], &[first])?);
+    assert!(rt; marked_shows(rt.alloc(), &[first], &[first], &[])?);
+    assert!(rt; marked_shows(rt.alloc(), &[first, again], &[first], &[again])?);
+    assert!(rt; marked_shows(rt.alloc(), &[first, again], &[first, again], &[])?);
     Ok(())
 }
 
-// removed_and_restored
+// The live tags after these tags and then these removals.
+fn live_after_removals<M: Allocator + Clone>(
+    memory: M,
+    tags: &[Stamp],
+    removed: &[Stamp],
+) -> Result<Vec<Stamp, M>, CellFault> {
+    let mut presence = marked(memory, tags, &[])?;
+    for stamp in removed {
+        presence.remove_tag(*stamp)?;
+    }
+    presence.live_tags()
+}
+
+// removed_and_restored: a removal may come before its tag or after it.
 #[test]
 fn keeps_a_removal_that_came_before_its_tag(rt: HostRuntime) -> Result<(), Fail> {
     let first = Stamp::new(1, A, 1)?;
     let again = Stamp::new(2, B, 1)?;
-    let early = marked(rt.alloc(), &[again, first], &[first])?;
-    assert!(rt; is_shown(&early, &[again])?);
-    let alone = marked(rt.alloc(), &[], &[first])?;
-    assert!(rt; is_shown(&alone, &[])?);
+    assert!(rt; marked_shows(rt.alloc(), &[again, first], &[first], &[again])?);
+    assert!(rt; marked_shows(rt.alloc(), &[], &[first], &[])?);
+    let live = live_after_removals(rt.alloc(), &[again, first], &[first])?;
+    assert!(rt; live.as_slice() == [again].as_slice());
     Ok(())
+}
+
+// A presence with the first tags and removals, joined with one with the others.
+fn joined<M: Allocator + Clone>(
+    memory: M,
+    (tags, removed): (&[Stamp], &[Stamp]),
+    (other_tags, other_removed): (&[Stamp], &[Stamp]),
+) -> Result<Presence<M>, CellFault> {
+    let mut one = marked(memory.clone()?, tags, removed)?;
+    one.join(marked(memory, other_tags, other_removed)?)?;
+    Ok(one)
+}
+
+// Whether the two joined show these live tags, and are the same either way round.
+fn joined_shows<M: Allocator + Clone>(
+    memory: M,
+    one: (&[Stamp], &[Stamp]),
+    other: (&[Stamp], &[Stamp]),
+    live: &[Stamp],
+) -> Result<bool, CellFault> {
+    let all = joined(memory.clone()?, one, other)?;
+    let is_same = all == joined(memory, other, one)?;
+    Ok(is_same && is_shown(&all, live)?)
 }
 
 // removed_and_restored
@@ -131,51 +172,78 @@ fn keeps_a_removal_that_came_before_its_tag(rt: HostRuntime) -> Result<(), Fail>
 fn joins_presences_either_way_round(rt: HostRuntime) -> Result<(), Fail> {
     let first = Stamp::new(1, A, 1)?;
     let again = Stamp::new(2, B, 1)?;
-    let mut one = marked(rt.alloc(), &[first], &[first])?;
-    one.join(marked(rt.alloc(), &[first, again], &[])?)?;
-    assert!(rt; is_shown(&one, &[again])?);
-    let mut other = marked(rt.alloc(), &[first, again], &[])?;
-    other.join(marked(rt.alloc(), &[first], &[first])?)?;
-    assert!(rt; is_shown(&other, &[again])?);
-    assert!(rt; other == one);
+    let removed: (&[Stamp], &[Stamp]) = (&[first], &[first]);
+    let restored: (&[Stamp], &[Stamp]) = (&[first, again], &[]);
+    assert!(rt; joined_shows(rt.alloc(), removed, restored, &[again])?);
     Ok(())
+}
+
+// Three presences joined: one with the tag, one with its removal, and one with another tag.
+fn all_joined<M: Allocator + Clone>(
+    memory: M,
+    tag: Stamp,
+    other: Stamp,
+) -> Result<Presence<M>, CellFault> {
+    let mut others = Vec::new(memory.clone()?);
+    others.push(marked(memory.clone()?, &[], &[tag])?)?;
+    others.push(marked(memory.clone()?, &[tag], &[])?)?;
+    join_all(marked(memory, &[other], &[])?, others)
 }
 
 #[test]
 fn joins_all_presences(rt: HostRuntime) -> Result<(), Fail> {
     let first = Stamp::new(1, A, 1)?;
     let again = Stamp::new(2, B, 1)?;
-    let mut others = Vec::new(rt.alloc());
-    others.push(marked(rt.alloc(), &[], &[first])?)?;
-    others.push(marked(rt.alloc(), &[first], &[])?)?;
-    let all = join_all(marked(rt.alloc(), &[again], &[])?, others)?;
-    assert!(rt; is_shown(&all, &[again])?);
+    assert!(rt; is_shown(&all_joined(rt.alloc(), first, again)?, &[again])?);
     Ok(())
+}
+
+// Whether a presence without marks and its copy are the same.
+fn copies_no_mark<M: Allocator + Clone>(memory: M) -> Result<bool, CellFault> {
+    let presence = Presence::new(memory);
+    Ok(presence.try_clone()? == presence)
 }
 
 #[test]
 fn takes_no_memory_without_marks(rt: HostRuntime) -> Result<(), Fail> {
     let memory = Refusing::new(rt.alloc(), 0);
-    let presence = Presence::new(&memory);
-    assert!(rt; is_shown(&presence, &[])?);
-    let copy = presence.try_clone()?;
-    assert!(rt; copy == presence);
+    assert!(rt; marked_shows(&memory, &[], &[], &[])?);
+    assert!(rt; copies_no_mark(&memory)?);
     assert_eq!(rt; memory.allocations(), 0);
     Ok(())
+}
+
+// Whether a copy of a presence is it, and is not once the tag has been removed from it.
+fn copy_is_apart<M: Allocator + Clone>(
+    presence: &Presence<M>,
+    tag: Stamp,
+) -> Result<bool, CellFault> {
+    let mut copy = presence.try_clone()?;
+    let was_equal = equal_presences(&copy, presence);
+    copy.remove_tag(tag)?;
+    Ok(was_equal && copy != *presence)
+}
+
+// Whether a presence with the first tags and removals is one with the others.
+fn are_equal<M: Allocator + Clone>(
+    memory: M,
+    (tags, removed): (&[Stamp], &[Stamp]),
+    (other_tags, other_removed): (&[Stamp], &[Stamp]),
+) -> Result<bool, CellFault> {
+    let one = marked(memory.clone()?, tags, removed)?;
+    Ok(one == marked(memory, other_tags, other_removed)?)
 }
 
 #[test]
 fn tells_presences_apart(rt: HostRuntime) -> Result<(), Fail> {
     let first = Stamp::new(1, A, 1)?;
     let again = Stamp::new(2, B, 1)?;
-    let presence = marked(rt.alloc(), &[first], &[again])?;
-    let mut copy = presence.try_clone()?;
-    assert!(rt; equal_presences(&copy, &presence));
-    copy.remove_tag(first)?;
-    assert!(rt; copy != presence);
-    let more = marked(rt.alloc(), &[first, again], &[again])?;
-    assert!(rt; more != presence);
-    assert!(rt; presence != Presence::new(rt.alloc()));
+    assert!(rt; copy_is_apart(&marked(rt.alloc(), &[first], &[again])?, first)?);
+    let one: (&[Stamp], &[Stamp]) = (&[first], &[again]);
+    assert!(rt; are_equal(rt.alloc(), one, one)?);
+    assert!(rt; !are_equal(rt.alloc(), one, (&[first, again], &[again]))?);
+    assert!(rt; !are_equal(rt.alloc(), one, (&[first], &[]))?);
+    assert!(rt; !are_equal(rt.alloc(), one, (&[], &[]))?);
     Ok(())
 }
 
@@ -198,52 +266,80 @@ fn gives_many_tags_in_order(rt: HostRuntime) -> Result<(), Fail> {
     Ok(())
 }
 
+// The stamps of these that a presence takes as tags before it is refused memory.
+fn add_tags<'s, M: Allocator + Clone>(
+    presence: &mut Presence<M>,
+    stamps: &'s [Stamp],
+) -> &'s [Stamp] {
+    for (i, stamp) in stamps.iter().enumerate() {
+        if presence.add_tag(*stamp).is_err() {
+            return &stamps[..i];
+        }
+    }
+    stamps
+}
+
+// The same of removals.
+fn remove_tags<'s, M: Allocator + Clone>(
+    presence: &mut Presence<M>,
+    stamps: &'s [Stamp],
+) -> &'s [Stamp] {
+    for (i, stamp) in stamps.iter().enumerate() {
+        if presence.remove_tag(*stamp).is_err() {
+            return &stamps[..i];
+        }
+    }
+    stamps
+}
+
+// How many tags a presence takes, where it then has those and no other mark.
+fn tags_kept<M: Allocator + Clone>(
+    memory: M,
+    stamps: &[Stamp],
+) -> Result<Option<usize>, CellFault> {
+    let mut presence = Presence::new(memory.clone()?);
+    let taken = add_tags(&mut presence, stamps);
+    let is_kept = presence == marked(memory, taken, &[])?;
+    Ok(is_kept.then_some(taken.len()))
+}
+
+// The same of removals.
+fn removals_kept<M: Allocator + Clone>(
+    memory: M,
+    stamps: &[Stamp],
+) -> Result<Option<usize>, CellFault> {
+    let mut presence = Presence::new(memory.clone()?);
+    let taken = remove_tags(&mut presence, stamps);
+    let is_kept = presence == marked(memory, &[], taken)?;
+    Ok(is_kept.then_some(taken.len()))
+}
+
 #[test]
 fn keeps_its_marks_where_a_tag_is_refused(rt: HostRuntime) -> Result<(), Fail> {
     let stamps = falling(rt.alloc(), A, 30)?;
-    for at in 0..100 {
+    let whole = Refusing::new(rt.alloc(), u64::MAX);
+    assert_eq!(rt; tags_kept(&whole, &stamps)?, Some(30));
+    assert!(rt; whole.allocations() > 6, "it grew");
+    for at in 0..whole.allocations() / 2 {
         let memory = Refusing::new(rt.alloc(), at);
-        let lent = &memory;
-        let mut presence = Presence::new(lent);
-        let mut tags = Vec::new(rt.alloc());
-        for stamp in &stamps {
-            match presence.add_tag(*stamp) {
-                Ok(()) => tags.push(*stamp)?,
-                Err(CellFault::Memory) => assert!(rt; memory.has_refused()),
-            }
-        }
-        assert_eq!(rt; tags.len() < 30, memory.has_refused(), "at {at}");
-        if !memory.has_refused() {
-            assert!(rt; at > 3, "it grew");
-            return Ok(());
-        }
-        assert!(rt; presence == marked(lent, &tags, &[])?, "at {at}");
+        let kept = tags_kept(&memory, &stamps)?;
+        assert!(rt; kept.is_some_and(|count| count < 30), "at {at}");
     }
-    Err(Fail::from("each run met a refusal"))
+    Ok(())
 }
 
 #[test]
 fn keeps_its_marks_where_a_removal_is_refused(rt: HostRuntime) -> Result<(), Fail> {
     let stamps = falling(rt.alloc(), A, 30)?;
-    for at in 0..100 {
+    let whole = Refusing::new(rt.alloc(), u64::MAX);
+    assert_eq!(rt; removals_kept(&whole, &stamps)?, Some(30));
+    assert!(rt; whole.allocations() > 6, "it grew");
+    for at in 0..whole.allocations() / 2 {
         let memory = Refusing::new(rt.alloc(), at);
-        let lent = &memory;
-        let mut presence = Presence::new(lent);
-        let mut removed = Vec::new(rt.alloc());
-        for stamp in &stamps {
-            match presence.remove_tag(*stamp) {
-                Ok(()) => removed.push(*stamp)?,
-                Err(CellFault::Memory) => assert!(rt; memory.has_refused()),
-            }
-        }
-        assert_eq!(rt; removed.len() < 30, memory.has_refused(), "at {at}");
-        if !memory.has_refused() {
-            assert!(rt; at > 3, "it grew");
-            return Ok(());
-        }
-        assert!(rt; presence == marked(lent, &[], &removed)?, "at {at}");
+        let kept = removals_kept(&memory, &stamps)?;
+        assert!(rt; kept.is_some_and(|count| count < 30), "at {at}");
     }
-    Err(Fail::from("each run met a refusal"))
+    Ok(())
 }
 
 // The live tags of a presence with these tags alone.
@@ -292,6 +388,17 @@ fn refuses_each_growth_of_a_copy(rt: HostRuntime) -> Result<(), Fail> {
     Err(Fail::from("each run met a refusal"))
 }
 
+// A presence joined with one with these tags and removals.
+fn with_marks<M: Allocator + Clone>(
+    memory: M,
+    presence: &Presence<M>,
+    marks: &[Stamp],
+) -> Result<Presence<M>, CellFault> {
+    let mut all = presence.try_clone()?;
+    all.join(marked(memory, marks, marks)?)?;
+    Ok(all)
+}
+
 // Whether a presence has these tags and removals, and of those some alone.
 fn lies_between<M: Allocator + Clone>(
     memory: M,
@@ -299,38 +406,43 @@ fn lies_between<M: Allocator + Clone>(
     least: &[Stamp],
     more: &[Stamp],
 ) -> Result<bool, CellFault> {
-    let mut all = presence.try_clone()?;
-    all.join(marked(memory.clone()?, least, least)?)?;
-    let keeps = all == *presence;
-    all.join(marked(memory.clone()?, more, more)?)?;
-    let mut most = marked(memory.clone()?, least, least)?;
-    most.join(marked(memory, more, more)?)?;
-    Ok(keeps && all == most)
+    let most = joined(memory.clone()?, (least, least), (more, more))?;
+    let is_most = with_marks(memory.clone()?, presence, more)? == most;
+    Ok(is_most && with_marks(memory, presence, least)? == *presence)
+}
+
+// Whether a join that is refused memory leaves what lies between, and nothing where it is not refused.
+fn refused_join<M: Allocator + Clone>(
+    memory: M,
+    ours: &[Stamp],
+    theirs: &[Stamp],
+) -> Result<Option<bool>, CellFault> {
+    let mut presence = marked(memory.clone()?, ours, ours)?;
+    let other = marked(memory.clone()?, theirs, theirs)?;
+    if presence.join(other).is_ok() {
+        return Ok(None);
+    }
+    Ok(Some(lies_between(memory, &presence, ours, theirs)?))
 }
 
 #[test]
 fn refuses_each_growth_of_a_join(rt: HostRuntime) -> Result<(), Fail> {
     let ours = falling(rt.alloc(), A, 11)?;
     let theirs = falling(rt.alloc(), B, 11)?;
-    let mut made_with = 0u64;
-    for at in 0..100 {
+    let mut refused = 0;
+    for at in 0..100u64 {
         let memory = Refusing::new(rt.alloc(), at);
-        let lent = &memory;
-        let Ok(mut presence) = marked(lent, &ours, &ours) else {
-            made_with = at;
-            continue;
-        };
-        let Ok(other) = marked(lent, &theirs, &theirs) else {
-            made_with = at;
-            continue;
-        };
-        let done = presence.join(other);
-        assert_eq!(rt; done.is_err(), memory.has_refused(), "at {at}");
-        if !memory.has_refused() {
-            assert!(rt; at.saturating_sub(made_with) > 2, "each set grew");
-            return Ok(());
+        match refused_join(&memory, &ours, &theirs) {
+            Ok(Some(is_sound)) => {
+                assert!(rt; is_sound && memory.has_refused(), "at {at}");
+                refused = at;
+            }
+            Ok(None) => {
+                assert!(rt; refused > 2 && !memory.has_refused(), "each set grew");
+                return Ok(());
+            }
+            Err(CellFault::Memory) => assert!(rt; memory.has_refused() && refused == 0),
         }
-        assert!(rt; lies_between(lent, &presence, &ours, &theirs)?, "at {at}");
     }
     Err(Fail::from("each run met a refusal"))
 }

@@ -2,13 +2,17 @@
 #![tactic(auto)]
 
 mod buffer;
+mod commands;
 mod fault;
 mod files;
 mod info;
 mod join;
 mod merge;
+mod part;
 mod program;
 mod read;
+mod refusals;
+mod stop;
 #[cfg(test)]
 mod tests;
 mod view;
@@ -17,4 +21,5 @@ pub use fault::CliFault;
 pub use info::write_info;
 pub use merge::merge_logs;
 pub use program::command;
+pub use refusals::{Refusal, find_refusal};
 pub use view::{view_log, view_logs};

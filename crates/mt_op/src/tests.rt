@@ -96,20 +96,29 @@ fn reads_digests_of_64_digits(rt: HostRuntime) -> Result<(), Fail> {
     assert_eq!(rt; Digest::read(ABC)?, abc);
     let capitals = hex::encode_upper(rt.alloc(), abc.0)?;
     assert_eq!(rt; Digest::read(capitals.as_str())?, abc);
-    let longer = format!(in rt.alloc(); "{ABC}a")?;
-    let two_more = format!(in rt.alloc(); "{ABC}ad")?;
-    let other_digit = format!(in rt.alloc(); "{:g<64}", "ba7816")?;
-    let spaced = format!(in rt.alloc(); " {}", "0".repeat(rt.alloc(), 63)?)?;
-    for text in [
-        "",
-        "ba",
-        "ba7816bf8f01cfea414140de5dae2223b00361a396177a9cb410ff61f20015a",
-        longer.as_str(),
-        two_more.as_str(),
-        other_digit.as_str(),
-        spaced.as_str(),
-    ] {
+    Ok(())
+}
+
+#[test]
+fn reads_no_digest_of_other_texts(rt: HostRuntime) -> Result<(), Fail> {
+    const SPACED: &str = " 000000000000000000000000000000000000000000000000000000000000000";
+    const OTHER_DIGIT: &str = "ba7816gggggggggggggggggggggggggggggggggggggggggggggggggggggggggg";
+    for text in ["", "ba", SPACED, OTHER_DIGIT] {
         assert_eq!(rt; Digest::read(text), Err(OpFault::BadDigest), "{text}");
+    }
+    for (from, until) in [(0, 63), (1, 64)] {
+        assert_eq!(rt;
+            ABC.get(from..until).map(Digest::read),
+            Some(Err(OpFault::BadDigest))
+        );
+    }
+    for more in ["a", "ad"] {
+        let longer = format!(in rt.alloc(); "{ABC}{more}")?;
+        assert_eq!(rt;
+            Digest::read(longer.as_str()),
+            Err(OpFault::BadDigest),
+            "{more}"
+        );
     }
     Ok(())
 }
@@ -130,29 +139,43 @@ fn orders_digests_by_their_bytes(rt: HostRuntime) {
 
 // refused_operations: Retitle
 #[test]
-fn makes_operations_that_name_older_ones(rt: HostRuntime) -> Result<(), Fail> {
+fn refuses_a_name_that_is_as_old(rt: HostRuntime) -> Result<(), Fail> {
     let own = Stamp::new(2, A, 2)?;
     let as_old = retitle(rt.alloc(), Stamp::new(2, B, 1)?, "News")?;
     assert_eq!(rt; Op::new(own, as_old).err(), Some(OpFault::NameNotOlder));
+    Ok(())
+}
+
+#[test]
+fn makes_operations_that_name_older_ones(rt: HostRuntime) -> Result<(), Fail> {
+    let own = Stamp::new(2, A, 2)?;
     let item = Stamp::new(1, B, 1)?;
     let op = Op::new(own, retitle(rt.alloc(), item, "News")?)?;
     assert_eq!(rt; op.stamp(), own);
     assert_eq!(rt; op.dot(), Dot { replica: A, seq: 2 });
-    assert!(rt; *op.body() == retitle(rt.alloc(), item, "News")?);
     assert_eq!(rt; op.need_count(), 1);
-    assert_eq!(rt;
-        op.need(0),
-        Some(Need {
-            stamp: item,
-            role: Role::Titled
-        })
-    );
+    let need = Need {
+        stamp: item,
+        role: Role::Titled,
+    };
+    assert_eq!(rt; op.need(0), Some(need));
     assert_eq!(rt; op.need(1), None);
     assert!(rt; !op.fits(&Role::Titled));
-    let op = Op::new(item, marker(rt.alloc(), "News")?)?;
+    assert!(rt; *op.body() == retitle(rt.alloc(), item, "News")?);
+    Ok(())
+}
+
+#[test]
+fn makes_operations_that_name_none(rt: HostRuntime) -> Result<(), Fail> {
+    let op = Op::new(Stamp::new(1, B, 1)?, marker(rt.alloc(), "News")?)?;
     assert_eq!(rt; op.need_count(), 0);
     assert_eq!(rt; op.need(0), None);
     assert!(rt; op.fits(&Role::Titled));
+    Ok(())
+}
+
+#[test]
+fn calls_the_laws(_rt: HostRuntime) -> Result<(), Fail> {
     readiness();
     writes();
     last_write();
@@ -162,11 +185,13 @@ fn makes_operations_that_name_older_ones(rt: HostRuntime) -> Result<(), Fail> {
 
 #[test]
 fn finds_operations_by_their_dots(rt: HostRuntime) -> Result<(), Fail> {
-    let ops = [
-        Op::new(Stamp::new(5, A, 2)?, marker(rt.alloc(), "News")?)?,
-        Op::new(Stamp::new(9, A, 4)?, marker(rt.alloc(), "Weather")?)?,
-        Op::new(Stamp::new(1, B, 1)?, marker(rt.alloc(), "Sport")?)?,
-    ];
+    let mut ops = Vec::new(rt.alloc());
+    for (clock, replica, seq) in [(5, A, 2), (9, A, 4), (1, B, 1)] {
+        ops.push(Op::new(
+            Stamp::new(clock, replica, seq)?,
+            marker(rt.alloc(), "News")?,
+        )?)?;
+    }
     for (replica, seq, place) in [
         (A, 1, Err(0)),
         (A, 2, Ok(0)),
@@ -208,6 +233,11 @@ fn cloned_thrice<M: Allocator + Clone>(
     Op::new(stamp, body)?.try_clone()
 }
 
+fn is_marker_at_7<M: Allocator>(op: &Op<M>, stamp: Stamp, text: &str) -> bool {
+    op.stamp() == stamp
+        && matches!(op.body(), Body::AddMarker { at: 7, title } if title.text() == text)
+}
+
 #[test]
 fn refuses_each_growth(rt: HostRuntime) -> Result<(), Fail> {
     let stamp = Stamp::new(1, A, 1)?;
@@ -216,11 +246,7 @@ fn refuses_each_growth(rt: HostRuntime) -> Result<(), Fail> {
         let made = cloned_thrice(&memory, stamp, "News at nine");
         assert_eq!(rt; made.is_err(), memory.has_refused(), "at {at}");
         if !memory.has_refused() {
-            let op = made?;
-            assert_eq!(rt; op.stamp(), stamp);
-            assert!(rt;
-                matches!(op.body(), Body::AddMarker { at: 7, title } if title.text() == "News at nine")
-            );
+            assert!(rt; is_marker_at_7(&made?, stamp, "News at nine"));
             assert_eq!(rt; at, 4, "each of the four was refused");
             return Ok(());
         }

@@ -151,35 +151,38 @@ fn copies_gains_and_mutes(rt: HostRuntime) -> Result<(), Fail> {
 }
 
 #[test]
-fn copies_acts_on_items_and_markers(rt: HostRuntime) -> Result<(), Fail> {
+fn copies_removes_and_restores(rt: HostRuntime) -> Result<(), Fail> {
     let item = Stamp::new(1, A, 1)?;
     let other = Stamp::new(1, B, 1)?;
-    let bodies = [
-        remove(rt.alloc(), item, &[item])?,
-        remove(rt.alloc(), item, &[item, other])?,
-        remove(rt.alloc(), item, &[other])?,
-        remove(rt.alloc(), other, &[item])?,
-        Body::Restore { item },
-        Body::Restore { item: other },
-        add_marker(rt.alloc(), 7, "News")?,
-        add_marker(rt.alloc(), 8, "News")?,
-        add_marker(rt.alloc(), 7, "Sport")?,
-        Body::MoveMarker {
-            marker: item,
-            at: 7,
-        },
-        Body::MoveMarker {
-            marker: item,
-            at: 8,
-        },
-        Body::MoveMarker {
-            marker: other,
-            at: 7,
-        },
-        retitle(rt.alloc(), item, "News")?,
-        retitle(rt.alloc(), item, "Sport")?,
-        retitle(rt.alloc(), other, "News")?,
-    ];
+    let mut bodies = Vec::new(rt.alloc());
+    for (of, tags) in [
+        (item, [item].as_slice()),
+        (item, [item, other].as_slice()),
+        (item, [other].as_slice()),
+        (other, [item].as_slice()),
+    ] {
+        bodies.push(remove(rt.alloc(), of, tags)?)?;
+    }
+    bodies.push(Body::Restore { item })?;
+    bodies.push(Body::Restore { item: other })?;
+    assert_eq!(rt; first_mistake(&bodies)?, None);
+    Ok(())
+}
+
+#[test]
+fn copies_acts_on_markers(rt: HostRuntime) -> Result<(), Fail> {
+    let item = Stamp::new(1, A, 1)?;
+    let other = Stamp::new(1, B, 1)?;
+    let mut bodies = Vec::new(rt.alloc());
+    for (at, title) in [(7, "News"), (8, "News"), (7, "Sport")] {
+        bodies.push(add_marker(rt.alloc(), at, title)?)?;
+    }
+    for (marker, at) in [(item, 7), (item, 8), (other, 7)] {
+        bodies.push(Body::MoveMarker { marker, at })?;
+    }
+    for (of, title) in [(item, "News"), (item, "Sport"), (other, "News")] {
+        bodies.push(retitle(rt.alloc(), of, title)?)?;
+    }
     assert_eq!(rt; first_mistake(&bodies)?, None);
     Ok(())
 }
@@ -199,17 +202,20 @@ fn first_mistaken_op<M: Allocator + Clone>(
     Ok(None)
 }
 
+fn marker_op<M: Allocator>(memory: M, stamp: Stamp, title: &str) -> Result<Op<M>, OpFault> {
+    Op::new(stamp, add_marker(memory, 7, title)?)
+}
+
 #[test]
 fn copies_operations(rt: HostRuntime) -> Result<(), Fail> {
     let first = Stamp::new(1, B, 1)?;
     let second = Stamp::new(2, A, 1)?;
-    let ops = [
-        Op::new(first, add_marker(rt.alloc(), 7, "News")?)?,
-        Op::new(first, add_marker(rt.alloc(), 7, "Sport")?)?,
-        Op::new(second, add_marker(rt.alloc(), 7, "News")?)?,
-        Op::new(second, retitle(rt.alloc(), first, "News")?)?,
-    ];
-    assert_eq!(rt; first_mistaken_op(&ops)?, None);
+    let mut ops = Vec::new(rt.alloc());
+    for (stamp, title) in [(first, "News"), (first, "Sport"), (second, "News")] {
+        ops.push(marker_op(rt.alloc(), stamp, title)?)?;
+    }
+    ops.push(Op::new(second, retitle(rt.alloc(), first, "News")?)?)?;
+    assert!(rt; first_mistaken_op(&ops)?.is_none());
     Ok(())
 }
 
@@ -222,24 +228,55 @@ fn compares_bodies_without_their_stamps(rt: HostRuntime) -> Result<(), Fail> {
     Ok(())
 }
 
+// Whether a Remove of one tag copies as itself.
+fn copies_a_list<M: Allocator + Clone>(memory: M, item: Stamp) -> Result<bool, OpFault> {
+    let body = remove(memory, item, &[item])?;
+    Ok(body.try_clone()? == body)
+}
+
+// The same of an operation.
+fn copies_a_list_of_an_operation<M: Allocator + Clone>(
+    memory: M,
+    own: Stamp,
+    item: Stamp,
+) -> Result<bool, OpFault> {
+    let op = Op::new(own, remove(memory, item, &[item])?)?;
+    Ok(op.try_clone()? == op)
+}
+
 #[test]
 fn refuses_the_growth_of_a_copied_list(rt: HostRuntime) -> Result<(), Fail> {
     let item = Stamp::new(1, A, 1)?;
-    let refused = Refusing::new(rt.alloc(), 1);
-    let body = remove(&refused, item, &[item])?;
-    assert!(rt; matches!(body.try_clone(), Err(OpFault::Memory)));
-    assert!(rt; refused.has_refused());
-    let granted = Refusing::new(rt.alloc(), 2);
-    let body = remove(&granted, item, &[item])?;
-    assert!(rt; body.try_clone()? == body);
-    assert!(rt; !granted.has_refused());
+    for at in 0..3 {
+        let memory = Refusing::new(rt.alloc(), at);
+        let wanted = if at < 2 {
+            Err(OpFault::Memory)
+        } else {
+            Ok(true)
+        };
+        assert_eq!(rt; copies_a_list(&memory, item), wanted, "at {at}");
+        assert_eq!(rt; memory.has_refused(), at < 2, "at {at}");
+    }
+    Ok(())
+}
+
+#[test]
+fn refuses_the_growth_of_a_list_copied_with_its_operation(rt: HostRuntime) -> Result<(), Fail> {
+    let item = Stamp::new(1, A, 1)?;
     let own = Stamp::new(2, B, 1)?;
-    let refused = Refusing::new(rt.alloc(), 1);
-    let op = Op::new(own, remove(&refused, item, &[item])?)?;
-    assert!(rt; matches!(op.try_clone(), Err(OpFault::Memory)));
-    let granted = Refusing::new(rt.alloc(), 2);
-    let op = Op::new(own, remove(&granted, item, &[item])?)?;
-    assert!(rt; op.try_clone()? == op);
+    for at in 0..3 {
+        let memory = Refusing::new(rt.alloc(), at);
+        let wanted = if at < 2 {
+            Err(OpFault::Memory)
+        } else {
+            Ok(true)
+        };
+        assert_eq!(rt;
+            copies_a_list_of_an_operation(&memory, own, item),
+            wanted,
+            "at {at}"
+        );
+    }
     Ok(())
 }
 

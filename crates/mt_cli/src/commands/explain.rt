@@ -1,0 +1,86 @@
+//! `radio explain`.
+
+use crate::fault::CliFault;
+use crate::refusals::{
+    OF_FILES_AND_PARTS, OF_LOGS, OF_OPERATIONS, OF_WAVES, Refusal, find_refusal,
+};
+use crate::stop::Stop;
+use clap::error::ErrorKind;
+use clap::{Arg, ArgMatches, Command, value_parser};
+use mt_opcodec::Latch;
+use std::alloc::{AllocError, Global};
+use std::io::Write;
+
+pub(crate) fn words<'a>(alloc: Global) -> Result<Command<'a>, AllocError> {
+    let number = Arg::new(alloc, "N").value_parser(value_parser!(u8)).help(
+        "The number of a refusal, as `radio: fault N` tells it; with none, all refusals",
+    );
+    Command::new(alloc, "explain")
+        .bin_name("radio explain")?
+        .about("Prints what a refusal means, and what can be done about it")
+        .after_help(
+            "Example: radio explain 45\n\nExit status: 0 done, 1 refused (`radio explain` tells why), 2 the command line does not parse.",
+        )
+        .arg(number)
+}
+
+pub(crate) fn run<W: Write>(
+    alloc: Global,
+    words: &ArgMatches<'_>,
+    output: &mut Latch<W>,
+) -> Result<(), Stop> {
+    let Some(number) = words.get_one::<u8>("N") else {
+        return Ok(put_all(output)?);
+    };
+    match find_refusal(number) {
+        Some(found) => Ok(put_whole(found, output)?),
+        None => Err(unknown(alloc, number)?),
+    }
+}
+
+// What is told of a number that is no refusal.
+fn unknown(alloc: Global, number: u8) -> Result<Stop, AllocError> {
+    let text = format!(in alloc; "no refusal has the number {number}")?;
+    let error = words(alloc)?.error(ErrorKind::ValueValidation, text.as_str())?;
+    Ok(Stop::told(alloc, error))
+}
+
+// Writes all refusals, a line each.
+fn put_all<W: Write>(output: &mut Latch<W>) -> Result<(), CliFault> {
+    for table in [
+        OF_OPERATIONS.as_slice(),
+        OF_LOGS.as_slice(),
+        OF_WAVES.as_slice(),
+        OF_FILES_AND_PARTS.as_slice(),
+    ] {
+        for one in table {
+            put_line(one, output)?;
+        }
+    }
+    Ok(())
+}
+
+// Writes a refusal's line, and what can be done about it.
+fn put_whole<W: Write>(refusal: &Refusal, output: &mut Latch<W>) -> Result<(), CliFault> {
+    put_line(refusal, output)?;
+    put(refusal.advice, output)?;
+    put("\n", output)
+}
+
+// Writes a refusal's number, name and meaning.
+fn put_line<W: Write>(refusal: &Refusal, output: &mut Latch<W>) -> Result<(), CliFault> {
+    let mut digits = itoa::Buffer::new();
+    put(digits.format(refusal.number), output)?;
+    put(" ", output)?;
+    put(refusal.name, output)?;
+    put(": ", output)?;
+    put(refusal.meaning, output)?;
+    put("\n", output)
+}
+
+fn put<W: Write>(text: &str, output: &mut Latch<W>) -> Result<(), CliFault> {
+    match output.put(text.as_bytes()) {
+        Ok(()) => Ok(()),
+        Err(_) => Err(CliFault::Write),
+    }
+}

@@ -1,0 +1,34 @@
+//! `radio merge`.
+
+use crate::commands::logs;
+use crate::files::open_all;
+use crate::merge::merge_logs;
+use crate::part::Part;
+use crate::stop::Stop;
+use clap::{Arg, ArgMatches, Command};
+use std::alloc::{AllocError, Global};
+use std::rt::Files;
+
+pub(crate) fn words<'a>(alloc: Global) -> Result<Command<'a>, AllocError> {
+    let out = Arg::new(alloc, "OUT")
+        .required(true)
+        .help("The log to write");
+    Command::new(alloc, "merge")
+        .about("Writes the union of the logs as one log")
+        .after_help(
+            "Example: radio merge both.log desk.log home.log\n\nExit status: 0 done, 1 refused (`radio explain` tells why), 2 the command line does not parse.",
+        )
+        .arg(out)?
+        .arg(logs(
+            alloc,
+            "Logs, joined from left to right; with none, the log of no operation",
+        ))
+}
+
+pub(crate) fn run<F: Files + AllocGlobal>(rt: &F, words: &ArgMatches<'_>) -> Result<(), Stop> {
+    let out = words.get_str("OUT").unwrap_or("");
+    let mut inputs = open_all(rt, words.get_strs("LOG").unwrap_or(&[]))?;
+    let mut part = Part::create(rt.alloc(), rt, out)?;
+    let merged = merge_logs(rt.alloc(), &mut inputs, part.output());
+    Ok(part.finish(rt, out, merged)?)
+}

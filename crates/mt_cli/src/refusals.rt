@@ -1,0 +1,233 @@
+//! The refusals, each with its number: what `radio explain` prints.
+
+/// A refusal.
+#[derive(Debug, Drop)]
+pub struct Refusal {
+    /// The number that `radio: fault N` tells.
+    pub number: u8,
+    /// The name that it has in the fault types.
+    pub name: &'static str,
+    /// When it comes.
+    pub meaning: &'static str,
+    /// What a user can do about it.
+    pub advice: &'static str,
+}
+
+const FROM_A_PROGRAM: &str =
+    "No file causes it alone: a program that makes operations by the library has to mend its call.";
+
+const DAMAGED_LOG: &str =
+    "The file was damaged or made by another program: take the copy of another editor, or an older one.";
+
+/// The refusals of stamps, operations and their bytes.
+pub const OF_OPERATIONS: [Refusal; 11] = [
+    Refusal {
+        number: 0,
+        name: "Memory",
+        meaning: "memory ran out",
+        advice: "Close other programs, or give it fewer or smaller files.",
+    },
+    Refusal {
+        number: 1,
+        name: "ZeroClock",
+        meaning: "a stamp's clock is 0",
+        advice: FROM_A_PROGRAM,
+    },
+    Refusal {
+        number: 2,
+        name: "ZeroSeq",
+        meaning: "a stamp's number is 0",
+        advice: FROM_A_PROGRAM,
+    },
+    Refusal {
+        number: 3,
+        name: "TooGreat",
+        meaning: "a stamp's clock or number is above 2^62",
+        advice: FROM_A_PROGRAM,
+    },
+    Refusal {
+        number: 4,
+        name: "BadText",
+        meaning: "a text is no stamp, or no replica",
+        advice: "Write a replica as a UUID, and a stamp as clock.number.replica as `radio view` prints it.",
+    },
+    Refusal {
+        number: 5,
+        name: "NameNotOlder",
+        meaning: "an operation names a stamp whose clock is not smaller than its own",
+        advice: FROM_A_PROGRAM,
+    },
+    Refusal {
+        number: 6,
+        name: "ZeroLength",
+        meaning: "a clip would have no frame",
+        advice: "Give the clip a length of at least 1 frame.",
+    },
+    Refusal {
+        number: 7,
+        name: "BadTags",
+        meaning: "the tags of a Remove are none, over 65,535, or not rising",
+        advice: FROM_A_PROGRAM,
+    },
+    Refusal {
+        number: 8,
+        name: "Truncated",
+        meaning: "an operation's bytes end before it does",
+        advice: DAMAGED_LOG,
+    },
+    Refusal {
+        number: 9,
+        name: "BadTag",
+        meaning: "an operation is of no known kind",
+        advice: "The log may be of a newer version of radio: use that version.",
+    },
+    Refusal {
+        number: 10,
+        name: "BadField",
+        meaning: "a field of an operation is not allowed",
+        advice: DAMAGED_LOG,
+    },
+];
+
+/// The refusals of logs.
+pub const OF_LOGS: [Refusal; 7] = [
+    Refusal {
+        number: 11,
+        name: "BadMagic",
+        meaning: "a file is no log: it does not begin with RMTS",
+        advice: "See that each LOG is a log that radio wrote, and no recording or script.",
+    },
+    Refusal {
+        number: 12,
+        name: "BadVersion",
+        meaning: "a log is of another version",
+        advice: "Use the version of radio that wrote it, or a newer one.",
+    },
+    Refusal {
+        number: 13,
+        name: "Damaged",
+        meaning: "a log was cut short or changed: its digest does not agree",
+        advice: DAMAGED_LOG,
+    },
+    Refusal {
+        number: 14,
+        name: "BadRecord",
+        meaning: "a record of a log is no operation",
+        advice: "The log may be of a newer version of radio: use that version. Else take another editor's copy.",
+    },
+    Refusal {
+        number: 15,
+        name: "OutOfOrder",
+        meaning: "the operations of a log are not in their order",
+        advice: DAMAGED_LOG,
+    },
+    Refusal {
+        number: 16,
+        name: "Trailing",
+        meaning: "bytes stand behind the last operation of a log",
+        advice: DAMAGED_LOG,
+    },
+    Refusal {
+        number: 17,
+        name: "Conflict, Merge",
+        meaning: "two different operations have one name",
+        advice: "Two editors used one replica, or one was set back to an older copy: keep one of the two logs, and make the other's edits again under a replica of its own.",
+    },
+];
+
+/// The refusals of wave files.
+pub const OF_WAVES: [Refusal; 7] = [
+    Refusal {
+        number: 26,
+        name: "NotRiff",
+        meaning: "a file is no RIFF file",
+        advice: "See that each recording is a WAVE file; RF64, RIFX, FLAC and MP3 are not read (`file NAME` and `ffprobe NAME` tell).",
+    },
+    Refusal {
+        number: 27,
+        name: "NotWave",
+        meaning: "a RIFF file is no WAVE, or its size is 0, as an unfinished recording has it",
+        advice: "Finish or repair the recording (`sox --ignore-length IN OUT` writes the sizes anew).",
+    },
+    Refusal {
+        number: 28,
+        name: "Truncated",
+        meaning: "a chunk of a wave file is longer than the file",
+        advice: "The copy was cut short or the recording not finished: copy it again, or repair it (`sox --ignore-length IN OUT`).",
+    },
+    Refusal {
+        number: 29,
+        name: "NoFmt",
+        meaning: "a wave file has no `fmt ` chunk",
+        advice: "The file is damaged: take the recording from its source again.",
+    },
+    Refusal {
+        number: 30,
+        name: "BadFmt",
+        meaning: "the `fmt ` chunk of a wave file is short, or contradicts itself",
+        advice: "Write the recording anew (`sox IN OUT`, `ffmpeg -i IN OUT`).",
+    },
+    Refusal {
+        number: 31,
+        name: "Unsupported",
+        meaning: "a wave file is no PCM of 8, 16, 24 or 32 bits",
+        advice: "Convert it: `sox IN -e signed-integer -b 24 OUT` (`mediainfo NAME` shows its format).",
+    },
+    Refusal {
+        number: 32,
+        name: "NoData",
+        meaning: "a wave file has no `data` chunk",
+        advice: "The recording holds no sound: take it from its source again.",
+    },
+];
+
+/// The refusals of reading and writing, and of the parts of operations.
+pub const OF_FILES_AND_PARTS: [Refusal; 5] = [
+    Refusal {
+        number: 37,
+        name: "Write",
+        meaning: "the output failed, or cannot be made or get its name; or there is an OUT.part already",
+        advice: "See that there is room and that the folder may be written. An OUT.part that no program is writing any more may be deleted.",
+    },
+    Refusal {
+        number: 43,
+        name: "BadTitle",
+        meaning: "a title has over 255 bytes, or a control character",
+        advice: "Shorten the title, and leave out line ends and tabs.",
+    },
+    Refusal {
+        number: 44,
+        name: "BadGain",
+        meaning: "the divisor of a gain is 0",
+        advice: "Write a gain as NUM/DEN with DEN from 1 to 65535.",
+    },
+    Refusal {
+        number: 45,
+        name: "Read",
+        meaning: "an input cannot be opened, or reading it failed",
+        advice: "See that each named file is there, is no folder, and may be read.",
+    },
+    Refusal {
+        number: 50,
+        name: "BadDigest",
+        meaning: "a text is no digest",
+        advice: "Write a digest as the 64 hex digits that `radio info` prints.",
+    },
+];
+
+/// The refusal of this number.
+pub fn find_refusal(number: u8) -> Option<&'static Refusal> {
+    for table in [
+        OF_OPERATIONS.as_slice(),
+        OF_LOGS.as_slice(),
+        OF_WAVES.as_slice(),
+        OF_FILES_AND_PARTS.as_slice(),
+    ] {
+        for one in table {
+            if one.number == number {
+                return Some(one);
+            }
+        }
+    }
+    None
+}

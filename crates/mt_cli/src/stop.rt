@@ -1,0 +1,42 @@
+//! What stops a command.
+
+use crate::fault::CliFault;
+use clap::error::ErrorKind;
+use std::alloc::{AllocError, Global};
+
+/// What stops a command.
+#[derive(Debug, Drop)]
+pub(crate) enum Stop {
+    /// It was refused: the number of the refusal.
+    Refused(u8),
+    /// The command line asks for a text, as help, or does not parse.
+    Told { text: String, is_mistake: bool },
+}
+
+impl Stop {
+    /// What the parser tells in place of a match.
+    pub(crate) fn told(alloc: Global, error: clap::Error) -> Stop {
+        if error.kind() == ErrorKind::OutOfMemory {
+            return Stop::Refused(CliFault::Memory.number());
+        }
+        match error.to_string(alloc) {
+            Ok(text) => Stop::Told {
+                text,
+                is_mistake: error.use_stderr(),
+            },
+            Err(_) => Stop::Refused(CliFault::Memory.number()),
+        }
+    }
+}
+
+impl From<AllocError> for Stop {
+    fn from(_error: AllocError) -> Stop {
+        Stop::Refused(CliFault::Memory.number())
+    }
+}
+
+impl From<CliFault> for Stop {
+    fn from(fault: CliFault) -> Stop {
+        Stop::Refused(fault.number())
+    }
+}

@@ -1,0 +1,36 @@
+"""Cases of `radio explain`. Its numbers and names are also compared with docs/refusals.md (refusals.sh)."""
+from case import case
+from cases_of_command_lines import STATUS
+
+READ = "45 Read: an input cannot be opened, or reading it failed\nSee that each named file is there, is no folder, and may be read.\n"
+case("explain_a_number", ["explain", "45"], stdout=READ)
+case("explain_the_least", ["explain", "0"], stdout="0 Memory: memory ran out\nClose other programs, or give it fewer or smaller files.\n")
+case(
+    "explain_a_wave",
+    ["explain", "31"],
+    stdout="31 Unsupported: a wave file is no PCM of 8, 16, 24 or 32 bits\nConvert it: `sox IN -e signed-integer -b 24 OUT` (`mediainfo NAME` shows its format).\n",
+)
+USAGE = "Usage: radio explain [N]\n\nFor more information, try '--help'.\n"
+for name, number in (("explain_no_refusal", 25), ("explain_past_the_last", 255)):
+    case(name, ["explain", str(number)], status=2, stderr="error: no refusal has the number %d\n\n" % number + USAGE)
+case("explain_256", ["explain", "256"], status=2, stderr="error: invalid value '256' for '[N]': 256 is not in 0..=255\n\nFor more information, try '--help'.\n")
+case("explain_a_word", ["explain", "Read"], status=2, stderr="error: invalid value 'Read' for '[N]': invalid digit found in string\n\nFor more information, try '--help'.\n")
+case("explain_two", ["explain", "1", "2"], status=2, stderr="error: unexpected argument '2' found\n\n" + USAGE)
+case("explain_to_a_full_disk", ["explain"], status=1, stderr="radio: fault 37\n", output="full")
+case(
+    "help_of_explain",
+    ["explain", "--help"],
+    stdout="""Prints what a refusal means, and what can be done about it
+
+Usage: radio explain [N]
+
+Arguments:
+  [N]  The number of a refusal, as `radio: fault N` tells it; with none, all refusals
+
+Options:
+  -h, --help  Print help
+
+Example: radio explain 45
+"""
+    + STATUS,
+)
