@@ -6,7 +6,8 @@ use Rattle.mt_opcodec.specs.Latch.{Latched}
 use Rattle.mt_opcodec.specs.LogValue.{LogMap}
 use Rattle.mt_cli.specs.declared.fault.CliFault.{CliFault}
 use Rattle.mt_cli.specs.declared.fault.CliFault.TheVariants.{Memory}
-use Rattle.mt_cli.specs.Reading.{Gave, GaveLogs, IsCause, HasCause, text_of}
+use Rattle.std.specs.List.{AllByRecursion}
+use Rattle.mt_cli.specs.Reading.{Gave, GaveLogs, AreRead, IsCause, HasCause, text_of}
 
 module _ {R : Type 0} (remaining : R → Option (List ℕ)) where
   pub GaveLogs-more : (latches : List (Latched R)) (logs : List LogMap) (i : ℕ) (latch : Latched R) (m : LogMap) → i < length latches → latch ≡ get_or latches i latch
@@ -18,16 +19,16 @@ module _ {R : Type 0} (remaining : R → Option (List ℕ)) where
   GaveLogs-more (x ∷ latches) (n ∷ logs) (suc i) latch m lt at h gave = (h.0, GaveLogs-more latches logs i latch m (omega arith) at h.1 gave)
 
   pub HasCause-at : (old new : List (Latched R)) (logs : List LogMap) (i start : ℕ) (before after : Latched R) (fault : CliFault) → length new ≡ length old → i < length old → before ≡ get_or old i before → after ≡ get_or new i after
-      → GaveLogs remaining (take i old) logs → drop (suc i) new ≡ drop (suc i) old → IsCause remaining (start + i) before after fault → HasCause remaining start old new fault
-  HasCause-at [] new logs i start before after fault same lt at_old at_new gave later cause = absurd (omega arith)
-  HasCause-at (x ∷ old) [] logs i start before after fault same lt at_old at_new gave later cause = absurd (omega arith)
-  HasCause-at (x ∷ old) (y ∷ new) logs zero start before after fault same lt at_old at_new gave later cause =
+      → GaveLogs remaining (take i old) logs → AreRead remaining (take i new) → drop (suc i) new ≡ drop (suc i) old → IsCause remaining (start + i) before after fault → HasCause remaining start old new fault
+  HasCause-at [] new logs i start before after fault same lt at_old at_new gave read later cause = absurd (omega arith)
+  HasCause-at (x ∷ old) [] logs i start before after fault same lt at_old at_new gave read later cause = absurd (omega arith)
+  HasCause-at (x ∷ old) (y ∷ new) logs zero start before after fault same lt at_old at_new gave read later cause =
       let here : start + 0 ≡ start = omega arith in
       inl ((subst (λ (n : ℕ). IsCause remaining n x y fault) here (subst (λ (l : Latched R). IsCause remaining (start + 0) x l fault) at_new (subst (λ (l : Latched R). IsCause remaining (start + 0) l after fault) at_old cause))), λ _. later)
-  HasCause-at (x ∷ old) (y ∷ new) [] (suc i) start before after fault same lt at_old at_new gave later cause = absurd gave
-  HasCause-at (x ∷ old) (y ∷ new) (m ∷ logs) (suc i) start before after fault same lt at_old at_new gave later cause =
+  HasCause-at (x ∷ old) (y ∷ new) [] (suc i) start before after fault same lt at_old at_new gave read later cause = absurd gave
+  HasCause-at (x ∷ old) (y ∷ new) (m ∷ logs) (suc i) start before after fault same lt at_old at_new gave read later cause =
       let next : start + suc i ≡ (start + 1) + i = omega arith in
-      inr (m, (gave.0, HasCause-at old new logs i (start + 1) before after fault (omega arith) (omega arith) at_old at_new gave.1 later (subst (λ (n : ℕ). IsCause remaining n before after fault) next cause)))
+      inr (m, (gave.0, (read.0, HasCause-at old new logs i (start + 1) before after fault (omega arith) (omega arith) at_old at_new gave.1 read.1 later (subst (λ (n : ℕ). IsCause remaining n before after fault) next cause))))
 
   -- a reader and what is read out of a slice in its place
   pub Gave-same : (raw latch : Latched R) (m : LogMap) → latch ≡ raw → Gave remaining raw (text_of m) → Gave remaining latch (text_of m)
@@ -57,3 +58,9 @@ left_at {X} i xs ys x lt long same at =
     let here : get_or xs i x ≡ get_or (drop i xs) 0 x = sym (get_or-drop i xs 0 x ∙ ap (λ (n : ℕ). get_or xs n x) (plus_zero i)) in
     let there : get_or (drop i ys) 0 x ≡ get_or ys i x = get_or-drop i ys 0 x ∙ ap (λ (n : ℕ). get_or ys n x) (plus_zero i) in
     at ∙ here ∙ ap (λ (l : List X). get_or l 0 x) same ∙ there
+
+-- one more at the front of a list has passed
+pub all_more : {X : Type 0} (P : X → Type 0) (i : ℕ) (xs : List X) (x : X) → i < length xs → AllByRecursion P (take i xs) → P x → AllByRecursion P (take (suc i) (set xs i x))
+all_more P i [] x lt h p = absurd (omega arith)
+all_more P zero (y ∷ xs) x lt h p = (p, tt)
+all_more P (suc i) (y ∷ xs) x lt h p = (h.0, all_more P i xs x (omega arith) h.1 p)

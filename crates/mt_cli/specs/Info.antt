@@ -72,6 +72,4 @@ module _ {W : Type 0} (contents : W → Option (List ℕ)) where
   InfoFails bytes old new Memory = new ≡ old
   InfoFails bytes old new (Source place fault) = (place ≡ 0) × (fault_of bytes ≡ Some fault) × (new ≡ old)
   InfoFails bytes old new Write = IsWave bytes × (new.failed ≡ true) × AppendsFront (contents old.inner) (contents new.inner) (info_text bytes)
-  InfoFails bytes old new (Read place) = ⊥
-  InfoFails bytes old new (Log place fault) = ⊥
-  InfoFails bytes old new (Merge dot) = ⊥
+  InfoFails bytes old new _ = ⊥

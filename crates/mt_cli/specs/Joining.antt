@@ -1,24 +1,25 @@
 -- Why joining logs is refused.
-use Rattle.std.specs.Prelude.{List}
+use Rattle.std.specs.Prelude.{ℕ, List, Option, ◌⊎◌}
+use Rattle.mt_opcodec.specs.Latch.{Latched}
 use Rattle.mt_opcodec.specs.LogValue.{LogMap}
 use Rattle.mt_opcodec.specs.Union.{IsFirstClash, FirstClash}
 use Rattle.mt_cli.specs.declared.fault.CliFault.{CliFault}
 use Rattle.mt_cli.specs.declared.fault.CliFault.TheVariants.{Memory, Read, Log, Merge, Source, Write}
+use Rattle.mt_cli.specs.Reading.{GaveLogs, AreRead, HasCause}
 
 -- memory, or the first dot at which the two logs clash
 abbrev pub JoinFails : LogMap → LogMap → CliFault → Type 0
 JoinFails a b Memory = Unit {0}
 JoinFails a b (Merge dot) = IsFirstClash a b dot
-JoinFails a b (Read place) = ⊥
-JoinFails a b (Source place fault) = ⊥
-JoinFails a b (Log place fault) = ⊥
-JoinFails a b Write = ⊥
+JoinFails a b _ = ⊥
 
 -- memory, or the first dot at which a log clashes with the union of those before it
 abbrev pub AllFail : List LogMap → CliFault → Type 0
 AllFail logs Memory = Unit {0}
 AllFail logs (Merge dot) = FirstClash logs dot
-AllFail logs (Read place) = ⊥
-AllFail logs (Source place fault) = ⊥
-AllFail logs (Log place fault) = ⊥
-AllFail logs Write = ⊥
+AllFail logs _ = ⊥
+
+-- of inputs: the first that gave no log, or all gave logs and are at their ends, and joining these is refused
+abbrev pub UnionFails : {R : Type 0} → (R → Option (List ℕ)) → List (Latched R) → List (Latched R) → CliFault → Type 0
+UnionFails remaining before after fault =
+    HasCause remaining 0 before after fault ⊎ ((logs : List LogMap) × (GaveLogs remaining before logs × (AreRead remaining after × AllFail logs fault)))

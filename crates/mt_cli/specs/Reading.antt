@@ -1,5 +1,7 @@
 -- Reading logs from readers, and why one is refused.
-use Rattle.std.specs.Prelude.{◌≡◌, ◌≢◌, ℕ, true, List, [], ◌∷◌, Option, IfSome, ◌+◌, ◌⊎◌}
+use Rattle.std.specs.Io.KnownBytes.{IsAtEnd}
+use Rattle.std.specs.List.{AllByRecursion}
+use Rattle.std.specs.Prelude.{false, ◌≡◌, ◌≢◌, ℕ, true, List, [], ◌∷◌, Option, IfSome, ◌+◌, ◌⊎◌}
 use Rattle.mt_opcodec.specs.declared.fault.LogFault.TheVariants as log
 use Rattle.mt_opcodec.specs.Latch.{Latched}
 use Rattle.mt_opcodec.specs.LogText.{log_text}
@@ -17,6 +19,10 @@ module _ {R : Type 0} (remaining : R → Option (List ℕ)) where
   abbrev pub Gave : Latched R → List ℕ → Type 0
   Gave latch bytes = IfSome (remaining latch.inner) (λ left. bytes ≡ left)
 
+  -- the reader was read to its end, and has not failed
+  abbrev pub IsRead : Latched R → Type 0
+  IsRead latch = (latch.failed ≡ false) × IsAtEnd (remaining latch.inner)
+
   -- each reader gave the text of the log at its place
   abbrev pub GaveLogs : List (Latched R) → List LogMap → Type 0
   GaveLogs [] [] = Unit {0}
@@ -24,19 +30,21 @@ module _ {R : Type 0} (remaining : R → Option (List ℕ)) where
   GaveLogs (latch ∷ latches) [] = ⊥
   GaveLogs (latch ∷ latches) (m ∷ logs) = Gave latch (text_of m) × GaveLogs latches logs
 
-  -- why the reader at a place gave no log: the latch has failed, or its bytes are no log's text
+  -- each reader was read to its end, and has not failed
+  abbrev pub AreRead : List (Latched R) → Type 0
+  AreRead = AllByRecursion IsRead
+
+  -- why the reader of an index gave no log: the latch has failed, or all its bytes are no log's text
   abbrev pub IsCause : ℕ → Latched R → Latched R → CliFault → Type 0
   IsCause index old new Memory = Unit {0}
   IsCause index old new (Read place) = (place ≡ index) × (new.failed ≡ true)
-  IsCause index old new (Log place fault) = (place ≡ index) × ((fault ≢ log.Memory) × ((bytes : List ℕ) × (Gave old bytes × LogFails fault (log_at bytes))))
-  IsCause index old new (Merge dot) = ⊥
-  IsCause index old new (Source place fault) = ⊥
-  IsCause index old new Write = ⊥
+  IsCause index old new (Log place fault) = (place ≡ index) × ((fault ≢ log.Memory) × (IsRead new × ((bytes : List ℕ) × (Gave old bytes × LogFails fault (log_at bytes)))))
+  IsCause index old new _ = ⊥
 
-  -- The same of the readers from place `index` on: those before the one at fault gave logs, and those behind it were
-  -- not asked, unless memory ran out.
+  -- The same of the readers from an index on: those before the one at fault gave logs and are at their ends, and those
+  -- behind it were not asked, unless memory ran out.
   abbrev pub HasCause : ℕ → List (Latched R) → List (Latched R) → CliFault → Type 0
   HasCause index [] new fault = fault ≡ Memory
   HasCause index (latch ∷ latches) [] fault = ⊥
   HasCause index (latch ∷ latches) (after ∷ afters) fault =
-      (IsCause index latch after fault × (fault ≢ Memory → afters ≡ latches)) ⊎ ((m : LogMap) × (Gave latch (text_of m) × HasCause (index + 1) latches afters fault))
+      (IsCause index latch after fault × (fault ≢ Memory → afters ≡ latches)) ⊎ ((m : LogMap) × (Gave latch (text_of m) × (IsRead after × HasCause (index + 1) latches afters fault)))

@@ -15,16 +15,16 @@ use thiserror::Error;
 pub enum CliFault {
     #[error("out of memory")]
     Memory,
-    /// The input of this place failed, or cannot be opened.
+    /// The input of this index failed, or cannot be opened.
     #[error("input {0} cannot be read")]
     Read(usize),
-    /// The bytes of the input of this place are no log's text.
+    /// The bytes of the input of this index are no log's text.
     #[error("input {0} is no log: {1}")]
     Log(usize, LogFault),
     /// Two logs have different operations under this dot.
     #[error("two operations have one name")]
     Merge(Dot),
-    /// The bytes of the recording of this place are no wave file.
+    /// The bytes of the recording of this index are no wave file.
     #[error("recording {0} is no wave file: {1}")]
     Source(usize, WaveFault),
     /// The output failed, or cannot be made or get its name.

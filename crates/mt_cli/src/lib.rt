@@ -6,7 +6,6 @@ mod commands;
 mod fault;
 mod files;
 mod info;
-mod join;
 mod merge;
 mod part;
 mod program;
@@ -15,6 +14,7 @@ mod refusals;
 mod stop;
 #[cfg(test)]
 mod tests;
+mod union;
 mod view;
 
 pub use fault::CliFault;

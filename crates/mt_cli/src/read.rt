@@ -1,54 +1,56 @@
 //! Reading logs.
 
-ghost use Rattle.std.specs.Prelude.{◌≡◌, ◌≢◌, IfOk, IfErr};
+ghost use Rattle.std.specs.Prelude.{◌≡◌, ◌≢◌, IfOk, IfErr, OnOk};
 ghost use Rattle.mt_opcodec.specs.declared.fault.LogFault.TheVariants as log;
-ghost use Rattle.mt_cli.specs.Reading.{Gave, GaveLogs, IsCause, HasCause, text_of};
+ghost use Rattle.mt_cli.specs.Reading.{Gave, IsRead, AreRead, GaveLogs, IsCause, HasCause, text_of};
 
 use crate::fault::CliFault;
 use mt_opcodec::{Latch, LatchFault, Log, LogFault};
 use std::alloc::Allocator;
 use std::io::Read;
 
-/// Reads the bytes of the input at this place.
+/// Reads the bytes of the input of this index.
 pub(crate) fn read_all<A: Allocator, R: Read>(
     alloc: A,
-    place: usize,
+    index: usize,
     input: &mut Latch<R>,
 ) -> Result<Vec<u8, A>, CliFault>
+    ensures read { OnOk result (IsRead R.remaining input.new) }
     ensures ok { IfOk result (λ bytes. Gave R.remaining input.old bytes.items) }
-    ensures err { IfErr result (IsCause R.remaining place input.old input.new) }
+    ensures err { IfErr result (IsCause R.remaining index input.old input.new) }
 {
     match input.get_all(alloc) {
         Ok(bytes) => Ok(bytes),
         Err(LatchFault::Memory) => Err(CliFault::Memory),
-        Err(_) => Err(CliFault::Read(place)),
+        Err(_) => Err(CliFault::Read(index)),
     }
 }
 
-/// Reads the log of the input at this place.
+/// Reads the log of the input of this index.
 pub(crate) fn read_log<A: Allocator + Clone, R: Read>(
     alloc: A,
-    place: usize,
+    index: usize,
     input: &mut Latch<R>,
 ) -> Result<Log<A>, CliFault>
+    ensures read { OnOk result (IsRead R.remaining input.new) }
     ensures ok { IfOk result (λ log. Gave R.remaining input.old (text_of log)) }
-    ensures err { IfErr result (IsCause R.remaining place input.old input.new) }
+    ensures err { IfErr result (IsCause R.remaining index input.old input.new) }
 {
-    let bytes = read_all(alloc.clone()?, place, input)?;
+    let bytes = read_all(alloc.clone()?, index, input)?;
     match Log::read(alloc, &bytes) {
         Ok(log) => Ok(log),
-        Err(fault) => Err(refused(place, fault)),
+        Err(fault) => Err(refused(index, fault)),
     }
 }
 
-// The refusal of the input at this place.
-fn refused(place: usize, fault: LogFault) -> CliFault
+// The refusal of the input of this index.
+fn refused(index: usize, fault: LogFault) -> CliFault
     ensures memory { fault ≡ log.Memory → result ≡ CliFault.Memory }
-    ensures other { fault ≢ log.Memory → result ≡ CliFault.Log place fault }
+    ensures other { fault ≢ log.Memory → result ≡ CliFault.Log index fault }
 {
     match fault {
         LogFault::Memory => CliFault::Memory,
-        _ => CliFault::Log(place, fault),
+        _ => CliFault::Log(index, fault),
     }
 }
 
@@ -57,6 +59,7 @@ pub(crate) fn read_logs<A: Allocator + Clone, R: Read>(
     alloc: A,
     inputs: &mut [Latch<R>],
 ) -> Result<Vec<Log<A>, A>, CliFault>
+    ensures read { OnOk result (AreRead R.remaining inputs.new) }
     ensures ok { IfOk result (λ logs. GaveLogs R.remaining inputs.old logs.items) }
     ensures err { IfErr result (HasCause R.remaining 0 inputs.old inputs.new) }
 {

@@ -4,13 +4,13 @@ ghost use Rattle.std.specs.Prelude.{◌≡◌, IfErr, OnOk, List};
 ghost use Rattle.std.specs.Io.KnownBytes.{Appends};
 ghost use Rattle.mt_opcodec.specs.LogValue.{LogMap};
 ghost use Rattle.mt_opcodec.specs.Union.{AllAgree};
-ghost use Rattle.mt_cli.specs.Reading.{text_of, Gave, GaveLogs};
+ghost use Rattle.mt_cli.specs.Reading.{text_of, Gave, GaveLogs, IsRead, AreRead};
 ghost use Rattle.mt_cli.specs.Viewing.{log_view, view_text};
-ghost use Rattle.mt_cli.specs.Writing.{WriteFails, WriteUnionFails, InputsFail, InputFails};
+ghost use Rattle.mt_cli.specs.Writing.{WriteFails, InputsFail, InputFails};
 
 use crate::fault::CliFault;
-use crate::join::join_all;
-use crate::read::{read_log, read_logs};
+use crate::read::read_log;
+use crate::union::union_of;
 use mt_opcodec::{Latch, Log};
 use mt_sessionview::{SessionFault, from_scratch, write_text};
 use std::alloc::Allocator;
@@ -35,38 +35,24 @@ fn show<A: Allocator + Clone, W: Write>(
     }
 }
 
-// Writes the text of the session of the union of the logs.
-fn show_all<A: Allocator + Clone, W: Write>(
-    alloc: A,
-    logs: Vec<Log<A>, A>,
-    output: &mut Latch<W>,
-) -> Result<(), CliFault>
-    ensures ok { OnOk result (AllAgree logs.items × Appends (W.contents output.old.inner) (W.contents output.new.inner) (view_text logs.items)) }
-    ensures err { IfErr result (WriteUnionFails log_view W.contents logs.items output.old output.new) }
-{
-    match join_all(alloc.clone()?, logs) {
-        Ok(all) => show(alloc, &all, output),
-        Err(fault) => Err(fault),
-    }
-}
-
 /// Writes the text of the session of the union of the inputs' logs, and nothing else.
 ///
-/// Refused, in this order: `Read` with the place of an input whose latch has failed, or `Log` with the place of
+/// Refused, in this order: `Read` with the index of an input whose latch has failed, or `Log` with the index of
 /// one whose bytes are no log's text, from left to right; `Merge` where a log has another operation under a dot than
-/// the logs before it, with the least such dot of the first such log; `Write` where the output's latch has failed, which then holds a front of the
+/// the logs before it, with the least such dot of the first such log; `Write` where the output's latch has failed, which then holds a prefix of the
 /// text. Nothing is written before every log has been read and accepted. `Memory` where a growth was refused, and
-/// nothing was written then.
+/// nothing was written then. Each input is read to its end, but for those behind one at fault, which are not asked.
 pub fn view_logs<A: Allocator + Clone, R: Read, W: Write>(
     alloc: A,
     inputs: &mut [Latch<R>],
     output: &mut Latch<W>,
 ) -> Result<(), CliFault>
     ensures ok { OnOk result ((logs : List LogMap) × (GaveLogs R.remaining inputs.old logs × AllAgree logs × Appends (W.contents output.old.inner) (W.contents output.new.inner) (view_text logs))) }
+    ensures read { OnOk result (AreRead R.remaining inputs.new) }
     ensures err { IfErr result (InputsFail log_view W.contents R.remaining inputs.old inputs.new output.old output.new) }
 {
-    match read_logs(alloc.clone()?, inputs) {
-        Ok(logs) => show_all(alloc, logs, output),
+    match union_of(alloc.clone()?, inputs) {
+        Ok(all) => show(alloc, &all, output),
         Err(fault) => Err(fault),
     }
 }
@@ -78,6 +64,7 @@ pub fn view_log<A: Allocator + Clone, R: Read, W: Write>(
     output: &mut Latch<W>,
 ) -> Result<(), CliFault>
     ensures ok { OnOk result ((log : LogMap) × (Gave R.remaining input.old (text_of log) × Appends (W.contents output.old.inner) (W.contents output.new.inner) (log_view log))) }
+    ensures read { OnOk result (IsRead R.remaining input.new) }
     ensures err { IfErr result (InputFails log_view W.contents R.remaining input.old input.new output.old output.new) }
 {
     match read_log(alloc.clone()?, 0, input) {

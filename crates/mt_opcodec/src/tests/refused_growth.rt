@@ -5,84 +5,87 @@ use crate::{Log, LogFault, ReadFault, read_op, write_op};
 use mt_op::{Op, OpFault};
 use mt_stamp::Stamp;
 use mt_testalloc::Refusing;
-use std::alloc::Allocator;
+use std::alloc::{Allocator, Global};
 use std::test::Fail;
 
 /// How many operations the logs have: enough that the vector of them grows more than once.
 const MANY: u64 = 10;
 
+// Whether an operation is written behind other bytes as this text; None where it is refused, and those bytes are as they were.
+fn is_written<M: Allocator + Clone, N: Allocator>(
+    memory: M,
+    op: &Op<N>,
+    text: &[u8],
+) -> Result<Option<bool>, Fail> {
+    let mut out = b"before".to_vec(memory)?;
+    match write_op(op, &mut out) {
+        Ok(()) => Ok(Some(out.strip_prefix(b"before") == Some(text))),
+        Err(_) if out.as_slice() == b"before".as_slice() => Ok(None),
+        Err(_) => Ok(Some(false)),
+    }
+}
+
+// Writes an operation with each growth refused in turn but for the first, of the bytes before it, and gives how many were.
+fn refusals_of_writing<N: Allocator>(alloc: Global, op: &Op<N>, text: &[u8]) -> Result<u64, Fail> {
+    for at in 1..50 {
+        let memory = Refusing::new(alloc, at);
+        match is_written(&memory, op, text)? {
+            Some(true) if !memory.has_refused() => return Ok(at - 1),
+            None if memory.has_refused() => {}
+            _ => return Err(Fail::from("other bytes were written")),
+        }
+    }
+    Err(Fail::from("each run met a refusal"))
+}
+
 #[test]
 fn of_a_written_operation(rt: HostRuntime) -> Result<(), Fail> {
     let op = marker(rt.alloc(), Stamp::new(1, A, 1)?, "News")?;
-    for at in 1..50 {
-        let memory = Refusing::new(rt.alloc(), at);
-        let mut out = b"before".to_vec(&memory)?;
-        let written = write_op(&op, &mut out);
-        assert_eq!(rt; written.is_err(), memory.has_refused(), "at {at}");
-        if !memory.has_refused() {
-            let text = out
-                .strip_prefix(b"before")
-                .ok_or("what stood there is gone")?;
-            assert_eq!(rt; text, NEWS.as_slice());
-            assert!(rt; at > 2, "several growths were refused");
-            return Ok(());
+    assert!(rt;
+        refusals_of_writing(rt.alloc(), &op, &NEWS)? > 1,
+        "several growths were refused"
+    );
+    Ok(())
+}
+
+#[test]
+fn of_a_written_track(rt: HostRuntime) -> Result<(), Fail> {
+    let (op, _) = read_op(rt.alloc(), &ADD_TRACK)?;
+    assert!(rt;
+        refusals_of_writing(rt.alloc(), &op, &ADD_TRACK)? > 1,
+        "several growths were refused"
+    );
+    Ok(())
+}
+
+fn read_len<M: Allocator + Clone>(memory: M, bytes: &[u8]) -> Result<usize, ReadFault> {
+    Ok(read_op(memory, bytes)?.1)
+}
+
+// Reads an operation with each growth refused in turn, and gives how many were.
+fn refusals_of_reading(alloc: Global, bytes: &[u8]) -> Result<u64, Fail> {
+    for at in 0..50 {
+        let memory = Refusing::new(alloc, at);
+        match read_len(&memory, bytes) {
+            Ok(len) if len == bytes.len() && !memory.has_refused() => return Ok(at),
+            Err(ReadFault::Memory) if memory.has_refused() => {}
+            _ => return Err(Fail::from("another length or refusal")),
         }
-        assert_eq!(rt; out.as_slice(), b"before".as_slice(), "at {at}");
     }
     Err(Fail::from("each run met a refusal"))
 }
 
 #[test]
 fn of_an_operation_that_is_read(rt: HostRuntime) -> Result<(), Fail> {
-    for at in 0..50 {
-        let memory = Refusing::new(rt.alloc(), at);
-        let read = read_op(&memory, &NEWS);
-        assert_eq!(rt; read.is_err(), memory.has_refused(), "at {at}");
-        if !memory.has_refused() {
-            assert_eq!(rt; read?.1, 42);
-            assert!(rt; at > 0, "the title was refused memory");
-            return Ok(());
-        }
-        assert_eq!(rt; read.err(), Some(ReadFault::Memory), "at {at}");
-    }
-    Err(Fail::from("each run met a refusal"))
-}
-
-#[test]
-fn of_a_track_that_is_read(rt: HostRuntime) -> Result<(), Fail> {
-    for at in 0..50 {
-        let memory = Refusing::new(rt.alloc(), at);
-        let read = read_op(&memory, &ADD_TRACK);
-        assert_eq!(rt; read.is_err(), memory.has_refused(), "at {at}");
-        if !memory.has_refused() {
-            assert_eq!(rt; read?.1, ADD_TRACK.len());
-            assert!(rt; at > 0, "the title was refused memory");
-            return Ok(());
-        }
-        assert_eq!(rt; read.err(), Some(ReadFault::Memory), "at {at}");
-    }
-    Err(Fail::from("each run met a refusal"))
-}
-
-#[test]
-fn of_a_written_track(rt: HostRuntime) -> Result<(), Fail> {
-    let (op, _) = read_op(rt.alloc(), &ADD_TRACK)?;
-    for at in 1..50 {
-        let memory = Refusing::new(rt.alloc(), at);
-        let mut out = b"before".to_vec(&memory)?;
-        let written = write_op(&op, &mut out);
-        assert_eq!(rt; written.is_err(), memory.has_refused(), "at {at}");
-        if !memory.has_refused() {
-            let text = out
-                .strip_prefix(b"before")
-                .ok_or("what stood there is gone")?;
-            assert_eq!(rt; text, ADD_TRACK.as_slice());
-            assert!(rt; at > 2, "several growths were refused");
-            return Ok(());
-        }
-        assert_eq!(rt; out.as_slice(), b"before".as_slice(), "at {at}");
-    }
-    Err(Fail::from("each run met a refusal"))
+    assert!(rt;
+        refusals_of_reading(rt.alloc(), &NEWS)? > 0,
+        "the title was refused memory"
+    );
+    assert!(rt;
+        refusals_of_reading(rt.alloc(), &ADD_TRACK)? > 0,
+        "the title was refused memory"
+    );
+    Ok(())
 }
 
 /// A Remove of ten tags.
@@ -98,21 +101,13 @@ fn removal_of_ten<M: Allocator>(memory: M) -> Result<Op<M>, Fail> {
 #[test]
 fn of_a_written_removal(rt: HostRuntime) -> Result<(), Fail> {
     let op = removal_of_ten(rt.alloc())?;
-    let mut text = b"before".to_vec(rt.alloc())?;
+    let mut text = Vec::new(rt.alloc());
     write_op(&op, &mut text)?;
-    for at in 1..50 {
-        let memory = Refusing::new(rt.alloc(), at);
-        let mut out = b"before".to_vec(&memory)?;
-        let written = write_op(&op, &mut out);
-        assert_eq!(rt; written.is_err(), memory.has_refused(), "at {at}");
-        if !memory.has_refused() {
-            assert_eq!(rt; out.as_slice(), text.as_slice());
-            assert!(rt; at > 3, "several growths were refused");
-            return Ok(());
-        }
-        assert_eq!(rt; out.as_slice(), b"before".as_slice(), "at {at}");
-    }
-    Err(Fail::from("each run met a refusal"))
+    assert!(rt;
+        refusals_of_writing(rt.alloc(), &op, &text)? > 2,
+        "several growths were refused"
+    );
+    Ok(())
 }
 
 #[test]
@@ -120,18 +115,12 @@ fn of_a_removal_that_is_read(rt: HostRuntime) -> Result<(), Fail> {
     let op = removal_of_ten(rt.alloc())?;
     let mut text = Vec::new(rt.alloc());
     write_op(&op, &mut text)?;
-    for at in 0..50 {
-        let memory = Refusing::new(rt.alloc(), at);
-        let read = read_op(&memory, text.as_slice());
-        assert_eq!(rt; read.is_err(), memory.has_refused(), "at {at}");
-        if !memory.has_refused() {
-            assert_eq!(rt; read?.1, 387);
-            assert!(rt; at > 2, "each growth of the tags was refused memory");
-            return Ok(());
-        }
-        assert_eq!(rt; read.err(), Some(ReadFault::Memory), "at {at}");
-    }
-    Err(Fail::from("each run met a refusal"))
+    assert_eq!(rt; text.len(), 387);
+    assert!(rt;
+        refusals_of_reading(rt.alloc(), &text)? > 2,
+        "each growth of the tags was refused memory"
+    );
+    Ok(())
 }
 
 /// A marker with this number. `Trailing` stands for what no marker here is refused as.
@@ -152,45 +141,56 @@ fn fill<M: Allocator + Copy>(log: &mut Log<M>, memory: M) -> Result<(), LogFault
     Ok(())
 }
 
+// How many operations a log has once it was filled, and, where that was refused, once it was filled again.
+fn filled_twice<M: Allocator + Copy>(
+    memory: M,
+) -> Result<(Result<(), LogFault>, usize, usize), LogFault> {
+    let mut log = Log::new(memory);
+    let filled = fill(&mut log, memory);
+    let before = log.len();
+    if filled.is_err() {
+        fill(&mut log, memory)?;
+    }
+    Ok((filled, before, log.len()))
+}
+
 #[test]
 fn of_a_log_that_grows(rt: HostRuntime) -> Result<(), Fail> {
     for at in 0..50 {
         let memory = Refusing::new(rt.alloc(), at);
-        let mut log = Log::new(&memory);
-        let filled = fill(&mut log, &memory);
-        assert_eq!(rt; filled.is_err(), memory.has_refused(), "at {at}");
-        if !memory.has_refused() {
-            assert_eq!(rt; log.len(), 10);
+        let (filled, before, after) = filled_twice(&memory)?;
+        assert_eq!(rt; after, 10, "after the refusal at {at}");
+        if filled.is_ok() {
+            assert_eq!(rt; before, 10);
             assert!(rt; at > 11, "titles and the log were refused memory");
             return Ok(());
         }
         assert_eq!(rt; filled, Err(LogFault::Memory), "at {at}");
-        assert!(rt; log.len() < 10, "at {at}");
-        fill(&mut log, &memory)?;
-        assert_eq!(rt; log.len(), 10, "after the refusal at {at}");
+        assert!(rt; before < 10 && memory.has_refused(), "at {at}");
     }
     Err(Fail::from("each run met a refusal"))
 }
 
+// Whether a log that was filled is written as this text.
+fn is_written_log<M: Allocator + Copy>(memory: M, text: &[u8]) -> Result<bool, LogFault> {
+    let mut log = Log::new(memory);
+    fill(&mut log, memory)?;
+    Ok(log.write()?.as_slice() == text)
+}
+
 #[test]
 fn of_a_written_log(rt: HostRuntime) -> Result<(), Fail> {
-    let ample = Refusing::new(rt.alloc(), u64::MAX);
-    let mut log = Log::new(&ample);
-    fill(&mut log, &ample)?;
-    let before = ample.allocations();
-    let wanted = log.write()?;
+    let text = text_of_many(rt.alloc())?;
     for at in 0..50 {
-        let memory = Refusing::new(rt.alloc(), before.saturating_add(at));
-        let mut log = Log::new(&memory);
-        fill(&mut log, &memory)?;
-        let text = log.write();
-        assert_eq!(rt; text.is_err(), memory.has_refused(), "at {at}");
+        let memory = Refusing::new(rt.alloc(), at);
+        let written = is_written_log(&memory, &text);
+        assert_eq!(rt; written.is_err(), memory.has_refused(), "at {at}");
         if !memory.has_refused() {
-            assert_eq!(rt; text?.as_slice(), wanted.as_slice());
-            assert!(rt; at > 1, "several growths were refused");
+            assert_eq!(rt; written, Ok(true));
+            assert!(rt; at > 13, "titles, the log and its text were refused memory");
             return Ok(());
         }
-        assert_eq!(rt; text.err(), Some(LogFault::Memory), "at {at}");
+        assert_eq!(rt; written, Err(LogFault::Memory), "at {at}");
     }
     Err(Fail::from("each run met a refusal"))
 }
@@ -204,63 +204,73 @@ fn two_logs<M: Allocator + Copy>(memory: M) -> Result<(Log<M>, Log<M>), LogFault
     Ok((many, one))
 }
 
+fn merged_len<M: Allocator + Copy>(memory: M) -> Result<usize, LogFault> {
+    let (many, one) = two_logs(memory)?;
+    Ok(Log::merge(memory, &many, &one)?.len())
+}
+
 #[test]
 fn of_merged_logs(rt: HostRuntime) -> Result<(), Fail> {
-    let ample = Refusing::new(rt.alloc(), u64::MAX);
-    let _logs = two_logs(&ample)?;
-    let before = ample.allocations();
-    for at in 0..50 {
-        let memory = Refusing::new(rt.alloc(), before.saturating_add(at));
-        let (many, one) = two_logs(&memory)?;
-        let merged = Log::merge(&memory, &many, &one);
+    for at in 0..100 {
+        let memory = Refusing::new(rt.alloc(), at);
+        let merged = merged_len(&memory);
         assert_eq!(rt; merged.is_err(), memory.has_refused(), "at {at}");
         if !memory.has_refused() {
-            assert_eq!(rt; merged?.len(), 11);
-            assert!(rt; at > 12, "titles and the log were refused memory");
+            assert_eq!(rt; merged, Ok(11));
+            assert!(rt; at > 25, "titles and the logs were refused memory");
             return Ok(());
         }
-        assert_eq!(rt; merged.err(), Some(LogFault::Memory), "at {at}");
+        assert_eq!(rt; merged, Err(LogFault::Memory), "at {at}");
     }
     Err(Fail::from("each run met a refusal"))
+}
+
+// Whether the copy of a log that was filled is that log.
+fn copies_a_log<M: Allocator + Copy>(memory: M) -> Result<bool, LogFault> {
+    let mut log = Log::new(memory);
+    fill(&mut log, memory)?;
+    Ok(log.try_clone()? == log)
 }
 
 #[test]
 fn of_a_copied_log(rt: HostRuntime) -> Result<(), Fail> {
-    let ample = Refusing::new(rt.alloc(), u64::MAX);
-    let mut log = Log::new(&ample);
-    fill(&mut log, &ample)?;
-    let before = ample.allocations();
-    for at in 0..50 {
-        let memory = Refusing::new(rt.alloc(), before.saturating_add(at));
-        let mut log = Log::new(&memory);
-        fill(&mut log, &memory)?;
-        let copy = log.try_clone();
-        assert_eq!(rt; copy.is_err(), memory.has_refused(), "at {at}");
+    for at in 0..100 {
+        let memory = Refusing::new(rt.alloc(), at);
+        let copied = copies_a_log(&memory);
+        assert_eq!(rt; copied.is_err(), memory.has_refused(), "at {at}");
         if !memory.has_refused() {
-            assert!(rt; copy? == log);
-            assert!(rt; at > 11, "titles and the log were refused memory");
+            assert_eq!(rt; copied, Ok(true));
+            assert!(rt; at > 23, "titles and the logs were refused memory");
             return Ok(());
         }
-        assert_eq!(rt; copy.err(), Some(LogFault::Memory), "at {at}");
+        assert_eq!(rt; copied, Err(LogFault::Memory), "at {at}");
     }
     Err(Fail::from("each run met a refusal"))
 }
 
+fn text_of_many<M: Allocator + Copy>(memory: M) -> Result<Vec<u8, M>, LogFault> {
+    let mut log = Log::new(memory);
+    fill(&mut log, memory)?;
+    log.write()
+}
+
+fn count_of<M: Allocator + Clone>(memory: M, text: &[u8]) -> Result<usize, LogFault> {
+    Ok(Log::read(memory, text)?.len())
+}
+
 #[test]
 fn of_a_log_that_is_read(rt: HostRuntime) -> Result<(), Fail> {
-    let mut log = Log::new(rt.alloc());
-    fill(&mut log, rt.alloc())?;
-    let text = log.write()?;
+    let text = text_of_many(rt.alloc())?;
     for at in 0..50 {
         let memory = Refusing::new(rt.alloc(), at);
-        let read = Log::read(&memory, text.as_slice());
+        let read = count_of(&memory, &text);
         assert_eq!(rt; read.is_err(), memory.has_refused(), "at {at}");
         if !memory.has_refused() {
-            assert_eq!(rt; read?.len(), 10);
+            assert_eq!(rt; read, Ok(10));
             assert!(rt; at > 11, "titles and the log were refused memory");
             return Ok(());
         }
-        assert_eq!(rt; read.err(), Some(LogFault::Memory), "at {at}");
+        assert_eq!(rt; read, Err(LogFault::Memory), "at {at}");
     }
     Err(Fail::from("each run met a refusal"))
 }

@@ -159,13 +159,11 @@ fn writes_and_reads_acts_on_clips(rt: HostRuntime) -> Result<(), Fail> {
         offset: 256,
         len: 1,
     };
-    for (stamp, body, text) in [
-        (clip, added, ADD_CLIP.as_slice()),
-        (Stamp::new(9, B, 4)?, moved, MOVE_CLIP.as_slice()),
-        (Stamp::new(10, A, 5)?, trimmed, TRIM_CLIP.as_slice()),
-    ] {
-        assert!(rt; is_text_of(rt.alloc(), &Op::new(stamp, body)?, text)?);
-    }
+    let by_b = Stamp::new(9, B, 4)?;
+    let by_a = Stamp::new(10, A, 5)?;
+    assert!(rt; is_text_of(rt.alloc(), &Op::new(clip, added)?, &ADD_CLIP)?);
+    assert!(rt; is_text_of(rt.alloc(), &Op::new(by_b, moved)?, &MOVE_CLIP)?);
+    assert!(rt; is_text_of(rt.alloc(), &Op::new(by_a, trimmed)?, &TRIM_CLIP)?);
     Ok(())
 }
 

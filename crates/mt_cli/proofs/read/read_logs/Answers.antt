@@ -1,9 +1,9 @@
 use Rattle.std.proofs.Common.{◌≡◌, ◌+◌, ℕ, suc, take, drop, ◌++◌, ◌∷◌, [], subst, sym, refl, ◌∙◌, arith}
 use Rattle.std.proofs.lemmas.Result.{err_from_is_err_and}
-use Rattle.std.proofs.lemmas.List.{length-set, get_or-set_same}
+use Rattle.std.proofs.lemmas.List.{length-set, get_or-set_same, take-set}
 use Rattle.std.proofs.Math.ListN.{set}
-use Rattle.mt_cli.specs.Reading.{GaveLogs}
-use Rattle.mt_cli.proofs.Readers.{Gave-same, GaveLogs-more, IsCause-same, HasCause-at, HasCause-memory, left_at, left_more}
+use Rattle.mt_cli.specs.Reading.{IsRead, AreRead, GaveLogs}
+use Rattle.mt_cli.proofs.Readers.{Gave-same, GaveLogs-more, IsCause-same, HasCause-at, HasCause-memory, left_at, left_more, all_more}
 use Rattle.mt_cli.proofs.read.read_logs.Goals as goal
 
 one_more : (n : ℕ) → suc n ≡ n + 1
@@ -25,6 +25,7 @@ returns-in_err-log-clause-err g c =
     let same = c.loop-place.auto.inputs in
     let before = left_at c.loop-place.place c.loop-place.inputs c.args.inputs.now c.index-inputs-place.result (omega arith) (omega arith) c.loop-place.invariant.left c.index-inputs-place.is in
     rw (p.1, p.2) (HasCause-at g.R.Read.remaining c.args.inputs.now _ c.loop-place.logs.items c.loop-place.place 0 c.index-inputs-place.result c.read_log.new.input c.in_err-log.field-0.0 (length-set _ _ _ ∙ same) (omega arith) before (sym (get_or-set_same c.loop-place.inputs c.loop-place.place c.read_log.new.input c.read_log.new.input (omega arith))) c.loop-place.invariant.gave
+    (subst (AreRead g.R.Read.remaining) (sym (take-set c.loop-place.inputs c.loop-place.place c.read_log.new.input)) c.loop-place.invariant.read)
     (subst (λ (n : ℕ). drop n (set c.loop-place.inputs c.loop-place.place c.read_log.new.input) ≡ drop n c.args.inputs.now) (sym (one_more c.loop-place.place)) (left_more c.loop-place.place c.loop-place.inputs c.args.inputs.now c.read_log.new.input c.loop-place.invariant.left))
     (IsCause-same g.R.Read.remaining c.loop-place.place _ c.index-inputs-place.result c.read_log.new.input c.in_err-log.field-0.0 c.index-inputs-place.is c.in_err-log.ensures.err))
 
@@ -35,6 +36,7 @@ returns-in_err-push-clause-err g c =
 
 pub loop-place-preserved : goal.loop-place-preserved
 loop-place-preserved g c = record {
+  read = subst (λ (n : ℕ). AreRead g.R.Read.remaining (take n (set c.loop-place.inputs c.loop-place.place c.read_log.new.input))) (one_more c.loop-place.place) (all_more (IsRead g.R.Read.remaining) c.loop-place.place c.loop-place.inputs c.read_log.new.input (omega arith) c.loop-place.invariant.read c.in_ok-log.ensures.read);
   gave =
       let before = left_at c.loop-place.place c.loop-place.inputs c.args.inputs.now c.index-inputs-place.result (omega arith) (omega arith) c.loop-place.invariant.left c.index-inputs-place.is in
       rw c.in_ok-push.ensures.items (subst (λ (n : ℕ). GaveLogs g.R.Read.remaining (take n c.args.inputs.now) (c.loop-place.logs.items ++ c.in_ok-log.log ∷ [])) (one_more c.loop-place.place) (GaveLogs-more g.R.Read.remaining c.args.inputs.now c.loop-place.logs.items c.loop-place.place c.index-inputs-place.result c.in_ok-log.log (omega arith) before c.loop-place.invariant.gave (Gave-same g.R.Read.remaining _ c.index-inputs-place.result c.in_ok-log.log c.index-inputs-place.is c.in_ok-log.ensures.ok)));

@@ -13,4 +13,4 @@ returns-in-Ok-clause-ok g c =
 
 pub returns-in-Ok-clause-err : goal.returns-in-Ok-clause-err
 returns-in-Ok-clause-err g c =
-    log_not_written log_view g.W.Write.contents g.R.Read.remaining c.show.result c.in-Ok.log c.args.input.now c.read_log.new.input c.args.output.now c.show.new.output c.in-Ok.ensures.ok c.show.ensures.err
+    log_not_written log_view g.W.Write.contents g.R.Read.remaining c.show.result c.in-Ok.log c.args.input.now c.read_log.new.input c.args.output.now c.show.new.output c.in-Ok.ensures.ok c.in-Ok.ensures.read c.show.ensures.err

@@ -3,7 +3,7 @@ use Rattle.std.proofs.lemmas.Result.{err_from_is_err_and}
 use Rattle.std.specs.Prelude.{vec_len}
 use Rattle.std.proofs.lemmas.Bool.{eqb-false}
 use Rattle.mt_cli.proofs.Joining.{HasLogs, HasLogs-more, all_joined, all_failed}
-use Rattle.mt_cli.proofs.join.join_all.Goals as goal
+use Rattle.mt_cli.proofs.union.join_all.Goals as goal
 
 pub returns-in_err-all-clause-err : goal.returns-in_err-all-clause-err
 returns-in_err-all-clause-err g c =

@@ -1,0 +1,61 @@
+//! The union of logs.
+
+ghost use Rattle.std.specs.Prelude.{◌≡◌, IfErr, IfOk, OnOk, List};
+ghost use Rattle.mt_opcodec.specs.LogValue.{LogMap};
+ghost use Rattle.mt_opcodec.specs.Union.{Agree, union, union_all, AllAgree};
+ghost use Rattle.mt_cli.specs.Joining.{JoinFails, AllFail, UnionFails};
+ghost use Rattle.mt_cli.specs.Reading.{GaveLogs, AreRead};
+
+use crate::fault::CliFault;
+use crate::read::read_logs;
+use mt_opcodec::{Latch, Log, LogFault};
+use std::alloc::Allocator;
+use std::io::Read;
+
+// The union of all so far and of one more log.
+fn join<A: Allocator + Clone>(alloc: A, all: &Log<A>, log: &Log<A>) -> Result<Log<A>, CliFault>
+    ensures ok { IfOk result (λ joined. Agree all.now log.now × (joined ≡ union all.now log.now)) }
+    ensures err { IfErr result (JoinFails all.now log.now) }
+{
+    match Log::merge(alloc, all, log) {
+        Ok(joined) => Ok(joined),
+        Err(LogFault::Conflict(dot)) => Err(CliFault::Merge(dot)),
+        Err(_) => Err(CliFault::Memory),
+    }
+}
+
+// The union of the logs, joined from left to right.
+fn join_all<A: Allocator + Clone>(alloc: A, mut logs: Vec<Log<A>, A>) -> Result<Log<A>, CliFault>
+    ensures ok { IfOk result (λ all. AllAgree logs.items × (all ≡ union_all logs.items)) }
+    ensures err { IfErr result (AllFail logs.items) }
+{
+    if logs.is_empty() {
+        return Ok(Log::new(alloc));
+    }
+    let mut all = logs.remove(0);
+    for log in &logs {
+        all = join(alloc.clone()?, &all, log)?;
+    }
+    Ok(all)
+}
+
+/// Reads the log of each input, from left to right, and joins them: what every command on logs begins with. Of no input it
+/// is the log of no operation.
+///
+/// Refused, in this order: `Read` with the index of an input whose latch has failed, or `Log` with the index of one whose
+/// bytes are no log's text, from left to right; then `Merge` where a log has another operation under a dot than the logs
+/// before it, with the least such dot of the first such log. `Memory` where a growth was refused. Every input before the one
+/// at fault has been read to its end, and none behind it was asked.
+pub(crate) fn union_of<A: Allocator + Clone, R: Read>(
+    alloc: A,
+    inputs: &mut [Latch<R>],
+) -> Result<Log<A>, CliFault>
+    ensures ok { IfOk result (λ all. (logs : List LogMap) × (GaveLogs R.remaining inputs.old logs × AllAgree logs × (all ≡ union_all logs))) }
+    ensures read { OnOk result (AreRead R.remaining inputs.new) }
+    ensures err { IfErr result (UnionFails R.remaining inputs.old inputs.new) }
+{
+    match read_logs(alloc.clone()?, inputs) {
+        Ok(logs) => join_all(alloc, logs),
+        Err(fault) => Err(fault),
+    }
+}
