@@ -7,7 +7,7 @@ ghost use Rattle.mt_sessionview.specs.Session.{track_cmp};
 ghost use Rattle.mt_sessionview.specs.SessionLaws.{AnyListing, HeldIsCounted, PlacesAreATree};
 ghost use Rattle.mt_sessionview.specs.Sorting.{Sorts};
 
-use crate::session::{ClipView, MarkerView, Session, TrackView};
+use crate::session::{ClipView, MarkerView};
 use std::alloc::Allocator;
 
 /// The markers of a session rise by position and stamp, and sorting them neither loses nor makes one.
@@ -51,20 +51,6 @@ pub fn equal_clips(a: &ClipView, b: &ClipView) -> bool
 
 /// Markers are equal where they show the same.
 pub fn equal_markers<A: Allocator>(a: &MarkerView<A>, b: &MarkerView<A>) -> bool
-    ensures { IsTrue result ↔ (a.now ≡ b.now) }
-{
-    a == b
-}
-
-/// Tracks are equal where they show the same, and have the same clips.
-pub fn equal_tracks<A: Allocator>(a: &TrackView<A>, b: &TrackView<A>) -> bool
-    ensures { IsTrue result ↔ (a.now ≡ b.now) }
-{
-    a == b
-}
-
-/// Sessions are equal where they have the same tracks and markers, and hold the same number of operations.
-pub fn equal_sessions<A: Allocator>(a: &Session<A>, b: &Session<A>) -> bool
     ensures { IsTrue result ↔ (a.now ≡ b.now) }
 {
     a == b
