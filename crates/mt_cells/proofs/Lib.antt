@@ -1,3 +1,4 @@
 pub mod Semilattice
 pub mod StampSets
 pub mod Presences
+pub mod Greatest

@@ -1,6 +1,8 @@
 -- Joining many values in some order.
-use Rattle.std.specs.Prelude.{◌≡◌, Bool, List, [], ◌∷◌}
-use Rattle.std.specs.List.{list_any}
+use Rattle.std.specs.Prelude.{◌≡◌, Bool, false, List, [], ◌∷◌}
+use Rattle.std.specs.List.{list_any, AllByRecursion, Contains}
+use Rattle.std.specs.Ordering.{is_gt}
+use Rattle.std.specs.declared.cmp.Ordering.{Ordering}
 
 module _ {X : Type 0} (join : X → X → X) where
   -- a first value joined with others, one after another from the left
@@ -16,3 +18,9 @@ module _ {X : Type 0} (eq : X → X → Bool) where
   -- each value of either list is in the other, however often and in whatever order
   abbrev pub SameValues : List X → List X → Type 0
   SameValues xs ys = (x : X) → is_in xs x ≡ is_in ys x
+
+module _ {X : Type 0} (cmp : X → X → Ordering) where
+  -- one of several, and none of them is greater
+  pub record IsGreatest (xs : List X) (x : X) : Type 0 where
+    pub is : Contains xs x
+    pub greatest : AllByRecursion (λ y. is_gt (cmp y x) ≡ false) xs

@@ -3,3 +3,4 @@ pub mod Pairs
 pub mod Greater
 pub mod Marks
 pub mod Together
+pub mod Laws

@@ -17,3 +17,4 @@ pub mod LogTexts
 pub mod Union
 pub mod Merging
 pub mod EqualLogs
+mod Agreements

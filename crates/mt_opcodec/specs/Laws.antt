@@ -1,5 +1,6 @@
 -- What holds of texts and of unions.
-use Rattle.std.specs.Prelude.{◌≡◌, ℕ, ◌<◌, ◌^◌, List, ◌++◌, length, is_some, if◌then◌else◌}
+use Rattle.std.specs.Prelude.{◌≡◌, ℕ, ◌<◌, ◌^◌, List, [], ◌∷◌, ◌++◌, length, is_some, if◌then◌else◌, ◌↔◌}
+use Rattle.std.specs.List.{AllByRecursion}
 use Rattle.std.specs.FinMap as map
 use Rattle.mt_stamp.specs.declared.name.Dot.{Dot}
 use Rattle.mt_op.specs.Operation.{Operation}
@@ -7,7 +8,7 @@ use Rattle.mt_op.specs.Valid.{IsOperation}
 use Rattle.mt_opcodec.specs.OpText.{op_text}
 use Rattle.mt_opcodec.specs.LogText.{log_text}
 use Rattle.mt_opcodec.specs.LogValue.{LogMap, AreLogged}
-use Rattle.mt_opcodec.specs.Union.{Agree, union}
+use Rattle.mt_opcodec.specs.Union.{Agree, union, AllAgree}
 
 -- An operation has one text, and no operation's text begins another's: what stands at the front of bytes is determined.
 abbrev pub OpTextsAreApart : Type 0
@@ -23,3 +24,16 @@ pub record IsUnion : Type 0 where
   pub commutative : (a b : LogMap) → Agree a b → union a b ≡ union b a
   pub associative : (a b c : LogMap) → union (union a b) c ≡ union a (union b c)
   pub idempotent : (a : LogMap) → union a a ≡ a
+
+-- every two of the logs agree
+abbrev pub PairsAgree : List LogMap → Type 0
+PairsAgree [] = Unit {0}
+PairsAgree (a ∷ logs) = AllByRecursion (Agree a) logs × PairsAgree logs
+
+-- Logs that are joined from left to right agree exactly where every two of them do: so in every order and grouping, or in none.
+abbrev pub AgreePairwise : Type 0
+AgreePairwise = (logs : List LogMap) → AllAgree logs ↔ PairsAgree logs
+
+-- Three logs agree in both groupings or in neither.
+abbrev pub AgreeGrouped : Type 0
+AgreeGrouped = (a b c : LogMap) → (Agree a b × Agree (union a b) c) ↔ (Agree b c × Agree a (union b c))

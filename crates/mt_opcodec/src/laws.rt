@@ -2,7 +2,7 @@
 //! compares.
 
 ghost use Rattle.std.specs.Prelude.{◌≡◌, ◌↔◌, IsTrue};
-ghost use Rattle.mt_opcodec.specs.Laws.{OpTextsAreApart, LogTextsAreApart, IsUnion};
+ghost use Rattle.mt_opcodec.specs.Laws.{OpTextsAreApart, LogTextsAreApart, IsUnion, AgreePairwise, AgreeGrouped};
 
 use crate::log::Log;
 use std::alloc::Allocator;
@@ -21,6 +21,12 @@ pub fn log_texts()
 /// and idempotent, and commutative where they agree.
 pub fn unions()
     ensures { IsUnion }
+{}
+
+/// Logs joined from left to right agree exactly where every two of them do.
+pub fn agreements()
+    ensures pairwise { AgreePairwise }
+    ensures grouped { AgreeGrouped }
 {}
 
 /// Logs are equal where they have the same operations.

@@ -5,7 +5,9 @@ use Rattle.mt_op.specs.Operation.{Operation}
 use Rattle.mt_op.specs.Needs.{needs, meets, clock_of, names_are_older}
 use Rattle.mt_op.specs.Ready.{is_ready}
 use Rattle.mt_sessionview.specs.Content.{Content}
-use Rattle.mt_sessionview.specs.Session.{session_of}
+use Rattle.mt_stamp.specs.Tree.{IsTree}
+use Rattle.mt_opcodec.specs.LogValue.{AreLogged}
+use Rattle.mt_sessionview.specs.Session.{session_of, places}
 
 -- the same session with one more operation held
 abbrev pub with_held : Content → Content
@@ -24,3 +26,7 @@ StampsAreApart s = (i j : ℕ) (a b : Operation) → slice_get s i ≡ Some a �
 -- A session does not depend on how its operations are listed.
 abbrev pub AnyListing : Type 0
 AnyListing = (s t : List Operation) → StampsAreApart s → IsPermutation s t → session_of s ≡ session_of t
+
+-- The places of a log's operations are a tree: what holds of the order of every tree holds of its tracks.
+abbrev pub PlacesAreATree : Type 0
+PlacesAreATree = (ops : List Operation) → AreLogged ops → IsTree (places ops)

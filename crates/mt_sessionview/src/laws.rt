@@ -1,11 +1,14 @@
 //! What holds of all sessions: each law is the contract of a small function, which does nothing.
 
-ghost use Rattle.std.specs.Prelude.{List};
+ghost use Rattle.std.specs.Prelude.{◌≡◌, ◌↔◌, IsTrue, List};
 ghost use Rattle.mt_op.specs.Operation.{Operation};
 ghost use Rattle.mt_sessionview.specs.Content.{clip_cmp, marker_cmp};
 ghost use Rattle.mt_sessionview.specs.Session.{track_cmp};
-ghost use Rattle.mt_sessionview.specs.SessionLaws.{AnyListing, HeldIsCounted};
+ghost use Rattle.mt_sessionview.specs.SessionLaws.{AnyListing, HeldIsCounted, PlacesAreATree};
 ghost use Rattle.mt_sessionview.specs.Sorting.{Sorts};
+
+use crate::session::{ClipView, MarkerView};
+use std::alloc::Allocator;
 
 /// The markers of a session rise by position and stamp, and sorting them neither loses nor makes one.
 pub fn sorted_markers()
@@ -33,3 +36,22 @@ pub fn any_listing()
 pub fn held_operation()
     ensures { HeldIsCounted }
 {}
+
+/// The places that a log's ready operations give are a tree.
+pub fn places_tree()
+    ensures { PlacesAreATree }
+{}
+
+/// Clips are equal where they show the same.
+pub fn equal_clips(a: &ClipView, b: &ClipView) -> bool
+    ensures { IsTrue result ↔ (a.now ≡ b.now) }
+{
+    a == b
+}
+
+/// Markers are equal where they show the same.
+pub fn equal_markers<A: Allocator>(a: &MarkerView<A>, b: &MarkerView<A>) -> bool
+    ensures { IsTrue result ↔ (a.now ≡ b.now) }
+{
+    a == b
+}

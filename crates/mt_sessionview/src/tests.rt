@@ -7,10 +7,13 @@ ghost use Rattle.mt_op.specs.Dots.{dots_rise, op_dot};
 ghost use Rattle.mt_op.specs.Valid.{IsOperation};
 
 use crate::build::session_of_ops;
-use crate::laws::{any_listing, held_operation, sorted_clips, sorted_markers, sorted_tracks};
+use crate::laws::{
+    any_listing, equal_clips, equal_markers, held_operation, places_tree, sorted_clips,
+    sorted_markers, sorted_tracks,
+};
 use crate::text::{append_held_line, append_marker_line, append_session_text};
-use crate::{MarkerView, SessionFault};
-use mt_op::{Body, Op, OpFault, Title};
+use crate::{MarkerView, Session, SessionFault};
+use mt_op::{Body, Digest, Op, OpFault, Title};
 use mt_stamp::{Replica, Stamp};
 use mt_testalloc::Refusing;
 use std::alloc::Allocator;
@@ -179,29 +182,109 @@ fn holds_a_retitle_of_a_retitle(rt: HostRuntime) -> Result<(), Fail> {
     Ok(())
 }
 
+fn session_of<M: Allocator + Clone>(
+    rt: &impl Abort,
+    memory: M,
+    ops: &[Op<M>],
+) -> Result<Session<M>, Fail> {
+    assert!(rt; rises(ops));
+    Ok(session_of_ops(memory, ops)?)
+}
+
+// The session of one marker, and of a retitle that names another.
+fn news<M: Allocator + Clone>(
+    rt: &impl Abort,
+    memory: M,
+    is_late: bool,
+) -> Result<Session<M>, Fail> {
+    let mut ops = Vec::new(memory.clone()?);
+    ops.push(marker(memory.clone()?, Stamp::new(1, A, 1)?, 480, "News")?)?;
+    if is_late {
+        ops.push(retitle(
+            memory.clone()?,
+            Stamp::new(5, B, 1)?,
+            Stamp::new(2, A, 1)?,
+            "Late",
+        )?)?;
+    }
+    session_of(rt, memory, &ops)
+}
+
 #[test]
 fn compares_sessions(rt: HostRuntime) -> Result<(), Fail> {
-    let mut ops = Vec::new(rt.alloc());
-    ops.push(marker(rt.alloc(), Stamp::new(1, A, 1)?, 480, "News")?)?;
-    assert!(rt; rises(&ops));
-    let one = session_of_ops(rt.alloc(), &ops)?;
-    let same = session_of_ops(rt.alloc(), &ops)?;
-    ops.push(retitle(
-        rt.alloc(),
-        Stamp::new(5, B, 1)?,
-        Stamp::new(2, A, 1)?,
-        "Late",
-    )?)?;
-    assert!(rt; rises(&ops));
-    let other = session_of_ops(rt.alloc(), &ops)?;
-    assert!(rt; one == same);
-    assert!(rt; one != other);
-    assert_eq!(rt; one.held, 0);
+    let one = news(&rt, rt.alloc(), false)?;
+    assert!(rt; one == news(&rt, rt.alloc(), false)?);
+    assert!(rt; one != news(&rt, rt.alloc(), true)?);
+    Ok(())
+}
+
+#[test]
+fn holds_one_operation(rt: HostRuntime) -> Result<(), Fail> {
+    let other = news(&rt, rt.alloc(), true)?;
     assert_eq!(rt; other.held, 1);
-    assert_eq!(rt; one.markers.items().len(), 1);
-    for view in one.markers.items() {
+    assert_eq!(rt; other.markers.items().len(), 1);
+    for view in other.markers.items() {
         assert_eq!(rt; view.at, 480);
         assert_eq!(rt; view.title.text(), "News");
+    }
+    Ok(())
+}
+
+// The session of a track with one clip, where one of them is muted.
+fn muted<M: Allocator + Clone>(
+    rt: &impl Abort,
+    memory: M,
+    item: Option<Stamp>,
+) -> Result<Session<M>, Fail> {
+    let track = Stamp::new(1, A, 1)?;
+    let mut ops = Vec::new(memory.clone()?);
+    let added = Body::AddTrack {
+        after: None,
+        title: Title::new(memory.clone()?, "Voice")?,
+    };
+    ops.push(Op::new(track, added)?)?;
+    let clip = Body::AddClip {
+        source: Digest([1; 32]),
+        track,
+        at: 1,
+        offset: 2,
+        len: 3,
+    };
+    ops.push(Op::new(Stamp::new(2, A, 2)?, clip)?)?;
+    if let Some(item) = item {
+        ops.push(Op::new(Stamp::new(3, A, 3)?, Body::SetMute { item, on: true })?)?;
+    }
+    session_of(rt, memory, &ops)
+}
+
+#[test]
+fn tells_sessions_apart_by_a_track_and_a_clip(rt: HostRuntime) -> Result<(), Fail> {
+    let one = muted(&rt, rt.alloc(), None)?;
+    assert!(rt; one == muted(&rt, rt.alloc(), None)?);
+    assert!(rt; one != muted(&rt, rt.alloc(), Some(Stamp::new(1, A, 1)?))?);
+    assert!(rt; one != muted(&rt, rt.alloc(), Some(Stamp::new(2, A, 2)?))?);
+    Ok(())
+}
+
+#[test]
+fn tells_markers_apart(rt: HostRuntime) -> Result<(), Fail> {
+    let one = news(&rt, rt.alloc(), false)?;
+    let same = news(&rt, rt.alloc(), true)?;
+    for (a, b) in one.markers.items().iter().zip(same.markers.items().iter()) {
+        assert!(rt; equal_markers(a, b));
+    }
+    Ok(())
+}
+
+#[test]
+fn tells_clips_apart(rt: HostRuntime) -> Result<(), Fail> {
+    let one = muted(&rt, rt.alloc(), None)?;
+    let other = muted(&rt, rt.alloc(), Some(Stamp::new(2, A, 2)?))?;
+    for (a, b) in one.tracks.items().iter().zip(other.tracks.items().iter()) {
+        for (c, d) in a.clips.items().iter().zip(b.clips.items().iter()) {
+            assert!(rt; equal_clips(c, c));
+            assert!(rt; !equal_clips(c, d));
+        }
     }
     Ok(())
 }
@@ -267,5 +350,6 @@ fn numbers_its_refusals(rt: HostRuntime) -> Result<(), Fail> {
     sorted_tracks();
     any_listing();
     held_operation();
+    places_tree();
     Ok(())
 }
