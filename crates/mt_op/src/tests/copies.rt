@@ -280,24 +280,51 @@ fn refuses_the_growth_of_a_list_copied_with_its_operation(rt: HostRuntime) -> Re
     Ok(())
 }
 
+// Whether an AddTrack copies as itself, and so an operation of it.
+fn copies_a_track<M: Allocator + Clone>(memory: M, after: Stamp) -> Result<bool, OpFault> {
+    let body = add_track(memory, Some(after), "News")?;
+    Ok(body.try_clone()? == body)
+}
+
+fn copies_a_track_of_an_operation<M: Allocator + Clone>(
+    memory: M,
+    own: Stamp,
+) -> Result<bool, OpFault> {
+    let op = Op::new(own, add_track(memory, None, "News")?)?;
+    Ok(op.try_clone()? == op)
+}
+
 #[test]
 fn refuses_the_growth_of_a_copied_track(rt: HostRuntime) -> Result<(), Fail> {
     let item = Stamp::new(1, A, 1)?;
-    let refused = Refusing::new(rt.alloc(), 1);
-    let body = add_track(&refused, Some(item), "News")?;
-    assert!(rt; matches!(body.try_clone(), Err(OpFault::Memory)));
-    assert!(rt; refused.has_refused());
-    let granted = Refusing::new(rt.alloc(), 2);
-    let body = add_track(&granted, Some(item), "News")?;
-    assert!(rt; body.try_clone()? == body);
-    assert!(rt; !granted.has_refused());
+    for at in 0..3 {
+        let memory = Refusing::new(rt.alloc(), at);
+        let wanted = if at < 2 {
+            Err(OpFault::Memory)
+        } else {
+            Ok(true)
+        };
+        assert_eq!(rt; copies_a_track(&memory, item), wanted, "at {at}");
+        assert_eq!(rt; memory.has_refused(), at < 2, "at {at}");
+    }
+    Ok(())
+}
+
+#[test]
+fn refuses_the_growth_of_a_track_copied_with_its_operation(rt: HostRuntime) -> Result<(), Fail> {
     let own = Stamp::new(2, B, 1)?;
-    let refused = Refusing::new(rt.alloc(), 1);
-    let op = Op::new(own, add_track(&refused, None, "News")?)?;
-    assert!(rt; matches!(op.try_clone(), Err(OpFault::Memory)));
-    assert!(rt; refused.has_refused());
-    let granted = Refusing::new(rt.alloc(), 2);
-    let op = Op::new(own, add_track(&granted, None, "News")?)?;
-    assert!(rt; op.try_clone()? == op);
+    for at in 0..3 {
+        let memory = Refusing::new(rt.alloc(), at);
+        let wanted = if at < 2 {
+            Err(OpFault::Memory)
+        } else {
+            Ok(true)
+        };
+        assert_eq!(rt;
+            copies_a_track_of_an_operation(&memory, own),
+            wanted,
+            "at {at}"
+        );
+    }
     Ok(())
 }
