@@ -32,3 +32,4 @@ pub mod SameReady
 pub mod SameWrites
 pub mod SamePlaces
 pub mod SameSession
+mod Equal

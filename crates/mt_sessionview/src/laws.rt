@@ -7,7 +7,7 @@ ghost use Rattle.mt_sessionview.specs.Session.{track_cmp};
 ghost use Rattle.mt_sessionview.specs.SessionLaws.{AnyListing, HeldIsCounted, PlacesAreATree};
 ghost use Rattle.mt_sessionview.specs.Sorting.{Sorts};
 
-use crate::session::{ClipView, MarkerView};
+use crate::session::{ClipView, MarkerView, Session, TrackView};
 use std::alloc::Allocator;
 
 /// The markers of a session rise by position and stamp, and sorting them neither loses nor makes one.
@@ -43,15 +43,29 @@ pub fn places_tree()
 {}
 
 /// Clips are equal where they show the same.
-pub fn equal_clips(a: &ClipView, b: &ClipView) -> bool
-    ensures { IsTrue result ↔ (a.now ≡ b.now) }
+pub fn equal_clips(clip: &ClipView, other: &ClipView) -> bool
+    ensures { IsTrue result ↔ (clip.now ≡ other.now) }
 {
-    a == b
+    clip == other
 }
 
 /// Markers are equal where they show the same.
-pub fn equal_markers<A: Allocator>(a: &MarkerView<A>, b: &MarkerView<A>) -> bool
-    ensures { IsTrue result ↔ (a.now ≡ b.now) }
+pub fn equal_markers<A: Allocator>(marker: &MarkerView<A>, other: &MarkerView<A>) -> bool
+    ensures { IsTrue result ↔ (marker.now ≡ other.now) }
 {
-    a == b
+    marker == other
+}
+
+/// Tracks are equal where they show the same, and have the same clips.
+pub fn equal_tracks<A: Allocator>(track: &TrackView<A>, other: &TrackView<A>) -> bool
+    ensures { IsTrue result ↔ (track.now ≡ other.now) }
+{
+    track == other
+}
+
+/// Sessions are equal where they have the same tracks and markers, and hold the same number of operations.
+pub fn equal_sessions<A: Allocator>(session: &Session<A>, other: &Session<A>) -> bool
+    ensures { IsTrue result ↔ (session.now ≡ other.now) }
+{
+    session == other
 }

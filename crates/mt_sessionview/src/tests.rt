@@ -8,15 +8,15 @@ ghost use Rattle.mt_op.specs.Valid.{IsOperation};
 
 use crate::build::session_of_ops;
 use crate::laws::{
-    any_listing, equal_clips, equal_markers, held_operation, places_tree, sorted_clips,
-    sorted_markers, sorted_tracks,
+    any_listing, equal_clips, equal_markers, equal_sessions, equal_tracks, held_operation,
+    places_tree, sorted_clips, sorted_markers, sorted_tracks,
 };
 use crate::text::{append_held_line, append_marker_line, append_session_text};
 use crate::{MarkerView, Session, SessionFault};
 use mt_op::{Body, Digest, Op, OpFault, Title};
 use mt_stamp::{Replica, Stamp};
 use mt_testalloc::Refusing;
-use std::alloc::Allocator;
+use std::alloc::{AllocError, Allocator};
 use std::process::Abort;
 use std::test::Fail;
 
@@ -210,11 +210,16 @@ fn news<M: Allocator + Clone>(
     session_of(rt, memory, &ops)
 }
 
+// Whether the session of one marker is that of the marker, and perhaps of a retitle that waits.
+fn is_news<M: Allocator + Clone>(rt: &impl Abort, memory: M, is_late: bool) -> Result<bool, Fail> {
+    let one = news(rt, memory.clone()?, false)?;
+    Ok(one == news(rt, memory, is_late)?)
+}
+
 #[test]
 fn compares_sessions(rt: HostRuntime) -> Result<(), Fail> {
-    let one = news(&rt, rt.alloc(), false)?;
-    assert!(rt; one == news(&rt, rt.alloc(), false)?);
-    assert!(rt; one != news(&rt, rt.alloc(), true)?);
+    assert!(rt; is_news(&rt, rt.alloc(), false)?);
+    assert!(rt; !is_news(&rt, rt.alloc(), true)?);
     Ok(())
 }
 
@@ -224,6 +229,7 @@ fn holds_one_operation(rt: HostRuntime) -> Result<(), Fail> {
     assert_eq!(rt; other.held, 1);
     assert_eq!(rt; other.markers.items().len(), 1);
     for view in other.markers.items() {
+        assert!(rt; equal_markers(view, view));
         assert_eq!(rt; view.at, 480);
         assert_eq!(rt; view.title.text(), "News");
     }
@@ -257,30 +263,31 @@ fn muted<M: Allocator + Clone>(
     session_of(rt, memory, &ops)
 }
 
+// Whether the session where nothing is muted is that where this item is, or nothing.
+fn sounds_alike<M: Allocator + Clone>(
+    rt: &impl Abort,
+    memory: M,
+    item: Option<Stamp>,
+) -> Result<bool, Fail> {
+    let one = muted(rt, memory.clone()?, None)?;
+    Ok(equal_sessions(&one, &muted(rt, memory, item)?))
+}
+
 #[test]
 fn tells_sessions_apart_by_a_track_and_a_clip(rt: HostRuntime) -> Result<(), Fail> {
-    let one = muted(&rt, rt.alloc(), None)?;
-    assert!(rt; one == muted(&rt, rt.alloc(), None)?);
-    assert!(rt; one != muted(&rt, rt.alloc(), Some(Stamp::new(1, A, 1)?))?);
-    assert!(rt; one != muted(&rt, rt.alloc(), Some(Stamp::new(2, A, 2)?))?);
+    assert!(rt; sounds_alike(&rt, rt.alloc(), None)?);
+    assert!(rt; !sounds_alike(&rt, rt.alloc(), Some(Stamp::new(1, A, 1)?))?);
+    assert!(rt; !sounds_alike(&rt, rt.alloc(), Some(Stamp::new(2, A, 2)?))?);
     Ok(())
 }
 
 #[test]
-fn tells_markers_apart(rt: HostRuntime) -> Result<(), Fail> {
-    let one = news(&rt, rt.alloc(), false)?;
-    let same = news(&rt, rt.alloc(), true)?;
-    for (a, b) in one.markers.items().iter().zip(same.markers.items().iter()) {
-        assert!(rt; equal_markers(a, b));
-    }
-    Ok(())
-}
-
-#[test]
-fn tells_clips_apart(rt: HostRuntime) -> Result<(), Fail> {
+fn tells_tracks_and_clips_apart(rt: HostRuntime) -> Result<(), Fail> {
     let one = muted(&rt, rt.alloc(), None)?;
     let other = muted(&rt, rt.alloc(), Some(Stamp::new(2, A, 2)?))?;
     for (a, b) in one.tracks.items().iter().zip(other.tracks.items().iter()) {
+        assert!(rt; equal_tracks(a, a));
+        assert!(rt; !equal_tracks(a, b));
         for (c, d) in a.clips.items().iter().zip(b.clips.items().iter()) {
             assert!(rt; equal_clips(c, c));
             assert!(rt; !equal_clips(c, d));
@@ -315,6 +322,18 @@ fn refuses_each_growth_of_a_session(rt: HostRuntime) -> Result<(), Fail> {
     Err(Fail::from("each run met a refusal"))
 }
 
+// Whether the line of a marker and that of what is held are these.
+fn is_text_of<M: Allocator, N: Allocator>(
+    memory: M,
+    view: &MarkerView<N>,
+    wanted: &str,
+) -> Result<bool, AllocError> {
+    let mut text = String::new(memory);
+    append_marker_line(&mut text, view)?;
+    append_held_line(&mut text, 3)?;
+    Ok(text.as_str() == wanted)
+}
+
 #[test]
 fn refuses_each_growth_of_a_text(rt: HostRuntime) -> Result<(), Fail> {
     let view = MarkerView {
@@ -322,18 +341,13 @@ fn refuses_each_growth_of_a_text(rt: HostRuntime) -> Result<(), Fail> {
         at: 480,
         title: Title::new(rt.alloc(), "News")?,
     };
+    let wanted = "marker 1.1.00000000-0000-0000-0000-00000000000a at 480 title News\nheld 3\n";
     for at in 0..20 {
         let memory = Refusing::new(rt.alloc(), at);
-        let mut text = String::new(&memory);
-        let made = append_marker_line(&mut text, &view).and_then(|_| append_held_line(
-            &mut text, 3,
-        ));
+        let made = is_text_of(&memory, &view, wanted);
         assert_eq!(rt; made.is_err(), memory.has_refused(), "at {at}");
-        if !memory.has_refused() {
-            assert_eq!(rt;
-                text.as_str(),
-                "marker 1.1.00000000-0000-0000-0000-00000000000a at 480 title News\nheld 3\n"
-            );
+        if let Ok(is_wanted) = made {
+            assert!(rt; is_wanted);
             assert!(rt; at > 0, "it grew");
             return Ok(());
         }
