@@ -173,7 +173,7 @@ def try_round(edits, crate, name, kept):
             elif not re.search(status, own):
                 wrong[edit.name] = "%s was not refused for itself" % edit.refused
         else:
-            how = [refusals(one, own, names) for one in edit.touched.values()]
+            how = [refusals(one, own, names) for one in edit.touched.values() if one]
             if "for itself" not in how and "names" in how:
                 weak.append(edit.name)
             elif "for itself" not in how:
