@@ -33,3 +33,4 @@ pub mod SameWrites
 pub mod SamePlaces
 pub mod SameSession
 mod Equal
+mod ReadyStamps

@@ -18,6 +18,10 @@ use Rattle.mt_sessionview.specs.Content.{Clip, Track, Marker, Content, clip_cmp,
 abbrev pub ready_ops : List Operation → List Operation
 ready_ops s = ready clock_of needs meets s
 
+-- the stamps of operations, in their order
+abbrev pub stamps_of : List Operation → List Moment
+stamps_of s = map (λ o. o.stamp) s
+
 -- in the set and not ready: kept, merged and counted, and without effect
 abbrev pub held_ops : List Operation → List Operation
 held_ops s = held clock_of needs meets s

@@ -14,6 +14,7 @@ mod order;
 mod place;
 mod place_order;
 mod presence;
+mod readiness;
 mod ready;
 mod scratch;
 mod session;
@@ -28,5 +29,6 @@ mod values;
 mod writers;
 
 pub use fault::SessionFault;
+pub use readiness::ready_stamps;
 pub use scratch::{from_scratch, write_text};
 pub use session::{ClipView, MarkerView, Session, TrackView};

@@ -9,11 +9,12 @@ ghost use Rattle.mt_op.specs.Valid.{IsOperation};
 use crate::build::session_of_ops;
 use crate::laws::{
     any_listing, equal_clips, equal_markers, equal_sessions, equal_tracks, held_operation,
-    places_tree, sorted_clips, sorted_markers, sorted_tracks,
+    places_tree, sorted_clips, sorted_markers, sorted_stamps, sorted_tracks,
 };
 use crate::text::{append_held_line, append_marker_line, append_session_text};
-use crate::{MarkerView, Session, SessionFault};
+use crate::{MarkerView, Session, SessionFault, ready_stamps};
 use mt_op::{Body, Digest, Op, OpFault, Title};
+use mt_opcodec::Log;
 use mt_stamp::{Replica, Stamp};
 use mt_testalloc::Refusing;
 use std::alloc::{AllocError, Allocator};
@@ -366,4 +367,67 @@ fn numbers_its_refusals(rt: HostRuntime) -> Result<(), Fail> {
     held_operation();
     places_tree();
     Ok(())
+}
+
+// The log of a retitle, and of the marker that it names where it is whole; none where memory ran out.
+fn early_retitle<M: Allocator + Clone>(
+    memory: M,
+    item: Stamp,
+    own: Stamp,
+    is_whole: bool,
+) -> Result<Log<M>, SessionFault> {
+    let mut log = Log::new(memory.clone()?);
+    let (Ok(early), Ok(late)) = (
+        retitle(memory.clone()?, own, item, "Late"),
+        marker(memory, item, 480, "News"),
+    ) else {
+        return Err(SessionFault::Memory);
+    };
+    if log.add(early).is_err() || is_whole && log.add(late).is_err() {
+        return Err(SessionFault::Memory);
+    }
+    Ok(log)
+}
+
+// early_retitle
+#[test]
+fn tells_the_stamps_that_are_ready(rt: HostRuntime) -> Result<(), Fail> {
+    let both = [Stamp::new(1, A, 1)?, Stamp::new(2, B, 1)?];
+    let early = early_retitle(rt.alloc(), both[0], both[1], false)?;
+    assert!(rt; ready_stamps(rt.alloc(), &early)?.is_empty());
+    let whole = early_retitle(rt.alloc(), both[0], both[1], true)?;
+    assert!(rt; ready_stamps(rt.alloc(), &whole)?.as_slice() == both.as_slice());
+    sorted_stamps();
+    Ok(())
+}
+
+// How many operations of a log are ready.
+fn ready_count<M: Allocator + Clone>(
+    memory: M,
+    item: Stamp,
+    own: Stamp,
+) -> Result<usize, SessionFault> {
+    let log = early_retitle(memory.clone()?, item, own, true)?;
+    Ok(ready_stamps(memory, &log)?.len())
+}
+
+#[test]
+fn refuses_each_growth_of_ready_stamps(rt: HostRuntime) -> Result<(), Fail> {
+    let item = Stamp::new(1, A, 1)?;
+    let own = Stamp::new(2, B, 1)?;
+    for at in 0..60 {
+        let memory = Refusing::new(rt.alloc(), at);
+        let count = ready_count(&memory, item, own);
+        assert_eq!(rt; count.is_err(), memory.has_refused(), "at {at}");
+        if !memory.has_refused() {
+            assert_eq!(rt; count, Ok(2));
+            assert!(rt;
+                at > 5,
+                "the log's growths and those of the answer were refused"
+            );
+            return Ok(());
+        }
+        assert_eq!(rt; count, Err(SessionFault::Memory));
+    }
+    Err(Fail::from("each run met a refusal"))
 }
