@@ -8,3 +8,4 @@ pub mod Refusals
 pub mod Samples
 pub mod Labelling
 pub mod Pointing
+pub mod Filling

@@ -6,3 +6,4 @@ pub mod Cues
 pub mod Parts
 pub mod Kept
 pub mod Example
+pub mod Fill

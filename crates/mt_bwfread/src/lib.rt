@@ -31,6 +31,7 @@ mod riff;
 mod sample;
 mod text;
 mod wave;
+mod width;
 
 pub use bext::Bext;
 pub use cue::{Cue, Point};
@@ -38,5 +39,7 @@ pub use fault::WaveFault;
 pub use label::{Label, Labels};
 pub use wave::Wave;
 
+#[cfg(test)]
+mod fill_tests;
 #[cfg(test)]
 mod tests;

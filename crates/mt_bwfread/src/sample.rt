@@ -5,11 +5,13 @@ ghost use Rattle.std.specs.Int.{w32};
 ghost use Rattle.mt_bwfread.specs.Wave.{is_width, scaled};
 
 use crate::wave::Wave;
+use crate::width::{load, silence};
 
 impl<'a> Wave<'a> {
-    ghost use Rattle.std.specs.Prelude.{◌≡◌, ◌<◌, FitsSigned};
+    ghost use Rattle.std.specs.Prelude.{◌≡◌, ℕ, ◌+◌, ◌<◌, length, slice_index_or, pos, FitsSigned};
     ghost use Rattle.std.specs.Int.{w32};
     ghost use Rattle.mt_bwfread.specs.Wave.{channels_of, frames_of, sample_of};
+    ghost use Rattle.mt_bwfread.specs.Fill.{sample_or_silence};
 
     /// The sample of a channel in a frame, from -2^31 to 2^31 - 1, whatever the file's width: its highest
     /// value is that of the file's width, and its low bits are zero. Takes the same short time for each.
@@ -23,6 +25,30 @@ impl<'a> Wave<'a> {
         let width = (self.format.bits / 8) as usize;
         let at = (frame as usize * self.format.channels as usize + channel as usize) * width;
         scaled_at(self.format.bits, from_place(self.samples, at))
+    }
+
+    /// Fills the slice with the samples of a channel from a frame on, each as `sample` gives it, and with zeros past the last
+    /// frame. One loop for each width of samples, which looks at nothing else: for many samples take this call.
+    pub fn fill(&self, first: u64, channel: u16, samples: &mut [i32])
+        requires in_channels { channel < channels_of self.now }
+        ensures { (k : ℕ) → k < length samples.new → slice_index_or samples.new k (pos 0) ≡ sample_or_silence self.now (first + k) channel }
+    {
+        if first >= self.frames {
+            silence(samples);
+            return;
+        }
+        let count = ((self.frames - first) as usize).min(samples.len());
+        let (sounding, silent) = samples.split_at_mut(count);
+        let width = (self.format.bits / 8) as usize;
+        let step = self.format.channels as usize * width;
+        let at = (first as usize * self.format.channels as usize + channel as usize) * width;
+        load(
+            sounding,
+            self.format.bits,
+            from_place(self.samples, at),
+            step,
+        );
+        silence(silent);
     }
 }
 

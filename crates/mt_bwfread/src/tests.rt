@@ -31,7 +31,7 @@ fn put_chunk(out: &mut Vec<u8>, id: &[u8], content: &[u8]) -> Result<(), AllocEr
 }
 
 /// A wave file of these chunks, each with its pad byte.
-fn file(alloc: Global, chunks: &[(&[u8], &[u8])]) -> Result<Vec<u8>, AllocError> {
+pub(crate) fn file(alloc: Global, chunks: &[(&[u8], &[u8])]) -> Result<Vec<u8>, AllocError> {
     let mut body = Vec::from_slice(alloc, b"WAVE")?;
     for (id, content) in chunks {
         put_chunk(&mut body, id, content)?;
@@ -45,7 +45,7 @@ fn file(alloc: Global, chunks: &[(&[u8], &[u8])]) -> Result<Vec<u8>, AllocError>
 }
 
 /// The content of a chunk `fmt ` for PCM at 8000 samples a second.
-fn pcm(channels: u8, bits: u8) -> [u8; 16] {
+pub(crate) fn pcm(channels: u8, bits: u8) -> [u8; 16] {
     let align = channels.wrapping_mul(bits / 8);
     [
         1, 0, channels, 0, 0x40, 0x1f, 0, 0, 0, 0, 0, 0, align, 0, bits, 0,
@@ -53,7 +53,7 @@ fn pcm(channels: u8, bits: u8) -> [u8; 16] {
 }
 
 /// The sample, or none where there is no such frame or channel.
-fn sample(wave: &Wave<'_>, frame: u64, channel: u16) -> Option<i64> {
+pub(crate) fn sample(wave: &Wave<'_>, frame: u64, channel: u16) -> Option<i64> {
     if frame < wave.frames() && channel < wave.channels() {
         Some(wave.sample(frame, channel))
     } else {

@@ -1,0 +1,37 @@
+//! Spans that lie over one another, and the segments in which one of them is on top.
+//!
+//! Clips on a track may overlap. At each frame the one that was placed last is heard, and only that one: of the spans that
+//! cover the frame, the one with the greatest place stamp. Where the one on top changes, a new segment begins.
+//!
+//! ```text
+//! frames          0   4   7   10
+//! second, 6.x.x       |---|            placed by the stamp with clock 6, from 4 on, 3 frames
+//! first, 5.x.x    |-----------|        placed by the stamp with clock 5, from 0 on, 10 frames
+//!
+//! segments        0..4 first, 4..7 second, 7..10 first
+//! ```
+//!
+//! ```text
+//! let first = Span { place: Stamp::new(5, replica, 1)?, start: 0, len: 10 };
+//! let second = Span { place: Stamp::new(6, replica, 2)?, start: 4, len: 3 };
+//! let both = segments(alloc, &[first, second])?;
+//! // Segment { start: 0, end: 4, which: 0 }, Segment { start: 4, end: 7, which: 1 }, Segment { start: 7, end: 10, which: 0 }
+//! ```
+//!
+//! Had the first been placed by a greater stamp than the second, there would be one segment, `0..10`, of the first. Frames that
+//! no span covers lie in no segment, and two segments that touch are of different spans.
+//!
+//! n spans cost n log n, however deep they lie: the spans are walked once, by their starts, with a map of those that sound or may
+//! sound again.
+#![tactic(auto)]
+
+mod fault;
+mod growth;
+mod span;
+mod sweep;
+#[cfg(test)]
+mod tests;
+
+pub use fault::OverlapFault;
+pub use span::{Segment, Span};
+pub use sweep::segments;

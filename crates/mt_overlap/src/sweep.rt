@@ -1,0 +1,157 @@
+//! The walk over the spans, by their starts.
+
+ghost use Rattle.std.specs.Prelude.{◌≡◌, ℕ, ◌+◌, ◌^◌, ◌<◌, ◌≤◌, length, OnOk, IfOk, IfErr, IfSome, IfNone, IsSome, Some, None, false};
+ghost use Rattle.std.specs.Ordering.{is_lt};
+ghost use Rattle.std.specs.BTreeMap.{get};
+ghost use Rattle.mt_stamp.specs.Moment.{Moment, stamp_cmp};
+ghost use Rattle.mt_overlap.specs.Overlap.{span_at, end_of, PlacesDiffer, AreSegments};
+ghost use Rattle.mt_overlap.specs.Sweep.{Swept, IsOrder, Begun};
+
+use crate::fault::OverlapFault;
+use crate::growth::emit;
+use crate::span::{Segment, Span};
+use mt_stamp::Stamp;
+use std::alloc::Allocator;
+use std::collections::BTreeMap;
+
+// Where no frame is covered any more: every span ends below.
+const BEHIND_ALL: u64 = 1 << 33;
+
+// A span that has begun: the first frame behind it, and its index.
+#[derive(Clone, Copy)]
+struct Cover {
+    end: u64,
+    which: usize,
+}
+
+// The one of greatest place.
+#[derive(Clone, Copy)]
+struct Top {
+    place: Stamp,
+    cover: Cover,
+}
+
+fn top_of<A: Allocator>(active: &BTreeMap<Stamp, Cover, A>) -> Option<Top>
+    ensures none { IfNone result ((q : Moment) → get stamp_cmp active.now q ≡ None) }
+    ensures there { IfSome result (λ t. get stamp_cmp active.now t.place ≡ Some t.cover) }
+    ensures greatest { IfSome result (λ t. (q : Moment) → IsSome (get stamp_cmp active.now q) → is_lt (stamp_cmp t.place q) ≡ false) }
+{
+    match active.last_key_value() {
+        Some((place, cover)) => Some(Top {
+            place: *place,
+            cover: *cover,
+        }),
+        None => None,
+    }
+}
+
+// Settles the frames up to `limit`, for the spans that have begun: the first `begun` of `order`.
+fn settle<A: Allocator>(
+    spans: &[Span],
+    order: &[(u32, usize)],
+    begun: usize,
+    active: &mut BTreeMap<Stamp, Cover, A>,
+    segments: &mut Vec<Segment, A>,
+    from: u64,
+    limit: u64,
+) -> Result<(), OverlapFault>
+    requires swept { Swept spans.now (Begun order.now begun) from (get stamp_cmp active.old) segments.old.items }
+    requires order { from ≤ limit }
+    ensures ok { OnOk result (Swept spans.now (Begun order.now begun) limit (get stamp_cmp active.new) segments.new.items) }
+    ensures err { IfErr result (λ fault. fault ≡ OverlapFault.Memory) }
+{
+    let mut now = from;
+    while now < limit {
+        let Some(top) = top_of(active) else {
+            return Ok(());
+        };
+        if top.cover.end <= now {
+            let _ = active.remove(&top.place);
+        } else {
+            let end = top.cover.end.min(limit);
+            emit(segments, now, end, top.cover.which)?;
+            now = end;
+        }
+    }
+    Ok(())
+}
+
+// The span of an index.
+pub(crate) fn span_at(spans: &[Span], which: usize) -> Span
+    requires { which < length spans.now }
+    ensures { result ≡ span_at spans.now which }
+{
+    spans[which]
+}
+
+// The first frame behind a span.
+fn end_of(span: &Span) -> u64
+    ensures value { result ≡ end_of span.now }
+    ensures end_fits { result < 2 ^ 33 }
+    ensures start_fits { span.now.start < 2 ^ 32 }
+{
+    u64::from(span.start) + u64::from(span.len)
+}
+
+// The starts and indexes of spans, by start.
+fn by_start<A: Allocator>(alloc: A, spans: &[Span]) -> Result<Vec<(u32, usize), A>, OverlapFault>
+    ensures ok { IfOk result (λ order. IsOrder spans.now order.items) }
+    ensures err { IfErr result (λ fault. fault ≡ OverlapFault.Memory) }
+{
+    let mut order = Vec::new(alloc);
+    for index in 0..spans.len() {
+        order.push((spans[index].start, index))?;
+    }
+    order.sort_unstable();
+    Ok(order)
+}
+
+// The segments of spans that are given in the order of their starts.
+fn sweep<A: Allocator + Clone>(
+    alloc: &A,
+    spans: &[Span],
+    order: &[(u32, usize)],
+) -> Result<Vec<Segment, A>, OverlapFault>
+    requires order { IsOrder spans.now order.now }
+    requires differ { PlacesDiffer spans.now }
+    ensures ok { IfOk result (λ segments. AreSegments spans.now segments.items) }
+    ensures err { IfErr result (λ fault. fault ≡ OverlapFault.Memory) }
+{
+    let mut active = BTreeMap::new(alloc.clone()?);
+    let mut segments = Vec::new(alloc.clone()?);
+    let mut now = 0;
+    for next in 0..order.len() {
+        let (first, which) = order[next];
+        let start = u64::from(first);
+        settle(spans, order, next, &mut active, &mut segments, now, start)?;
+        now = start;
+        let span = span_at(spans, which);
+        let end = end_of(&span);
+        active.insert(span.place, Cover { end, which })?;
+    }
+    settle(
+        spans,
+        order,
+        order.len(),
+        &mut active,
+        &mut segments,
+        now,
+        BEHIND_ALL,
+    )?;
+    Ok(segments)
+}
+
+/// The segments of spans: they rise, none is empty, no two overlap, and two that touch are of different spans. A frame lies in
+/// a segment exactly where a span covers it, and the segment names the span of greatest place stamp of those that do. The
+/// condition is that no two spans have one place stamp, as the clips of a track in a session have not. Refused only as `Memory` (0).
+pub fn segments<A: Allocator + Clone>(
+    alloc: A,
+    spans: &[Span],
+) -> Result<Vec<Segment, A>, OverlapFault>
+    requires differ { PlacesDiffer spans.now }
+    ensures ok { IfOk result (λ segments. AreSegments spans.now segments.items) }
+    ensures err { IfErr result (λ fault. fault ≡ OverlapFault.Memory) }
+{
+    let order = by_start(alloc.clone()?, spans)?;
+    sweep(&alloc, spans, &order)
+}
