@@ -89,8 +89,8 @@ pub const OF_OPERATIONS: [Refusal; 11] = [
     },
 ];
 
-/// The refusals of logs.
-pub const OF_LOGS: [Refusal; 7] = [
+/// The refusals of logs, and of lists of tracks.
+pub const OF_LOGS: [Refusal; 9] = [
     Refusal {
         number: 11,
         name: "BadMagic",
@@ -132,6 +132,18 @@ pub const OF_LOGS: [Refusal; 7] = [
         name: "Conflict, Merge",
         meaning: "two different operations have one name",
         advice: "Two editors used one replica, or one was set back to an older copy: keep one of the two logs, and make the other's edits again under a replica of its own.",
+    },
+    Refusal {
+        number: 18,
+        name: "NoSuchPlace",
+        meaning: "a place of a track is to be put after one that is not in the list",
+        advice: FROM_A_PROGRAM,
+    },
+    Refusal {
+        number: 19,
+        name: "PlaceThere",
+        meaning: "a place of a track is in the list already",
+        advice: FROM_A_PROGRAM,
     },
 ];
 

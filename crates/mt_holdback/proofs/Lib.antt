@@ -1,0 +1,4 @@
+pub mod Readiness
+pub mod Operations
+pub mod Listings
+pub mod Offers

@@ -1,0 +1,202 @@
+-- What an item that is offered changes in a hold-back.
+use Rattle.std.proofs.Common.{◌≡◌, ℕ, suc, ◌+◌, Bool, true, false, not, cond, ◌||◌, List, [], ◌∷◌, ◌++◌, filter, refl, sym, ap, ◌∙◌, subst, arith, true≢false}
+use Rattle.std.specs.Prelude.{insert}
+use Rattle.std.specs.List.{AllByRecursion, list_any, prefix_len}
+use Rattle.std.specs.Ordering.{is_lt, ordering_reverse}
+use Rattle.std.specs.declared.cmp.Ordering.{Ordering}
+use Rattle.std.specs.declared.cmp.Ordering.TheVariants.{Less, Equal, Greater}
+use Rattle.mt_stamp.specs.Moment.{Moment, stamp_cmp, stamp_eq}
+use Rattle.mt_stamp.proofs.Order.{stamp_cmp_total, stamp_cmp-IsAntisymmetric, stamp_eq-itself}
+use Rattle.mt_holdback.specs.Waiting.{NamesOlder, clock_of, meets, is_ready}
+use Rattle.mt_holdback.specs.HoldBack.{Kept, offered, KeysRise, queued, offered_with, kept_with, OfferKeepsTheRule, HeldReleasesNothing}
+use Rattle.mt_holdback.proofs.Readiness.{held_changes_nothing}
+use Rattle.mt_holdback.proofs.Listings.{IsWithin, or_left, or_middle, any_append, any_parts, ready_within, ready_same}
+
+turned : (a : Bool) → not a ≡ true → a ≡ false
+turned true h = sym h
+turned false h = refl
+
+-- what holds of all items of lists
+
+module _ {D : Type 0} (P : D → Type 0) where
+  all_first : (xs ys : List D) → AllByRecursion P (xs ++ ys) → AllByRecursion P xs
+  all_first [] ys all = tt
+  all_first (x ∷ xs) ys all = (all.0, all_first xs ys all.1)
+
+  all_rest : (xs ys : List D) → AllByRecursion P (xs ++ ys) → AllByRecursion P ys
+  all_rest [] ys all = all
+  all_rest (x ∷ xs) ys all = all_rest xs ys all.1
+
+  all_join : (xs ys : List D) → AllByRecursion P xs → AllByRecursion P ys → AllByRecursion P (xs ++ ys)
+  all_join [] ys first rest = rest
+  all_join (x ∷ xs) ys first rest = (first.0, all_join xs ys first.1 rest)
+
+  all_kept : (r : D → Bool) (xs : List D) → AllByRecursion P xs → AllByRecursion P (filter r xs)
+  all_kept r [] all = tt
+  all_kept r (x ∷ xs) all = by (r x) (all_kept r xs all.1)
+    where
+      by : (b : Bool) → AllByRecursion P (filter r xs) → AllByRecursion P (cond b (x ∷ filter r xs) (filter r xs))
+      by true rest = (all.0, rest)
+      by false rest = rest
+
+module _ {D : Type 0} where
+  all_along : (P Q : D → Type 0) → ((d : D) → P d → Q d) → (xs : List D) → AllByRecursion P xs → AllByRecursion Q xs
+  all_along P Q follows [] all = tt
+  all_along P Q follows (x ∷ xs) all = (follows x all.0, all_along P Q follows xs all.1)
+
+  -- what a test keeps passes it
+  kept_pass : (r : D → Bool) (xs : List D) → AllByRecursion (λ d. r d ≡ true) (filter r xs)
+  kept_pass r [] = tt
+  kept_pass r (x ∷ xs) = by (r x) refl (kept_pass r xs)
+    where
+      by : (b : Bool) → r x ≡ b → AllByRecursion (λ d. r d ≡ true) (filter r xs) → AllByRecursion (λ d. r d ≡ true) (cond b (x ∷ filter r xs) (filter r xs))
+      by true is rest = (is, rest)
+      by false is rest = rest
+
+  none_kept : (r : D → Bool) (xs : List D) → AllByRecursion (λ d. r d ≡ false) xs → filter r xs ≡ []
+  none_kept r [] all = refl
+  none_kept r (x ∷ xs) all = ap (λ (b : Bool). cond b (x ∷ filter r xs) (filter r xs)) all.0 ∙ none_kept r xs all.1
+
+  all_left : (r : D → Bool) (xs : List D) → AllByRecursion (λ d. r d ≡ false) xs → filter (λ d. not (r d)) xs ≡ xs
+  all_left r [] all = refl
+  all_left r (x ∷ xs) all =
+      ap (λ (b : Bool). cond (not b) (x ∷ filter (λ d. not (r d)) xs) (filter (λ d. not (r d)) xs)) all.0 ∙ ap (λ (ys : List D). x ∷ ys) (all_left r xs all.1)
+
+module _ {T R : Type 0} (key : T → Moment) (needs : T → List (Moment × R)) (fits : R → T → Bool) where
+  smaller : T → T → Bool
+  smaller t u = is_lt (stamp_cmp (key u) (key t))
+
+  queue : T → List T → List T
+  queue t waiting = queued key needs fits t waiting
+
+  at_one_more : (t u : T) (waiting : List T) (n : ℕ) → insert (u ∷ waiting) (1 + n) t ≡ u ∷ insert waiting n t
+  at_one_more t u waiting n = let e : 1 + n ≡ suc n = omega arith in ap (λ (m : ℕ). insert (u ∷ waiting) m t) e
+
+  -- behind a smaller key, and else in front
+  queued_is : (t u : T) (waiting : List T) → queued key needs fits t (u ∷ waiting) ≡ cond (is_lt (stamp_cmp (key u) (key t))) (u ∷ queued key needs fits t waiting) (t ∷ u ∷ waiting)
+  queued_is t u waiting = by (is_lt (stamp_cmp (key u) (key t)))
+    where
+      by : (b : Bool) → insert (u ∷ waiting) (cond b (1 + prefix_len (λ v. is_lt (stamp_cmp (key v) (key t))) waiting) 0) t ≡ cond b (u ∷ queued key needs fits t waiting) (t ∷ u ∷ waiting)
+      by true = at_one_more t u waiting (prefix_len (λ v. is_lt (stamp_cmp (key v) (key t))) waiting)
+      by false = refl
+
+  all_queued : (P : T → Type 0) (t : T) (waiting : List T) → P t → AllByRecursion P waiting → AllByRecursion P (queued key needs fits t waiting)
+  all_queued P t [] new all = (new, tt)
+  all_queued P t (u ∷ waiting) new all = subst (AllByRecursion P) (sym (queued_is t u waiting)) (by (is_lt (stamp_cmp (key u) (key t))) (all_queued P t waiting new all.1))
+    where
+      by : (b : Bool) → AllByRecursion P (queued key needs fits t waiting) → AllByRecursion P (cond b (u ∷ queued key needs fits t waiting) (t ∷ u ∷ waiting))
+      by true rest = (all.0, rest)
+      by false rest = (new, all)
+
+  any_queued : (p : T → Bool) (t : T) (waiting : List T) → list_any p (queued key needs fits t waiting) ≡ (p t || list_any p waiting)
+  any_queued p t [] = refl
+  any_queued p t (u ∷ waiting) = ap (list_any p) (queued_is t u waiting) ∙ by (is_lt (stamp_cmp (key u) (key t))) (any_queued p t waiting)
+    where
+      by : (b : Bool) → list_any p (queued key needs fits t waiting) ≡ (p t || list_any p waiting) → list_any p (cond b (u ∷ queued key needs fits t waiting) (t ∷ u ∷ waiting)) ≡ (p t || (p u || list_any p waiting))
+      by true rest = ap (λ (c : Bool). p u || c) rest ∙ or_middle (p u) (p t) (list_any p waiting)
+      by false rest = refl
+
+  queue_rises : (t : T) (waiting : List T) → KeysRise key needs fits waiting → AllByRecursion (λ u. stamp_eq (key u) (key t) ≡ false) waiting → KeysRise key needs fits (queued key needs fits t waiting)
+  queue_rises t [] rise fresh = (tt, tt)
+  queue_rises t (u ∷ waiting) rise fresh =
+      subst (KeysRise key needs fits) (sym (queued_is t u waiting)) (by (is_lt (stamp_cmp (key u) (key t))) refl (queue_rises t waiting rise.1 fresh.1))
+    where
+      less : (o : Ordering) → is_lt o ≡ true → o ≡ Less
+      less Less h = refl
+      less Equal h = absurd (true≢false (sym h))
+      less Greater h = absurd (true≢false (sym h))
+
+      behind : (o : Ordering) → stamp_cmp (key u) (key t) ≡ o → is_lt o ≡ false → stamp_cmp (key t) (key u) ≡ Less
+      behind Less e h = absurd (true≢false h)
+      behind Equal e h =
+          absurd (true≢false (sym (ap (λ (s : Moment). stamp_eq s (key t)) (stamp_cmp-IsAntisymmetric (key u) (key t) e) ∙ stamp_eq-itself (key t)) ∙ fresh.0))
+      behind Greater e h = stamp_cmp_total.antisymm (key t) (key u) ∙ ap ordering_reverse e
+
+      by : (b : Bool) → is_lt (stamp_cmp (key u) (key t)) ≡ b → KeysRise key needs fits (queued key needs fits t waiting) → KeysRise key needs fits (cond b (u ∷ queued key needs fits t waiting) (t ∷ u ∷ waiting))
+      by true is rest = (all_queued (λ v. stamp_cmp (key u) (key v) ≡ Less) t waiting (less (stamp_cmp (key u) (key t)) is) rise.0, rest)
+      by false is rest =
+          let first = behind (stamp_cmp (key u) (key t)) refl is in
+          ((first, all_along (λ v. stamp_cmp (key u) (key v) ≡ Less) (λ v. stamp_cmp (key t) (key v) ≡ Less) (λ v later. stamp_cmp_total.trans (key t) (key u) (key v) first later) waiting rise.0), rise)
+
+  kept_rise : (r : T → Bool) (xs : List T) → KeysRise key needs fits xs → KeysRise key needs fits (filter r xs)
+  kept_rise r [] rise = tt
+  kept_rise r (x ∷ xs) rise = by (r x) (kept_rise r xs rise.1)
+    where
+      by : (b : Bool) → KeysRise key needs fits (filter r xs) → KeysRise key needs fits (cond b (x ∷ filter r xs) (filter r xs))
+      by true rest = (all_kept (λ u. stamp_cmp (key x) (key u) ≡ Less) r xs rise.0, rest)
+      by false rest = rest
+
+  none_known : (stamp : Moment) (items : List T) → list_any (λ u. stamp_eq (key u) stamp) items ≡ false → AllByRecursion (λ u. stamp_eq (key u) stamp ≡ false) items
+  none_known stamp [] none = tt
+  none_known stamp (u ∷ items) none = by (stamp_eq (key u) stamp) refl none (none_known stamp items)
+    where
+      by : (b : Bool) → stamp_eq (key u) stamp ≡ b → (b || list_any (λ v. stamp_eq (key v) stamp) items) ≡ false → (list_any (λ v. stamp_eq (key v) stamp) items ≡ false → AllByRecursion (λ v. stamp_eq (key v) stamp ≡ false) items)
+          → (stamp_eq (key u) stamp ≡ false) × AllByRecursion (λ v. stamp_eq (key v) stamp ≡ false) items
+      by true is h rest = absurd (true≢false h)
+      by false is h rest = (is, rest h)
+
+  module _ (kept : Kept T) (t : T) where
+    -- the members are those that there were, and the new one
+    any_with : (p : T → Bool) → list_any p (offered_with key needs fits kept t) ≡ (p t || list_any p (offered key needs fits kept))
+    any_with p =
+        any_append p kept.released (queued key needs fits t kept.waiting) ∙ ap (λ (c : Bool). list_any p kept.released || c) (any_queued p t kept.waiting)
+        ∙ or_middle (list_any p kept.released) (p t) (list_any p kept.waiting) ∙ ap (λ (c : Bool). p t || c) (sym (any_append p kept.released kept.waiting))
+
+    or_second : (a b : Bool) → b ≡ true → (a || b) ≡ true
+    or_second true b h = refl
+    or_second false b h = h
+
+    more_with : IsWithin (offered key needs fits kept) (offered_with key needs fits kept t)
+    more_with p h = any_with p ∙ or_second (p t) _ h
+
+    -- the members stay, once those that are ready are released
+    any_moved : (p : T → Bool) → list_any p (offered key needs fits (kept_with key needs fits kept t)) ≡ list_any p (offered_with key needs fits kept t)
+    any_moved p =
+        any_append p (kept_with key needs fits kept t).released (kept_with key needs fits kept t).waiting
+        ∙ ap (λ (c : Bool). c || list_any p (kept_with key needs fits kept t).waiting) (any_append p kept.released (filter (is_ready key needs fits (offered_with key needs fits kept t)) (queued key needs fits t kept.waiting)))
+        ∙ sym (or_left (list_any p kept.released) _ _)
+        ∙ ap (λ (c : Bool). list_any p kept.released || c) (sym (any_parts p (is_ready key needs fits (offered_with key needs fits kept t)) (queued key needs fits t kept.waiting)))
+        ∙ sym (any_append p kept.released (queued key needs fits t kept.waiting))
+
+    ready_moved : (u : T) → is_ready key needs fits (offered_with key needs fits kept t) u ≡ is_ready key needs fits (offered key needs fits (kept_with key needs fits kept t)) u
+    ready_moved u =
+        ready_same (clock_of key needs fits) needs (meets key needs fits) (offered_with key needs fits kept t) (offered key needs fits (kept_with key needs fits kept t)) u (λ p h. any_moved p ∙ h) (λ p h. sym (any_moved p) ∙ h)
+
+  pub offer_keeps_the_rule : OfferKeepsTheRule key needs fits
+  offer_keeps_the_rule kept t is fresh names_older =
+      let r : T → Bool = is_ready key needs fits (offered_with key needs fits kept t) in
+      let q : List T = queued key needs fits t kept.waiting in
+      let P : T → Type 0 = λ u. NamesOlder (key u) (needs u) in
+      let older_queue : AllByRecursion P q = all_queued P t kept.waiting names_older (all_rest P kept.released kept.waiting is.older) in
+      let new : List T = offered key needs fits (kept_with key needs fits kept t) in
+      record {
+        older = all_join P (kept.released ++ filter r q) (filter (λ u. not (r u)) q) (all_join P kept.released (filter r q) (all_first P kept.released kept.waiting is.older) (all_kept P r q older_queue)) (all_kept P (λ u. not (r u)) q older_queue);
+        ready = all_along (λ u. r u ≡ true) (λ u. is_ready key needs fits new u ≡ true) (λ u h. sym (ready_moved kept t u) ∙ h) (kept.released ++ filter r q)
+            (all_join (λ u. r u ≡ true) kept.released (filter r q)
+            (all_along (λ u. is_ready key needs fits (offered key needs fits kept) u ≡ true) (λ u. r u ≡ true)
+            (λ u h. ready_within (clock_of key needs fits) needs (meets key needs fits) (offered key needs fits kept) (offered_with key needs fits kept t) u (more_with kept t) h) kept.released is.ready)
+            (kept_pass r q));
+        held = all_along (λ u. not (r u) ≡ true) (λ u. is_ready key needs fits new u ≡ false) (λ u h. sym (ready_moved kept t u) ∙ turned (r u) h) (filter (λ u. not (r u)) q) (kept_pass (λ u. not (r u)) q);
+        rise = kept_rise (λ u. not (r u)) q (queue_rises t kept.waiting is.rise (all_rest (λ u. stamp_eq (key u) (key t) ≡ false) kept.released kept.waiting (none_known (key t) (offered key needs fits kept) fresh)));
+      }
+
+  pub held_releases_nothing : HeldReleasesNothing key needs fits
+  held_releases_nothing kept t is names_older held =
+      let r : T → Bool = is_ready key needs fits (offered_with key needs fits kept t) in
+      let q : List T = queued key needs fits t kept.waiting in
+      let first : T → Bool = is_ready key needs fits (t ∷ offered key needs fits kept) in
+      let same : (u : T) → first u ≡ r u = λ u. ready_same (clock_of key needs fits) needs (meets key needs fits) (t ∷ offered key needs fits kept) (offered_with key needs fits kept t) u (λ p h. any_with kept t p ∙ h) (λ p h. sym (any_with kept t p) ∙ h) in
+      let others = held_changes_nothing key needs fits (offered key needs fits kept) t (names_older, is.older) (same t ∙ held) in
+      let waits : AllByRecursion (λ u. r u ≡ false) kept.waiting = waiting_held kept.waiting (all_rest (λ u. first u ≡ is_ready key needs fits (offered key needs fits kept) u) kept.released kept.waiting others) is.held same in
+      let none : AllByRecursion (λ u. r u ≡ false) q = all_queued (λ u. r u ≡ false) t kept.waiting held waits in
+      λ i. record { released = (ap (λ (xs : List T). kept.released ++ xs) (none_kept r q none) ∙ append_nil kept.released) i; waiting = all_left r q none i }
+    where
+      append_nil : (xs : List T) → xs ++ [] ≡ xs
+      append_nil [] = refl
+      append_nil (x ∷ xs) = ap (λ (ys : List T). x ∷ ys) (append_nil xs)
+
+      waiting_held : (xs : List T) → AllByRecursion (λ u. is_ready key needs fits (t ∷ offered key needs fits kept) u ≡ is_ready key needs fits (offered key needs fits kept) u) xs
+          → AllByRecursion (λ u. is_ready key needs fits (offered key needs fits kept) u ≡ false) xs → ((u : T) → is_ready key needs fits (t ∷ offered key needs fits kept) u ≡ is_ready key needs fits (offered_with key needs fits kept t) u)
+          → AllByRecursion (λ u. is_ready key needs fits (offered_with key needs fits kept t) u ≡ false) xs
+      waiting_held [] all waits same = tt
+      waiting_held (x ∷ xs) all waits same = (sym (same x) ∙ all.0 ∙ waits.0, waiting_held xs all.1 waits.1 same)

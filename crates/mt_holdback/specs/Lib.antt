@@ -1,0 +1,4 @@
+pub mod Waiting
+pub mod Laws
+pub mod HoldBack
+pub mod Ops

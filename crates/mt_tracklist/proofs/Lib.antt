@@ -1,0 +1,6 @@
+pub mod Growing
+pub mod Order
+pub mod Sorted
+pub mod Skipping
+pub mod Equal
+pub mod Elements

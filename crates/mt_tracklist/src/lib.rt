@@ -1,0 +1,33 @@
+//! The flat list of places of tracks: each place is put after another one, or at the head, and two replicas that put in
+//! the same places, in whatever orders, hold the same list (RGA, the replicated growable array: INRIA RR-7506, section 3.5).
+//!
+//! Places are a tree, whose parent is what a place was put after; the list is its walk: a place before those put after it, and
+//! these by falling stamp, each with all that is under it. The tree is not built. An insertion goes right of its reference, or
+//! to the front, and skips up to the first element with a smaller stamp:
+//!
+//! ```text
+//!        head                 z a y w x     insert v = 4 after a = 1, by stamps:
+//!       /    \
+//!     z=3     a=1             3 1 3 5 2
+//!            /   \                ^         right of a stands y = 3 < 4: v goes here
+//!          y=3   x=2          z a v y w x
+//!           |
+//!          w=5                              insert u = 2 after a, made by a lesser replica than x:
+//!                             3 1 3 5 2
+//!                                 > > >  ^  y = 3, w = 5 and x are greater: u goes to the end
+//! ```
+//!
+//! Why that is the walk: what is skipped is each sibling with a greater stamp and all that is under it, since a place is greater
+//! than the one that it was put after. And the skip never goes beyond: where the tree under the reference ends, the next
+//! element is a sibling of the reference or of a place above it, with a smaller stamp than these, so smaller than the new one.
+//! `laws::skipping` says so of every list.
+#![tactic(auto)]
+
+mod fault;
+pub mod laws;
+#[cfg(test)]
+mod tests;
+mod track_list;
+
+pub use fault::TrackListFault;
+pub use track_list::{Placed, TrackList, is_newer};

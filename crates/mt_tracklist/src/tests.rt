@@ -1,0 +1,225 @@
+use crate::laws::equal_lists;
+use crate::{Placed, TrackList, TrackListFault, is_newer};
+use mt_stamp::{Replica, Stamp, StampFault};
+use mt_testalloc::Refusing;
+use std::alloc::Allocator;
+use std::test::Fail;
+
+const A: Replica = Replica(10);
+
+const B: Replica = Replica(11);
+
+// A place for a track of its own.
+fn placed(place: Stamp, after: Option<Stamp>) -> Placed {
+    Placed {
+        place,
+        after,
+        track: place,
+    }
+}
+
+// The places of the tests: a at the head, x, y and d after it, f after d; and z at the head.
+fn named(name: char) -> Result<Placed, StampFault> {
+    let a = Stamp::new(1, A, 1)?;
+    let d = Stamp::new(3, B, 1)?;
+    match name {
+        'a' => Ok(placed(a, None)),
+        'x' => Ok(placed(Stamp::new(2, A, 2)?, Some(a))),
+        'y' => Ok(placed(Stamp::new(2, B, 1)?, Some(a))),
+        'd' => Ok(placed(d, Some(a))),
+        'f' => Ok(placed(Stamp::new(4, B, 2)?, Some(d))),
+        _ => Ok(placed(Stamp::new(3, B, 2)?, None)),
+    }
+}
+
+// Puts a place in where it is newer than what it is put after.
+fn put<M: Allocator>(list: &mut TrackList<M>, placed: Placed) -> Result<(), TrackListFault> {
+    if !is_newer(placed.place, placed.after) {
+        return Ok(());
+    }
+    list.insert(placed.place, placed.after, placed.track)
+}
+
+// Puts the place of a name in.
+fn put_named<M: Allocator>(list: &mut TrackList<M>, name: char) -> Result<(), Fail> {
+    let more = named(name)?;
+    Ok(put(list, more)?)
+}
+
+// The list of the places of these names, put in in this order.
+fn list_of<M: Allocator>(memory: M, names: &str) -> Result<TrackList<M>, Fail> {
+    let mut list = TrackList::new(memory);
+    for name in names.chars() {
+        put_named(&mut list, name)?;
+    }
+    Ok(list)
+}
+
+// Whether the list's elements are the places of these names, in this order.
+fn reads<M: Allocator>(list: &TrackList<M>, names: &str) -> Result<bool, Fail> {
+    for (i, name) in names.chars().enumerate() {
+        if list.order().get(i) != Some(&named(name)?) {
+            return Ok(false);
+        }
+    }
+    Ok(list.order().len() == names.len())
+}
+
+// Puts the place of a name in, and tells whether that is refused as this fault.
+fn is_refused<M: Allocator>(
+    list: &mut TrackList<M>,
+    name: char,
+    fault: TrackListFault,
+) -> Result<bool, StampFault> {
+    let more = named(name)?;
+    Ok(put(list, more) == Err(fault))
+}
+
+// four_places, in the eight orders in which a comes before x and y
+#[test]
+fn orders_four_places(rt: HostRuntime) -> Result<(), Fail> {
+    for names in [
+        "zaxy", "zayx", "azxy", "azyx", "axzy", "ayzx", "axyz", "ayxz",
+    ] {
+        let list = list_of(rt.alloc(), names)?;
+        assert!(rt; reads(&list, "zayx")?);
+    }
+    Ok(())
+}
+
+// What is under a sibling of greater stamp is skipped with it.
+#[test]
+fn skips_what_is_under_a_greater_sibling(rt: HostRuntime) -> Result<(), Fail> {
+    for names in ["adfx", "adxf", "axdf"] {
+        let list = list_of(rt.alloc(), names)?;
+        assert!(rt; reads(&list, "adfx")?);
+    }
+    Ok(())
+}
+
+// four_places
+#[test]
+fn refuses_a_place_without_its_reference(rt: HostRuntime) -> Result<(), Fail> {
+    let mut list = TrackList::new(rt.alloc());
+    assert!(rt; is_refused(&mut list, 'x', TrackListFault::NoSuchPlace)?);
+    assert!(rt; list.order().is_empty());
+    Ok(())
+}
+
+// four_places
+#[test]
+fn refuses_a_place_that_is_there(rt: HostRuntime) -> Result<(), Fail> {
+    let mut list = list_of(rt.alloc(), "az")?;
+    assert!(rt; is_refused(&mut list, 'a', TrackListFault::PlaceThere)?);
+    assert!(rt; reads(&list, "za")?);
+    Ok(())
+}
+
+#[test]
+fn tells_where_a_place_stands(rt: HostRuntime) -> Result<(), Fail> {
+    let list = list_of(rt.alloc(), "axz")?;
+    assert_eq!(rt; list.index_of(&named('z')?.place), Some(0));
+    assert_eq!(rt; list.index_of(&named('x')?.place), Some(2));
+    assert_eq!(rt; list.index_of(&named('y')?.place), None);
+    Ok(())
+}
+
+#[test]
+fn copies_a_list(rt: HostRuntime) -> Result<(), Fail> {
+    let list = list_of(rt.alloc(), "axyz")?;
+    let mut copy = list.try_clone()?;
+    assert!(rt; equal_lists(&copy, &list));
+    put_named(&mut copy, 'd')?;
+    assert!(rt; !equal_lists(&copy, &list));
+    assert!(rt; reads(&list, "zayx")?);
+    Ok(())
+}
+
+// Whether a list of one element is equal to that of another one.
+fn are_alike<M: Allocator + Clone>(
+    memory: &M,
+    one: Placed,
+    other: Placed,
+) -> Result<bool, TrackListFault> {
+    let mut first = TrackList::new(memory.clone()?);
+    put(&mut first, one)?;
+    let mut second = TrackList::new(memory.clone()?);
+    put(&mut second, other)?;
+    Ok(first == second)
+}
+
+#[test]
+fn tells_elements_apart(rt: HostRuntime) -> Result<(), Fail> {
+    let a = named('a')?;
+    let z = named('z')?;
+    assert!(rt; are_alike(&rt.alloc(), a, a)?);
+    assert!(rt; !are_alike(&rt.alloc(), a, z)?);
+    assert!(rt;
+        !are_alike(
+            &rt.alloc(),
+            a,
+            Placed {
+                track: z.place,
+                ..a
+            }
+        )?
+    );
+    Ok(())
+}
+
+#[test]
+fn numbers_its_refusals(rt: HostRuntime) {
+    assert_eq!(rt; TrackListFault::Memory.number(), 0);
+    assert_eq!(rt; TrackListFault::NoSuchPlace.number(), 18);
+    assert_eq!(rt; TrackListFault::PlaceThere.number(), 19);
+}
+
+// Puts a place in, and tells whether the list is unchanged where that is refused, and longer where it is not.
+fn grows_or_stays<M: Allocator>(list: &mut TrackList<M>, more: Placed) -> bool {
+    let before = list.order().len();
+    let done = put(list, more);
+    match done {
+        Ok(()) => list.order().len() > before,
+        Err(fault) => fault == TrackListFault::Memory && list.order().len() == before,
+    }
+}
+
+#[test]
+fn is_unchanged_where_a_growth_is_refused(rt: HostRuntime) -> Result<(), Fail> {
+    for at in 0..100 {
+        let memory = Refusing::new(rt.alloc(), at);
+        let mut list = TrackList::new(&memory);
+        assert!(rt; grows_or_stays(&mut list, named('a')?));
+        assert_eq!(rt; list.order().is_empty(), memory.has_refused());
+        if !memory.has_refused() {
+            return Ok(());
+        }
+    }
+    assert!(rt; false);
+    Ok(())
+}
+
+// Whether a list of one place and its copy were made, and are equal.
+fn is_copied<M: Allocator + Clone>(memory: M) -> Result<bool, TrackListFault> {
+    let Ok(only) = named('a') else {
+        return Ok(false);
+    };
+    let mut list = TrackList::new(memory);
+    put(&mut list, only)?;
+    let copy = list.try_clone()?;
+    Ok(copy == list)
+}
+
+#[test]
+fn refuses_a_copy_where_its_growth_is_refused(rt: HostRuntime) -> Result<(), Fail> {
+    for at in 0..100 {
+        let memory = Refusing::new(rt.alloc(), at);
+        let copied = is_copied(&memory);
+        assert_eq!(rt; copied == Ok(true), !memory.has_refused());
+        if !memory.has_refused() {
+            return Ok(());
+        }
+    }
+    assert!(rt; false);
+    Ok(())
+}
