@@ -193,8 +193,30 @@ pub const OF_WAVES: [Refusal; 7] = [
     },
 ];
 
+/// The refusals of rendering.
+pub const OF_RENDERING: [Refusal; 3] = [
+    Refusal {
+        number: 33,
+        name: "MissingSource",
+        meaning: "the recording of a clip that would sound is not given",
+        advice: "Name the recording too: `radio view` prints the digests that clips name, and `radio info` that of a file.",
+    },
+    Refusal {
+        number: 34,
+        name: "RateDiffers",
+        meaning: "a recording is of another rate than the programme",
+        advice: "Give the programme that rate, or convert the recording (`sox IN -r RATE OUT`) and place it anew: its digest is another then.",
+    },
+    Refusal {
+        number: 35,
+        name: "TooLong",
+        meaning: "the programme is too long for a wave file",
+        advice: "Look for a clip that was placed by mistake far behind the others, or render fewer channels or bits.",
+    },
+];
+
 /// The refusals of reading and writing, and of the parts of operations.
-pub const OF_FILES_AND_PARTS: [Refusal; 5] = [
+pub const OF_FILES_AND_PARTS: [Refusal; 6] = [
     Refusal {
         number: 37,
         name: "Write",
@@ -220,6 +242,12 @@ pub const OF_FILES_AND_PARTS: [Refusal; 5] = [
         advice: "See that each named file is there, is no folder, and may be read.",
     },
     Refusal {
+        number: 47,
+        name: "BadFormat",
+        meaning: "the format of a programme is not one that is written",
+        advice: "Take a rate from 1 to 384000, 16 or 24 bits, and 1 or 2 channels.",
+    },
+    Refusal {
         number: 50,
         name: "BadDigest",
         meaning: "a text is no digest",
@@ -233,6 +261,7 @@ pub fn find_refusal(number: u8) -> Option<&'static Refusal> {
         OF_OPERATIONS.as_slice(),
         OF_LOGS.as_slice(),
         OF_WAVES.as_slice(),
+        OF_RENDERING.as_slice(),
         OF_FILES_AND_PARTS.as_slice(),
     ] {
         for one in table {
