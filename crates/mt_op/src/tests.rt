@@ -185,13 +185,11 @@ fn calls_the_laws(_rt: HostRuntime) -> Result<(), Fail> {
 
 #[test]
 fn finds_operations_by_their_dots(rt: HostRuntime) -> Result<(), Fail> {
-    let mut ops = Vec::new(rt.alloc());
-    for (clock, replica, seq) in [(5, A, 2), (9, A, 4), (1, B, 1)] {
-        ops.push(Op::new(
-            Stamp::new(clock, replica, seq)?,
-            marker(rt.alloc(), "News")?,
-        )?)?;
-    }
+    let ops = [
+        Op::new(Stamp::new(5, A, 2)?, marker(rt.alloc(), "News")?)?,
+        Op::new(Stamp::new(9, A, 4)?, marker(rt.alloc(), "Weather")?)?,
+        Op::new(Stamp::new(1, B, 1)?, marker(rt.alloc(), "Sport")?)?,
+    ];
     for (replica, seq, place) in [
         (A, 1, Err(0)),
         (A, 2, Ok(0)),

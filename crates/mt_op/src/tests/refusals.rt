@@ -180,20 +180,18 @@ fn refuses_tags_that_are_none_or_do_not_rise(rt: HostRuntime) -> Result<(), Fail
     let item = Stamp::new(1, A, 1)?;
     let second = Stamp::new(2, A, 2)?;
     let other = Stamp::new(2, B, 1)?;
-    for (of, tags, refusal) in [
-        (item, [].as_slice(), Some(OpFault::BadTags)),
-        (item, [item, item].as_slice(), Some(OpFault::BadTags)),
-        (
-            item,
-            [item, other, second].as_slice(),
-            Some(OpFault::BadTags),
-        ),
-        (item, [item, own].as_slice(), Some(OpFault::NameNotOlder)),
-        (own, [].as_slice(), Some(OpFault::NameNotOlder)),
-        (item, [item, second, other].as_slice(), None),
-    ] {
-        assert_eq!(rt; Op::new(own, remove(rt.alloc(), of, tags)?).err(), refusal);
-    }
+    let none = remove(rt.alloc(), item, &[])?;
+    assert_eq!(rt; Op::new(own, none).err(), Some(OpFault::BadTags));
+    let twice = remove(rt.alloc(), item, &[item, item])?;
+    assert_eq!(rt; Op::new(own, twice).err(), Some(OpFault::BadTags));
+    let falling = remove(rt.alloc(), item, &[item, other, second])?;
+    assert_eq!(rt; Op::new(own, falling).err(), Some(OpFault::BadTags));
+    let young_tag = remove(rt.alloc(), item, &[item, own])?;
+    assert_eq!(rt; Op::new(own, young_tag).err(), Some(OpFault::NameNotOlder));
+    let young_item = remove(rt.alloc(), own, &[])?;
+    assert_eq!(rt; Op::new(own, young_item).err(), Some(OpFault::NameNotOlder));
+    let rising = remove(rt.alloc(), item, &[item, second, other])?;
+    assert!(rt; Op::new(own, rising).is_ok());
     Ok(())
 }
 
