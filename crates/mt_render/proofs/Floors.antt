@@ -1,0 +1,137 @@
+-- Quotients that round down.
+use Rattle.std.proofs.Common.{◌≡◌, ℕ, zero, suc, ◌+◌, ◌*◌, ◌/◌, ◌^◌, ◌<◌, ◌≤◌, inl, inr, refl, sym, ◌∙◌, arith, ap, ℤ, pos, negsuc, ◌+ℤ◌, ◌-ℤ◌, neg_ℤ, ◌*ℤ◌, FitsSigned, to_z, of_z}
+use Rattle.std.proofs.Math.Nat.{mul-le-mul_right, mul-le-mul_left}
+use Rattle.std.proofs.lemmas.Bool.{cases_lt}
+use Rattle.std.proofs.lemmas.Nat.{mul-le, div-mul-add}
+use Rattle.mt_render.specs.Divides.{Divides}
+use Rattle.std.specs.Int.{w64, int_div_euclid, int_shr}
+use Rattle.std.proofs.lemmas.Int.{to_z-of_z}
+use borrow.Author.Differences.{up, down, same_in, same_out, sum_is_lem, product_is, neg_is}
+use Rattle.mt_render.specs.Mix.{floored, rounded}
+
+-- c is the quotient of z by n
+pub record IsFloor (z : ℤ) (n : ℕ) (c : ℤ) : Type 0 where
+  pub least : up c * n + down z ≤ down c * n + up z
+  pub most : down c * n + up z < up c * n + down z + n
+
+pub floored_is : (z : ℤ) (n : ℕ) → 0 < n → IsFloor z n (floored z n)
+floored_is (pos a) n h = record { least = omega arith; most = omega arith }
+floored_is (negsuc a) n h = record { least = omega arith; most = omega arith }
+
+below_next : (u v n : ℕ) → u * n < v * n + n → u ≤ v
+below_next u v n h =
+    elim (cases_lt v u) [
+      | inl gt ↦ let k : (v + 1) * n ≤ u * n = mul-le-mul_right n (omega arith) in absurd (omega arith)
+      | inr le ↦ le
+    ]
+
+-- there is one quotient
+pub one_floor : (z : ℤ) (n : ℕ) (c d : ℤ) → IsFloor z n c → IsFloor z n d → c ≡ d
+one_floor z n c d p q =
+    let a : up c + down d ≤ up d + down c = below_next (up c + down d) (up d + down c) n (omega (arith, p.least, p.most, q.least, q.most)) in
+    let b : up d + down c ≤ up c + down d = below_next (up d + down c) (up c + down d) n (omega (arith, p.least, p.most, q.least, q.most)) in
+    same_in c d (omega arith)
+
+twice : ℤ → ℕ → ℤ
+twice p q = pos 2 *ℤ p +ℤ pos q
+
+twice_is : (p : ℤ) (q : ℕ) → up (twice p q) + 2 * down p ≡ down (twice p q) + 2 * up p + q
+unfolding twice
+twice_is p q = omega (arith, sum_is_lem (pos 2 *ℤ p) (pos q), product_is (pos 2) p)
+
+-- the half of the divisor goes in as a whole number: no doubling
+half_floor : (z p : ℤ) (q : ℕ) (c s : ℤ) → up z + 2 * down p ≡ down z + 2 * up p + q → up s + down p ≡ down s + up p + q / 2 → IsFloor s q c → IsFloor z (2 * q) c
+half_floor z p q c s e f k = record {
+  least = omega (arith, k.least);
+  most = omega (arith, k.most);
+}
+
+pub rounded_by_half : (p : ℤ) (q : ℕ) → 0 < q → rounded p q ≡ floored (p +ℤ pos (q / 2)) q
+unfolding twice
+rounded_by_half p q h =
+    let s = p +ℤ pos (q / 2) in
+    let c = floored s q in
+    let e : up s + down p ≡ down s + up p + q / 2 = omega (arith, sum_is_lem p (pos (q / 2))) in
+    one_floor (twice p q) (2 * q) (rounded p q) c (floored_is (twice p q) (2 * q) (omega arith)) (half_floor (twice p q) p q c s (twice_is p q) e (floored_is s q h))
+
+-- nothing is rounded where the divisor is 1
+pub rounded_whole : (p : ℤ) → rounded p 1 ≡ p
+unfolding twice
+rounded_whole p =
+    one_floor (twice p 1) 2 (rounded p 1) p (floored_is (twice p 1) 2 (omega arith)) (record { least = omega (arith, twice_is p 1); most = omega (arith, twice_is p 1) })
+
+-- a quotient by a power of two is a shift
+pub floored_shift : (z : ℤ) (k : ℕ) → floored z (2 ^ k) ≡ int_shr z k
+floored_shift (pos a) k = refl
+floored_shift (negsuc a) k = refl
+
+scaled_floor : (g n : ℕ) (y z c : ℤ) → 0 < g → up z + g * down y ≡ down z + g * up y → IsFloor y n c → IsFloor z (g * n) c
+scaled_floor g n y z c h e k =
+    let a : g * (up c * n + down y) ≤ g * (down c * n + up y) = mul-le-mul_left g k.least in
+    let b : g * (down c * n + up y + 1) ≤ g * (up c * n + down y + n) = mul-le-mul_left g (omega (arith, k.most)) in
+    record { least = omega arith; most = omega arith }
+
+times : (g u d v e q : ℕ) → u + 2 * d ≡ v + 2 * e + q → g * u + 2 * (g * d) ≡ g * v + 2 * (g * e) + g * q
+times g u d v e q h = let m : g * (u + 2 * d) ≡ g * (v + 2 * e + q) = ap (λ n. g * n) h in omega arith
+
+up_part : (g u d a r : ℕ) → r ≡ u * a + d * 0 → g * r ≡ u * (g * a)
+up_part g u d a r h = rw h (omega arith)
+
+down_part : (g u d a r : ℕ) → r ≡ u * 0 + d * a → g * r ≡ d * (g * a)
+down_part g u d a r h = rw h (omega arith)
+
+-- a fraction may be reduced
+pub rounded_reduced : (g a q : ℕ) (x : ℤ) → 0 < g → 0 < q → rounded (x *ℤ pos (g * a)) (g * q) ≡ rounded (x *ℤ pos a) q
+unfolding twice
+rounded_reduced g a q x hg hq =
+    let p = x *ℤ pos (g * a) in
+    let r = x *ℤ pos a in
+    let c = rounded r q in
+    let positive : 1 * 1 ≤ g * q = mul-le 1 1 g q hg hq in
+    let more = times g (up (twice r q)) (down r) (down (twice r q)) (up r) q (twice_is r q) in
+    let left : g * up r ≡ up x * (g * a) = up_part g (up x) (down x) a (up r) (product_is x (pos a)).0 in
+    let right : g * down r ≡ down x * (g * a) = down_part g (up x) (down x) a (down r) (product_is x (pos a)).1 in
+    let e : up (twice p (g * q)) + g * down (twice r q) ≡ down (twice p (g * q)) + g * up (twice r q) =
+    omega (arith, twice_is p (g * q), more, (product_is x (pos (g * a))).0, (product_is x (pos (g * a))).1, left, right) in
+    let k : IsFloor (twice p (g * q)) (g * (2 * q)) c = scaled_floor g (2 * q) (twice r q) (twice p (g * q)) c hg e (floored_is (twice r q) (2 * q) (omega arith)) in
+    one_floor (twice p (g * q)) (2 * (g * q)) (rounded p (g * q)) c (floored_is (twice p (g * q)) (2 * (g * q)) (omega arith)) (record { least = omega (arith, k.least); most = omega (arith, k.most) })
+
+-- ---- the three ways, each for the divisor that it is taken for
+
+pub by_whole : (p : ℤ) (den : ℕ) → den ≡ 1 → p ≡ rounded p den
+by_whole p den h = rw h (sym (rounded_whole p))
+
+pub by_shift : (p : ℤ) (den bits : ℕ) → 0 < den → 2 ^ bits ≡ den → int_shr (p +ℤ pos (den / 2)) bits ≡ rounded p den
+by_shift p den bits some power = sym (floored_shift (p +ℤ pos (den / 2)) bits) ∙ rw power (sym (rounded_by_half p den some))
+
+pub by_division : (p : ℤ) (den : ℕ) → 0 < den → floored (p +ℤ pos (den / 2)) den ≡ rounded p den
+by_division p den some = sym (rounded_by_half p den some)
+
+quotient : (n g a : ℕ) → 0 < g → n ≡ g * a → n / g ≡ a
+quotient n g a h e = let f : n ≡ a * g + 0 = omega arith in rw f (div-mul-add a g 0 h)
+
+-- both parts over a divisor of both
+pub in_lower_terms : (n d g : ℕ) (x : ℤ) → 0 < g → 0 < d → Divides g n → Divides g d → rounded (x *ℤ pos (n / g)) (d / g) ≡ rounded (x *ℤ pos n) d
+in_lower_terms n d g x hg hd p q =
+    let qn = quotient n g p.times hg p.is in
+    let qd = quotient d g q.times hg q.is in
+    rw (qn, qd) (sym (rounded_reduced g p.times q.times x hg (some_times g q.times d hd q.is)) ∙ rw (← p.is, ← q.is) refl)
+  where
+    some_times : (g t d : ℕ) → 0 < d → d ≡ g * t → 0 < t
+    some_times g zero d hd e = let z : g * 0 ≡ 0 = omega arith in absurd (omega arith)
+    some_times g (suc t) d hd e = omega arith
+
+-- a guess that leaves less than the divisor is the quotient
+pub guess_is : (z c rest : ℤ) (n : ℕ) → rest ≡ z -ℤ c *ℤ pos n → down rest ≤ up rest → up rest < down rest + n → c ≡ floored z n
+guess_is z c rest n is from to =
+    let parts = same_out rest (z -ℤ c *ℤ pos n) is in
+    let some : 0 < n = omega arith in
+    one_floor z n c (floored z n) (record {
+      least = omega (arith, sum_is_lem z (neg_ℤ (c *ℤ pos n)), (neg_is (c *ℤ pos n)).0, (neg_is (c *ℤ pos n)).1, product_is c (pos n));
+      most = omega (arith, sum_is_lem z (neg_ℤ (c *ℤ pos n)), (neg_is (c *ℤ pos n)).0, (neg_is (c *ℤ pos n)).1, product_is c (pos n));
+    }) (floored_is z n some)
+
+-- the quotient of two numbers of 64 bits
+pub divided : (r z d : ℤ) → FitsSigned w64 r → FitsSigned w64 z → FitsSigned w64 d
+    → r ≡ int_div_euclid (to_z w64 (of_z w64 z)) (to_z w64 (of_z w64 d)) → to_z w64 (of_z w64 r) ≡ int_div_euclid z d
+divided r z d fr fz fd h = to_z-of_z w64 r fr ∙ h ∙ rw (to_z-of_z w64 z fz, to_z-of_z w64 d fd) refl

@@ -1,0 +1,45 @@
+use Rattle.std.proofs.Common.{◌≡◌, ◌∙◌, ap, subst, arith, take, ◌+ℤ◌}
+use Rattle.std.proofs.lemmas.List.{take_all}
+use Rattle.mt_sessionview.specs.Content.{Track}
+use Rattle.mt_render.specs.Parts.{all_give}
+use Rattle.mt_render.specs.Lanes.{AreSpans, lane_sum, clip_value}
+use Rattle.mt_render.proofs.Lanes.{spans_apart, differ_at, segment_of, lane_is}
+use Rattle.mt_render.proofs.Adding.{lane_step}
+use Rattle.mt_render.proofs.lane.add_track.Goals as goal
+
+pub segments-requires : goal.segments-requires
+segments-requires g c = record { differ = rw c.deref.ensures.value (spans_apart c.items-clips.result.now c.in_ok-spans.spans.items c.in_ok-spans.ensures.ok (rw c.items-clips.ensures (differ_at c.track.inside.clips c.track.invariant.apart))) }
+
+pub clip_at-clip-requires : goal.clip_at-clip-requires
+clip_at-clip-requires g c =
+    let k = segment_of c.items-clips.result.now c.in_ok-spans.spans.items c.in_ok-segments.segments.items c.loop-index.index c.in_ok-spans.ensures.ok (rw c.deref.ensures.value at c.in_ok-segments.ensures.ok) (omega arith) in
+    rw (c.segment_at-segment.ensures, c.deref-in-loop-index.ensures.value) k.within
+
+pub add_part-requires-clause-begun : goal.add_part-requires-clause-begun
+add_part-requires-clause-begun g c =
+    let k = segment_of c.items-clips.result.now c.in_ok-spans.spans.items c.in_ok-segments.segments.items c.loop-index.index c.in_ok-spans.ensures.ok (rw c.deref.ensures.value at c.in_ok-segments.ensures.ok) (omega arith) in
+    rw (c.clip_at-clip.ensures, c.segment_at-segment.ensures, c.deref-in-loop-index.ensures.value) k.begun
+
+pub add_part-requires-clause-there : goal.add_part-requires-clause-there
+add_part-requires-clause-there g c =
+    let k = segment_of c.items-clips.result.now c.in_ok-spans.spans.items c.in_ok-segments.segments.items c.loop-index.index c.in_ok-spans.ensures.ok (rw c.deref.ensures.value at c.in_ok-segments.ensures.ok) (omega arith) in
+    let clips : c.items-clips.result.now ≡ c.args.track.now.clips = c.items-clips.ensures ∙ ap (λ (t : Track). t.clips) c.track.view_is in
+    rw (c.clip_at-clip.ensures, c.segment_at-segment.ensures, c.deref-in-loop-index.ensures.value, clips) (c.requires.there _ (rw clips at k.within) (rw clips at k.on))
+
+pub loop-index-preserved : goal.loop-index-preserved
+loop-index-preserved g c = λ f d.
+    let clips : c.items-clips.result.now ≡ c.args.track.now.clips = c.items-clips.ensures ∙ ap (λ (t : Track). t.clips) c.track.view_is in
+    let gain : c.track.inside.gain ≡ c.args.track.now.gain = ap (λ (t : Track). t.gain) c.track.view_is in
+    lane_step c.args.catalogue.now c.args.track.now.gain c.args.track.now.clips c.in_ok-segments.segments.items c.loop-index.index f d (all_give f d c.args.parts.now.items) (all_give f d c.loop-index.parts.items) _
+    c.segment_at-segment.result c.clip_at-clip.result (omega arith) (rw c.deref-in-loop-index.ensures.value at c.segment_at-segment.ensures) (rw clips at c.clip_at-clip.ensures) (c.loop-index.invariant f d) (rw gain at (c.in_ok-add_part.ensures.ok f d))
+
+pub returns-clause-ok : goal.returns-clause-ok
+returns-clause-ok g c = λ f d.
+    let clips : c.items-clips.result.now ≡ c.args.track.now.clips = c.items-clips.ensures ∙ ap (λ (t : Track). t.clips) c.track.view_is in
+    let segs = c.in_ok-segments.segments.items in
+    let whole : take c.loop-index.index segs ≡ segs = take_all c.loop-index.index segs (omega arith) in
+    let are : AreSpans c.args.track.now.clips c.in_ok-spans.spans.items = subst (λ l. AreSpans l c.in_ok-spans.spans.items) clips c.in_ok-spans.ensures.ok in
+    c.loop-index.invariant f d ∙ ap (λ z. all_give f d c.args.parts.now.items +ℤ z)
+    (ap (λ l. lane_sum (clip_value c.args.catalogue.now c.args.track.now.gain c.args.track.now.clips f d) l f) whole
+    ∙ lane_is c.args.catalogue.now c.args.track.now.gain c.args.track.now.clips c.in_ok-spans.spans.items segs f d
+    (rw (ap (λ (t : Track). t.clips) c.track.view_is) at (differ_at c.track.inside.clips c.track.invariant.apart)) are (rw c.deref.ensures.value at c.in_ok-segments.ensures.ok))

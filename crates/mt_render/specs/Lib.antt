@@ -1,0 +1,10 @@
+pub mod Faults
+pub mod Layout
+pub mod Sources
+pub mod Mix
+pub mod Refusals
+pub mod Lanes
+pub mod Divides
+pub mod Parts
+pub mod Search
+pub mod Kept
