@@ -89,8 +89,8 @@ pub const OF_OPERATIONS: [Refusal; 11] = [
     },
 ];
 
-/// The refusals of logs, and of lists of tracks.
-pub const OF_LOGS: [Refusal; 9] = [
+/// The refusals of logs, of lists of tracks and of what waits.
+pub const OF_LOGS: [Refusal; 10] = [
     Refusal {
         number: 11,
         name: "BadMagic",
@@ -143,6 +143,12 @@ pub const OF_LOGS: [Refusal; 9] = [
         number: 19,
         name: "PlaceThere",
         meaning: "a place of a track is in the list already",
+        advice: FROM_A_PROGRAM,
+    },
+    Refusal {
+        number: 20,
+        name: "Failed",
+        meaning: "memory was refused earlier to what keeps waiting operations, which is empty since then",
         advice: FROM_A_PROGRAM,
     },
 ];

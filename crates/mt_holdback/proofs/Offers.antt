@@ -1,15 +1,19 @@
 -- What an item that is offered changes in a hold-back.
-use Rattle.std.proofs.Common.{◌≡◌, ℕ, suc, ◌+◌, Bool, true, false, not, cond, ◌||◌, List, [], ◌∷◌, ◌++◌, filter, refl, sym, ap, ◌∙◌, subst, arith, true≢false}
-use Rattle.std.specs.Prelude.{insert}
+use Rattle.std.proofs.Common.{◌≡◌, ℕ, suc, ◌+◌, ◌<◌, ◌≤◌, Bool, true, false, not, cond, ◌||◌, List, [], ◌∷◌, ◌++◌, filter, refl, sym, ap, ◌∙◌, subst, arith, true≢false, lt-ltb, le-ltb}
+use Rattle.std.specs.Prelude.{insert, ltb, length}
 use Rattle.std.specs.List.{AllByRecursion, list_any, prefix_len}
-use Rattle.std.specs.Ordering.{is_lt, ordering_reverse}
+use Rattle.std.specs.Ordering.{is_lt, ordering_reverse, ordering_then, nat_cmp, MatchOrdering}
 use Rattle.std.specs.declared.cmp.Ordering.{Ordering}
 use Rattle.std.specs.declared.cmp.Ordering.TheVariants.{Less, Equal, Greater}
+use Rattle.std.proofs.lemmas.Cmp.{ranked}
+use Rattle.std.proofs.lemmas.List.{length-append}
 use Rattle.mt_stamp.specs.Moment.{Moment, stamp_cmp, stamp_eq}
 use Rattle.mt_stamp.proofs.Order.{stamp_cmp_total, stamp_cmp-IsAntisymmetric, stamp_eq-itself}
 use Rattle.mt_holdback.specs.Waiting.{NamesOlder, clock_of, meets, is_ready}
-use Rattle.mt_holdback.specs.HoldBack.{Kept, offered, KeysRise, queued, offered_with, kept_with, OfferKeepsTheRule, HeldReleasesNothing}
-use Rattle.mt_holdback.proofs.Readiness.{held_changes_nothing}
+use Rattle.mt_holdback.specs.Laws.{passed, ClocksRise}
+use Rattle.mt_holdback.specs.Passing.{left}
+use Rattle.mt_holdback.specs.HoldBack.{Kept, offered, knows, KeysRise, queued, offered_with, newly_ready, kept_with, IsHoldBack, OfferKeepsTheRule, HeldReleasesNothing}
+use Rattle.mt_holdback.proofs.Readiness.{held_changes_nothing, one_pass_finds_all, one_pass_leaves}
 use Rattle.mt_holdback.proofs.Listings.{IsWithin, or_left, or_middle, any_append, any_parts, ready_within, ready_same}
 
 turned : (a : Bool) → not a ≡ true → a ≡ false
@@ -200,3 +204,70 @@ module _ {T R : Type 0} (key : T → Moment) (needs : T → List (Moment × R)) 
           → AllByRecursion (λ u. is_ready key needs fits (offered_with key needs fits kept t) u ≡ false) xs
       waiting_held [] all waits same = tt
       waiting_held (x ∷ xs) all waits same = (sym (same x) ∙ all.0 ∙ waits.0, waiting_held xs all.1 waits.1 same)
+
+  -- what becomes ready rises by key
+  pub newly_ready_rises : (kept : Kept T) (t : T) → IsHoldBack key needs fits kept → knows key needs fits kept (key t) ≡ false → KeysRise key needs fits (newly_ready key needs fits kept t)
+  newly_ready_rises kept t is fresh =
+      kept_rise (is_ready key needs fits (offered_with key needs fits kept t)) (queued key needs fits t kept.waiting) (queue_rises t kept.waiting is.rise (all_rest (λ u. stamp_eq (key u) (key t) ≡ false) kept.released kept.waiting (none_known (key t) (offered key needs fits kept) fresh)))
+
+  -- an earlier stamp has no greater clock
+  less_clock : (a b : Moment) → stamp_cmp a b ≡ Less → a.clock ≤ b.clock
+  less_clock a b less = by (nat_cmp a.clock b.clock) (ordering_then (nat_cmp a.replica.0 b.replica.0) (nat_cmp a.seq b.seq)) (ranked a.clock b.clock (nat_cmp a.clock b.clock) refl) less
+    where
+      by : (o rest : Ordering) → MatchOrdering o (a.clock < b.clock) (a.clock ≡ b.clock) (b.clock < a.clock) → ordering_then o rest ≡ Less → a.clock ≤ b.clock
+      by Less rest is h = omega (arith, is)
+      by Equal rest is h = omega (arith, is)
+      by Greater rest is h = cc
+
+  clocks_rise : (items : List T) → KeysRise key needs fits items → ClocksRise key needs fits items
+  clocks_rise [] rise = tt
+  clocks_rise (t ∷ items) rise = (all_along (λ u. stamp_cmp (key t) (key u) ≡ Less) (λ u. clock_of key needs fits t ≤ clock_of key needs fits u) (λ u. less_clock (key t) (key u)) items rise.0, clocks_rise items rise.1)
+
+  -- a pass over the queue releases what is newly ready, and leaves the others
+  pub a_pass_keeps : (kept : Kept T) (t : T) → IsHoldBack key needs fits kept → knows key needs fits kept (key t) ≡ false → NamesOlder (key t) (needs t)
+      → record { released = passed key needs fits kept.released (queued key needs fits t kept.waiting); waiting = left key needs fits kept.released (queued key needs fits t kept.waiting) } ≡ kept_with key needs fits kept t
+  a_pass_keeps kept t is fresh names_older =
+      let q : List T = queued key needs fits t kept.waiting in
+      let P : T → Type 0 = λ u. NamesOlder (key u) (needs u) in
+      let older : AllByRecursion P (kept.released ++ q) = all_join P kept.released q (all_first P kept.released kept.waiting is.older) (all_queued P t kept.waiting names_older (all_rest P kept.released kept.waiting is.older)) in
+      let ready : AllByRecursion (λ u. is_ready key needs fits (offered_with key needs fits kept t) u ≡ true) kept.released =
+      all_along (λ u. is_ready key needs fits (offered key needs fits kept) u ≡ true) (λ u. is_ready key needs fits (offered_with key needs fits kept t) u ≡ true)
+      (λ u h. ready_within (clock_of key needs fits) needs (meets key needs fits) (offered key needs fits kept) (offered_with key needs fits kept t) u (more_with kept t) h) kept.released is.ready in
+      let rise : ClocksRise key needs fits q = clocks_rise q (queue_rises t kept.waiting is.rise (all_rest (λ u. stamp_eq (key u) (key t) ≡ false) kept.released kept.waiting (none_known (key t) (offered key needs fits kept) fresh))) in
+      λ i. record { released = one_pass_finds_all key needs fits kept.released q older ready rise i; waiting = one_pass_leaves key needs fits kept.released q older ready rise i }
+
+  -- the released ones are more exactly where the item is ready
+  some_kept : (p : T → Bool) (ys : List T) → list_any p ys ≡ true → 1 ≤ length (filter p ys)
+  some_kept p [] there = absurd (true≢false (sym there))
+  some_kept p (y ∷ ys) there = by (p y) there (some_kept p ys)
+    where
+      by : (b : Bool) → (b || list_any p ys) ≡ true → (list_any p ys ≡ true → 1 ≤ length (filter p ys)) → 1 ≤ length (cond b (y ∷ filter p ys) (filter p ys))
+      by true h rest = omega arith
+      by false h rest = rest h
+
+  longer : (xs ys : List T) (p : T → Bool) → list_any p ys ≡ true → ltb (length xs) (length (xs ++ filter p ys)) ≡ true
+  longer xs ys p there = lt-ltb (length xs) (length (xs ++ filter p ys)) (omega (arith, length-append xs (filter p ys), some_kept p ys there))
+
+  pub released_more : (kept : Kept T) (t : T) → IsHoldBack key needs fits kept → NamesOlder (key t) (needs t)
+      → ltb (length kept.released) (length (kept_with key needs fits kept t).released) ≡ is_ready key needs fits (offered_with key needs fits kept t) t
+  released_more kept t is names_older = by (is_ready key needs fits (offered_with key needs fits kept t) t) refl
+    where
+      by : (b : Bool) → is_ready key needs fits (offered_with key needs fits kept t) t ≡ b → ltb (length kept.released) (length (kept_with key needs fits kept t).released) ≡ b
+      by true e = longer kept.released (queued key needs fits t kept.waiting) (is_ready key needs fits (offered_with key needs fits kept t)) (any_queued (is_ready key needs fits (offered_with key needs fits kept t)) t kept.waiting ∙ ap (λ (b : Bool). b || list_any (is_ready key needs fits (offered_with key needs fits kept t)) kept.waiting) e)
+      by false e = ap (λ (k : Kept T). ltb (length kept.released) (length k.released)) (held_releases_nothing kept t is names_older e) ∙ le-ltb (length kept.released) (length kept.released) (omega arith)
+
+  -- The same, from what the steps of an offer leave.
+  pub taken_in : (kept : Kept T) (t : T) (queue before released still : List T) → IsHoldBack key needs fits kept → knows key needs fits kept (key t) ≡ false → NamesOlder (key t) (needs t)
+      → queue ≡ queued key needs fits t kept.waiting → before ≡ [] → released ≡ passed key needs fits kept.released queue → still ≡ before ++ left key needs fits kept.released queue
+      → record { released = released; waiting = still } ≡ kept_with key needs fits kept t
+  taken_in kept t queue before released still is fresh names_older is_queue is_empty is_released is_still =
+      (λ i. record { released = is_released i; waiting = (is_still ∙ ap (λ (xs : List T). xs ++ left key needs fits kept.released queue) is_empty) i })
+      ∙ (λ i. record { released = passed key needs fits kept.released (is_queue i); waiting = left key needs fits kept.released (is_queue i) })
+      ∙ a_pass_keeps kept t is fresh names_older
+
+  pub rule_of : (kept after : Kept T) (t : T) → IsHoldBack key needs fits kept → knows key needs fits kept (key t) ≡ false → NamesOlder (key t) (needs t) → after ≡ kept_with key needs fits kept t → IsHoldBack key needs fits after
+  rule_of kept after t is fresh names_older is_after = subst (IsHoldBack key needs fits) (sym is_after) (offer_keeps_the_rule kept t is fresh names_older)
+
+  pub ready_of : (kept after : Kept T) (t : T) → IsHoldBack key needs fits kept → NamesOlder (key t) (needs t) → after ≡ kept_with key needs fits kept t
+      → ltb (length kept.released) (length after.released) ≡ is_ready key needs fits (offered_with key needs fits kept t) t
+  ready_of kept after t is names_older is_after = ap (λ (k : Kept T). ltb (length kept.released) (length k.released)) is_after ∙ released_more kept t is names_older

@@ -1,11 +1,12 @@
 -- The laws of everything that waits.
-use Rattle.std.proofs.Common.{◌≡◌, ℕ, zero, suc, ◌<◌, ◌≤◌, Bool, true, false, cond, ◌||◌, ◌&&◌, List, [], ◌∷◌, ◌++◌, filter, refl, sym, ap, ◌∙◌, subst, arith, append_assoc, true≢false, append-nil}
+use Rattle.std.proofs.Common.{◌≡◌, ℕ, zero, suc, ◌<◌, ◌≤◌, Bool, true, false, not, cond, ◌||◌, ◌&&◌, List, [], ◌∷◌, ◌++◌, filter, refl, sym, ap, ◌∙◌, subst, arith, append_assoc, true≢false, append-nil}
 use Rattle.std.specs.List.{AllByRecursion, list_all, list_any}
 use Rattle.mt_stamp.specs.Moment.{Moment}
 use Rattle.mt_stamp.proofs.Order.{stamp_eq-true}
 use Rattle.mt_op.specs.Ready as rule
 use Rattle.mt_op.proofs.Readiness.{the_only_ready, is_ready-met}
 use Rattle.mt_holdback.specs.Waiting.{NamesOlder, clock_of, meets, is_ready, AllNameOlder}
+use Rattle.mt_holdback.specs.Passing.{left}
 use Rattle.mt_holdback.specs.Laws.{ReadyIsDefined, MoreIsReady, HeldChangesNothing, OnePassFindsAll, is_met_by, passed, ClocksRise}
 
 -- tests of lists
@@ -165,6 +166,33 @@ module _ {T R : Type 0} (key : T → Moment) (needs : T → List (Moment × R)) 
         (met_is_ready d seen (d ∷ waiting) cut (omega arith, rise.0) names_older.0)
         ∙ ap (λ (xs : List T). passed key needs fits xs waiting) (sym (filter_push (is_ready key needs fits all) seen d))
         ∙ pass_from (seen ++ d ∷ []) waiting (cut ∙ sym (append_assoc seen (d ∷ []) waiting)) names_older.1 rise.1
+
+    left_from : (seen waiting : List T) → all ≡ seen ++ waiting → AllNameOlder key needs fits waiting → ClocksRise key needs fits waiting
+        → left key needs fits (filter (is_ready key needs fits all) seen) waiting ≡ filter (λ u. not (is_ready key needs fits all u)) waiting
+    left_from seen [] cut names_older rise = refl
+    left_from seen (d ∷ waiting) cut names_older rise =
+        ap (λ (b : Bool). cond b (left key needs fits (filter r seen ++ d ∷ []) waiting) (d ∷ left key needs fits (filter r seen) waiting)) (met_is_ready d seen (d ∷ waiting) cut (omega arith, rise.0) names_older.0)
+        ∙ by (r d)
+        (ap (λ (xs : List T). left key needs fits xs waiting) (sym (filter_push r seen d))
+        ∙ left_from (seen ++ d ∷ []) waiting (cut ∙ sym (append_assoc seen (d ∷ []) waiting)) names_older.1 rise.1)
+      where
+        r : T → Bool
+        r = is_ready key needs fits all
+
+        by : (b : Bool) → left key needs fits (cond b (filter r seen ++ d ∷ []) (filter r seen)) waiting ≡ filter (λ u. not (r u)) waiting
+            → cond b (left key needs fits (filter r seen ++ d ∷ []) waiting) (d ∷ left key needs fits (filter r seen) waiting) ≡ cond (not b) (d ∷ filter (λ u. not (r u)) waiting) (filter (λ u. not (r u)) waiting)
+        by true rest = rest
+        by false rest = ap (λ (ys : List T). d ∷ ys) rest
+
+  -- what a pass leaves is what is not ready
+  pub one_pass_leaves : (taken waiting : List T) → AllNameOlder key needs fits (taken ++ waiting) → AllByRecursion (λ t. is_ready key needs fits (taken ++ waiting) t ≡ true) taken → ClocksRise key needs fits waiting
+      → left key needs fits taken waiting ≡ filter (λ u. not (is_ready key needs fits (taken ++ waiting) u)) waiting
+  one_pass_leaves taken waiting older ready rise =
+      let all : List T = taken ++ waiting in
+      let whole : filter (is_ready key needs fits all) taken ≡ taken =
+      ap (filter (is_ready key needs fits all)) (sym (append-nil taken)) ∙ filter_all (is_ready key needs fits all) taken [] ready ∙ append-nil taken in
+      ap (λ (xs : List T). left key needs fits xs waiting) (sym whole)
+      ∙ left_from all older taken waiting refl (all_append (λ t. NamesOlder (key t) (needs t)) taken waiting older) rise
 
   pub one_pass_finds_all : OnePassFindsAll key needs fits
   one_pass_finds_all taken waiting older ready rise =

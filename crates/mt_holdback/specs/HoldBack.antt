@@ -32,10 +32,14 @@ module _ {T R : Type 0} (key : T → Moment) (needs : T → List (Moment × R)) 
   abbrev pub offered_with : Kept T → T → List T
   offered_with kept t = kept.released ++ queued t kept.waiting
 
+  -- What one item more makes ready, itself or an item that waits: what is ready of all that was offered, with it.
+  abbrev pub newly_ready : Kept T → T → List T
+  newly_ready kept t = filter (is_ready key needs fits (offered_with kept t)) (queued t kept.waiting)
+
   -- What an item that is offered changes: what it makes ready is released, by rising key, and the rest waits.
   abbrev pub kept_with : Kept T → T → Kept T
   kept_with kept t = record {
-    released = kept.released ++ filter (is_ready key needs fits (offered_with kept t)) (queued t kept.waiting);
+    released = kept.released ++ newly_ready kept t;
     waiting = filter (λ u. not (is_ready key needs fits (offered_with kept t) u)) (queued t kept.waiting);
   }
 

@@ -1,6 +1,7 @@
-use crate::Waits;
+use crate::{HoldBack, HoldBackFault, Offered, Waits};
 use mt_op::{Body, Gain, Op, OpFault, Title};
 use mt_stamp::{Replica, Stamp};
+use mt_testalloc::Refusing;
 use std::alloc::Allocator;
 use std::test::Fail;
 
@@ -18,6 +19,46 @@ fn marker<M: Allocator>(memory: M, stamp: Stamp) -> Result<Op<M>, OpFault> {
 fn retitle<M: Allocator>(memory: M, stamp: Stamp, item: Stamp) -> Result<Op<M>, OpFault> {
     let title = Title::new(memory, "Late")?;
     Op::new(stamp, Body::Retitle { item, title })
+}
+
+// An AddTrack that is put after another one.
+fn track<M: Allocator>(memory: M, stamp: Stamp, after: Option<Stamp>) -> Result<Op<M>, OpFault> {
+    let title = Title::new(memory, "Voice")?;
+    Op::new(stamp, Body::AddTrack { after, title })
+}
+
+// A SetGain of an item.
+fn louder<M: Allocator>(stamp: Stamp, item: Stamp) -> Result<Op<M>, OpFault> {
+    let gain = Gain::UNCHANGED;
+    Op::new(stamp, Body::SetGain { item, gain })
+}
+
+// Offers an item whose key is new; one whose key is known is told as held.
+fn offer_new<T: Waits + Drop, M: Allocator + Clone>(
+    hold: &mut HoldBack<T, M>,
+    item: T,
+) -> Result<Offered, HoldBackFault> {
+    if hold.knows(&item.key()) {
+        return Ok(Offered::Held);
+    }
+    hold.offer(item)
+}
+
+// Whether the item that was released at this index has this stamp.
+fn is_released_at<T: Waits + Drop, M: Allocator>(
+    hold: &HoldBack<T, M>,
+    index: usize,
+    stamp: Stamp,
+) -> bool {
+    match hold.released().get(index) {
+        Some(item) => item.key() == stamp,
+        None => false,
+    }
+}
+
+// How many wait, and how many were released.
+fn counts<T: Waits + Drop, M: Allocator>(hold: &HoldBack<T, M>) -> (u64, usize) {
+    (hold.held(), hold.released().len())
 }
 
 // Whether the first need of one item is met by the other.
@@ -53,8 +94,164 @@ fn needs_the_whole_stamp(rt: HostRuntime) -> Result<(), Fail> {
 fn needs_the_role(rt: HostRuntime) -> Result<(), Fail> {
     let item = Stamp::new(1, A, 1)?;
     let first = marker(rt.alloc(), item)?;
-    let gain = Gain::UNCHANGED;
-    let louder = Op::new(Stamp::new(2, B, 1)?, Body::SetGain { item, gain })?;
-    assert!(rt; !is_first_need_met(&louder, &first));
+    let later = louder(Stamp::new(2, B, 1)?, item)?;
+    assert!(rt; !is_first_need_met(&later, &first));
+    Ok(())
+}
+
+// early_retitle
+#[test]
+fn holds_an_early_retitle(rt: HostRuntime) -> Result<(), Fail> {
+    let item = Stamp::new(1, A, 1)?;
+    let later = Stamp::new(2, B, 1)?;
+    let mut hold = HoldBack::new(rt.alloc());
+    assert_eq!(rt;
+        offer_new(&mut hold, retitle(rt.alloc(), later, item)?),
+        Ok(Offered::Held)
+    );
+    assert_eq!(rt; counts(&hold), (1, 0));
+    assert!(rt; hold.knows(&later));
+    assert!(rt; !hold.knows(&item));
+    assert_eq!(rt;
+        offer_new(&mut hold, marker(rt.alloc(), item)?),
+        Ok(Offered::Ready(0))
+    );
+    assert_eq!(rt; counts(&hold), (0, 2));
+    assert!(rt; is_released_at(&hold, 0, item));
+    assert!(rt; is_released_at(&hold, 1, later));
+    Ok(())
+}
+
+// What offers the tracks p, q after p, and r after q in this order answers.
+fn offer_tracks<M: Allocator + Clone>(
+    memory: &M,
+    hold: &mut HoldBack<Op<M>, M>,
+    name: char,
+) -> Result<Offered, Fail> {
+    let p = Stamp::new(1, A, 1)?;
+    let q = Stamp::new(2, A, 2)?;
+    let op = match name {
+        'p' => track(memory.clone()?, p, None)?,
+        'q' => track(memory.clone()?, q, Some(p))?,
+        _ => track(memory.clone()?, Stamp::new(3, A, 3)?, Some(q))?,
+    };
+    Ok(offer_new(hold, op)?)
+}
+
+#[test]
+fn releases_a_chain_by_rising_key(rt: HostRuntime) -> Result<(), Fail> {
+    let mut hold = HoldBack::new(rt.alloc());
+    assert_eq!(rt; offer_tracks(&rt.alloc(), &mut hold, 'r')?, Offered::Held);
+    assert_eq!(rt; offer_tracks(&rt.alloc(), &mut hold, 'q')?, Offered::Held);
+    assert_eq!(rt; counts(&hold), (2, 0));
+    assert_eq!(rt;
+        offer_tracks(&rt.alloc(), &mut hold, 'p')?,
+        Offered::Ready(0)
+    );
+    assert_eq!(rt; counts(&hold), (0, 3));
+    assert!(rt; is_released_at(&hold, 0, Stamp::new(1, A, 1)?));
+    assert!(rt; is_released_at(&hold, 1, Stamp::new(2, A, 2)?));
+    assert!(rt; is_released_at(&hold, 2, Stamp::new(3, A, 3)?));
+    Ok(())
+}
+
+#[test]
+fn tells_from_where_on_items_are_new(rt: HostRuntime) -> Result<(), Fail> {
+    let mut hold = HoldBack::new(rt.alloc());
+    assert_eq!(rt;
+        offer_tracks(&rt.alloc(), &mut hold, 'p')?,
+        Offered::Ready(0)
+    );
+    assert_eq!(rt; offer_tracks(&rt.alloc(), &mut hold, 'r')?, Offered::Held);
+    assert_eq!(rt;
+        offer_tracks(&rt.alloc(), &mut hold, 'q')?,
+        Offered::Ready(1)
+    );
+    assert_eq!(rt; counts(&hold), (0, 3));
+    Ok(())
+}
+
+// wrong_role
+#[test]
+fn holds_what_needs_another_role(rt: HostRuntime) -> Result<(), Fail> {
+    let item = Stamp::new(1, A, 1)?;
+    let later = Stamp::new(2, B, 1)?;
+    let mut hold = HoldBack::new(rt.alloc());
+    assert_eq!(rt;
+        offer_new(&mut hold, louder(later, item)?),
+        Ok(Offered::Held)
+    );
+    assert_eq!(rt;
+        offer_new(&mut hold, marker(rt.alloc(), item)?),
+        Ok(Offered::Ready(0))
+    );
+    assert_eq!(rt; counts(&hold), (1, 1));
+    assert!(rt; is_released_at(&hold, 0, item));
+    assert!(rt; hold.knows(&later));
+    Ok(())
+}
+
+// What is left after the offers of an early retitle.
+#[derive(Clone, Copy, Debug, PartialEq, Eq)]
+struct Left {
+    retitle: Result<Offered, HoldBackFault>,
+    marker: Result<Offered, HoldBackFault>,
+    knows: bool,
+    held: u64,
+    released: usize,
+}
+
+// Offers an early retitle and then its marker to a hold-back over this memory.
+fn early_retitle<M: Allocator, N: Allocator + Clone>(memory: &M, over: N) -> Result<Left, Fail>
+where
+    M: Clone,
+{
+    let item = Stamp::new(1, A, 1)?;
+    let later = Stamp::new(2, B, 1)?;
+    let mut hold = HoldBack::new(over);
+    let retitle = offer_new(&mut hold, retitle(memory.clone()?, later, item)?);
+    let marker = offer_new(&mut hold, marker(memory.clone()?, item)?);
+    let knows = hold.knows(&item) || hold.knows(&later);
+    Ok(Left {
+        retitle,
+        marker,
+        knows,
+        held: hold.held(),
+        released: hold.released().len(),
+    })
+}
+
+// Whether a refused growth was answered as 0, the later offer as 20, and nothing is left.
+fn is_failed(left: &Left) -> bool {
+    let answers = (left.retitle, left.marker);
+    let at_first = (Err(HoldBackFault::Memory), Err(HoldBackFault::Failed));
+    let at_second = (Ok(Offered::Held), Err(HoldBackFault::Memory));
+    (answers == at_first || answers == at_second)
+        && !left.knows
+        && left.held == 0
+        && left.released == 0
+}
+
+// Each growth is refused in turn, until none is.
+#[test]
+fn fails_at_each_refused_growth(rt: HostRuntime) -> Result<(), Fail> {
+    for at in 0..20 {
+        let memory = Refusing::new(rt.alloc(), at);
+        let left = early_retitle(&rt.alloc(), &memory)?;
+        if !memory.has_refused() {
+            assert!(rt; at > 2);
+            assert_eq!(rt; left.marker, Ok(Offered::Ready(0)));
+            return Ok(());
+        }
+        assert!(rt; is_failed(&left));
+    }
+    assert!(rt; false);
+    Ok(())
+}
+
+#[test]
+fn numbers_its_refusals(rt: HostRuntime) -> Result<(), Fail> {
+    assert_eq!(rt; HoldBackFault::Memory.number(), 0);
+    assert_eq!(rt; HoldBackFault::Failed.number(), 20);
     Ok(())
 }

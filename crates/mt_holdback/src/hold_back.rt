@@ -1,0 +1,131 @@
+//! The hold-back.
+
+ghost use Rattle.std.specs.Prelude.{◌≡◌, true, false, cond, ltb, length, IfOk, OnOk, OnErr, IsErrOf, ◌↔◌};
+ghost use Rattle.mt_stamp.specs.Moment.{Moment};
+ghost use Rattle.mt_holdback.specs.HoldBack.{KeysRise, knows, kept_with, newly_ready, IsHoldBack};
+ghost use Rattle.mt_holdback.specs.declared.hold_back.Offered.TheVariants.{Held, Ready};
+
+use crate::fault::HoldBackFault;
+use crate::pass::{has_key, take_in};
+use crate::waits::Waits;
+use mt_stamp::Stamp;
+use std::alloc::{Allocator, Global};
+use std::marker::Model;
+
+/// What became of an item that was offered.
+#[derive(Clone, Copy, Debug, PartialEq, Eq)]
+pub enum Offered {
+    /// It waits.
+    Held,
+    /// It is ready: what was released from this index on is what became ready, by rising key.
+    Ready(usize),
+}
+
+/// Items that wait for others, and those that were released.
+#[derive(Drop)]
+pub struct HoldBack<T: Waits, A: Allocator = Global> {
+    released: Vec<T, A>,
+    waiting: Option<Vec<T, A>>,
+    failed: bool,
+}
+
+impl<T: Waits, A: Allocator> Model for HoldBack<T, A> {
+    ghost use Rattle.mt_holdback.specs.State.{State, items_in};
+    ghost use Rattle.mt_holdback.specs.HoldBack.{IsHoldBack};
+
+    ghost Value = { State T };
+
+    ghost view = { λ h. record { kept = record { released = h.released.items; waiting = items_in (λ v. v.items) h.waiting }; failed = h.failed } };
+
+    ghost invariant = { λ h. IsHoldBack T.key_of T.needs_of T.fits_role (record { released = h.released.items; waiting = items_in (λ v. v.items) h.waiting }) };
+}
+
+impl<T: Waits + Drop, A: Allocator> HoldBack<T, A> {
+    ghost use Rattle.mt_holdback.specs.Offering.{empty, answer};
+
+    /// A hold-back to which nothing was offered. Takes no memory.
+    pub fn new(alloc: A) -> Self
+        ensures { result ≡ record { kept = empty; failed = false } }
+    {
+        HoldBack {
+            released: Vec::new(alloc),
+            waiting: None,
+            failed: false,
+        }
+    }
+
+    /// Whether an item with this key was offered. Looks at one item after another. Never, where the hold-back has failed.
+    pub fn knows(&self, key: &Stamp) -> bool
+        ensures { result ≡ knows T.key_of T.needs_of T.fits_role self.now.kept key.now }
+    {
+        if has_key(&self.released, *key) {
+            return true;
+        }
+        match &self.waiting {
+            Some(waiting) => has_key(waiting, *key),
+            None => false,
+        }
+    }
+
+    /// How many items were offered that wait; 0 where the hold-back has failed.
+    pub fn held(&self) -> u64
+        ensures { result ≡ length self.now.kept.waiting }
+    {
+        match &self.waiting {
+            Some(waiting) => waiting.len() as u64,
+            None => 0,
+        }
+    }
+
+    /// The items that were released, in the order in which they were; none where the hold-back has failed.
+    pub fn released(&self) -> &[T]
+        ensures value { result.now ≡ self.now.kept.released }
+        ensures exact { IsHoldBack T.key_of T.needs_of T.fits_role self.now.kept }
+    {
+        self.released.as_slice()
+    }
+
+    /// Offers an item, whose key has to be new, as `knows` tells. `Held` where it is not ready among all that was offered; then
+    /// nothing is released. `Ready(first)` where it is: `released` from index `first` on are the items that became ready by
+    /// it, rising by key, and all the others wait on. Refused as `Failed` (20) where the hold-back has failed, which changes
+    /// nothing, and else as `Memory` (0) where a growth was refused: then the hold-back has failed and is empty for good.
+    pub fn offer(&mut self, item: T) -> Result<Offered, HoldBackFault>
+    where
+        A: Clone,
+        requires unknown { knows T.key_of T.needs_of T.fits_role self.old.kept (T.key_of item) ≡ false }
+        ensures answered { IfOk result (λ offered. offered ≡ answer T.key_of T.needs_of T.fits_role self.old.kept item) }
+        ensures kept { OnOk result (self.new ≡ record { kept = kept_with T.key_of T.needs_of T.fits_role self.old.kept item; failed = false }) }
+        ensures rising { OnOk result (KeysRise T.key_of T.needs_of T.fits_role (newly_ready T.key_of T.needs_of T.fits_role self.old.kept item)) }
+        ensures failed { IsErrOf result HoldBackFault.Failed ↔ (self.old.failed ≡ true) }
+        ensures unchanged { IsErrOf result HoldBackFault.Failed → self.new ≡ self.old }
+        ensures emptied { IsErrOf result HoldBackFault.Memory → self.new ≡ record { kept = empty; failed = true } }
+    {
+        if self.failed {
+            return Err(HoldBackFault::Failed);
+        }
+        let first = self.released.len();
+        let waiting = self.waiting.take();
+        match take_in(&mut self.released, waiting, item) {
+            Ok(still) => {
+                self.waiting = Some(still);
+                Ok(told(first, self.released.len()))
+            }
+            Err(_) => {
+                self.released.clear();
+                self.failed = true;
+                Err(HoldBackFault::Memory)
+            }
+        }
+    }
+}
+
+// What an offer answers, from how many were released before it and after it.
+fn told(before: usize, after: usize) -> Offered
+    ensures { result ≡ cond (ltb before after) (Ready before) Held }
+{
+    if before < after {
+        Offered::Ready(before)
+    } else {
+        Offered::Held
+    }
+}
