@@ -1,0 +1,6 @@
+//! An editor of a session.
+#![tactic(auto)]
+
+mod change;
+
+pub use change::Change;
