@@ -1,2 +1,5 @@
 pub mod Edit
 pub mod Changes
+pub mod Faults
+pub mod Made
+pub mod Kept

@@ -2,5 +2,9 @@
 #![tactic(auto)]
 
 mod change;
+mod fault;
+mod taken;
 
 pub use change::Change;
+pub use fault::EditorFault;
+pub use taken::Taken;

@@ -1,0 +1,99 @@
+-- What an editor holds, and what its calls answer and leave.
+use Rattle.std.specs.Prelude.{◌≡◌, ◌≢◌, Bool, true, false, not, List, filter, Option, Some, None, option_map, Result, Ok, Err}
+use Rattle.std.specs.FinMap as map
+use Rattle.mt_stamp.specs.declared.name.Replica.{Replica}
+use Rattle.mt_stamp.specs.Moment.{Moment, stamp_cmp}
+use Rattle.mt_op.specs.Operation.{Operation}
+use Rattle.mt_op.specs.Dots.{op_dot}
+use Rattle.mt_op.specs.Needs.{needs, meets, clock_of}
+use Rattle.mt_op.specs.Ready.{is_ready}
+use Rattle.mt_op.specs.Presence.{is_listed}
+use Rattle.mt_opcodec.specs.LogValue.{LogMap, operations}
+use Rattle.mt_sessionview.specs.Content.{Content}
+use Rattle.mt_sessionview.specs.Session.{ready_ops, stamps_of, session_of}
+use Rattle.mt_sessionview.specs.Sorting.{sort_by}
+use Rattle.mt_replica.specs.Edit.{Edit}
+use Rattle.mt_replica.specs.Made.{made}
+use Rattle.mt_replica.specs.declared.fault.EditorFault.{EditorFault}
+use Rattle.mt_replica.specs.declared.fault.EditorFault.TheVariants.{Memory, Failed, Conflict, ZeroLength, NoSuchItem, Absent, TooManyTags, ClockFull, SeqFull}
+use Rattle.mt_replica.specs.declared.taken.Taken.{Taken}
+use Rattle.mt_replica.specs.declared.taken.Taken.TheVariants.{Already, Held, Applied}
+
+-- its name, and its log unless a growth was refused: then it has failed
+pub record Kept : Type 0 where
+  pub name : Replica
+  pub log : Option LogMap
+
+-- a log with an operation under its dot
+abbrev pub with_op : LogMap → Operation → LogMap
+with_op log op = map.insert log (op_dot op) op
+
+abbrev pub kept_with : Kept → Operation → Kept
+kept_with kept op = record { name = kept.name; log = option_map (λ log. with_op log op) kept.log }
+
+abbrev pub failed : Kept → Kept
+failed kept = record { name = kept.name; log = None }
+
+-- ---- the session
+
+-- the session of the set in the log
+abbrev pub session_in : Kept → Option Content
+session_in kept = option_map (λ log. session_of (operations log)) kept.log
+
+-- ---- edit
+
+-- what an edit answers, but where a growth is refused
+abbrev pub edited_in : Option LogMap → Replica → Edit → Result Operation EditorFault
+edited_in None name edit = Err Failed
+edited_in (Some log) name edit = made (operations log) name edit
+
+abbrev pub edited : Kept → Edit → Result Operation EditorFault
+edited kept edit = edited_in kept.log kept.name edit
+
+-- An edit answers that, or that a growth was refused, which a failed editor does not try.
+abbrev pub EditGives : Kept → Edit → Result Operation EditorFault → Type 0
+EditGives kept edit (Err Memory) = kept.log ≢ None
+EditGives kept edit result = result ≡ edited kept edit
+
+-- what an editor holds after it
+abbrev pub after_edit : Kept → Result Operation EditorFault → Kept
+after_edit kept (Ok op) = kept_with kept op
+after_edit kept (Err Memory) = failed kept
+after_edit kept (Err _) = kept
+
+-- ---- take
+
+-- whether an operation is ready among those of a log, with it
+abbrev pub is_ready_in : LogMap → Operation → Bool
+is_ready_in log op = is_ready clock_of needs meets (operations (with_op log op)) op
+
+-- the stamps of the operations that become ready by one more, rising: those that are ready with it and were not without it
+abbrev pub newly_ready : LogMap → Operation → List Moment
+newly_ready log op = filter (λ s. not (is_listed (stamps_of (ready_ops (operations log))) s)) (sort_by stamp_cmp (stamps_of (ready_ops (operations (with_op log op)))))
+
+-- what a take of a log answers
+abbrev pub TakeOf : {A : Type 0} → LogMap → Operation → Result (Taken A) EditorFault → Type 0
+TakeOf log op (Ok Already) = map.get log (op_dot op) ≡ Some op
+TakeOf log op (Ok Held) = (map.get log (op_dot op) ≡ None) × (is_ready_in log op ≡ false)
+TakeOf log op (Ok (Applied stamps)) = (map.get log (op_dot op) ≡ None) × ((is_ready_in log op ≡ true) × (stamps ≡ newly_ready log op))
+TakeOf log op (Err (Conflict dot)) = (dot ≡ op_dot op) × ((other : Operation) × ((map.get log dot ≡ Some other) × (other ≢ op)))
+TakeOf log op (Err Memory) = map.get log (op_dot op) ≡ None
+TakeOf log op (Err Failed) = ⊥
+TakeOf log op (Err ZeroLength) = ⊥
+TakeOf log op (Err (NoSuchItem item)) = ⊥
+TakeOf log op (Err (Absent item)) = ⊥
+TakeOf log op (Err TooManyTags) = ⊥
+TakeOf log op (Err ClockFull) = ⊥
+TakeOf log op (Err SeqFull) = ⊥
+
+abbrev pub TakeGives : {A : Type 0} → Option LogMap → Operation → Result (Taken A) EditorFault → Type 0
+TakeGives None op result = result ≡ Err Failed
+TakeGives (Some log) op result = TakeOf log op result
+
+-- what an editor holds after it
+abbrev pub after_take : {A : Type 0} → Kept → Operation → Result (Taken A) EditorFault → Kept
+after_take kept op (Ok Already) = kept
+after_take kept op (Ok Held) = kept_with kept op
+after_take kept op (Ok (Applied stamps)) = kept_with kept op
+after_take kept op (Err Memory) = failed kept
+after_take kept op (Err _) = kept

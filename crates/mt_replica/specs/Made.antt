@@ -1,0 +1,144 @@
+-- What an edit makes of a set of operations.
+use Rattle.std.specs.Prelude.{ℕ, suc, Bool, true, false, not, ◌==◌, ◌||◌, List, [], ◌∷◌, ◌++◌, map, filter, length, Option, Some, None, option_map, Result, Ok, Err, nat_le, max}
+use Rattle.std.specs.List.{list_any}
+use Rattle.mt_stamp.specs.declared.name.Replica.{Replica}
+use Rattle.mt_stamp.specs.Moment.{Moment, greatest, stamp_cmp}
+use Rattle.mt_op.specs.declared.need.Role.TheVariants.{Track, Clip, Marker, Mixable, Titled, Item}
+use Rattle.mt_op.specs.declared.need.Need.{Need}
+use Rattle.mt_op.specs.Needs.{need_of, meets, clock_of}
+use Rattle.mt_op.specs.Operation as act
+use Rattle.mt_op.specs.Operation.{Act, Operation}
+use Rattle.mt_op.specs.Presence.{is_present, live_tags}
+use Rattle.mt_op.specs.Tags.{greatest_tag_count}
+use Rattle.mt_sessionview.specs.Session.{ready_ops, track_place}
+use Rattle.mt_sessionview.specs.Sorting.{sort_by}
+use Rattle.mt_replica.specs.Edit.{Edit, AddTrack, MoveTrack, AddClip, MoveClip, TrimClip, SetGain, SetMute, Remove, Restore, AddMarker, MoveMarker, Retitle}
+use Rattle.mt_replica.specs.declared.fault.EditorFault.{EditorFault}
+use Rattle.mt_replica.specs.declared.fault.EditorFault.TheVariants.{ZeroLength, NoSuchItem, Absent, TooManyTags, ClockFull, SeqFull}
+
+-- ---- its stamp
+
+-- the greatest of some numbers, 0 where there is none
+abbrev pub greatest_of : List ℕ → ℕ
+greatest_of [] = 0
+greatest_of (n ∷ numbers) = max n (greatest_of numbers)
+
+-- the greatest clock in a set, held operations included
+abbrev pub greatest_clock : List Operation → ℕ
+greatest_clock ops = greatest_of (map clock_of ops)
+
+-- whether a replica made an operation
+abbrev pub is_by : Replica → Operation → Bool
+is_by name o = o.stamp.replica.0 == name.0
+
+-- the greatest number of a replica's operations in a set
+abbrev pub greatest_seq : Replica → List Operation → ℕ
+greatest_seq name ops = greatest_of (map (λ (o : Operation). o.stamp.seq) (filter (is_by name) ops))
+
+-- The clock is greater than every clock of the set (Lamport: Communications of the ACM 21, 1978), and the number the next
+-- one of the replica.
+abbrev pub made_stamp : List Operation → Replica → Moment
+made_stamp ops name = record { clock = suc (greatest_clock ops); replica = name; seq = suc (greatest_seq name ops) }
+
+-- ---- what it does
+
+-- the live tags of an item, rising
+abbrev pub rising_tags : List Operation → Moment → List Moment
+rising_tags ops item = sort_by stamp_cmp (live_tags item (ready_ops ops))
+
+-- The act that an edit of a set makes: a Remove lists all live tags, and a track is put after another one's current place
+-- (profile).
+abbrev pub made_act : List Operation → Edit → Act
+made_act ops (AddTrack after title) = act.AddTrack (option_map (track_place ops) after) title
+made_act ops (MoveTrack track after) = act.MoveTrack track (option_map (track_place ops) after)
+made_act ops (AddClip source track at offset len) = act.AddClip source track at offset len
+made_act ops (MoveClip clip track at) = act.MoveClip clip track at
+made_act ops (TrimClip clip offset len) = act.TrimClip clip offset len
+made_act ops (SetGain item gain) = act.SetGain item gain
+made_act ops (SetMute item on) = act.SetMute item on
+made_act ops (Remove item) = act.Remove item (rising_tags ops item)
+made_act ops (Restore item) = act.Restore item
+made_act ops (AddMarker at title) = act.AddMarker at title
+made_act ops (MoveMarker marker at) = act.MoveMarker marker at
+made_act ops (Retitle item title) = act.Retitle item title
+
+-- ---- its refusals
+
+-- whether a clip would play at least one frame
+abbrev pub plays : Edit → Bool
+plays (AddClip source track at offset len) = nat_le 1 len
+plays (TrimClip clip offset len) = nat_le 1 len
+plays _ = true
+
+-- a track that an edit may name
+abbrev pub named_track : Option Moment → List Need
+named_track None = []
+named_track (Some track) = need_of Track track ∷ []
+
+-- the items that an edit names and what each has to be, in the order of the edit's fields (profile)
+abbrev pub names_of : Edit → List Need
+names_of (AddTrack after title) = named_track after
+names_of (MoveTrack track after) = need_of Track track ∷ named_track after
+names_of (AddClip source track at offset len) = need_of Track track ∷ []
+names_of (MoveClip clip track at) = need_of Clip clip ∷ need_of Track track ∷ []
+names_of (TrimClip clip offset len) = need_of Clip clip ∷ []
+names_of (SetGain item gain) = need_of Mixable item ∷ []
+names_of (SetMute item on) = need_of Mixable item ∷ []
+names_of (Remove item) = need_of Item item ∷ []
+names_of (Restore item) = need_of Item item ∷ []
+names_of (AddMarker at title) = []
+names_of (MoveMarker marker at) = need_of Marker marker ∷ []
+names_of (Retitle item title) = need_of Titled item ∷ []
+
+-- A Restore is there for items that were removed; what any other edit names has to be present.
+abbrev pub names_present : Edit → Bool
+names_present (Restore item) = false
+names_present _ = true
+
+-- a refusal where a test fails
+abbrev pub unless : Bool → EditorFault → Option EditorFault
+unless true fault = None
+unless false fault = Some fault
+
+-- the first of two refusals
+abbrev pub or_else : Option EditorFault → Option EditorFault → Option EditorFault
+or_else None second = second
+or_else (Some fault) second = Some fault
+
+-- A named item has to be added by one of the ready operations in its role, and to be present where the edit asks that.
+abbrev pub name_refused : List Operation → Bool → Need → Option EditorFault
+name_refused ready present need =
+    or_else (unless (list_any (meets need) ready) (NoSuchItem need.stamp)) (unless (not present || is_present ready need.stamp) (Absent need.stamp))
+
+-- the first refusal of the items that an edit names
+abbrev pub names_refused : List Operation → Bool → List Need → Option EditorFault
+names_refused ready present [] = None
+names_refused ready present (need ∷ needs) = or_else (name_refused ready present need) (names_refused ready present needs)
+
+-- whether a Remove could list all live tags
+abbrev pub tags_fit : List Operation → Edit → Bool
+tags_fit ops (Remove item) = nat_le (length (rising_tags ops item)) greatest_tag_count
+tags_fit ops _ = true
+
+-- The first refusal of an edit of a set, in this order.
+abbrev pub refused : List Operation → Replica → Edit → Option EditorFault
+refused ops name edit =
+    or_else (unless (plays edit) ZeroLength)
+    (or_else (names_refused (ready_ops ops) (names_present edit) (names_of edit))
+    (or_else (unless (tags_fit ops edit) TooManyTags)
+    (or_else (unless (not (nat_le greatest (greatest_clock ops))) ClockFull)
+    (unless (not (nat_le greatest (greatest_seq name ops))) SeqFull))))
+
+-- ---- the operation
+
+-- the operation of an edit that is not refused
+abbrev pub made_op : List Operation → Replica → Edit → Operation
+made_op ops name edit = record { stamp = made_stamp ops name; act = made_act ops edit }
+
+abbrev pub or_made : Option EditorFault → Operation → Result Operation EditorFault
+or_made None o = Ok o
+or_made (Some fault) o = Err fault
+
+-- What an edit by a replica makes of a set: its first refusal, or one operation.
+abbrev pub made : List Operation → Replica → Edit → Result Operation EditorFault
+made ops name edit = or_made (refused ops name edit) (made_op ops name edit)

@@ -1,0 +1,76 @@
+//! Why an editor refuses.
+
+ghost use Rattle.std.specs.Prelude.{◌≡◌};
+ghost use Rattle.mt_replica.specs.Faults.{number_of};
+ghost use Rattle.mt_replica.specs.declared.fault.EditorFault.TheVariants.{Memory};
+
+use mt_stamp::{Dot, Stamp};
+use std::alloc::{AllocError, AllocFailed};
+use thiserror::Error;
+
+/// Why an editor refuses. Each refusal has a number that never changes.
+#[derive(Clone, Copy, Debug, PartialEq, Eq, Error)]
+pub enum EditorFault {
+    /// A growth was refused.
+    #[error("out of memory")]
+    Memory,
+    /// A growth was refused earlier, and the editor holds nothing for good.
+    #[error("the editor has failed")]
+    Failed,
+    /// Another operation has the dot.
+    #[error("two operations have one dot")]
+    Conflict(Dot),
+    /// A clip would play no frame.
+    #[error("the length of the clip is 0")]
+    ZeroLength,
+    /// No ready operation of this stamp adds such an item.
+    #[error("there is no such item")]
+    NoSuchItem(Stamp),
+    /// The item of this stamp was removed.
+    #[error("the item is not present")]
+    Absent(Stamp),
+    /// The item has over 65,535 live tags, more than a Remove can list.
+    #[error("the item has over 65,535 live tags")]
+    TooManyTags,
+    /// The greatest clock, 2^62, is in use.
+    #[error("the clock is at its limit")]
+    ClockFull,
+    /// The replica's greatest number, 2^62, is in use.
+    #[error("the replica's numbers are used up")]
+    SeqFull,
+}
+
+impl EditorFault {
+    /// The refusal's number: 0, 6, 17, or 20 to 25.
+    pub fn number(&self) -> u8
+        ensures { result ≡ number_of self.now }
+    {
+        match self {
+            EditorFault::Memory => 0,
+            EditorFault::ZeroLength => 6,
+            EditorFault::Conflict(_) => 17,
+            EditorFault::Failed => 20,
+            EditorFault::NoSuchItem(_) => 21,
+            EditorFault::Absent(_) => 22,
+            EditorFault::ClockFull => 23,
+            EditorFault::SeqFull => 24,
+            EditorFault::TooManyTags => 25,
+        }
+    }
+}
+
+impl From<AllocError> for EditorFault {
+    ghost from_gives = { λ _ e. e ≡ Memory };
+
+    fn from(_error: AllocError) -> EditorFault {
+        EditorFault::Memory
+    }
+}
+
+impl<T: Drop> From<AllocFailed<T>> for EditorFault {
+    ghost from_gives = { λ _ e. e ≡ Memory };
+
+    fn from(_error: AllocFailed<T>) -> EditorFault {
+        EditorFault::Memory
+    }
+}
