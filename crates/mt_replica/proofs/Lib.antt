@@ -1,3 +1,4 @@
 pub mod Making
 pub mod Gaining
 pub mod Inserted
+pub mod Valid

@@ -84,7 +84,7 @@ module _ (ops : List Operation) where
   abbrev pub Met : Need → Type 0
   Met need = list_any (meets need) (ready_ops ops) ≡ true
 
-  names_met : (present : Bool) (ns : List Need) → names_refused (ready_ops ops) present ns ≡ None → AllByRecursion Met ns
+  pub names_met : (present : Bool) (ns : List Need) → names_refused (ready_ops ops) present ns ≡ None → AllByRecursion Met ns
   names_met present [] none = tt
   names_met present (need ∷ ns) none =
       let both = neither (name_refused (ready_ops ops) present need) (names_refused (ready_ops ops) present ns) none in
@@ -141,7 +141,7 @@ module _ (ops : List Operation) where
   tags_met item = all_map (λ t. IsMember t (rising_tags ops item)) Met (need_of (TagOf item)) (tag_met item) (rising_tags ops item) (all_members (λ t. IsMember t (rising_tags ops item)) (rising_tags ops item) (λ t m. m))
 
   -- the needs of what is made, from the names of the edit
-  needs_met : (edit : Edit) → AllByRecursion Met (names_of edit) → AllByRecursion Met (needs_of (made_act ops edit))
+  pub needs_met : (edit : Edit) → AllByRecursion Met (names_of edit) → AllByRecursion Met (needs_of (made_act ops edit))
   needs_met (AddTrack after title) met = after_met after met
   needs_met (MoveTrack track after) met = (met.0, after_met after met.1)
   needs_met (Remove item) met = (met.0, tags_met item)
@@ -157,7 +157,7 @@ module _ (ops : List Operation) where
 
   -- ---- clocks
 
-  met_older : (need : Need) → Met need → nat_lt need.stamp.clock (suc (greatest_clock ops)) ≡ true
+  pub met_older : (need : Need) → Met need → nat_lt need.stamp.clock (suc (greatest_clock ops)) ≡ true
   met_older need met =
       let found = any_member (meets need) (ready_ops ops) met in
       let o : Operation = found.0 in
