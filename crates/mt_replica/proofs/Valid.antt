@@ -70,22 +70,22 @@ module _ (ops : List Operation) where
       differ_kept (λ (m : Moment). m) (λ tag. not (is_listed (removed_tags item (ready_ops ops)) tag)) (tags item (ready_ops ops))
       (differ_mapped (λ (o : Operation). o.stamp) (λ (m : Moment). m) (filter (λ o. is_tag_of item o.stamp o.act) (ready_ops ops)) given)
 
-  tags_rise : dots_rise ops ≡ true → (item : Moment) → stamps_rise (rising_tags ops item) ≡ true
-  tags_rise rise item = rising (rising_tags ops item) (sort_strict stamp_cmp stamp_cmp_total (live_tags item (ready_ops ops)) (apart_stamps (live_tags item (ready_ops ops)) (tags_differ rise item)))
+  tags_rise : dots_rise ops ≡ true → (item : Moment) → stamps_rise (rising_tags (ready_ops ops) item) ≡ true
+  tags_rise rise item = rising (rising_tags (ready_ops ops) item) (sort_strict stamp_cmp stamp_cmp_total (live_tags item (ready_ops ops)) (apart_stamps (live_tags item (ready_ops ops)) (tags_differ rise item)))
 
   -- every clock is smaller than the next one
   pub newest : AllByRecursion (λ x. clock_of x < suc (greatest_clock ops)) ops
   newest = all_members (λ x. clock_of x < suc (greatest_clock ops)) ops (λ x m. let below = mapped_below clock_of ops x m in omega (arith, below))
 
   module _ (name : Replica) (edit : Edit) (none : refused ops name edit ≡ None) where
-    after_length : or_else (names_refused (ready_ops ops) (names_present edit) (names_of edit)) (or_else (unless (tags_fit ops edit) TooManyTags) (or_else (unless (not (nat_le greatest (greatest_clock ops))) ClockFull) (unless (not (nat_le greatest (greatest_seq name ops))) SeqFull))) ≡ None
+    after_length : or_else (names_refused (ready_ops ops) (names_present edit) (names_of edit)) (or_else (unless (tags_fit (ready_ops ops) edit) TooManyTags) (or_else (unless (not (nat_le greatest (greatest_clock ops))) ClockFull) (unless (not (nat_le greatest (greatest_seq name ops))) SeqFull))) ≡ None
     after_length = (neither (unless (plays edit) ZeroLength) _ none).1
 
-    after_names : or_else (unless (tags_fit ops edit) TooManyTags) (or_else (unless (not (nat_le greatest (greatest_clock ops))) ClockFull) (unless (not (nat_le greatest (greatest_seq name ops))) SeqFull)) ≡ None
+    after_names : or_else (unless (tags_fit (ready_ops ops) edit) TooManyTags) (or_else (unless (not (nat_le greatest (greatest_clock ops))) ClockFull) (unless (not (nat_le greatest (greatest_seq name ops))) SeqFull)) ≡ None
     after_names = (neither (names_refused (ready_ops ops) (names_present edit) (names_of edit)) _ after_length).1
 
     after_tags : or_else (unless (not (nat_le greatest (greatest_clock ops))) ClockFull) (unless (not (nat_le greatest (greatest_seq name ops))) SeqFull) ≡ None
-    after_tags = (neither (unless (tags_fit ops edit) TooManyTags) _ after_names).1
+    after_tags = (neither (unless (tags_fit (ready_ops ops) edit) TooManyTags) _ after_names).1
 
     pub it_plays : plays edit ≡ true
     it_plays = passed (plays edit) ZeroLength (neither (unless (plays edit) ZeroLength) _ none).0
@@ -93,8 +93,8 @@ module _ (ops : List Operation) where
     pub names_pass : names_refused (ready_ops ops) (names_present edit) (names_of edit) ≡ None
     names_pass = (neither (names_refused (ready_ops ops) (names_present edit) (names_of edit)) _ after_length).0
 
-    pub they_fit : tags_fit ops edit ≡ true
-    they_fit = passed (tags_fit ops edit) TooManyTags (neither (unless (tags_fit ops edit) TooManyTags) _ after_names).0
+    pub they_fit : tags_fit (ready_ops ops) edit ≡ true
+    they_fit = passed (tags_fit (ready_ops ops) edit) TooManyTags (neither (unless (tags_fit (ready_ops ops) edit) TooManyTags) _ after_names).0
 
     pub clock_left : nat_le greatest (greatest_clock ops) ≡ false
     clock_left = fit_or_more _ (passed (not (nat_le greatest (greatest_clock ops))) ClockFull (neither (unless (not (nat_le greatest (greatest_clock ops))) ClockFull) _ after_tags).0)
@@ -115,7 +115,7 @@ module _ (ops : List Operation) where
         each (n ∷ ns) met = rw (met_older ops n met.0) (each ns met.1)
 
 -- the length that an act gives is that of its edit
-pub same_length : (ops : List Operation) (edit : Edit) → length_is_good (made_act ops edit) ≡ plays edit
+pub same_length : (ops : List Operation) (edit : Edit) → length_is_good (made_act (ready_ops ops) edit) ≡ plays edit
 same_length ops (AddTrack after title) = refl
 same_length ops (MoveTrack track after) = refl
 same_length ops (AddClip source track at offset len) = refl
@@ -130,7 +130,7 @@ same_length ops (MoveMarker marker at) = refl
 same_length ops (Retitle item title) = refl
 
 -- the tags that an act lists are in order
-pub tags_good : (ops : List Operation) → dots_rise ops ≡ true → (name : Replica) (edit : Edit) → refused ops name edit ≡ None → tags_are_good (made_act ops edit) ≡ true
+pub tags_good : (ops : List Operation) → dots_rise ops ≡ true → (name : Replica) (edit : Edit) → refused ops name edit ≡ None → tags_are_good (made_act (ready_ops ops) edit) ≡ true
 tags_good ops rise name (Remove item) none =
     let first = neither (name_refused (ready_ops ops) true (need_of Item item)) None (names_pass ops name (Remove item) none) in
     let there = neither (unless (list_any (meets (need_of Item item)) (ready_ops ops)) (NoSuchItem item)) (unless (not true || is_present (ready_ops ops) item) (Absent item)) first.0 in
