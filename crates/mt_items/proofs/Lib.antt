@@ -1,0 +1,6 @@
+pub mod Noting
+pub mod Marking
+pub mod Each
+pub mod PerKind
+pub mod Roles
+pub mod EmptyStruct
