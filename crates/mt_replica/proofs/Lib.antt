@@ -2,3 +2,4 @@ pub mod Making
 pub mod Gaining
 pub mod Inserted
 pub mod Valid
+pub mod Numbers

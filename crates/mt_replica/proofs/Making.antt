@@ -12,7 +12,7 @@ use Rattle.mt_op.specs.declared.need.Need.{Need}
 use Rattle.mt_op.specs.Needs.{need_of, place_needs, needs_of, needs, meets, clock_of, fits, act_fits, adds_place, is_tag_of, names_are_older}
 use Rattle.mt_op.specs.Ready.{is_ready}
 use Rattle.mt_stamp.proofs.Order.{stamp_cmp_total}
-use Rattle.mt_sessionview.proofs.LastWrites.{is_write_of}
+use Rattle.mt_op.proofs.WriteOf.{is_write_of}
 use Rattle.mt_sessionview.proofs.Items.{stamp_eq_same}
 use Rattle.mt_op.specs.Operation as act
 use Rattle.mt_op.specs.Operation.{Act, Operation}
@@ -21,9 +21,9 @@ use Rattle.mt_op.specs.Writes.{Write, Written, track_place_written, written_by, 
 use Rattle.mt_op.proofs.LastWrite.{latest_is_greatest}
 use Rattle.mt_op.proofs.Needs.{and_first, and_second, stamp_eq-true}
 use Rattle.mt_sessionview.specs.Session.{ready_ops}
-use Rattle.mt_sessionview.specs.Sorting.{sort_by}
-use Rattle.mt_sessionview.proofs.Members.{IsMember, member_of_kept, member_unsorted}
-use Rattle.mt_sessionview.proofs.SameItems.{all_filter_map, all_here, all_map, GivenBy}
+use Rattle.mt_stamp.specs.Sorting.{sort_by}
+use Rattle.mt_stamp.proofs.Members.{IsMember, member_of_kept, member_unsorted}
+use Rattle.mt_stamp.proofs.SameItems.{all_filter_map, all_here, all_map, GivenBy}
 use Rattle.mt_replica.specs.Edit.{Edit, AddTrack, MoveTrack, AddClip, MoveClip, TrimClip, SetGain, SetMute, Remove, Restore, AddMarker, MoveMarker, Retitle}
 use Rattle.mt_replica.specs.Made.{greatest_of, greatest_clock, current_place, rising_tags, made_act, made_op, named_track, names_of, names_present, unless, or_else, name_refused, names_refused, refused}
 use Rattle.mt_replica.specs.declared.fault.EditorFault.{EditorFault}

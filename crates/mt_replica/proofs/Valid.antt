@@ -20,9 +20,10 @@ use Rattle.mt_op.specs.Presence.{is_present, is_any, is_listed, live_tags, remov
 use Rattle.mt_op.specs.Tags.{is_after, rises_from, stamps_rise, are_tags, greatest_tag_count}
 use Rattle.mt_op.specs.Valid.{length_is_good, tags_are_good}
 use Rattle.mt_sessionview.specs.Session.{ready_ops}
-use Rattle.mt_sessionview.specs.Sorting.{sort_by, RisesStrictly, DifferBy}
-use Rattle.mt_sessionview.proofs.Differing.{stamp_of, differ_kept, differ_mapped}
-use Rattle.mt_sessionview.proofs.Members.{IsMember, AreApart, sort_strict, member_sorted}
+use Rattle.mt_stamp.specs.Sorting.{sort_by, RisesStrictly, DifferBy}
+use Rattle.mt_stamp.proofs.Differing.{differ_kept, differ_mapped}
+use Rattle.mt_op.specs.ByStamp.{stamp_of}
+use Rattle.mt_stamp.proofs.Members.{IsMember, AreApart, sort_strict, member_sorted}
 use Rattle.mt_sessionview.proofs.TrackSorting.{every_stamp}
 use Rattle.mt_replica.specs.Edit.{Edit, AddTrack, MoveTrack, AddClip, MoveClip, TrimClip, SetGain, SetMute, Remove, Restore, AddMarker, MoveMarker, Retitle}
 use Rattle.mt_replica.specs.Made.{greatest_clock, greatest_seq, rising_tags, made_stamp, made_act, made_op, plays, names_of, names_present, unless, or_else, name_refused, names_refused, tags_fit, refused}

@@ -3,3 +3,4 @@ pub mod Changes
 pub mod Faults
 pub mod Made
 pub mod Kept
+pub mod State

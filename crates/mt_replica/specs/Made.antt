@@ -12,7 +12,7 @@ use Rattle.mt_op.specs.Presence.{is_present, live_tags}
 use Rattle.mt_op.specs.Writes.{Written, track_place_written, last_write}
 use Rattle.mt_op.specs.Tags.{greatest_tag_count}
 use Rattle.mt_sessionview.specs.Session.{ready_ops}
-use Rattle.mt_sessionview.specs.Sorting.{sort_by}
+use Rattle.mt_stamp.specs.Sorting.{sort_by}
 use Rattle.mt_replica.specs.Edit.{Edit, AddTrack, MoveTrack, AddClip, MoveClip, TrimClip, SetGain, SetMute, Remove, Restore, AddMarker, MoveMarker, Retitle}
 use Rattle.mt_replica.specs.declared.fault.EditorFault.{EditorFault}
 use Rattle.mt_replica.specs.declared.fault.EditorFault.TheVariants.{ZeroLength, NoSuchItem, Absent, TooManyTags, ClockFull, SeqFull}

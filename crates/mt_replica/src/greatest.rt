@@ -8,7 +8,7 @@ use mt_stamp::Replica;
 use std::alloc::Allocator;
 
 /// The greatest clock of these operations, 0 where there is none.
-pub(crate) fn greatest_clock<A: Allocator>(ops: &[Op<A>]) -> u64
+pub fn greatest_clock<A: Allocator>(ops: &[Op<A>]) -> u64
     ensures { result ≡ greatest_clock ops.now }
 {
     let mut greatest = 0;
@@ -19,7 +19,7 @@ pub(crate) fn greatest_clock<A: Allocator>(ops: &[Op<A>]) -> u64
 }
 
 /// The greatest number of this replica's among these operations, 0 where there is none.
-pub(crate) fn greatest_seq<A: Allocator>(name: Replica, ops: &[Op<A>]) -> u64
+pub fn greatest_seq<A: Allocator>(name: Replica, ops: &[Op<A>]) -> u64
     ensures { result ≡ greatest_seq name ops.now }
 {
     let mut greatest = 0;

@@ -1,0 +1,67 @@
+-- The greatest of some numbers.
+use Rattle.std.proofs.Common.{◌≡◌, ℕ, zero, suc, ◌≤◌, ◌<◌, Bool, true, false, not, List, [], ◌∷◌, ◌++◌, map, length, refl, sym, ap, ◌∙◌, subst, inl, inr, cond, arith}
+use Rattle.std.specs.Prelude.{max, nat_lt}
+use Rattle.std.specs.List.{filter, list_any}
+use Rattle.std.proofs.lemmas.Bool.{ltb-true, ltb-false}
+use Rattle.std.proofs.Math.Nat.{le-max_left, le-max_right, max-le}
+use Rattle.mt_stamp.specs.declared.name.Replica.{Replica}
+use Rattle.mt_stamp.proofs.Members.{IsMember}
+use Rattle.mt_stamp.proofs.SameItems.{SameItems, same_any, same_filter}
+use Rattle.mt_op.specs.Operation.{Operation}
+use Rattle.mt_op.specs.Needs.{clock_of}
+use Rattle.mt_replica.specs.Made.{greatest_of, greatest_clock, greatest_seq, is_by}
+use Rattle.mt_replica.proofs.Making.{any_member, member_any, mapped_below}
+
+max_grouped : (a b c : ℕ) → max a (max b c) ≡ max (max a b) c
+max_grouped a b c =
+    let ab_a = le-max_left a b in
+    let ab_b = le-max_right a b in
+    let abc_ab = le-max_left (max a b) c in
+    let abc_c = le-max_right (max a b) c in
+    let bc_b = le-max_left b c in
+    let bc_c = le-max_right b c in
+    let all_a = le-max_left a (max b c) in
+    let all_bc = le-max_right a (max b c) in
+    let one : max a (max b c) ≤ max (max a b) c = max-le (omega (arith, ab_a, abc_ab)) (max-le (omega (arith, ab_b, abc_ab)) abc_c) in
+    let other : max (max a b) c ≤ max a (max b c) = max-le (max-le all_a (omega (arith, bc_b, all_bc))) (omega (arith, bc_c, all_bc)) in
+    omega (arith, one, other)
+
+-- one number more at the end
+pub greatest_more : (ns : List ℕ) (n : ℕ) → greatest_of (ns ++ n ∷ []) ≡ max (greatest_of ns) n
+greatest_more [] n = max_zero n
+  where
+    max_zero : (n : ℕ) → max n 0 ≡ max 0 n
+    max_zero zero = refl
+    max_zero (suc n) = refl
+greatest_more (m ∷ ns) n = ap (max m) (greatest_more ns n) ∙ max_grouped m (greatest_of ns) n
+
+at_most : {X : Type 0} (f : X → ℕ) (xs : List X) (k : ℕ) → ((x : X) → IsMember x xs → f x ≤ k) → greatest_of (map f xs) ≤ k
+at_most f [] k each = omega arith
+at_most f (x ∷ xs) k each = max-le (each x (inl refl)) (at_most f xs k (λ y m. each y (inr m)))
+
+-- a member of one list is no greater than the greatest of the other
+module _ {X : Type 0} (f : X → ℕ) (xs ys : List X) (same : SameItems xs ys) where
+  no_greater : (x : X) → IsMember x xs → f x ≤ greatest_of (map f ys)
+  no_greater x m = by (nat_lt (greatest_of (map f ys)) (f x)) refl
+    where
+      by : (b : Bool) → nat_lt (greatest_of (map f ys)) (f x) ≡ b → f x ≤ greatest_of (map f ys)
+      by true is =
+          let there : list_any (λ y. nat_lt (greatest_of (map f ys)) (f y)) ys ≡ true = sym (same_any xs ys same (λ y. nat_lt (greatest_of (map f ys)) (f y))) ∙ member_any (λ y. nat_lt (greatest_of (map f ys)) (f y)) xs x m is in
+          let one = any_member (λ y. nat_lt (greatest_of (map f ys)) (f y)) ys there in
+          let over = ltb-true (greatest_of (map f ys)) (f one.0) one.1.1 in
+          let under = mapped_below f ys one.0 one.1.0 in
+          absurd (omega (arith, over, under))
+      by false is = let not_over = ltb-false (greatest_of (map f ys)) (f x) is in omega (arith, not_over)
+
+-- the same items have the same greatest number
+pub greatest_same : {X : Type 0} (f : X → ℕ) (xs ys : List X) → SameItems xs ys → greatest_of (map f xs) ≡ greatest_of (map f ys)
+greatest_same f xs ys same =
+    let one = at_most f xs (greatest_of (map f ys)) (no_greater f xs ys same) in
+    let other = at_most f ys (greatest_of (map f xs)) (no_greater f ys xs (λ g. sym (same g))) in
+    omega (arith, one, other)
+
+pub clock_same : (xs ys : List Operation) → SameItems xs ys → greatest_clock xs ≡ greatest_clock ys
+clock_same xs ys same = greatest_same clock_of xs ys same
+
+pub seq_same : (name : Replica) (xs ys : List Operation) → SameItems xs ys → greatest_seq name xs ≡ greatest_seq name ys
+seq_same name xs ys same = greatest_same (λ (o : Operation). o.stamp.seq) (filter (is_by name) xs) (filter (is_by name) ys) (same_filter xs ys same (is_by name))
