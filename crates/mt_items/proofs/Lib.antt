@@ -4,3 +4,7 @@ pub mod Each
 pub mod PerKind
 pub mod Roles
 pub mod EmptyStruct
+pub mod Reading
+pub mod AnyOrder
+pub mod OnePass
+pub mod Fresh

@@ -3,7 +3,7 @@
 ghost use Rattle.std.specs.Prelude.{◌≡◌, List, [], ◌∷◌, IfOk, IfErr, MatchOption, option_map};
 ghost use Rattle.std.specs.List.Sorted.{IsStrictlySortedBy};
 ghost use Rattle.mt_stamp.specs.Moment.{Moment, stamp_cmp};
-ghost use Rattle.mt_op.specs.declared.need.Role.TheVariants.{Track, Clip, Marker, TagOf};
+ghost use Rattle.mt_op.specs.declared.need.Role.TheVariants.{Track, Place, Clip, Marker, Mixable, Titled, Item, TagOf};
 ghost use Rattle.mt_op.specs.Operation.{Operation};
 ghost use Rattle.mt_op.specs.Needs.{need_of};
 ghost use Rattle.mt_op.specs.Presence.{is_present, is_listed, live_tags};
@@ -115,15 +115,15 @@ impl<A: Allocator> Items<A> {
     fn presence(&self, item: Stamp) -> Option<&Presence<A>>
         ensures { MatchOption result (HoldsTags item self.now unmarked) (λ p. HoldsTags item self.now p.now) }
     {
-        if let Some(cells) = self.markers.get(&item) {
-            return Some(&cells.presence);
-        }
-        if let Some(cells) = self.clips.get(&item) {
-            return Some(&cells.presence);
-        }
         match self.tracks.get(&item) {
             Some(cells) => Some(&cells.presence),
-            None => None,
+            None => match self.clips.get(&item) {
+                Some(cells) => Some(&cells.presence),
+                None => match self.markers.get(&item) {
+                    Some(cells) => Some(&cells.presence),
+                    None => None,
+                },
+            },
         }
     }
 
@@ -148,9 +148,30 @@ impl<A: Allocator> Items<A> {
         self.markers.contains_key(&stamp)
     }
 
+    // Whether a stamp names an item that sounds.
+    fn is_mixable(&self, stamp: Stamp) -> bool
+        ensures { result ≡ is_need_met self.now (need_of Mixable stamp) }
+    {
+        self.is_track(stamp) || self.is_clip(stamp)
+    }
+
+    // Whether a stamp names an item that has a title.
+    fn is_titled(&self, stamp: Stamp) -> bool
+        ensures { result ≡ is_need_met self.now (need_of Titled stamp) }
+    {
+        self.is_track(stamp) || self.is_marker(stamp)
+    }
+
+    // Whether a stamp names an item.
+    fn is_item(&self, stamp: Stamp) -> bool
+        ensures { result ≡ is_need_met self.now (need_of Item stamp) }
+    {
+        self.is_mixable(stamp) || self.is_marker(stamp)
+    }
+
     // Whether a stamp names a place of the track order.
     fn is_place(&self, stamp: Stamp) -> bool
-        ensures { result ≡ is_need_met self.now (need_of Role.Place stamp) }
+        ensures { result ≡ is_need_met self.now (need_of Place stamp) }
     {
         self.places.contains(&stamp)
     }
@@ -175,9 +196,9 @@ impl<A: Allocator> Items<A> {
             Role::Place => self.is_place(stamp),
             Role::Clip => self.is_clip(stamp),
             Role::Marker => self.is_marker(stamp),
-            Role::Mixable => self.is_track(stamp) || self.is_clip(stamp),
-            Role::Titled => self.is_track(stamp) || self.is_marker(stamp),
-            Role::Item => self.is_track(stamp) || self.is_clip(stamp) || self.is_marker(stamp),
+            Role::Mixable => self.is_mixable(stamp),
+            Role::Titled => self.is_titled(stamp),
+            Role::Item => self.is_item(stamp),
             Role::TagOf(item) => self.is_tag(item, stamp),
         }
     }
@@ -227,12 +248,12 @@ impl<A: Allocator> Items<A> {
     pub fn title(&self, item: Stamp) -> Option<&Register<Title<A>>>
         ensures { option_map (λ r. written r.now) result ≡ last_write title_written item self.now }
     {
-        if let Some(cells) = self.tracks.get(&item) {
-            return Some(&cells.title);
-        }
-        match self.markers.get(&item) {
+        match self.tracks.get(&item) {
             Some(cells) => Some(&cells.title),
-            None => None,
+            None => match self.markers.get(&item) {
+                Some(cells) => Some(&cells.title),
+                None => None,
+            },
         }
     }
 
@@ -240,12 +261,12 @@ impl<A: Allocator> Items<A> {
     pub fn gain(&self, item: Stamp) -> Option<&Register<Gain>>
         ensures { option_map (λ r. written r.now) result ≡ last_write gain_written item self.now }
     {
-        if let Some(cells) = self.tracks.get(&item) {
-            return Some(&cells.gain);
-        }
-        match self.clips.get(&item) {
+        match self.tracks.get(&item) {
             Some(cells) => Some(&cells.gain),
-            None => None,
+            None => match self.clips.get(&item) {
+                Some(cells) => Some(&cells.gain),
+                None => None,
+            },
         }
     }
 
@@ -253,12 +274,12 @@ impl<A: Allocator> Items<A> {
     pub fn mute(&self, item: Stamp) -> Option<&Register<bool>>
         ensures { option_map (λ r. written r.now) result ≡ last_write mute_written item self.now }
     {
-        if let Some(cells) = self.tracks.get(&item) {
-            return Some(&cells.mute);
-        }
-        match self.clips.get(&item) {
+        match self.tracks.get(&item) {
             Some(cells) => Some(&cells.mute),
-            None => None,
+            None => match self.clips.get(&item) {
+                Some(cells) => Some(&cells.mute),
+                None => None,
+            },
         }
     }
 
