@@ -10,9 +10,10 @@ use Rattle.mt_stamp.proofs.SameItems.{SameItems, same_any, same_filter}
 use Rattle.mt_op.specs.Operation.{Operation}
 use Rattle.mt_op.specs.Needs.{clock_of}
 use Rattle.mt_replica.specs.Made.{greatest_of, greatest_clock, greatest_seq, is_by}
+use Rattle.mt_replica.specs.State.{own_seq}
 use Rattle.mt_replica.proofs.Making.{any_member, member_any, mapped_below}
 
-max_grouped : (a b c : ℕ) → max a (max b c) ≡ max (max a b) c
+pub max_grouped : (a b c : ℕ) → max a (max b c) ≡ max (max a b) c
 max_grouped a b c =
     let ab_a = le-max_left a b in
     let ab_b = le-max_right a b in
@@ -26,14 +27,11 @@ max_grouped a b c =
     let other : max (max a b) c ≤ max a (max b c) = max-le (max-le all_a (omega (arith, bc_b, all_bc))) (omega (arith, bc_c, all_bc)) in
     omega (arith, one, other)
 
--- one number more at the end
-pub greatest_more : (ns : List ℕ) (n : ℕ) → greatest_of (ns ++ n ∷ []) ≡ max (greatest_of ns) n
-greatest_more [] n = max_zero n
-  where
-    max_zero : (n : ℕ) → max n 0 ≡ max 0 n
-    max_zero zero = refl
-    max_zero (suc n) = refl
-greatest_more (m ∷ ns) n = ap (max m) (greatest_more ns n) ∙ max_grouped m (greatest_of ns) n
+pub max_none : (n : ℕ) → max n 0 ≡ n
+max_none n = let one = le-max_left n 0 in let other : max n 0 ≤ n = max-le (omega arith) (omega arith) in omega (arith, one, other)
+
+pub none_max : (n : ℕ) → max 0 n ≡ n
+none_max n = let one = le-max_right 0 n in let other : max 0 n ≤ n = max-le (omega arith) (omega arith) in omega (arith, one, other)
 
 at_most : {X : Type 0} (f : X → ℕ) (xs : List X) (k : ℕ) → ((x : X) → IsMember x xs → f x ≤ k) → greatest_of (map f xs) ≤ k
 at_most f [] k each = omega arith
@@ -65,3 +63,13 @@ clock_same xs ys same = greatest_same clock_of xs ys same
 
 pub seq_same : (name : Replica) (xs ys : List Operation) → SameItems xs ys → greatest_seq name xs ≡ greatest_seq name ys
 seq_same name xs ys same = greatest_same (λ (o : Operation). o.stamp.seq) (filter (is_by name) xs) (filter (is_by name) ys) (same_filter xs ys same (is_by name))
+
+-- the numbers of the others do not count
+pub own_is : (name : Replica) (ops : List Operation) → greatest_of (map (own_seq name) ops) ≡ greatest_seq name ops
+own_is name [] = refl
+own_is name (o ∷ ops) = by (is_by name o) (own_is name ops)
+  where
+    by : (b : Bool) → greatest_of (map (own_seq name) ops) ≡ greatest_seq name ops
+        → max (cond b o.stamp.seq 0) (greatest_of (map (own_seq name) ops)) ≡ greatest_of (map (λ (x : Operation). x.stamp.seq) (cond b (o ∷ filter (is_by name) ops) (filter (is_by name) ops)))
+    by true rest = ap (max o.stamp.seq) rest
+    by false rest = none_max (greatest_of (map (own_seq name) ops)) ∙ rest

@@ -8,11 +8,14 @@ ghost use Rattle.mt_sessionview.specs.Session.{ready_ops};
 ghost use Rattle.mt_stamp.specs.Sorting.{sort_by};
 ghost use Rattle.mt_op.specs.ByStamp.{op_cmp};
 
+use crate::fault::EditorFault;
+use mt_items::{Items, items_of_ready};
 use mt_op::Op;
+use mt_opcodec::Log;
 use std::alloc::{AllocError, Allocator};
 
 // These operations by rising stamp.
-pub fn sorted_ops<'a, A: Allocator, B: Allocator>(
+fn sorted_ops<'a, A: Allocator, B: Allocator>(
     alloc: B,
     ops: &'a [Op<A>],
 ) -> Result<Vec<&'a Op<A>, B>, AllocError>
@@ -27,3 +30,18 @@ pub fn sorted_ops<'a, A: Allocator, B: Allocator>(
     Ok(sorted)
 }
 
+/// The items that the ready operations of a log leave. n operations cost n log n. Refused as `Memory` (0) where a growth was
+/// refused.
+pub(crate) fn items_of_log<A: Allocator + Clone>(
+    alloc: &A,
+    log: &Log<A>,
+) -> Result<Items<A>, EditorFault>
+    ensures ok { IfOk result (λ items. (f : Operation → ℕ) → sum_by f items ≡ sum_by f (ready_ops (operations log.now))) }
+    ensures err { IfErr result (λ fault. fault ≡ EditorFault.Memory) }
+{
+    let sorted = sorted_ops(alloc.clone()?, log.ops())?;
+    match items_of_ready(alloc.clone()?, &sorted) {
+        Ok(items) => Ok(items),
+        Err(_) => Err(EditorFault::Memory),
+    }
+}

@@ -1,14 +1,15 @@
 //! The greatest clock and number of operations.
 
-ghost use Rattle.std.specs.Prelude.{◌≡◌};
-ghost use Rattle.mt_replica.specs.Made.{greatest_clock, greatest_seq};
+ghost use Rattle.std.specs.Prelude.{◌≡◌, List, map};
+ghost use Rattle.mt_replica.specs.Made.{greatest_of, greatest_clock};
+ghost use Rattle.mt_replica.specs.State.{own_seq};
 
 use mt_op::Op;
 use mt_stamp::Replica;
 use std::alloc::Allocator;
 
 /// The greatest clock of these operations, 0 where there is none.
-pub fn greatest_clock<A: Allocator>(ops: &[Op<A>]) -> u64
+pub(crate) fn greatest_clock<A: Allocator>(ops: &[Op<A>]) -> u64
     ensures { result ≡ greatest_clock ops.now }
 {
     let mut greatest = 0;
@@ -18,15 +19,24 @@ pub fn greatest_clock<A: Allocator>(ops: &[Op<A>]) -> u64
     greatest
 }
 
+// An operation's number where this replica made it, and else 0.
+fn own_seq<A: Allocator>(name: Replica, op: &Op<A>) -> u64
+    ensures { result ≡ own_seq name op.now }
+{
+    if op.stamp().replica() == name {
+        op.stamp().seq()
+    } else {
+        0
+    }
+}
+
 /// The greatest number of this replica's among these operations, 0 where there is none.
-pub fn greatest_seq<A: Allocator>(name: Replica, ops: &[Op<A>]) -> u64
-    ensures { result ≡ greatest_seq name ops.now }
+pub(crate) fn greatest_seq<A: Allocator>(name: Replica, ops: &[Op<A>]) -> u64
+    ensures { result ≡ greatest_of (map (own_seq name) ops.now) }
 {
     let mut greatest = 0;
     for op in ops {
-        if op.stamp().replica() == name {
-            greatest = greatest.max(op.stamp().seq());
-        }
+        greatest = greatest.max(own_seq(name, op));
     }
     greatest
 }

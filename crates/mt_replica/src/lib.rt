@@ -1,14 +1,17 @@
 //! An editor of a session.
 #![tactic(auto)]
 
+mod body;
 mod by_stamp;
 mod change;
+mod draft;
 mod fault;
 mod greatest;
+mod names;
+mod state;
 mod taken;
 
-pub use by_stamp::sorted_ops;
-pub use greatest::{greatest_clock, greatest_seq};
 pub use change::Change;
+pub use draft::Draft;
 pub use fault::EditorFault;
 pub use taken::Taken;

@@ -5,4 +5,4 @@ use Rattle.mt_replica.specs.Made.{greatest_clock}
 use Rattle.mt_replica.proofs.greatest.greatest_clock.Given as goal
 
 abbrev pub invariant-loop-op : goal.invariant-loop-op
-invariant-loop-op l = max l.greatest (greatest_clock (drop l.op-index l.ops)) ≡ greatest_clock l.ops
+invariant-loop-op g l = max l.greatest (greatest_clock (drop l.op-index l.ops)) ≡ greatest_clock l.ops
