@@ -1,5 +1,5 @@
 -- What is read of cells.
-use Rattle.std.proofs.Common.{◌≡◌, false, List, Option, Some, None, ◌||◌, refl, sym, ap, ◌∙◌}
+use Rattle.std.proofs.Common.{◌≡◌, false, List, Option, Some, None, ◌||◌, sym, ap, ◌∙◌}
 use Rattle.mt_stamp.specs.Moment.{Moment}
 use Rattle.mt_op.specs.declared.need.Role.{Role}
 use Rattle.mt_op.specs.declared.need.Role.TheVariants.{Track, Clip, Marker, Mixable, Titled, Item}

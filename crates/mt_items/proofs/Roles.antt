@@ -1,7 +1,6 @@
 -- Which stamps meet which needs, and what is written and marked of those that do not.
-use Rattle.std.proofs.Common.{◌≡◌, Bool, true, false, cond, List, [], ◌∷◌, ◌&&◌, ◌||◌, map, Option, Some, None, ◌⊎◌, inl, inr, refl, sym, ap, ◌∙◌, true≢false}
-use Rattle.std.specs.List.{list_all, list_any, filter}
-use Rattle.std.proofs.lemmas.Option.{none-some}
+use Rattle.std.proofs.Common.{◌≡◌, Bool, true, false, cond, List, [], ◌∷◌, ◌&&◌, ◌||◌, map, Option, Some, None, refl, sym, ap, ◌∙◌, true≢false}
+use Rattle.std.specs.List.{list_all, filter}
 use Rattle.mt_stamp.specs.Moment.{Moment, stamp_eq}
 use Rattle.mt_stamp.proofs.Order.{stamp_eq-true, stamp_eq-itself}
 use Rattle.mt_op.specs.declared.need.Role.{Role}
@@ -9,10 +8,10 @@ use Rattle.mt_op.specs.declared.need.Role.TheVariants.{Track, Clip, Marker, Mixa
 use Rattle.mt_op.specs.Operation.{Act, AddTrack, MoveTrack, AddClip, MoveClip, TrimClip, SetGain, SetMute, Remove, Restore, AddMarker, MoveMarker, Retitle, Operation}
 use Rattle.mt_op.specs.Needs.{need_of, needs_of, act_fits, fits, is_tag_of}
 use Rattle.mt_op.specs.Presence.{is_listed, tags, tags_removed}
-use Rattle.mt_op.specs.Writes.{Write, kept, written_by, last_write, title_written, gain_written, mute_written, track_place_written, clip_place_written, trim_written, source_written, position_written}
+use Rattle.mt_op.specs.Writes.{Write, kept, last_write, title_written, gain_written, mute_written, track_place_written, clip_place_written, trim_written, source_written, position_written}
 use Rattle.mt_op.proofs.Needs.{and_first}
 use Rattle.mt_cells.specs.Marks.{unmarked}
-use Rattle.mt_items.specs.Noting.{is_need_met, AreNoted, MayFollow}
+use Rattle.mt_items.specs.Noting.{is_need_met, AreNoted}
 use Rattle.mt_items.specs.Tags.{HoldsTags}
 use Rattle.mt_items.proofs.Noting.{unmet, first_false, rest_false, last_same}
 use Rattle.mt_items.proofs.Marking.{same_tags, no_tags}

@@ -1,4 +1,4 @@
-use Rattle.std.proofs.Common.{◌≡◌, List, ◌∷◌, ◌+◌, map, drop, sym, ap, ◌∙◌, subst}
+use Rattle.std.proofs.Common.{List, ◌+◌, map, drop, sym, ap, ◌∙◌, subst}
 use Rattle.mt_op.proofs.TagLists.{drop_here}
 use Rattle.mt_items.proofs.Fresh.{IsPassing, next_follows, next_noted, next_held}
 use Rattle.mt_items.proofs.ready.pass.Goals as goal

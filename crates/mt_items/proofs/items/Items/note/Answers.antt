@@ -1,4 +1,4 @@
-use Rattle.std.proofs.Common.{List, ◌∷◌, subst, sym, ap, ◌∙◌}
+use Rattle.std.proofs.Common.{List, subst, sym}
 use Rattle.mt_op.specs.Operation.{Operation}
 use Rattle.mt_items.specs.All.{HoldsAll}
 use Rattle.mt_items.specs.Noting.{MayFollow}
