@@ -1,10 +1,9 @@
 -- The answers to questions do not depend on the order in which operations were noted.
-use Rattle.std.proofs.Common.{◌≡◌, ℕ, zero, suc, Bool, List, [], ◌∷◌, ◌||◌, not, Some, map, refl, sym, ap, ◌∙◌, true, true≢false}
+use Rattle.std.proofs.Common.{◌≡◌, ℕ, zero, suc, Bool, List, [], ◌∷◌, ◌||◌, not, Some, map, sym, ap, ◌∙◌, true, true≢false}
 use Rattle.std.specs.Prelude.{slice_get}
 use Rattle.std.specs.Cmp.{on_total}
 use Rattle.std.specs.List.{filter, list_any, All, AllByRecursion}
 use Rattle.std.specs.List.Sorted.{IsPermutation}
-use Rattle.std.specs.declared.cmp.Ordering.TheVariants.{Equal}
 use Rattle.std.proofs.lemmas.Option.{same_Some, none-some, slice_get-get_or}
 use Rattle.std.proofs.lemmas.List.Elements.{recursion_from_All}
 use Rattle.std.proofs.lemmas.List.Sorted.{All-permutation, sum_by-IsPermutation}

@@ -1,10 +1,10 @@
 -- When a stamp is new, and what one pass keeps.
-use Rattle.std.proofs.Common.{◌≡◌, Bool, true, false, List, [], ◌∷◌, ◌||◌, refl, sym, ap, ◌∙◌, subst, cond, true≢false}
-use Rattle.std.specs.Prelude.{IsTrue, ◌≢◌}
+use Rattle.std.proofs.Common.{◌≡◌, Bool, true, false, List, [], ◌∷◌, ◌||◌, refl, sym, ap, ◌∙◌, cond, true≢false}
+use Rattle.std.specs.Prelude.{IsTrue, IfOk, Ok, Err}
+use Rattle.std.specs.declared.result.Result.{Result}
 use Rattle.std.specs.List.{AllByRecursion}
 use Rattle.std.specs.Cmp.{tied_itself}
 use Rattle.std.specs.Ordering.{is_lt, ordering_reverse}
-use Rattle.std.specs.declared.cmp.Ordering.{Ordering}
 use Rattle.std.specs.declared.cmp.Ordering.TheVariants.{Less, Equal}
 use Rattle.mt_stamp.specs.Moment.{Moment, stamp_cmp, stamp_eq}
 use Rattle.mt_stamp.specs.Sorting.{RisesStrictly, Rises}
@@ -91,3 +91,8 @@ next_held all noted rest o so_far unmet_one older = record {
   rises = so_far.rises.1;
   older = λ h. so_far.older (older, h);
 }
+
+-- what follows from two things that hold of a value, where there is one
+pub ok_from_both : {X E : Type 0} (P Q R : X → Type 0) (r : Result X E) → ((x : X) → P x → Q x → R x) → IfOk r P → IfOk r Q → IfOk r R
+ok_from_both P Q R (Ok x) both p q = both x p q
+ok_from_both P Q R (Err e) both p q = tt

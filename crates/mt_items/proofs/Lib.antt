@@ -8,3 +8,4 @@ pub mod Reading
 pub mod AnyOrder
 pub mod OnePass
 pub mod Fresh
+pub mod EachNeed

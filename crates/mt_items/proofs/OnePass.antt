@@ -7,7 +7,7 @@ use Rattle.std.specs.declared.cmp.Ordering.TheVariants.{Less, Equal, Greater}
 use Rattle.std.specs.Cmp.{tied_itself}
 use Rattle.std.proofs.lemmas.List.{append_assoc, append-nil}
 use mathlib.Core.List.{reverse-cons}
-use Rattle.mt_stamp.specs.Moment.{Moment, stamp_eq}
+use Rattle.mt_stamp.specs.Moment.{Moment}
 use Rattle.mt_stamp.specs.Sorting as rising
 use Rattle.mt_stamp.proofs.Order.{stamp_cmp_total, stamp_eq-true}
 use Rattle.mt_stamp.proofs.Differing.{all_kept}

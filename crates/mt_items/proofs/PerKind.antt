@@ -1,23 +1,16 @@
 -- The cells of each kind: what adds an item, and operations on other items.
-use Rattle.std.proofs.Common.{◌≡◌, Bool, true, false, cond, List, [], ◌∷◌, ◌&&◌, ◌||◌, Option, Some, None, refl, sym, ap, ◌∙◌, true≢false}
-use Rattle.std.specs.List.{list_all}
-use Rattle.mt_stamp.specs.Moment.{Moment, stamp_eq}
-use Rattle.mt_stamp.proofs.Order.{stamp_eq-true, stamp_eq-itself}
-use Rattle.mt_op.specs.declared.need.Role.{Role}
-use Rattle.mt_op.specs.declared.need.Role.TheVariants.{Track, Clip, Marker, Item}
-use Rattle.mt_op.proofs.Needs.{and_first}
-use Rattle.mt_cells.specs.Marks.{unmarked}
-use Rattle.mt_op.specs.Operation.{Act, AddTrack, AddClip, AddMarker, MoveMarker, Remove, Restore, Operation}
-use Rattle.mt_op.specs.Needs.{adds_track, adds_clip, adds_marker, adds_item, is_tag_of, need_of, needs_of, meets}
-use Rattle.mt_op.specs.Writes.{title_in, gain_in, mute_in, track_place_in, clip_place_in, trim_in, source_in, position_in, title_written, gain_written, mute_written, track_place_written, clip_place_written, trim_written, source_written, position_written, Write, kept, written_by, last_write}
-use Rattle.mt_items.specs.Noting.{subject, Concerns, is_need_met, AreNoted, MayFollow}
-use Rattle.mt_items.specs.Tags.{HoldsTags}
+use Rattle.std.proofs.Common.{◌≡◌, true, List, ◌∷◌, None, refl, sym, ap, ◌∙◌}
+use Rattle.mt_stamp.specs.Moment.{Moment}
+use Rattle.mt_op.specs.Operation.{Act, AddTrack, AddClip, AddMarker, Operation}
+use Rattle.mt_op.specs.Needs.{adds_track, adds_clip, adds_marker}
+use Rattle.mt_op.specs.Writes.{title_in, gain_in, mute_in, track_place_in, clip_place_in, trim_in, source_in, position_in, title_written, gain_written, mute_written, track_place_written, clip_place_written, trim_written, source_written, position_written, kept, written_by}
+use Rattle.mt_items.specs.Noting.{subject, Concerns}
 use Rattle.mt_items.specs.Cells.{HoldsMarker, HoldsClip, HoldsTrack}
 use Rattle.mt_items.specs.declared.cells.MarkerCells.{MarkerCells}
 use Rattle.mt_items.specs.declared.cells.ClipCells.{ClipCells}
 use Rattle.mt_items.specs.declared.cells.TrackCells.{TrackCells}
-use Rattle.mt_items.proofs.Noting.{at_subject, other_held, not_next, unmet, first_false, rest_false, last_same}
-use Rattle.mt_items.proofs.Marking.{other_tags, same_tags, no_tags}
+use Rattle.mt_items.proofs.Noting.{at_subject, other_held, not_next}
+use Rattle.mt_items.proofs.Marking.{other_tags}
 
 pub marker_own : (own : Moment) (act : Act) → adds_marker act ≡ true → subject own act ≡ own
 marker_own own (AddMarker at title) e = refl

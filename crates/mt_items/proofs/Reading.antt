@@ -1,5 +1,5 @@
 -- What is read of cells.
-use Rattle.std.proofs.Common.{◌≡◌, false, List, Option, Some, None, ◌||◌, refl, sym, ap, ◌∙◌}
+use Rattle.std.proofs.Common.{◌≡◌, false, List, Option, Some, None, ◌||◌, sym, ap, ◌∙◌}
 use Rattle.mt_stamp.specs.Moment.{Moment}
 use Rattle.mt_op.specs.declared.need.Role.{Role}
 use Rattle.mt_op.specs.declared.need.Role.TheVariants.{Track, Clip, Marker, Mixable, Titled, Item}
@@ -7,7 +7,7 @@ use Rattle.mt_op.specs.Operation.{Act, Operation}
 use Rattle.mt_op.specs.Needs.{need_of}
 use Rattle.mt_op.specs.Writes.{Write, Written, last_write}
 use Rattle.mt_items.specs.Noting.{is_need_met, AreNoted}
-use Rattle.mt_items.proofs.Roles.{OfKind, none_written, mixable_is, titled_is, item_is}
+use Rattle.mt_items.proofs.Roles.{OfKind, none_written, mixable_is, titled_is, item_apart}
 
 -- a register's value, where the item has one
 pub read_some : {X : Type 0} (field : Moment → Act → Option (Write X)) (item : Moment) (ops now : List Operation) (w : Written X) → ops ≡ now → last_write field item ops ≡ Some w → Some w ≡ last_write field item now
@@ -24,4 +24,4 @@ pub not_mixable : (ops : List Operation) (stamp : Moment) → is_need_met ops (n
 not_mixable ops stamp t c = mixable_is ops stamp ∙ (λ i. t i || c i)
 
 pub not_item : (ops : List Operation) (stamp : Moment) → is_need_met ops (need_of Track stamp) ≡ false → is_need_met ops (need_of Clip stamp) ≡ false → is_need_met ops (need_of Marker stamp) ≡ false → is_need_met ops (need_of Item stamp) ≡ false
-not_item ops stamp t c m = item_is ops stamp ∙ (λ i. t i || (c i || m i))
+not_item ops stamp t c m = item_apart ops stamp ∙ (λ i. not_mixable ops stamp t c i || m i)

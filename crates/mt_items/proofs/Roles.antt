@@ -1,18 +1,17 @@
 -- Which stamps meet which needs, and what is written and marked of those that do not.
-use Rattle.std.proofs.Common.{◌≡◌, Bool, true, false, cond, List, [], ◌∷◌, ◌&&◌, ◌||◌, map, Option, Some, None, ◌⊎◌, inl, inr, refl, sym, ap, ◌∙◌, true≢false}
-use Rattle.std.specs.List.{list_all, list_any, filter}
-use Rattle.std.proofs.lemmas.Option.{none-some}
+use Rattle.std.proofs.Common.{◌≡◌, Bool, true, false, cond, List, [], ◌∷◌, ◌&&◌, ◌||◌, map, Option, Some, None, refl, sym, ap, ◌∙◌, true≢false}
+use Rattle.std.specs.List.{list_all, filter}
 use Rattle.mt_stamp.specs.Moment.{Moment, stamp_eq}
 use Rattle.mt_stamp.proofs.Order.{stamp_eq-true, stamp_eq-itself}
 use Rattle.mt_op.specs.declared.need.Role.{Role}
 use Rattle.mt_op.specs.declared.need.Role.TheVariants.{Track, Clip, Marker, Mixable, Titled, Item, TagOf}
 use Rattle.mt_op.specs.Operation.{Act, AddTrack, MoveTrack, AddClip, MoveClip, TrimClip, SetGain, SetMute, Remove, Restore, AddMarker, MoveMarker, Retitle, Operation}
-use Rattle.mt_op.specs.Needs.{need_of, needs_of, act_fits, fits, is_tag_of, adds_track, adds_clip, adds_marker}
+use Rattle.mt_op.specs.Needs.{need_of, needs_of, act_fits, fits, is_tag_of}
 use Rattle.mt_op.specs.Presence.{is_listed, tags, tags_removed}
-use Rattle.mt_op.specs.Writes.{Write, kept, written_by, last_write, title_written, gain_written, mute_written, track_place_written, clip_place_written, trim_written, source_written, position_written}
+use Rattle.mt_op.specs.Writes.{Write, kept, last_write, title_written, gain_written, mute_written, track_place_written, clip_place_written, trim_written, source_written, position_written}
 use Rattle.mt_op.proofs.Needs.{and_first}
 use Rattle.mt_cells.specs.Marks.{unmarked}
-use Rattle.mt_items.specs.Noting.{is_need_met, AreNoted, MayFollow}
+use Rattle.mt_items.specs.Noting.{is_need_met, AreNoted}
 use Rattle.mt_items.specs.Tags.{HoldsTags}
 use Rattle.mt_items.proofs.Noting.{unmet, first_false, rest_false, last_same}
 use Rattle.mt_items.proofs.Marking.{same_tags, no_tags}
@@ -54,25 +53,22 @@ titled_is = split_role Titled Track Marker each
     each own (AddMarker at title) = refl
     each own _ = refl
 
-pub item_is : (ops : List Operation) (stamp : Moment) → is_need_met ops (need_of Item stamp) ≡ (is_need_met ops (need_of Track stamp) || (is_need_met ops (need_of Clip stamp) || is_need_met ops (need_of Marker stamp)))
-item_is [] stamp = refl
-item_is (o ∷ ops) stamp =
-    (λ i. (stamp_eq stamp o.stamp && each o.act i) || item_is ops stamp i)
-    ∙ ap (λ (b : Bool). b || (is_need_met ops (need_of Track stamp) || (is_need_met ops (need_of Clip stamp) || is_need_met ops (need_of Marker stamp)))) (two (stamp_eq stamp o.stamp) (adds_track o.act) (adds_clip o.act) (adds_marker o.act))
-    ∙ three (stamp_eq stamp o.stamp && adds_track o.act) (stamp_eq stamp o.stamp && adds_clip o.act) (stamp_eq stamp o.stamp && adds_marker o.act) (is_need_met ops (need_of Track stamp)) (is_need_met ops (need_of Clip stamp)) (is_need_met ops (need_of Marker stamp))
+-- an item sounds or is a marker
+pub item_apart : (ops : List Operation) (stamp : Moment) → is_need_met ops (need_of Item stamp) ≡ (is_need_met ops (need_of Mixable stamp) || is_need_met ops (need_of Marker stamp))
+item_apart = split_role Item Mixable Marker each
   where
-    each : (act : Act) → act_fits Item o.stamp act ≡ (adds_track act || (adds_clip act || adds_marker act))
-    each (AddTrack after title) = refl
-    each (AddClip source track at offset len) = refl
-    each (AddMarker at title) = refl
-    each _ = refl
+    each : (own : Moment) (act : Act) → act_fits Item own act ≡ (act_fits Mixable own act || act_fits Marker own act)
+    each own (AddTrack after title) = refl
+    each own (AddClip source track at offset len) = refl
+    each own (AddMarker at title) = refl
+    each own _ = refl
 
-    two : (a b c d : Bool) → (a && (b || (c || d))) ≡ ((a && b) || ((a && c) || (a && d)))
-    two true b c d = refl
-    two false b c d = refl
+-- what tells the first of two, and where it is false the second, tells whether either holds
+pub either_first : (whole first second answer : Bool) → answer ≡ first → answer ≡ true → whole ≡ (first || second) → answer ≡ whole
+either_first whole first second answer tells holds is = holds ∙ sym (is ∙ ap (λ (b : Bool). b || second) (sym tells ∙ holds))
 
-    three : (a b c d e f : Bool) → ((a || (b || c)) || (d || (e || f))) ≡ ((a || d) || ((b || e) || (c || f)))
-    three a b c d e f = or_apart a (b || c) d (e || f) ∙ ap (λ (x : Bool). (a || d) || x) (or_apart b c e f)
+pub either_second : (whole first second answer other : Bool) → answer ≡ first → answer ≡ false → other ≡ second → whole ≡ (first || second) → other ≡ whole
+either_second whole first second answer other tells fails also is = also ∙ sym (is ∙ ap (λ (b : Bool). b || second) (sym tells ∙ fails))
 
 -- a need of a tag of an item is met by one of its tags
 pub tag_is : (item stamp : Moment) (ops : List Operation) → is_need_met ops (need_of (TagOf item) stamp) ≡ is_listed (tags item ops) stamp

@@ -1,11 +1,12 @@
 //! The state of items.
 
-ghost use Rattle.std.specs.Prelude.{◌≡◌, List, [], ◌∷◌, IfOk, IfErr, MatchOption, option_map};
+ghost use Rattle.std.specs.Prelude.{◌≡◌, List, [], ◌∷◌, Some, IfOk, IfErr, MatchOption, option_map, slice_get};
 ghost use Rattle.std.specs.List.Sorted.{IsStrictlySortedBy};
 ghost use Rattle.mt_stamp.specs.Moment.{Moment, stamp_cmp};
 ghost use Rattle.mt_op.specs.declared.need.Role.TheVariants.{Track, Place, Clip, Marker, Mixable, Titled, Item, TagOf};
 ghost use Rattle.mt_op.specs.Operation.{Operation};
-ghost use Rattle.mt_op.specs.Needs.{need_of};
+ghost use Rattle.mt_op.specs.Needs.{need_of, needs};
+ghost use Rattle.mt_op.specs.declared.need.Need.{Need as NeedOf};
 ghost use Rattle.mt_op.specs.Presence.{is_present, is_listed, live_tags};
 ghost use Rattle.mt_op.specs.Writes.{Written, title_written, gain_written, mute_written, track_place_written, clip_place_written, trim_written, source_written, position_written, last_write};
 ghost use Rattle.mt_cells.specs.Marks.{unmarked};
@@ -203,6 +204,16 @@ impl<A: Allocator> Items<A> {
         }
     }
 
+    // Whether the need of an operation at place `i` is met.
+    fn is_met_at(&self, op: &Op<A>, i: usize) -> bool
+        ensures { (need : NeedOf) → slice_get (needs op.now) i ≡ Some need → result ≡ is_need_met self.now need }
+    {
+        match op.need(i) {
+            Some(need) => self.meets(&need),
+            None => false,
+        }
+    }
+
     /// Whether noted operations meet each need of an operation.
     pub fn are_needs_met(&self, op: &Op<A>) -> bool
         ensures met { result ≡ are_needs_met self.now op.now }
@@ -210,9 +221,7 @@ impl<A: Allocator> Items<A> {
     {
         let _ = &self.noted;
         for i in 0..op.need_count() {
-            if let Some(need) = op.need(i)
-                && !self.meets(&need)
-            {
+            if !self.is_met_at(op, i) {
                 return false;
             }
         }
