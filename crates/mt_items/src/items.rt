@@ -246,7 +246,9 @@ impl<A: Allocator> Items<A> {
         ensures rising { IfOk result (λ tags. IsStrictlySortedBy stamp_cmp tags.items) }
         ensures live { IfOk result (λ tags. (tag : Moment) → is_listed tags.items tag ≡ is_listed (live_tags item self.now) tag) }
         ensures err { IfErr result (λ fault. fault ≡ ItemsFault.Memory) }
+        ensures noted { AreNoted self.now }
     {
+        let _ = &self.noted;
         match self.presence(item) {
             Some(presence) => Ok(presence.live_tags()?),
             None => Ok(Vec::new(self.alloc.clone()?)),

@@ -3,3 +3,6 @@ pub mod Gaining
 pub mod Inserted
 pub mod Valid
 pub mod Numbers
+pub mod Refs
+pub mod Bridging
+pub mod Keeping

@@ -1,9 +1,10 @@
 -- The greatest of some numbers.
-use Rattle.std.proofs.Common.{◌≡◌, ℕ, zero, suc, ◌≤◌, ◌<◌, Bool, true, false, not, List, [], ◌∷◌, ◌++◌, map, length, refl, sym, ap, ◌∙◌, subst, inl, inr, cond, arith}
-use Rattle.std.specs.Prelude.{max, nat_lt}
+use Rattle.std.proofs.Common.{◌≡◌, ℕ, zero, suc, ◌+◌, ◌≤◌, ◌<◌, Bool, true, false, not, List, [], ◌∷◌, ◌++◌, map, length, refl, sym, ap, ◌∙◌, subst, inl, inr, cond, arith}
+use Rattle.std.specs.Prelude.{max, nat_lt, Some, slice_get, drop}
+use Rattle.std.proofs.lemmas.Option.{same_Some, none-some}
 use Rattle.std.specs.List.{filter, list_any}
 use Rattle.std.proofs.lemmas.Bool.{ltb-true, ltb-false}
-use Rattle.std.proofs.Math.Nat.{le-max_left, le-max_right, max-le}
+use Rattle.std.proofs.Math.Nat.{le-max_left, le-max_right, max-le, max-eq_left, max-eq_right}
 use Rattle.mt_stamp.specs.declared.name.Replica.{Replica}
 use Rattle.mt_stamp.proofs.Members.{IsMember}
 use Rattle.mt_stamp.proofs.SameItems.{SameItems, same_any, same_filter}
@@ -32,6 +33,12 @@ max_none n = let one = le-max_left n 0 in let other : max n 0 ≤ n = max-le (om
 
 pub none_max : (n : ℕ) → max 0 n ≡ n
 none_max n = let one = le-max_right 0 n in let other : max 0 n ≤ n = max-le (omega arith) (omega arith) in omega (arith, one, other)
+
+pub greater_second : (a b : ℕ) → a ≤ b → b ≡ max a b
+greater_second a b le = sym (max-eq_right le)
+
+pub greater_first : (a b : ℕ) → b ≤ a → a ≡ max a b
+greater_first a b le = sym (max-eq_left le)
 
 at_most : {X : Type 0} (f : X → ℕ) (xs : List X) (k : ℕ) → ((x : X) → IsMember x xs → f x ≤ k) → greatest_of (map f xs) ≤ k
 at_most f [] k each = omega arith
@@ -66,6 +73,7 @@ seq_same name xs ys same = greatest_same (λ (o : Operation). o.stamp.seq) (filt
 
 -- the numbers of the others do not count
 pub own_is : (name : Replica) (ops : List Operation) → greatest_of (map (own_seq name) ops) ≡ greatest_seq name ops
+unfolding own_seq
 own_is name [] = refl
 own_is name (o ∷ ops) = by (is_by name o) (own_is name ops)
   where
@@ -73,3 +81,18 @@ own_is name (o ∷ ops) = by (is_by name o) (own_is name ops)
         → max (cond b o.stamp.seq 0) (greatest_of (map (own_seq name) ops)) ≡ greatest_of (map (λ (x : Operation). x.stamp.seq) (cond b (o ∷ filter (is_by name) ops) (filter (is_by name) ops)))
     by true rest = ap (max o.stamp.seq) rest
     by false rest = none_max (greatest_of (map (own_seq name) ops)) ∙ rest
+
+-- ---- one operation more is looked at
+
+drop_at : (ops : List Operation) (i : ℕ) (x : Operation) → slice_get ops i ≡ Some x → drop i ops ≡ x ∷ drop (suc i) ops
+drop_at [] i x at = absurd (none-some x at)
+drop_at (y ∷ ops) zero x at = ap (λ (z : Operation). z ∷ ops) (same_Some y x at)
+drop_at (y ∷ ops) (suc i) x at = drop_at ops i x at
+
+pub next_greatest : (f : Operation → ℕ) (ops : List Operation) (i g k : ℕ) (x : Operation) → slice_get ops i ≡ Some x → max g (greatest_of (map f (drop i ops))) ≡ k → max (max g (f x)) (greatest_of (map f (drop (i + 1) ops))) ≡ k
+next_greatest f ops i g k x at is =
+    ap (λ (j : ℕ). max (max g (f x)) (greatest_of (map f (drop j ops)))) (one_more i)
+    ∙ sym (max_grouped g (f x) (greatest_of (map f (drop (suc i) ops)))) ∙ ap (λ (rest : List Operation). max g (greatest_of (map f rest))) (sym (drop_at ops i x at)) ∙ is
+  where
+    one_more : (j : ℕ) → j + 1 ≡ suc j
+    one_more j = omega arith

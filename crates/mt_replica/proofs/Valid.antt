@@ -33,7 +33,7 @@ use Rattle.mt_replica.proofs.Making.{Met, neither, passed, names_met, needs_met,
 
 -- ---- tags in order
 
-apart_stamps : (xs : List Moment) → DifferBy (λ (m : Moment). m) xs → AreApart stamp_cmp stamp_cmp_total xs
+pub apart_stamps : (xs : List Moment) → DifferBy (λ (m : Moment). m) xs → AreApart stamp_cmp stamp_cmp_total xs
 apart_stamps [] differ = tt
 apart_stamps (x ∷ xs) differ = (each xs differ.0, apart_stamps xs differ.1)
   where
@@ -62,14 +62,16 @@ fit_or_more : (b : Bool) → not b ≡ true → b ≡ false
 fit_or_more true e = absurd (false≢true e)
 fit_or_more false e = refl
 
+-- no two live tags are one where no two operations have one stamp
+pub live_differ : (ops : List Operation) → DifferBy stamp_of ops → (item : Moment) → DifferBy (λ (m : Moment). m) (live_tags item ops)
+live_differ ops differ item =
+    let given : DifferBy stamp_of (filter (λ o. is_tag_of item o.stamp o.act) ops) = differ_kept stamp_of (λ o. is_tag_of item o.stamp o.act) ops differ in
+    differ_kept (λ (m : Moment). m) (λ tag. not (is_listed (removed_tags item ops) tag)) (tags item ops)
+    (differ_mapped (λ (o : Operation). o.stamp) (λ (m : Moment). m) (filter (λ o. is_tag_of item o.stamp o.act) ops) given)
+
 module _ (ops : List Operation) where
-  -- no two live tags are one
   tags_differ : dots_rise ops ≡ true → (item : Moment) → DifferBy (λ (m : Moment). m) (live_tags item (ready_ops ops))
-  tags_differ rise item =
-      let ready : DifferBy stamp_of (ready_ops ops) = differ_kept stamp_of (is_ready clock_of needs meets ops) ops (every_stamp ops rise) in
-      let given : DifferBy stamp_of (filter (λ o. is_tag_of item o.stamp o.act) (ready_ops ops)) = differ_kept stamp_of (λ o. is_tag_of item o.stamp o.act) (ready_ops ops) ready in
-      differ_kept (λ (m : Moment). m) (λ tag. not (is_listed (removed_tags item (ready_ops ops)) tag)) (tags item (ready_ops ops))
-      (differ_mapped (λ (o : Operation). o.stamp) (λ (m : Moment). m) (filter (λ o. is_tag_of item o.stamp o.act) (ready_ops ops)) given)
+  tags_differ rise item = live_differ (ready_ops ops) (differ_kept stamp_of (is_ready clock_of needs meets ops) ops (every_stamp ops rise)) item
 
   tags_rise : dots_rise ops ≡ true → (item : Moment) → stamps_rise (rising_tags (ready_ops ops) item) ≡ true
   tags_rise rise item = rising (rising_tags (ready_ops ops) item) (sort_strict stamp_cmp stamp_cmp_total (live_tags item (ready_ops ops)) (apart_stamps (live_tags item (ready_ops ops)) (tags_differ rise item)))

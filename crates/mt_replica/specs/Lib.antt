@@ -4,3 +4,4 @@ pub mod Faults
 pub mod Made
 pub mod Kept
 pub mod State
+pub mod Codes

@@ -48,5 +48,5 @@ lists_few (Remove item tags) = nat_le (length tags) greatest_tag_count
 lists_few _ = true
 
 -- the number of an operation of this replica, 0 of another's
-abbrev pub own_seq : Replica → Operation → ℕ
+unfoldable pub own_seq : Replica → Operation → ℕ
 own_seq name o = cond (is_by name o) o.stamp.seq 0

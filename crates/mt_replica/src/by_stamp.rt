@@ -1,6 +1,6 @@
 //! The items that a log's ready operations leave.
 
-ghost use Rattle.std.specs.Prelude.{◌≡◌, IfOk, IfErr, List, map};
+ghost use Rattle.std.specs.Prelude.{◌≡◌, ℕ, IfOk, IfErr, List, map};
 ghost use Rattle.std.specs.List.{sum_by};
 ghost use Rattle.mt_op.specs.Operation.{Operation};
 ghost use Rattle.mt_opcodec.specs.LogValue.{operations, AreLogged};

@@ -28,7 +28,11 @@ impl<A: Allocator> Model for Draft<A> {
     ghost use Rattle.mt_replica.specs.Kept.{Kept};
     ghost use Rattle.mt_replica.specs.State.{Named};
 
+    ghost use Rattle.mt_replica.specs.Codes.{kept_code};
+
     ghost Value = { Kept };
+
+    ghost coded = { kept_code };
 
     ghost view = { λ d. record { name = d.name; log = option_map (λ (s : Named). s.log) d.state } };
 

@@ -58,6 +58,17 @@ fn after_refused<A: Allocator>(items: &Items<A>, after: Option<Stamp>) -> Option
     }
 }
 
+// Why a track cannot be moved after another, or to the head.
+fn move_refused<A: Allocator>(
+    items: &Items<A>,
+    track: Stamp,
+    after: Option<Stamp>,
+) -> Option<EditorFault>
+    ensures { result ≡ names_refused items.now true (need_of Role.Track track ∷ named_track after) }
+{
+    first_of(name_refused(items, track, Role::Track, true), after_refused(items, after))
+}
+
 /// The first refusal of the items that a change names, in the order of its fields.
 pub(crate) fn names_refused<A: Allocator>(
     items: &Items<A>,
@@ -67,10 +78,7 @@ pub(crate) fn names_refused<A: Allocator>(
 {
     match change {
         Change::AddTrack { after, .. } => after_refused(items, *after),
-        Change::MoveTrack { track, after } => first_of(
-            item_refused(items, *track, Role::Track),
-            after_refused(items, *after),
-        ),
+        Change::MoveTrack { track, after } => move_refused(items, *track, *after),
         Change::AddClip { track, .. } => item_refused(items, *track, Role::Track),
         Change::MoveClip { clip, track, .. } => first_of(
             item_refused(items, *clip, Role::Clip),

@@ -1,6 +1,7 @@
 //! A log, and what an editor keeps beside it.
 
-ghost use Rattle.std.specs.Prelude.{◌≡◌, ◌⊎◌, IfOk, IfErr, OnOk, None, Some, Ok, Err};
+ghost use Rattle.mt_items.specs.Noting.{MayFollow};
+ghost use Rattle.std.specs.Prelude.{◌≡◌, ◌∷◌, ◌⊎◌, IfOk, IfErr, OnOk, None, Some, Ok, Err};
 ghost use Rattle.std.specs.FinMap as map;
 ghost use Rattle.mt_op.specs.Dots.{op_dot};
 ghost use Rattle.mt_op.specs.Bodies.{act_of};
@@ -38,7 +39,11 @@ pub(crate) struct State<A: Allocator> {
 impl<A: Allocator> Model for State<A> {
     ghost use Rattle.mt_replica.specs.State.{Named, IsState};
 
+    ghost use Rattle.mt_replica.specs.Codes.{named_code};
+
     ghost Value = { Named };
+
+    ghost coded = { named_code };
 
     ghost view = { λ s. record { name = s.name; log = s.log } };
 
@@ -75,7 +80,7 @@ impl<A: Allocator + Clone> State<A> {
     fn next_stamp(&self) -> Result<Stamp, EditorFault>
         ensures { result ≡ or_made (stamp_refused (operations self.now.log) self.now.name) (made_stamp (operations self.now.log) self.now.name) }
     {
-        let _ = &self.items;
+        let (_items, _replica) = (&self.items, self.name.0);
         if self.clock >= Stamp::GREATEST {
             return Err(EditorFault::ClockFull);
         }
@@ -91,6 +96,7 @@ impl<A: Allocator + Clone> State<A> {
         ensures ok { IfOk result (λ body. act_of body ≡ made_act (ready_ops (operations self.now.log)) (edit_of change.now)) }
         ensures err { IfErr result (λ fault. (fault ≡ EditorFault.Memory) ⊎ (body_refused (operations self.now.log) (edit_of change.now) ≡ Some fault)) }
     {
+        let _ = self.log.ops();
         if !plays(change) {
             return Err(EditorFault::ZeroLength);
         }
@@ -127,8 +133,9 @@ impl<A: Allocator + Clone> State<A> {
             items,
             ..
         } = self;
-        let items = items.note(op)?;
-        add_new(&mut log, op.try_clone()?)?;
+        let _ = log.ops();
+        let items = noted(items, op)?;
+        add_new(&mut log, copied(op)?)?;
         Ok(State {
             name,
             log,
@@ -136,6 +143,29 @@ impl<A: Allocator + Clone> State<A> {
             clock: op.stamp().clock(),
             seq: op.stamp().seq(),
         })
+    }
+}
+
+// The items with an operation noted.
+fn noted<A: Allocator + Clone>(items: Items<A>, op: &Op<A>) -> Result<Items<A>, EditorFault>
+    requires follows { MayFollow items op.now }
+    ensures ok { IfOk result (λ after. after ≡ op.now ∷ items) }
+    ensures err { IfErr result (λ fault. fault ≡ EditorFault.Memory) }
+{
+    match items.note(op) {
+        Ok(items) => Ok(items),
+        Err(_) => Err(EditorFault::Memory),
+    }
+}
+
+// A copy of an operation.
+fn copied<A: Allocator + Clone>(op: &Op<A>) -> Result<Op<A>, EditorFault>
+    ensures ok { IfOk result (λ copy. copy ≡ op.now) }
+    ensures err { IfErr result (λ fault. fault ≡ EditorFault.Memory) }
+{
+    match op.try_clone() {
+        Ok(copy) => Ok(copy),
+        Err(_) => Err(EditorFault::Memory),
     }
 }
 
