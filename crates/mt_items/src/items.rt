@@ -258,9 +258,9 @@ impl<A: Allocator> Items<A> {
         ensures { option_map (λ r. written r.now) result ≡ last_write title_written item self.now }
     {
         match self.tracks.get(&item) {
-            Some(cells) => Some(&cells.title),
+            Some(track) => Some(&track.title),
             None => match self.markers.get(&item) {
-                Some(cells) => Some(&cells.title),
+                Some(marker) => Some(&marker.title),
                 None => None,
             },
         }
@@ -271,9 +271,9 @@ impl<A: Allocator> Items<A> {
         ensures { option_map (λ r. written r.now) result ≡ last_write gain_written item self.now }
     {
         match self.tracks.get(&item) {
-            Some(cells) => Some(&cells.gain),
+            Some(track) => Some(&track.gain),
             None => match self.clips.get(&item) {
-                Some(cells) => Some(&cells.gain),
+                Some(clip) => Some(&clip.gain),
                 None => None,
             },
         }
@@ -284,9 +284,9 @@ impl<A: Allocator> Items<A> {
         ensures { option_map (λ r. written r.now) result ≡ last_write mute_written item self.now }
     {
         match self.tracks.get(&item) {
-            Some(cells) => Some(&cells.mute),
+            Some(track) => Some(&track.mute),
             None => match self.clips.get(&item) {
-                Some(cells) => Some(&cells.mute),
+                Some(clip) => Some(&clip.mute),
                 None => None,
             },
         }
@@ -298,7 +298,7 @@ impl<A: Allocator> Items<A> {
         ensures { option_map (λ r. written r.now) result ≡ last_write track_place_written track self.now }
     {
         match self.tracks.get(&track) {
-            Some(cells) => Some(&cells.place),
+            Some(found) => Some(&found.place),
             None => None,
         }
     }

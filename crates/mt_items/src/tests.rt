@@ -6,15 +6,48 @@ mod answers;
 mod growth;
 
 use crate::{Items, ItemsFault, items_of_ready};
-use mt_op::{Body, Digest, Gain, Need, Op, OpFault, Role, Title};
+use mt_op::{Body, Digest, Gain, Op, OpFault, Title};
 use mt_stamp::{List, Replica, Stamp, StampFault};
-use std::alloc::Allocator;
+use std::alloc::{AllocError, AllocFailed, Allocator};
 use std::collections::BTreeSet;
-use std::test::Fail;
 
 const A: Replica = Replica(10);
 
 const B: Replica = Replica(11);
+
+// The operations of a test could not be made.
+#[derive(Clone, Copy, Debug, PartialEq, Eq)]
+struct NoFixture;
+
+impl From<StampFault> for NoFixture {
+    fn from(_error: StampFault) -> NoFixture {
+        NoFixture
+    }
+}
+
+impl From<OpFault> for NoFixture {
+    fn from(_error: OpFault) -> NoFixture {
+        NoFixture
+    }
+}
+
+impl From<AllocError> for NoFixture {
+    fn from(_error: AllocError) -> NoFixture {
+        NoFixture
+    }
+}
+
+impl<T: Drop> From<AllocFailed<T>> for NoFixture {
+    fn from(_error: AllocFailed<T>) -> NoFixture {
+        NoFixture
+    }
+}
+
+impl From<ItemsFault> for NoFixture {
+    fn from(_error: ItemsFault) -> NoFixture {
+        NoFixture
+    }
+}
 
 // The operations of the tests have a letter each, and this is its stamp.
 fn stamp(name: char) -> Result<Stamp, StampFault> {
@@ -37,7 +70,7 @@ fn stamp(name: char) -> Result<Stamp, StampFault> {
 }
 
 // A Remove of the marker that lists its first tag.
-fn removal<M: Allocator>(memory: M, item: Stamp) -> Result<Body<M>, OpFault> {
+fn removal<M: Allocator>(memory: M, item: Stamp) -> Result<Body<M>, NoFixture> {
     let mut tags = Vec::new(memory);
     tags.push(item)?;
     let tags = List::new(tags);
@@ -45,7 +78,7 @@ fn removal<M: Allocator>(memory: M, item: Stamp) -> Result<Body<M>, OpFault> {
 }
 
 // An operation on the marker m: x and y give it titles, p moves it, r removes and s restores it.
-fn on_marker<M: Allocator>(memory: M, name: char, marker: Stamp) -> Result<Body<M>, OpFault> {
+fn on_marker<M: Allocator>(memory: M, name: char, marker: Stamp) -> Result<Body<M>, NoFixture> {
     match name {
         'm' => Ok(Body::AddMarker {
             at: 480,
@@ -71,7 +104,7 @@ fn on_track<M: Allocator>(
     name: char,
     track: Stamp,
     other: Stamp,
-) -> Result<Body<M>, OpFault> {
+) -> Result<Body<M>, NoFixture> {
     match name {
         't' => Ok(Body::AddTrack {
             after: None,
@@ -94,7 +127,7 @@ fn on_clip<M: Allocator>(
     clip: Stamp,
     track: Stamp,
     other: Stamp,
-) -> Result<Body<M>, OpFault> {
+) -> Result<Body<M>, NoFixture> {
     match name {
         'c' => Ok(Body::AddClip {
             source: Digest::of("News".as_bytes()),
@@ -125,7 +158,7 @@ fn on_clip<M: Allocator>(
 }
 
 // The operation of a letter.
-fn op<M: Allocator>(memory: M, name: char) -> Result<Op<M>, Fail> {
+fn op<M: Allocator>(memory: M, name: char) -> Result<Op<M>, NoFixture> {
     let track = stamp('t')?;
     let other = stamp('u')?;
     let body = match name {
@@ -137,7 +170,7 @@ fn op<M: Allocator>(memory: M, name: char) -> Result<Op<M>, Fail> {
 }
 
 // The operations of these letters.
-fn ops<M: Allocator + Clone>(memory: &M, names: &str) -> Result<Vec<Op<M>, M>, Fail> {
+fn ops<M: Allocator + Clone>(memory: &M, names: &str) -> Result<Vec<Op<M>, M>, NoFixture> {
     let mut ops = Vec::new(memory.clone()?);
     for name in names.chars() {
         ops.push(op(memory.clone()?, name)?)?;
@@ -161,6 +194,15 @@ fn noted<M: Allocator + Clone, N: Allocator + Clone>(
         items = items.note(op)?;
     }
     Ok(Some(items))
+}
+
+// The items that the operations of these letters leave, noted in this order.
+fn left_by<M: Allocator + Clone>(memory: M, names: &str) -> Result<Items<M>, NoFixture> {
+    let ops = ops(&memory, names)?;
+    match noted(memory.clone()?, memory, &ops)? {
+        Some(items) => Ok(items),
+        None => Err(NoFixture),
+    }
 }
 
 // Whether an operation's stamp is smaller than the next one's, where there is a next one.

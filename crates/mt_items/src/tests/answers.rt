@@ -1,6 +1,6 @@
 // What is answered of noted operations.
 
-use super::{noted, op, ops, ready, stamp};
+use super::{NoFixture, left_by, op, ops, ready, stamp};
 use crate::Items;
 use mt_op::{Digest, Gain, Need, Role};
 use mt_stamp::Stamp;
@@ -9,15 +9,12 @@ use std::test::Fail;
 
 // Which operation gave the title of an item, noted in this order.
 fn title_writer<M: Allocator + Clone>(
-    memory: &M,
+    memory: M,
     names: &str,
-    item: char,
-) -> Result<Option<Stamp>, Fail> {
-    let ops = ops(memory, names)?;
-    let Some(items) = noted(memory.clone()?, memory.clone()?, &ops)? else {
-        return Ok(None);
-    };
-    match items.title(stamp(item)?) {
+    item: Stamp,
+) -> Result<Option<Stamp>, NoFixture> {
+    let items = left_by(memory, names)?;
+    match items.title(item) {
         Some(title) => Ok(Some(title.stamp())),
         None => Ok(None),
     }
@@ -26,22 +23,29 @@ fn title_writer<M: Allocator + Clone>(
 // two_retitles
 #[test]
 fn keeps_the_last_of_two_retitles(rt: HostRuntime) -> Result<(), Fail> {
+    let marker = stamp('m')?;
     let last = Some(stamp('y')?);
-    assert_eq!(rt; title_writer(&rt.alloc(), "mxy", 'm')?, last);
-    assert_eq!(rt; title_writer(&rt.alloc(), "myx", 'm')?, last);
-    assert_eq!(rt; title_writer(&rt.alloc(), "mx", 'm')?, Some(stamp('x')?));
-    assert_eq!(rt; title_writer(&rt.alloc(), "mt", 't')?, Some(stamp('t')?));
-    assert_eq!(rt; title_writer(&rt.alloc(), "mtc", 'c')?, None);
+    assert_eq!(rt; title_writer(rt.alloc(), "mxy", marker), Ok(last));
+    assert_eq!(rt; title_writer(rt.alloc(), "myx", marker), Ok(last));
+    Ok(())
+}
+
+#[test]
+fn knows_titles_of_tracks_and_markers(rt: HostRuntime) -> Result<(), Fail> {
+    let track = stamp('t')?;
+    assert_eq!(rt; title_writer(rt.alloc(), "mt", track), Ok(Some(track)));
+    assert_eq!(rt; title_writer(rt.alloc(), "mtc", stamp('c')?), Ok(None));
     Ok(())
 }
 
 // The frame at which the marker m stands.
-fn position<M: Allocator + Clone>(memory: &M, names: &str) -> Result<Option<u32>, Fail> {
-    let ops = ops(memory, names)?;
-    let Some(items) = noted(memory.clone()?, memory.clone()?, &ops)? else {
-        return Ok(None);
-    };
-    match items.position(stamp('m')?) {
+fn position<M: Allocator + Clone>(
+    memory: M,
+    names: &str,
+    marker: Stamp,
+) -> Result<Option<u32>, NoFixture> {
+    let items = left_by(memory, names)?;
+    match items.position(marker) {
         Some(at) => Ok(Some(*at.get())),
         None => Ok(None),
     }
@@ -49,91 +53,97 @@ fn position<M: Allocator + Clone>(memory: &M, names: &str) -> Result<Option<u32>
 
 #[test]
 fn moves_a_marker(rt: HostRuntime) -> Result<(), Fail> {
-    assert_eq!(rt; position(&rt.alloc(), "m")?, Some(480));
-    assert_eq!(rt; position(&rt.alloc(), "mp")?, Some(960));
-    assert_eq!(rt; position(&rt.alloc(), "t")?, None);
+    let marker = stamp('m')?;
+    assert_eq!(rt; position(rt.alloc(), "m", marker), Ok(Some(480)));
+    assert_eq!(rt; position(rt.alloc(), "mp", marker), Ok(Some(960)));
+    assert_eq!(rt; position(rt.alloc(), "t", marker), Ok(None));
     Ok(())
 }
 
 // Whether an item is present, and how many live tags it has.
 fn presence<M: Allocator + Clone>(
-    memory: &M,
+    memory: M,
     names: &str,
-    item: char,
-) -> Result<(bool, usize), Fail> {
-    let ops = ops(memory, names)?;
-    let Some(items) = noted(memory.clone()?, memory.clone()?, &ops)? else {
-        return Ok((false, 100));
-    };
-    let tags = items.live_tags(stamp(item)?)?;
-    Ok((items.is_present(stamp(item)?), tags.len()))
+    item: Stamp,
+) -> Result<(bool, usize), NoFixture> {
+    let items = left_by(memory, names)?;
+    let present = items.is_present(item);
+    let tags = items.live_tags(item)?;
+    Ok((present, tags.len()))
 }
 
 // removed_and_restored
 #[test]
 fn removes_and_restores(rt: HostRuntime) -> Result<(), Fail> {
-    assert_eq!(rt; presence(&rt.alloc(), "m", 'm')?, (true, 1));
-    assert_eq!(rt; presence(&rt.alloc(), "mr", 'm')?, (false, 0));
-    assert_eq!(rt; presence(&rt.alloc(), "ms", 'm')?, (true, 2));
-    assert_eq!(rt; presence(&rt.alloc(), "mrs", 'm')?, (true, 1));
-    assert_eq!(rt; presence(&rt.alloc(), "msr", 'm')?, (true, 1));
-    assert_eq!(rt; presence(&rt.alloc(), "ms", 'u')?, (false, 0));
-    assert_eq!(rt; presence(&rt.alloc(), "tc", 'c')?, (true, 1));
+    let item = stamp('m')?;
+    assert_eq!(rt; presence(rt.alloc(), "m", item), Ok((true, 1)));
+    assert_eq!(rt; presence(rt.alloc(), "mr", item), Ok((false, 0)));
+    assert_eq!(rt; presence(rt.alloc(), "mrs", item), Ok((true, 1)));
+    assert_eq!(rt; presence(rt.alloc(), "msr", item), Ok((true, 1)));
     Ok(())
 }
 
-// Whether the live tags of the marker m are m and s.
-fn are_both_live<M: Allocator + Clone>(memory: &M, names: &str) -> Result<bool, Fail> {
-    let ops = ops(memory, names)?;
-    let Some(items) = noted(memory.clone()?, memory.clone()?, &ops)? else {
-        return Ok(false);
-    };
-    let tags = items.live_tags(stamp('m')?)?;
-    Ok(tags.get(0) == Some(&stamp('m')?) && tags.get(1) == Some(&stamp('s')?))
+#[test]
+fn knows_no_tag_of_what_is_no_item(rt: HostRuntime) -> Result<(), Fail> {
+    assert_eq!(rt; presence(rt.alloc(), "ms", stamp('u')?), Ok((false, 0)));
+    assert_eq!(rt; presence(rt.alloc(), "ms", stamp('s')?), Ok((false, 0)));
+    assert_eq!(rt; presence(rt.alloc(), "tc", stamp('c')?), Ok((true, 1)));
+    Ok(())
+}
+
+// Whether the live tags of an item are itself and then the other one.
+fn are_live<M: Allocator + Clone>(
+    memory: M,
+    names: &str,
+    item: Stamp,
+    other: Stamp,
+) -> Result<bool, NoFixture> {
+    let items = left_by(memory, names)?;
+    let tags = items.live_tags(item)?;
+    Ok(tags.get(0) == Some(&item) && tags.get(1) == Some(&other))
 }
 
 #[test]
 fn gives_live_tags_from_the_least_on(rt: HostRuntime) -> Result<(), Fail> {
-    assert!(rt; are_both_live(&rt.alloc(), "ms")?);
-    assert!(rt; !are_both_live(&rt.alloc(), "msr")?);
+    let item = stamp('m')?;
+    let other = stamp('s')?;
+    assert_eq!(rt; are_live(rt.alloc(), "ms", item, other), Ok(true));
+    assert_eq!(rt; are_live(rt.alloc(), "msr", item, other), Ok(false));
     Ok(())
 }
 
-// The current place of track t, and what it stands after.
+// The current place of a track, and what it stands after.
 fn place<M: Allocator + Clone>(
-    memory: &M,
+    memory: M,
     names: &str,
-) -> Result<Option<(Stamp, Option<Stamp>)>, Fail> {
-    let ops = ops(memory, names)?;
-    let Some(items) = noted(memory.clone()?, memory.clone()?, &ops)? else {
-        return Ok(None);
-    };
-    let track = stamp('t')?;
-    match (items.current_place(track), items.track_place(track)) {
-        (Some(place), Some(after)) => Ok(Some((place, *after.get()))),
-        _ => Ok(None),
+    track: Stamp,
+) -> Result<(Option<Stamp>, Option<Stamp>), NoFixture> {
+    let items = left_by(memory, names)?;
+    match items.track_place(track) {
+        Some(place) => Ok((items.current_place(track), *place.get())),
+        None => Ok((items.current_place(track), None)),
     }
 }
 
 // moved_tracks
 #[test]
 fn puts_a_track_where_it_was_moved_last(rt: HostRuntime) -> Result<(), Fail> {
-    assert_eq!(rt; place(&rt.alloc(), "tu")?, Some((stamp('t')?, None)));
-    assert_eq!(rt; place(&rt.alloc(), "tuv")?, Some((stamp('v')?, Some(stamp('u')?))));
-    assert_eq!(rt; place(&rt.alloc(), "m")?, None);
+    let track = stamp('t')?;
+    let moved = (Some(stamp('v')?), Some(stamp('u')?));
+    assert_eq!(rt; place(rt.alloc(), "tu", track), Ok((Some(track), None)));
+    assert_eq!(rt; place(rt.alloc(), "tuv", track), Ok(moved));
+    assert_eq!(rt; place(rt.alloc(), "m", track), Ok((None, None)));
     Ok(())
 }
 
-// The track and frame at which clip c is, with who put it there.
+// Who put a clip where it is, its track, and its frame.
 fn clip_place<M: Allocator + Clone>(
-    memory: &M,
+    memory: M,
     names: &str,
-) -> Result<Option<(Stamp, Stamp, u32)>, Fail> {
-    let ops = ops(memory, names)?;
-    let Some(items) = noted(memory.clone()?, memory.clone()?, &ops)? else {
-        return Ok(None);
-    };
-    match items.clip_place(stamp('c')?) {
+    clip: Stamp,
+) -> Result<Option<(Stamp, Stamp, u32)>, NoFixture> {
+    let items = left_by(memory, names)?;
+    match items.clip_place(clip) {
         Some(place) => {
             let (track, at) = *place.get();
             Ok(Some((place.stamp(), track, at)))
@@ -145,129 +155,181 @@ fn clip_place<M: Allocator + Clone>(
 // moved_and_removed_clip
 #[test]
 fn moves_a_clip(rt: HostRuntime) -> Result<(), Fail> {
-    let first = Some((stamp('c')?, stamp('t')?, 100));
+    let clip = stamp('c')?;
+    let first = Some((clip, stamp('t')?, 100));
     let moved = Some((stamp('d')?, stamp('u')?, 200));
-    assert_eq!(rt; clip_place(&rt.alloc(), "tuc")?, first);
-    assert_eq!(rt; clip_place(&rt.alloc(), "tucd")?, moved);
-    assert_eq!(rt; clip_place(&rt.alloc(), "tu")?, None);
+    assert_eq!(rt; clip_place(rt.alloc(), "tuc", clip), Ok(first));
+    assert_eq!(rt; clip_place(rt.alloc(), "tucd", clip), Ok(moved));
     Ok(())
 }
 
-// Whether clip c is trimmed, has its gain and mute, and its recording.
-fn clip_fields<M: Allocator + Clone>(
-    memory: &M,
+// The trim of a clip.
+fn trim<M: Allocator + Clone>(
+    memory: M,
     names: &str,
-) -> Result<(bool, bool, bool, bool), Fail> {
-    let ops = ops(memory, names)?;
-    let Some(items) = noted(memory.clone()?, memory.clone()?, &ops)? else {
-        return Ok((false, false, false, false));
-    };
-    let clip = stamp('c')?;
-    let trimmed = items.trim(clip).is_some_and(|trim| *trim.get() == (10, 20));
-    let halved = items.gain(clip).is_some_and(|gain| *gain.get() != Gain::UNCHANGED);
-    let muted = items.mute(clip).is_some_and(|mute| *mute.get());
-    let known = items.source(clip) == Some(Digest::of("News".as_bytes()));
-    Ok((trimmed, halved, muted, known))
+    clip: Stamp,
+) -> Result<Option<(u32, u32)>, NoFixture> {
+    let items = left_by(memory, names)?;
+    match items.trim(clip) {
+        Some(trim) => Ok(Some(*trim.get())),
+        None => Ok(None),
+    }
+}
+
+// The gain and the mute of a clip.
+fn sound<M: Allocator + Clone>(
+    memory: M,
+    names: &str,
+    clip: Stamp,
+) -> Result<Option<(Gain, bool)>, NoFixture> {
+    let items = left_by(memory, names)?;
+    match (items.gain(clip), items.mute(clip)) {
+        (Some(gain), Some(mute)) => Ok(Some((*gain.get(), *mute.get()))),
+        _ => Ok(None),
+    }
+}
+
+// The recording that a clip plays.
+fn source<M: Allocator + Clone>(
+    memory: M,
+    names: &str,
+    clip: Stamp,
+) -> Result<Option<Digest>, NoFixture> {
+    let items = left_by(memory, names)?;
+    Ok(items.source(clip))
 }
 
 #[test]
-fn keeps_the_fields_of_a_clip_apart(rt: HostRuntime) -> Result<(), Fail> {
-    assert_eq!(rt; clip_fields(&rt.alloc(), "tuc")?, (false, false, false, true));
-    assert_eq!(rt; clip_fields(&rt.alloc(), "tuce")?, (true, false, false, true));
-    assert_eq!(rt; clip_fields(&rt.alloc(), "tucg")?, (false, true, false, true));
-    assert_eq!(rt; clip_fields(&rt.alloc(), "tuch")?, (false, false, true, true));
-    assert_eq!(rt; clip_fields(&rt.alloc(), "tu")?, (false, false, false, false));
+fn trims_a_clip(rt: HostRuntime) -> Result<(), Fail> {
+    let clip = stamp('c')?;
+    assert_eq!(rt; trim(rt.alloc(), "tuc", clip), Ok(Some((0, 50))));
+    assert_eq!(rt; trim(rt.alloc(), "tuced", clip), Ok(Some((10, 20))));
     Ok(())
 }
 
-// Whether one of these operations fits a role.
-fn is_met<M: Allocator + Clone>(
-    memory: &M,
-    names: &str,
-    name: char,
-    role: Role,
-) -> Result<bool, Fail> {
-    let ops = ops(memory, names)?;
-    let Some(items) = noted(memory.clone()?, memory.clone()?, &ops)? else {
-        return Ok(false);
-    };
+#[test]
+fn keeps_gain_and_mute_apart(rt: HostRuntime) -> Result<(), Fail> {
+    let clip = stamp('c')?;
+    let half = Gain::new(1, 2)?;
+    assert_eq!(rt; sound(rt.alloc(), "tuc", clip), Ok(Some((Gain::UNCHANGED, false))));
+    assert_eq!(rt; sound(rt.alloc(), "tucg", clip), Ok(Some((half, false))));
+    assert_eq!(rt; sound(rt.alloc(), "tuch", clip), Ok(Some((Gain::UNCHANGED, true))));
+    Ok(())
+}
+
+#[test]
+fn knows_the_recording_of_a_clip(rt: HostRuntime) -> Result<(), Fail> {
+    let clip = stamp('c')?;
+    let news = Digest::of("News".as_bytes());
+    assert_eq!(rt; source(rt.alloc(), "tucd", clip), Ok(Some(news)));
+    assert_eq!(rt; source(rt.alloc(), "tu", clip), Ok(None));
+    Ok(())
+}
+
+// Whether one of m, s, t, u, v and c fits a role.
+fn is_met<M: Allocator + Clone>(memory: M, name: char, role: Role) -> Result<bool, NoFixture> {
     let stamp = stamp(name)?;
+    let items = left_by(memory, "mstuvc")?;
     Ok(items.meets(&Need { stamp, role }))
 }
 
 // wrong_role
 #[test]
-fn meets_a_need_in_its_role_alone(rt: HostRuntime) -> Result<(), Fail> {
-    let all = "mstuvc";
-    assert!(rt; is_met(&rt.alloc(), all, 'm', Role::Marker)?);
-    assert!(rt; !is_met(&rt.alloc(), all, 'm', Role::Mixable)?);
-    assert!(rt; is_met(&rt.alloc(), all, 't', Role::Titled)?);
-    assert!(rt; is_met(&rt.alloc(), all, 'c', Role::Mixable)?);
-    assert!(rt; !is_met(&rt.alloc(), all, 'c', Role::Titled)?);
-    assert!(rt; is_met(&rt.alloc(), all, 'c', Role::Item)?);
-    assert!(rt; !is_met(&rt.alloc(), all, 's', Role::Item)?);
-    Ok(())
+fn meets_a_need_in_its_role_alone(rt: HostRuntime) {
+    assert_eq!(rt; is_met(rt.alloc(), 'm', Role::Marker), Ok(true));
+    assert_eq!(rt; is_met(rt.alloc(), 'm', Role::Mixable), Ok(false));
+    assert_eq!(rt; is_met(rt.alloc(), 't', Role::Titled), Ok(true));
+    assert_eq!(rt; is_met(rt.alloc(), 'c', Role::Titled), Ok(false));
 }
 
 #[test]
-fn meets_a_need_of_a_place_or_a_tag(rt: HostRuntime) -> Result<(), Fail> {
-    let all = "mstuvc";
-    let marker = stamp('m')?;
-    assert!(rt; is_met(&rt.alloc(), all, 't', Role::Place)?);
-    assert!(rt; is_met(&rt.alloc(), all, 'v', Role::Place)?);
-    assert!(rt; !is_met(&rt.alloc(), all, 'v', Role::Track)?);
-    assert!(rt; is_met(&rt.alloc(), all, 'm', Role::TagOf(marker))?);
-    assert!(rt; is_met(&rt.alloc(), all, 's', Role::TagOf(marker))?);
-    assert!(rt; !is_met(&rt.alloc(), all, 't', Role::TagOf(marker))?);
-    assert!(rt; is_met(&rt.alloc(), "msr", 'm', Role::TagOf(marker))?);
+fn meets_a_need_of_any_item(rt: HostRuntime) {
+    assert_eq!(rt; is_met(rt.alloc(), 'c', Role::Mixable), Ok(true));
+    assert_eq!(rt; is_met(rt.alloc(), 'c', Role::Item), Ok(true));
+    assert_eq!(rt; is_met(rt.alloc(), 's', Role::Item), Ok(false));
+}
+
+#[test]
+fn meets_a_need_of_a_place(rt: HostRuntime) {
+    assert_eq!(rt; is_met(rt.alloc(), 't', Role::Place), Ok(true));
+    assert_eq!(rt; is_met(rt.alloc(), 'v', Role::Place), Ok(true));
+    assert_eq!(rt; is_met(rt.alloc(), 'v', Role::Track), Ok(false));
+}
+
+#[test]
+fn meets_a_need_of_a_tag(rt: HostRuntime) -> Result<(), Fail> {
+    let tag = Role::TagOf(stamp('m')?);
+    assert_eq!(rt; is_met(rt.alloc(), 'm', tag), Ok(true));
+    assert_eq!(rt; is_met(rt.alloc(), 's', tag), Ok(true));
+    assert_eq!(rt; is_met(rt.alloc(), 't', tag), Ok(false));
     Ok(())
 }
 
 // Whether each need of an operation is met after these.
-fn may_follow<M: Allocator + Clone>(memory: &M, names: &str, name: char) -> Result<bool, Fail> {
-    let ops = ops(memory, names)?;
+fn may_follow<M: Allocator + Clone>(
+    memory: M,
+    names: &str,
+    name: char,
+) -> Result<bool, NoFixture> {
     let next = op(memory.clone()?, name)?;
-    let Some(items) = noted(memory.clone()?, memory.clone()?, &ops)? else {
-        return Ok(false);
-    };
+    let items = left_by(memory, names)?;
     Ok(items.are_needs_met(&next))
 }
 
 #[test]
-fn asks_for_each_need(rt: HostRuntime) -> Result<(), Fail> {
-    assert!(rt; may_follow(&rt.alloc(), "tuc", 'd')?);
-    assert!(rt; !may_follow(&rt.alloc(), "tc", 'd')?);
-    assert!(rt; !may_follow(&rt.alloc(), "tu", 'd')?);
-    assert!(rt; !may_follow(&rt.alloc(), "", 'x')?);
-    assert!(rt; may_follow(&rt.alloc(), "", 'm')?);
-    Ok(())
+fn asks_for_each_need(rt: HostRuntime) {
+    assert_eq!(rt; may_follow(rt.alloc(), "tuc", 'd'), Ok(true));
+    assert_eq!(rt; may_follow(rt.alloc(), "tc", 'd'), Ok(false));
+    assert_eq!(rt; may_follow(rt.alloc(), "tu", 'd'), Ok(false));
+    assert_eq!(rt; may_follow(rt.alloc(), "", 'x'), Ok(false));
 }
 
-// How many tracks, clips and markers there are, and whether track t is the first.
-fn counts<M: Allocator + Clone>(
-    items: &Items<M>,
-) -> Result<(usize, usize, usize, bool), Fail> {
+// How many tracks, clips and markers there are.
+fn counts<M: Allocator + Clone>(items: &Items<M>) -> Result<(usize, usize, usize), NoFixture> {
+    let tracks = items.tracks()?.len();
+    let clips = items.clips()?.len();
+    let markers = items.markers()?.len();
+    Ok((tracks, clips, markers))
+}
+
+// The first track.
+fn first_track<M: Allocator + Clone>(memory: M, names: &str) -> Result<Option<Stamp>, NoFixture> {
+    let items = left_by(memory, names)?;
     let tracks = items.tracks()?;
-    let first = tracks.get(0) == Some(&stamp('t')?);
-    Ok((tracks.len(), items.clips()?.len(), items.markers()?.len(), first))
+    Ok(tracks.get(0).copied())
+}
+
+fn noted_counts<M: Allocator + Clone>(
+    memory: M,
+    names: &str,
+) -> Result<(usize, usize, usize), NoFixture> {
+    let items = left_by(memory, names)?;
+    counts(&items)
 }
 
 #[test]
 fn lists_items_from_the_least_on(rt: HostRuntime) -> Result<(), Fail> {
-    let ops = ops(&rt.alloc(), "utmvc")?;
-    match noted(rt.alloc(), rt.alloc(), &ops)? {
-        Some(items) => assert_eq!(rt; counts(&items)?, (2, 1, 1, true)),
-        None => assert!(rt; false),
-    }
+    let first = stamp('t')?;
+    assert_eq!(rt; first_track(rt.alloc(), "ut"), Ok(Some(first)));
+    assert_eq!(rt; noted_counts(rt.alloc(), "utmvc"), Ok((2, 1, 1)));
     Ok(())
 }
 
-#[test]
-fn notes_the_ready_ones_of_a_set(rt: HostRuntime) -> Result<(), Fail> {
-    let ops = ops(&rt.alloc(), "xpstvcd")?;
-    match ready(rt.alloc(), rt.alloc(), &ops)? {
-        Some(items) => assert_eq!(rt; counts(&items)?, (1, 1, 0, true)),
-        None => assert!(rt; false),
+// How many items of each kind the ready ones of these operations leave.
+fn ready_counts<M: Allocator + Clone>(
+    memory: M,
+    names: &str,
+) -> Result<(usize, usize, usize), NoFixture> {
+    let ops = ops(&memory, names)?;
+    match ready(memory.clone()?, memory, &ops)? {
+        Some(items) => counts(&items),
+        None => Err(NoFixture),
     }
-    Ok(())
+}
+
+#[test]
+fn notes_the_ready_ones_of_a_set(rt: HostRuntime) {
+    assert_eq!(rt; ready_counts(rt.alloc(), "xpstvcd"), Ok((1, 1, 0)));
+    assert_eq!(rt; ready_counts(rt.alloc(), "mxpstuvcd"), Ok((2, 1, 1)));
+    assert_eq!(rt; ready_counts(rt.alloc(), "tm"), Err(NoFixture));
 }
