@@ -1,5 +1,5 @@
 -- The items of a kind, and what the cells of items hold of the operations noted.
-use Rattle.std.specs.Prelude.{◌≡◌, List, Some, is_some, map, filter}
+use Rattle.std.specs.Prelude.{◌≡◌, ◌≤◌, List, Some, is_some, map, filter}
 use Rattle.std.specs.BTreeMap.{BTreeMap, get, keys}
 use Rattle.mt_stamp.specs.Moment.{Moment, stamp_cmp}
 use Rattle.mt_op.specs.declared.need.Role.{Role}
@@ -26,6 +26,7 @@ pub record HoldsMarker {A : Type 0} (item : Moment) (ops : List Operation) (cell
 pub record HoldsClip {A : Type 0} (item : Moment) (ops : List Operation) (cells : ClipCells A) : Type 0 where
   pub place : HoldsLast clip_place_written item ops cells.place
   pub trim : HoldsLast trim_written item ops cells.trim
+  pub positive : 1 ≤ cells.trim.value.1
   pub gain : HoldsLast gain_written item ops cells.gain
   pub mute : HoldsLast mute_written item ops cells.mute
   pub source : HoldsLast source_written item ops (record { stamp = item; value = cells.source })

@@ -1,6 +1,6 @@
 //! The state of items.
 
-ghost use Rattle.std.specs.Prelude.{◌≡◌, List, [], ◌∷◌, Some, IfOk, IfErr, MatchOption, option_map, slice_get};
+ghost use Rattle.std.specs.Prelude.{◌≡◌, List, [], ◌∷◌, Some, ◌≤◌, IfOk, IfErr, IfSome, MatchOption, option_map, slice_get};
 ghost use Rattle.std.specs.List.Sorted.{IsStrictlySortedBy};
 ghost use Rattle.mt_stamp.specs.Moment.{Moment, stamp_cmp};
 ghost use Rattle.mt_op.specs.declared.need.Role.TheVariants.{Track, Place, Clip, Marker, Mixable, Titled, Item, TagOf};
@@ -325,10 +325,11 @@ impl<A: Allocator> Items<A> {
         }
     }
 
-    /// The last write of a clip's trim: the first frame of its recording that it plays, and how many frames. `None`
-    /// where the stamp names no clip.
+    /// The last write of a clip's trim: the first frame of its recording that it plays, and how many frames,
+    /// at least 1. `None` where the stamp names no clip.
     pub fn trim(&self, clip: Stamp) -> Option<&Register<(u32, u32)>>
-        ensures { option_map (λ r. written r.now) result ≡ last_write trim_written clip self.now }
+        ensures write { option_map (λ r. written r.now) result ≡ last_write trim_written clip self.now }
+        ensures positive { IfSome result (λ r. 1 ≤ r.now.value.1) }
     {
         match self.clips.get(&clip) {
             Some(cells) => Some(&cells.trim),
