@@ -65,11 +65,12 @@ fn stamp(name: char) -> Result<Stamp, StampFault> {
         'd' => Stamp::new(10, A, 9),
         'e' => Stamp::new(11, A, 10),
         'g' => Stamp::new(12, A, 11),
-        _ => Stamp::new(13, A, 12),
+        'h' => Stamp::new(13, A, 12),
+        _ => Stamp::new(14, A, 13),
     }
 }
 
-// A Remove of the marker that lists its first tag.
+// A Remove of an item that lists its first tag.
 fn removal<M: Allocator>(memory: M, item: Stamp) -> Result<Body<M>, NoFixture> {
     let mut tags = Vec::new(memory);
     tags.push(item)?;
@@ -121,8 +122,9 @@ fn on_track<M: Allocator>(
     }
 }
 
-// The clip c on track t, its move to track u, its trim, its gain, and its mute.
+// The clip c on track t, its move d to track u, its trim e, its gain g, its mute h, and its removal z.
 fn on_clip<M: Allocator>(
+    memory: M,
     name: char,
     clip: Stamp,
     track: Stamp,
@@ -150,10 +152,11 @@ fn on_clip<M: Allocator>(
             item: clip,
             gain: Gain::new(1, 2)?,
         }),
-        _ => Ok(Body::SetMute {
+        'h' => Ok(Body::SetMute {
             item: clip,
             on: true,
         }),
+        _ => removal(memory, clip),
     }
 }
 
@@ -164,7 +167,7 @@ fn op<M: Allocator>(memory: M, name: char) -> Result<Op<M>, NoFixture> {
     let body = match name {
         'm' | 'x' | 'y' | 'p' | 'r' | 's' => on_marker(memory, name, stamp('m')?)?,
         't' | 'u' | 'v' => on_track(memory, name, track, other)?,
-        _ => on_clip(name, stamp('c')?, track, other)?,
+        _ => on_clip(memory, name, stamp('c')?, track, other)?,
     };
     Ok(Op::new(stamp(name)?, body)?)
 }

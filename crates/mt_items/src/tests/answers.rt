@@ -160,6 +160,16 @@ fn moves_a_clip(rt: HostRuntime) -> Result<(), Fail> {
     let moved = Some((stamp('d')?, stamp('u')?, 200));
     assert_eq!(rt; clip_place(rt.alloc(), "tuc", clip), Ok(first));
     assert_eq!(rt; clip_place(rt.alloc(), "tucd", clip), Ok(moved));
+    assert_eq!(rt; clip_place(rt.alloc(), "tuczd", clip), Ok(moved));
+    Ok(())
+}
+
+// moved_and_removed_clip
+#[test]
+fn a_move_brings_no_removed_clip_back(rt: HostRuntime) -> Result<(), Fail> {
+    let clip = stamp('c')?;
+    assert_eq!(rt; presence(rt.alloc(), "tucdz", clip), Ok((false, 0)));
+    assert_eq!(rt; presence(rt.alloc(), "tuczd", clip), Ok((false, 0)));
     Ok(())
 }
 
