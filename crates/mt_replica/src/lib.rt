@@ -12,6 +12,8 @@ mod names;
 mod newly;
 mod state;
 mod taken;
+#[cfg(test)]
+mod tests;
 
 pub use change::Change;
 pub use draft::Draft;
