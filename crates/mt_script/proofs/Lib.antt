@@ -1,0 +1,6 @@
+mod Cuts
+mod Options
+mod Numbers
+mod Asked
+mod Stamps
+mod TextLines

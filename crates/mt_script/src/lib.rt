@@ -1,0 +1,6 @@
+//! Scripts of edits.
+#![tactic(auto)]
+
+mod forms;
+mod lines;
+mod words;
