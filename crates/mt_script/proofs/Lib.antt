@@ -4,3 +4,4 @@ mod Numbers
 mod Asked
 mod Stamps
 mod TextLines
+mod Runs

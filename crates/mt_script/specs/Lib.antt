@@ -1,3 +1,6 @@
 pub mod Words
 pub mod Lines
 pub mod Forms
+pub mod Faults
+pub mod Script
+pub mod Running
