@@ -6,6 +6,7 @@ use Rattle.std.specs.Str.Parse.{digits_value, ParsesUnsigned}
 use Rattle.std.proofs.lemmas.Slice.Eq.{bytes_eq-Decides}
 use Rattle.std.proofs.lemmas.Fmt.{decimal_is_IsNumeral, parse-decimal}
 use Rattle.mt_script.specs.Words.{number_below, number}
+use Rattle.mt_script.specs.Laws.{NumbersAreSpelled}
 use Rattle.mt_script.proofs.Options.{passed, nothing}
 
 -- a spelling of a number below the limit is read as that number
@@ -47,3 +48,6 @@ below_not text n is large = not_spelled (2 ^ 16) text (λ m small so.
     let more = spelled (2 ^ 32) m text (omega (arith, small)) (omega (arith, small)) so in
     let same : m ≡ n = cc in
     absurd (omega arith))
+
+pub numbers_are_spelled : NumbersAreSpelled
+numbers_are_spelled limit n text low = (read_so limit n text, λ is. spelled limit n text is.0 (omega (arith, is.0, low)) is.1)

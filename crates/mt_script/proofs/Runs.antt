@@ -85,7 +85,10 @@ scripted_is (Some log) name text = refl
 
 pub begins : (kept : Kept) (text : List ℕ) → Reached kept text kept [] 0 text
 begins kept text = record {
-  ops = []; counted = refl; few = omega arith; holds = holds_none kept;
+  ops = [];
+  counted = refl;
+  few = omega arith;
+  holds = holds_none kept;
   told = scripted_is kept.log kept.name text ∙ onto_none (lines_in kept [] (lines text));
 }
 
@@ -97,9 +100,9 @@ goes_on kept text now items count rest line others new more n there at cut gives
     let made = gives.1.1 in
     let still = still_there kept now at.ops there at.holds in
     let left : lines_in now items (lines rest) ≡ onto ops (lines_in new more (lines others)) =
-        ap (lines_in now items) cut ∙ line_then now.log now.name items line (lines others) ops still gives.1.0
-        ∙ ap (λ (k : Kept). onto ops (lines_in k (items ++ item_made ops ∷ []) (lines others))) (sym made.holds)
-        ∙ ap (λ (is : Items). onto ops (lines_in new is (lines others))) (sym made.noted) in
+    ap (lines_in now items) cut ∙ line_then now.log now.name items line (lines others) ops still gives.1.0
+    ∙ ap (λ (k : Kept). onto ops (lines_in k (items ++ item_made ops ∷ []) (lines others))) (sym made.holds)
+    ∙ ap (λ (is : Items). onto ops (lines_in new is (lines others))) (sym made.noted) in
     let longer : length more ≡ length items + 1 = ap (λ (is : Items). length is) made.noted ∙ length-append items (item_made ops ∷ []) in
     record {
       ops = at.ops ++ ops;
@@ -146,9 +149,9 @@ lines_not_failed : (log : LogMap) (name : Replica) (items : Items) (left : List 
 lines_not_failed log name items [] is = absurd cc
 lines_not_failed log name items (line ∷ others) is =
     both_not_failed (made_by_line (operations log) name items line) _
-      (one_not_failed (is_silent line) _ (asked_not_failed (suc (length items)) (operations log) name (asked items line)))
-      (λ ops. both_not_failed (made_by_lines (with_ops log ops) name (items ++ item_made ops ∷ []) others) _
-        (lines_not_failed (with_ops log ops) name (items ++ item_made ops ∷ []) others) (λ more so. absurd cc)) is
+    (one_not_failed (is_silent line) _ (asked_not_failed (suc (length items)) (operations log) name (asked items line)))
+    (λ ops. both_not_failed (made_by_lines (with_ops log ops) name (items ++ item_made ops ∷ []) others) _
+    (lines_not_failed (with_ops log ops) name (items ++ item_made ops ∷ []) others) (λ more so. absurd cc)) is
 
 from_not_failed : (o : Option LogMap) (name : Replica) (text : List ℕ) → o ≢ None → scripted_from o name text ≡ Err Failed → ⊥
 from_not_failed None name text there is = absurd (there refl)
@@ -173,9 +176,9 @@ pub line_made : (kept : Kept) (items : Items) (line : List ℕ) (edit : Edit) (o
     → asked items line ≡ Some edit → Ok op ≡ edited kept edit → new ≡ kept_with kept op → more ≡ items ++ item_made (op ∷ []) ∷ []
     → LineGives kept items line (Ok 1) new more
 line_made kept items line edit op new more speaks asks is holds noted = (
-      op ∷ [],
-      (made_from kept.log kept.name items line edit op speaks asks (sym is), record { counted = refl; few = omega arith; holds = holds; noted = noted }),
-    )
+  op ∷ [],
+  (made_from kept.log kept.name items line edit op speaks asks (sym is), record { counted = refl; few = omega arith; holds = holds; noted = noted }),
+)
 
 pub not_empty : (bs : List ℕ) → (length bs == 0) ≡ false → 0 < length bs
 not_empty [] is = absurd cc

@@ -13,6 +13,7 @@ use Rattle.mt_stamp.specs.Texts.{point, replica_bytes, replica_text, stamp_text}
 use Rattle.mt_stamp.proofs.Texts.{replica_text_parses, decimal_has_no_point}
 use Rattle.mt_stamp.proofs.Words.{from_be_bytes-to_be_bytes_16}
 use Rattle.mt_script.specs.Words.{cut, parts_of_stamp, is_in_range, is_moment, spelled_so, stamp}
+use Rattle.mt_script.specs.Laws.{StampsAreSpelled}
 use Rattle.mt_script.proofs.Cuts.{cut_there}
 use Rattle.mt_script.proofs.Options.{passed, nothing}
 
@@ -78,3 +79,6 @@ pub reader_answers : {F : Type 0} (text : List ℕ) (r : Result Moment F) → If
     → ((s : Moment) → IsMoment s → text ≡ stamp_text s → r ≡ Ok s) → result_ok r ≡ stamp text
 reader_answers text (Ok s) found only = sym (stamp_spelled s text found.0 found.1)
 reader_answers text (Err e) found only = sym (nothing (stamp text) (λ s is. let read = stamp_read s text is in let answered = only s read.0 read.1 in absurd cc))
+
+pub stamps_are_spelled : StampsAreSpelled
+stamps_are_spelled m text = (stamp_read m text, λ is. stamp_spelled m text is.0 is.1)

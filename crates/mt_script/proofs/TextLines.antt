@@ -1,8 +1,10 @@
 -- The lines of a text.
-use Rattle.std.proofs.Common.{◌≡◌, ◌≢◌, ℕ, zero, suc, ◌+◌, ◌-◌, ◌<◌, ◌≤◌, List, [], ◌∷◌, ◌++◌, length, get_or, take, drop, Bool, true, false, ◌==◌, Option, Some, None, refl, sym, ap, ◌∙◌, arith}
+use Rattle.std.proofs.Common.{◌≡◌, ◌≢◌, ℕ, zero, suc, ◌+◌, ◌-◌, ◌<◌, ◌≤◌, List, [], ◌∷◌, ◌++◌, length, get_or, take, drop, if◌then◌else◌, Bool, true, false, ◌==◌, Option, Some, None, refl, sym, ap, ◌∙◌, arith}
 use Rattle.std.proofs.lemmas.Bool.{eq-eqb, eqb-true}
 use Rattle.std.proofs.Math.Seq.{split_at}
 use Rattle.std.proofs.lemmas.List.{length-take-le, get_or-take}
+use mathlib.Core.List.{append_assoc}
+use Rattle.mt_script.specs.Laws.{IsOneLine, ended, LinesAreRead}
 use Rattle.memchr.specs.Find.{IsFirstByte, is_byte}
 use Rattle.mt_script.specs.Lines.{lines, after_byte, newline}
 
@@ -40,3 +42,21 @@ goes_on_so bs at first =
     first.0.before i (omega arith) below (eq-eqb (get_or bs i 0) newline (sym (get_or-take at bs i 0 below) ∙ is)) in
     let next : at + 1 ≡ suc at = omega arith in
     ap lines split ∙ first_line (take at bs) (drop (suc at) bs) before ∙ ap (λ (n : ℕ). take at bs ∷ lines (drop n bs)) (sym next)
+
+holds_none : (line : List ℕ) → IsOneLine line → (i : ℕ) → i < length line → get_or line i 0 ≢ newline
+holds_none [] none i within = absurd (omega arith)
+holds_none (b ∷ bs) none zero within = none.0
+holds_none (b ∷ bs) none (suc i) within = holds_none bs none.1 i (omega arith)
+
+last_line : (last : List ℕ) → IsOneLine last → lines last ≡ (if length last == 0 then [] else last ∷ [])
+last_line [] none = refl
+last_line (b ∷ bs) none =
+    let some : (length (b ∷ bs) == 0) ≡ false = grind arith in
+    rw some (one_line (b ∷ bs) (omega arith) (holds_none (b ∷ bs) none))
+
+pub lines_are_read : LinesAreRead
+lines_are_read [] last each none = last_line last none
+lines_are_read (line ∷ ls) last each none =
+    let split : ended (line ∷ ls) ++ last ≡ line ++ newline ∷ (ended ls ++ last) =
+    append_assoc (line ++ newline ∷ []) (ended ls) last ∙ append_assoc line (newline ∷ []) (ended ls ++ last) in
+    ap lines split ∙ first_line line (ended ls ++ last) (holds_none line each.0) ∙ ap (λ (l : List (List ℕ)). line ∷ l) (lines_are_read ls last each.1 none)

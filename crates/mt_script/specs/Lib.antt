@@ -4,3 +4,5 @@ pub mod Forms
 pub mod Faults
 pub mod Script
 pub mod Running
+pub mod Examples
+pub mod Laws
