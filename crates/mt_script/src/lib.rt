@@ -25,6 +25,8 @@ mod forms;
 pub mod laws;
 mod lines;
 mod script;
+#[cfg(test)]
+mod tests;
 mod words;
 
 pub use fault::ScriptFault;
