@@ -12,7 +12,8 @@ use Rattle.mt_stamp.specs.Moment.{Moment, IsMoment, greatest}
 use Rattle.mt_stamp.specs.Texts.{point, replica_bytes, replica_text, stamp_text}
 use Rattle.mt_stamp.proofs.Texts.{replica_text_parses, decimal_has_no_point}
 use Rattle.mt_stamp.proofs.Words.{from_be_bytes-to_be_bytes_16}
-use Rattle.mt_script.specs.Words.{cut, parts_of_stamp, is_in_range, is_moment, spelled_so, stamp}
+use Rattle.mt_opcodec.specs.OpReading.{is_in_range, is_stamp}
+use Rattle.mt_script.specs.Words.{cut, parts_of_stamp, is_moment, spelled_so, stamp}
 use Rattle.mt_script.specs.Laws.{StampsAreSpelled}
 use Rattle.mt_script.proofs.Cuts.{cut_there}
 use Rattle.mt_script.proofs.Options.{passed, nothing}
@@ -38,7 +39,7 @@ is_moment_true m fits =
     let clock = in_range m.clock fits.clock_from fits.clock_to in
     let seq = in_range m.seq fits.seq_from fits.seq_to in
     let replica : nat_lt m.replica.0 (2 ^ 128) ≡ true = grind (arith, fits.replica_fits) in
-    rw (clock, seq, replica)
+    rw (replica, clock, seq)
 
 both : (a b : Bool) → (a && b) ≡ true → (a ≡ true) × (b ≡ true)
 both true true is = (refl, refl)
@@ -47,11 +48,11 @@ both false b is = absurd cc
 
 pub from_is_moment : (m : Moment) → is_moment m ≡ true → IsMoment m
 from_is_moment m is =
-    let parts = both (is_in_range m.clock) (nat_lt m.replica.0 (2 ^ 128) && is_in_range m.seq) is in
-    let others = both (nat_lt m.replica.0 (2 ^ 128)) (is_in_range m.seq) parts.1 in
-    let clock = from_range m.clock parts.0 in
+    let parts = both (nat_lt m.replica.0 (2 ^ 128)) (is_stamp m) is in
+    let others = both (is_in_range m.clock) (is_in_range m.seq) parts.1 in
+    let clock = from_range m.clock others.0 in
     let seq = from_range m.seq others.1 in
-    let below : nat_lt m.replica.0 (2 ^ 128) ≡ true = others.0 in
+    let below : nat_lt m.replica.0 (2 ^ 128) ≡ true = parts.0 in
     record { clock_from = clock.0; clock_to = clock.1; replica_fits = grind arith; seq_from = seq.0; seq_to = seq.1 }
 
 -- a stamp's text is read as that stamp

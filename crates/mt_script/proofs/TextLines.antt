@@ -6,7 +6,7 @@ use Rattle.std.proofs.lemmas.List.{length-take-le, get_or-take}
 use mathlib.Core.List.{append_assoc}
 use Rattle.mt_script.specs.Laws.{IsOneLine, ended, LinesAreRead}
 use Rattle.memchr.specs.Find.{IsFirstByte, is_byte}
-use Rattle.mt_script.specs.Lines.{lines, after_byte, newline}
+use Rattle.mt_script.specs.Lines.{lines, newline}
 
 -- a text with no newline is one line
 pub one_line : (bs : List ℕ) → 0 < length bs → ((i : ℕ) → i < length bs → get_or bs i 0 ≢ newline) → lines bs ≡ bs ∷ []

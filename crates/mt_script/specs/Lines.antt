@@ -8,15 +8,15 @@ newline = 10
 abbrev pub sharp : ℕ
 sharp = 35
 
--- the lines after a byte that is no newline: it begins the first of them
-abbrev pub after_byte : ℕ → List (List ℕ) → List (List ℕ)
-after_byte b [] = (b ∷ []) ∷ []
-after_byte b (line ∷ others) = (b ∷ line) ∷ others
+-- the lines of what follows a byte that is no newline, which begins the first of them
+abbrev pub begun_by : ℕ → List (List ℕ) → List (List ℕ)
+begun_by b [] = (b ∷ []) ∷ []
+begun_by b (line ∷ others) = (b ∷ line) ∷ others
 
 -- The text is cut at each newline. A last newline ends the last line, and the empty text has no line.
 abbrev pub lines : List ℕ → List (List ℕ)
 lines [] = []
-lines (b ∷ bs) = if b == newline then [] ∷ lines bs else after_byte b (lines bs)
+lines (b ∷ bs) = if b == newline then [] ∷ lines bs else begun_by b (lines bs)
 
 -- whether the line asks for nothing: it is empty, or a remark, of whatever bytes
 abbrev pub is_silent : List ℕ → Bool

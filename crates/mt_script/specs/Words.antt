@@ -1,5 +1,5 @@
 -- The words of a script's lines, and what each says (profile): none where it says nothing of its kind.
-use Rattle.std.specs.Prelude.{ℕ, ◌-◌, ◌^◌, Bool, true, false, ◌==◌, ◌&&◌, nat_le, nat_lt, List, [], ◌∷◌, drop, slice_get, slice_index, Option, Some, None, if◌then◌else◌, codes}
+use Rattle.std.specs.Prelude.{ℕ, ◌-◌, ◌^◌, Bool, true, false, ◌==◌, ◌&&◌, nat_lt, List, [], ◌∷◌, drop, slice_get, slice_index, Option, Some, None, if◌then◌else◌, codes}
 use Rattle.std.specs.Option.{option_map, option_flatten, unwrap_or}
 use Rattle.std.specs.Result.{result_ok}
 use Rattle.std.specs.Fmt.{decimal}
@@ -8,12 +8,13 @@ use Rattle.std.specs.Str.{bytes_eq}
 use Rattle.std.specs.Str.Parse.{digits_value}
 use Rattle.uuid.specs.Text.{parsed}
 use Rattle.hex.specs.Hex.{decode_of}
-use Rattle.mt_stamp.specs.Moment.{Moment, greatest}
+use Rattle.mt_stamp.specs.Moment.{Moment}
 use Rattle.mt_stamp.specs.Texts.{point, stamp_text}
 use Rattle.mt_op.specs.declared.digest.Digest.{Digest}
 use Rattle.mt_op.specs.Digest.{is_digest_text}
 use Rattle.mt_op.specs.Gain.{Ratio}
 use Rattle.mt_op.specs.Title.{is_title}
+use Rattle.mt_opcodec.specs.OpReading.{is_stamp}
 
 -- the second step, where the first says something
 infixl 10 ◌>>=◌
@@ -33,14 +34,15 @@ dollar = 36
 abbrev pub stroke : ℕ
 stroke = 47
 
-abbrev pub after_byte : ℕ → Option (List ℕ × List ℕ) → Option (List ℕ × List ℕ)
-after_byte b None = None
-after_byte b (Some parts) = Some (b ∷ parts.0, parts.1)
+-- what is cut there, with one byte more before it
+abbrev pub byte_before : ℕ → Option (List ℕ × List ℕ) → Option (List ℕ × List ℕ)
+byte_before b None = None
+byte_before b (Some parts) = Some (b ∷ parts.0, parts.1)
 
 -- what stands before the first such byte, and what after it
 abbrev pub cut : ℕ → List ℕ → Option (List ℕ × List ℕ)
 cut byte [] = None
-cut byte (b ∷ bs) = if b == byte then Some ([], bs) else after_byte b (cut byte bs)
+cut byte (b ∷ bs) = if b == byte then Some ([], bs) else byte_before b (cut byte bs)
 
 -- ---- numbers
 
@@ -76,12 +78,9 @@ parts_of_stamp text = do
   replica ← parsed seq.1
   Some (record { clock = digits_value 10 clock.0; replica = record { 0 = from_be_bytes w128 replica }; seq = digits_value 10 seq.0 })
 
-abbrev pub is_in_range : ℕ → Bool
-is_in_range n = nat_le 1 n && nat_le n greatest
-
 -- whether a stamp has these parts
 abbrev pub is_moment : Moment → Bool
-is_moment m = is_in_range m.clock && (nat_lt m.replica.0 (2 ^ 128) && is_in_range m.seq)
+is_moment m = nat_lt m.replica.0 (2 ^ 128) && is_stamp m
 
 abbrev pub spelled_so : List ℕ → Moment → Option Moment
 spelled_so text m = if is_moment m && bytes_eq text (stamp_text m) then Some m else None

@@ -70,7 +70,11 @@ fn make_lines<A: Allocator + Clone>(
     Ok(count)
 }
 
-/// Makes the changes of a script in order, and answers how many.
+/// Makes the changes of a script in order, and answers how many. Titles and what the lines made are kept in memory of `alloc`.
+///
+/// Refused as `Failed` (20) where the editor has failed; then at the first line at fault, counted from 1, as `BadLine` (41) where it
+/// has none of the forms, and as `Refused` (42) where the editor refuses its change for another cause than memory, with that
+/// cause; and as `Memory` (0) where there is none. The changes are made in a copy: after every refusal the editor is as it was.
 pub fn run<A: Allocator + Clone>(
     alloc: A,
     editor: &mut Editor<A>,
