@@ -69,6 +69,13 @@ impl<A: Allocator> Presence<A> {
         self.removed.insert(&self.alloc, stamp)
     }
 
+    /// Whether a stamp tags the item, removed or not. Takes no memory.
+    pub fn has_tag(&self, stamp: Stamp) -> bool
+        ensures { result ≡ set.contains self.now.tags stamp }
+    {
+        self.tags.contains(&stamp)
+    }
+
     /// Whether the item is there: whether a tag is live. Takes no memory.
     pub fn is_present(&self) -> bool
         ensures { IsTrue result ↔ IsPresent self.now }

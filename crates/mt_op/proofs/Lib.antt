@@ -7,3 +7,5 @@ pub mod LastWrite
 pub mod Written
 pub mod LastWriter
 pub mod TagLists
+pub mod WriteOf
+pub mod SameWrites

@@ -13,3 +13,4 @@ pub mod Laws
 pub mod Faults
 pub mod Codes
 pub mod Digest
+pub mod ByStamp

@@ -11,7 +11,7 @@ use borrow.Author.Differences.{same_in, sum_is_lem}
 use Rattle.mt_stamp.specs.Moment.{Moment, stamp_cmp}
 use Rattle.mt_stamp.proofs.Order.{stamp_cmp-IsAntisymmetric, stamp_cmp_total}
 use Rattle.mt_sessionview.specs.Content.{Clip}
-use Rattle.mt_sessionview.specs.Sorting.{DifferBy}
+use Rattle.mt_stamp.specs.Sorting.{DifferBy}
 use Rattle.mt_overlap.specs.declared.span.Segment.{Segment}
 use Rattle.mt_overlap.specs.declared.span.Span.{Span}
 use Rattle.mt_overlap.specs.Overlap.{span_at, segment_at, Covers, IsTop, Says, AreTidy, AreSegments, PlacesDiffer}

@@ -15,7 +15,7 @@ use Rattle.mt_stamp.proofs.Order.{dot_cmp_total}
 use Rattle.mt_op.specs.Operation.{Operation}
 use Rattle.mt_op.specs.Dots.{op_dot}
 use Rattle.mt_opcodec.specs.LogValue.{LogMap, operations}
-use Rattle.mt_sessionview.proofs.SameItems.{SameItems}
+use Rattle.mt_stamp.proofs.SameItems.{SameItems}
 use Rattle.mt_replica.specs.Kept.{with_op}
 
 abbrev held : Dot × Operation → Operation

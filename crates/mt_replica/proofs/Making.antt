@@ -12,7 +12,7 @@ use Rattle.mt_op.specs.declared.need.Need.{Need}
 use Rattle.mt_op.specs.Needs.{need_of, place_needs, needs_of, needs, meets, clock_of, fits, act_fits, adds_place, is_tag_of, names_are_older}
 use Rattle.mt_op.specs.Ready.{is_ready}
 use Rattle.mt_stamp.proofs.Order.{stamp_cmp_total}
-use Rattle.mt_sessionview.proofs.LastWrites.{is_write_of}
+use Rattle.mt_op.proofs.WriteOf.{is_write_of}
 use Rattle.mt_sessionview.proofs.Items.{stamp_eq_same}
 use Rattle.mt_op.specs.Operation as act
 use Rattle.mt_op.specs.Operation.{Act, Operation}
@@ -20,12 +20,12 @@ use Rattle.mt_op.specs.Presence.{is_present, live_tags, tags, is_listed, removed
 use Rattle.mt_op.specs.Writes.{Write, Written, track_place_written, written_by, last_write}
 use Rattle.mt_op.proofs.LastWrite.{latest_is_greatest}
 use Rattle.mt_op.proofs.Needs.{and_first, and_second, stamp_eq-true}
-use Rattle.mt_sessionview.specs.Session.{ready_ops, track_place}
-use Rattle.mt_sessionview.specs.Sorting.{sort_by}
-use Rattle.mt_sessionview.proofs.Members.{IsMember, member_of_kept, member_unsorted}
-use Rattle.mt_sessionview.proofs.SameItems.{all_filter_map, all_here, all_map, GivenBy}
+use Rattle.mt_sessionview.specs.Session.{ready_ops}
+use Rattle.mt_stamp.specs.Sorting.{sort_by}
+use Rattle.mt_stamp.proofs.Members.{IsMember, member_of_kept, member_unsorted}
+use Rattle.mt_stamp.proofs.SameItems.{all_filter_map, all_here, all_map, GivenBy}
 use Rattle.mt_replica.specs.Edit.{Edit, AddTrack, MoveTrack, AddClip, MoveClip, TrimClip, SetGain, SetMute, Remove, Restore, AddMarker, MoveMarker, Retitle}
-use Rattle.mt_replica.specs.Made.{greatest_of, greatest_clock, rising_tags, made_act, made_op, named_track, names_of, names_present, unless, or_else, name_refused, names_refused, refused}
+use Rattle.mt_replica.specs.Made.{greatest_of, greatest_clock, current_place, rising_tags, made_act, made_op, named_track, names_of, names_present, unless, or_else, name_refused, names_refused, refused}
 use Rattle.mt_replica.specs.declared.fault.EditorFault.{EditorFault}
 
 -- ---- no refusal
@@ -103,7 +103,7 @@ module _ (ops : List Operation) where
   writes_place own (act.MoveTrack track after) w h = refl
   writes_place own _ w h = absurd (none-some w h)
 
-  place_met : (t : Moment) → Met (need_of Track t) → Met (need_of Place (track_place ops t))
+  place_met : (t : Moment) → Met (need_of Track t) → Met (need_of Place (current_place (ready_ops ops) t))
   place_met t met = by (last_write track_place_written t (ready_ops ops)) refl
     where
       by : (l : Option (Written (Option Moment))) → last_write track_place_written t (ready_ops ops) ≡ l → Met (need_of Place (unwrap_or (option_map (λ (w : Written (Option Moment)). w.writer) l) t))
@@ -123,11 +123,11 @@ module _ (ops : List Operation) where
           let same : stamp_eq w.writer o.stamp ≡ true = stamp_eq_same w.writer o.stamp (ap (λ (x : Written (Option Moment)). x.writer) is.value_is) in
           member_any (meets (need_of Place w.writer)) (ready_ops ops) o given.1 (rw (same, writes_place o.stamp o.act is.write is.made) refl)
 
-  after_met : (after : Option Moment) → AllByRecursion Met (named_track after) → AllByRecursion Met (place_needs (option_map (track_place ops) after))
+  after_met : (after : Option Moment) → AllByRecursion Met (named_track after) → AllByRecursion Met (place_needs (option_map (current_place (ready_ops ops)) after))
   after_met None met = tt
   after_met (Some t) met = (place_met t met.0, tt)
 
-  tag_met : (item t : Moment) → IsMember t (rising_tags ops item) → Met (need_of (TagOf item) t)
+  tag_met : (item t : Moment) → IsMember t (rising_tags (ready_ops ops) item) → Met (need_of (TagOf item) t)
   tag_met item t m =
       let live = member_unsorted stamp_cmp stamp_cmp_total t (live_tags item (ready_ops ops)) m in
       let tag = member_of_kept (λ tag. not (is_listed (removed_tags item (ready_ops ops)) tag)) (tags item (ready_ops ops)) t live in
@@ -137,11 +137,11 @@ module _ (ops : List Operation) where
       let same : stamp_eq t o.stamp ≡ true = stamp_eq_same t o.stamp (sym given.1.1) in
       member_any (meets (need_of (TagOf item) t)) (ready_ops ops) o there.0 (rw (same, there.1) refl)
 
-  tags_met : (item : Moment) → AllByRecursion Met (map (need_of (TagOf item)) (rising_tags ops item))
-  tags_met item = all_map (λ t. IsMember t (rising_tags ops item)) Met (need_of (TagOf item)) (tag_met item) (rising_tags ops item) (all_members (λ t. IsMember t (rising_tags ops item)) (rising_tags ops item) (λ t m. m))
+  tags_met : (item : Moment) → AllByRecursion Met (map (need_of (TagOf item)) (rising_tags (ready_ops ops) item))
+  tags_met item = all_map (λ t. IsMember t (rising_tags (ready_ops ops) item)) Met (need_of (TagOf item)) (tag_met item) (rising_tags (ready_ops ops) item) (all_members (λ t. IsMember t (rising_tags (ready_ops ops) item)) (rising_tags (ready_ops ops) item) (λ t m. m))
 
   -- the needs of what is made, from the names of the edit
-  pub needs_met : (edit : Edit) → AllByRecursion Met (names_of edit) → AllByRecursion Met (needs_of (made_act ops edit))
+  pub needs_met : (edit : Edit) → AllByRecursion Met (names_of edit) → AllByRecursion Met (needs_of (made_act (ready_ops ops) edit))
   needs_met (AddTrack after title) met = after_met after met
   needs_met (MoveTrack track after) met = (met.0, after_met after met.1)
   needs_met (Remove item) met = (met.0, tags_met item)

@@ -20,9 +20,10 @@ use Rattle.mt_op.specs.Presence.{is_present, is_any, is_listed, live_tags, remov
 use Rattle.mt_op.specs.Tags.{is_after, rises_from, stamps_rise, are_tags, greatest_tag_count}
 use Rattle.mt_op.specs.Valid.{length_is_good, tags_are_good}
 use Rattle.mt_sessionview.specs.Session.{ready_ops}
-use Rattle.mt_sessionview.specs.Sorting.{sort_by, RisesStrictly, DifferBy}
-use Rattle.mt_sessionview.proofs.Differing.{stamp_of, differ_kept, differ_mapped}
-use Rattle.mt_sessionview.proofs.Members.{IsMember, AreApart, sort_strict, member_sorted}
+use Rattle.mt_stamp.specs.Sorting.{sort_by, RisesStrictly, DifferBy}
+use Rattle.mt_stamp.proofs.Differing.{differ_kept, differ_mapped}
+use Rattle.mt_op.specs.ByStamp.{stamp_of}
+use Rattle.mt_stamp.proofs.Members.{IsMember, AreApart, sort_strict, member_sorted}
 use Rattle.mt_sessionview.proofs.TrackSorting.{every_stamp}
 use Rattle.mt_replica.specs.Edit.{Edit, AddTrack, MoveTrack, AddClip, MoveClip, TrimClip, SetGain, SetMute, Remove, Restore, AddMarker, MoveMarker, Retitle}
 use Rattle.mt_replica.specs.Made.{greatest_clock, greatest_seq, rising_tags, made_stamp, made_act, made_op, plays, names_of, names_present, unless, or_else, name_refused, names_refused, tags_fit, refused}
@@ -32,7 +33,7 @@ use Rattle.mt_replica.proofs.Making.{Met, neither, passed, names_met, needs_met,
 
 -- ---- tags in order
 
-apart_stamps : (xs : List Moment) → DifferBy (λ (m : Moment). m) xs → AreApart stamp_cmp stamp_cmp_total xs
+pub apart_stamps : (xs : List Moment) → DifferBy (λ (m : Moment). m) xs → AreApart stamp_cmp stamp_cmp_total xs
 apart_stamps [] differ = tt
 apart_stamps (x ∷ xs) differ = (each xs differ.0, apart_stamps xs differ.1)
   where
@@ -61,31 +62,33 @@ fit_or_more : (b : Bool) → not b ≡ true → b ≡ false
 fit_or_more true e = absurd (false≢true e)
 fit_or_more false e = refl
 
-module _ (ops : List Operation) where
-  -- no two live tags are one
-  tags_differ : dots_rise ops ≡ true → (item : Moment) → DifferBy (λ (m : Moment). m) (live_tags item (ready_ops ops))
-  tags_differ rise item =
-      let ready : DifferBy stamp_of (ready_ops ops) = differ_kept stamp_of (is_ready clock_of needs meets ops) ops (every_stamp ops rise) in
-      let given : DifferBy stamp_of (filter (λ o. is_tag_of item o.stamp o.act) (ready_ops ops)) = differ_kept stamp_of (λ o. is_tag_of item o.stamp o.act) (ready_ops ops) ready in
-      differ_kept (λ (m : Moment). m) (λ tag. not (is_listed (removed_tags item (ready_ops ops)) tag)) (tags item (ready_ops ops))
-      (differ_mapped (λ (o : Operation). o.stamp) (λ (m : Moment). m) (filter (λ o. is_tag_of item o.stamp o.act) (ready_ops ops)) given)
+-- no two live tags are one where no two operations have one stamp
+pub live_differ : (ops : List Operation) → DifferBy stamp_of ops → (item : Moment) → DifferBy (λ (m : Moment). m) (live_tags item ops)
+live_differ ops differ item =
+    let given : DifferBy stamp_of (filter (λ o. is_tag_of item o.stamp o.act) ops) = differ_kept stamp_of (λ o. is_tag_of item o.stamp o.act) ops differ in
+    differ_kept (λ (m : Moment). m) (λ tag. not (is_listed (removed_tags item ops) tag)) (tags item ops)
+    (differ_mapped (λ (o : Operation). o.stamp) (λ (m : Moment). m) (filter (λ o. is_tag_of item o.stamp o.act) ops) given)
 
-  tags_rise : dots_rise ops ≡ true → (item : Moment) → stamps_rise (rising_tags ops item) ≡ true
-  tags_rise rise item = rising (rising_tags ops item) (sort_strict stamp_cmp stamp_cmp_total (live_tags item (ready_ops ops)) (apart_stamps (live_tags item (ready_ops ops)) (tags_differ rise item)))
+module _ (ops : List Operation) where
+  tags_differ : dots_rise ops ≡ true → (item : Moment) → DifferBy (λ (m : Moment). m) (live_tags item (ready_ops ops))
+  tags_differ rise item = live_differ (ready_ops ops) (differ_kept stamp_of (is_ready clock_of needs meets ops) ops (every_stamp ops rise)) item
+
+  tags_rise : dots_rise ops ≡ true → (item : Moment) → stamps_rise (rising_tags (ready_ops ops) item) ≡ true
+  tags_rise rise item = rising (rising_tags (ready_ops ops) item) (sort_strict stamp_cmp stamp_cmp_total (live_tags item (ready_ops ops)) (apart_stamps (live_tags item (ready_ops ops)) (tags_differ rise item)))
 
   -- every clock is smaller than the next one
   pub newest : AllByRecursion (λ x. clock_of x < suc (greatest_clock ops)) ops
   newest = all_members (λ x. clock_of x < suc (greatest_clock ops)) ops (λ x m. let below = mapped_below clock_of ops x m in omega (arith, below))
 
   module _ (name : Replica) (edit : Edit) (none : refused ops name edit ≡ None) where
-    after_length : or_else (names_refused (ready_ops ops) (names_present edit) (names_of edit)) (or_else (unless (tags_fit ops edit) TooManyTags) (or_else (unless (not (nat_le greatest (greatest_clock ops))) ClockFull) (unless (not (nat_le greatest (greatest_seq name ops))) SeqFull))) ≡ None
+    after_length : or_else (names_refused (ready_ops ops) (names_present edit) (names_of edit)) (or_else (unless (tags_fit (ready_ops ops) edit) TooManyTags) (or_else (unless (not (nat_le greatest (greatest_clock ops))) ClockFull) (unless (not (nat_le greatest (greatest_seq name ops))) SeqFull))) ≡ None
     after_length = (neither (unless (plays edit) ZeroLength) _ none).1
 
-    after_names : or_else (unless (tags_fit ops edit) TooManyTags) (or_else (unless (not (nat_le greatest (greatest_clock ops))) ClockFull) (unless (not (nat_le greatest (greatest_seq name ops))) SeqFull)) ≡ None
+    after_names : or_else (unless (tags_fit (ready_ops ops) edit) TooManyTags) (or_else (unless (not (nat_le greatest (greatest_clock ops))) ClockFull) (unless (not (nat_le greatest (greatest_seq name ops))) SeqFull)) ≡ None
     after_names = (neither (names_refused (ready_ops ops) (names_present edit) (names_of edit)) _ after_length).1
 
     after_tags : or_else (unless (not (nat_le greatest (greatest_clock ops))) ClockFull) (unless (not (nat_le greatest (greatest_seq name ops))) SeqFull) ≡ None
-    after_tags = (neither (unless (tags_fit ops edit) TooManyTags) _ after_names).1
+    after_tags = (neither (unless (tags_fit (ready_ops ops) edit) TooManyTags) _ after_names).1
 
     pub it_plays : plays edit ≡ true
     it_plays = passed (plays edit) ZeroLength (neither (unless (plays edit) ZeroLength) _ none).0
@@ -93,8 +96,8 @@ module _ (ops : List Operation) where
     pub names_pass : names_refused (ready_ops ops) (names_present edit) (names_of edit) ≡ None
     names_pass = (neither (names_refused (ready_ops ops) (names_present edit) (names_of edit)) _ after_length).0
 
-    pub they_fit : tags_fit ops edit ≡ true
-    they_fit = passed (tags_fit ops edit) TooManyTags (neither (unless (tags_fit ops edit) TooManyTags) _ after_names).0
+    pub they_fit : tags_fit (ready_ops ops) edit ≡ true
+    they_fit = passed (tags_fit (ready_ops ops) edit) TooManyTags (neither (unless (tags_fit (ready_ops ops) edit) TooManyTags) _ after_names).0
 
     pub clock_left : nat_le greatest (greatest_clock ops) ≡ false
     clock_left = fit_or_more _ (passed (not (nat_le greatest (greatest_clock ops))) ClockFull (neither (unless (not (nat_le greatest (greatest_clock ops))) ClockFull) _ after_tags).0)
@@ -115,7 +118,7 @@ module _ (ops : List Operation) where
         each (n ∷ ns) met = rw (met_older ops n met.0) (each ns met.1)
 
 -- the length that an act gives is that of its edit
-pub same_length : (ops : List Operation) (edit : Edit) → length_is_good (made_act ops edit) ≡ plays edit
+pub same_length : (ops : List Operation) (edit : Edit) → length_is_good (made_act (ready_ops ops) edit) ≡ plays edit
 same_length ops (AddTrack after title) = refl
 same_length ops (MoveTrack track after) = refl
 same_length ops (AddClip source track at offset len) = refl
@@ -130,7 +133,7 @@ same_length ops (MoveMarker marker at) = refl
 same_length ops (Retitle item title) = refl
 
 -- the tags that an act lists are in order
-pub tags_good : (ops : List Operation) → dots_rise ops ≡ true → (name : Replica) (edit : Edit) → refused ops name edit ≡ None → tags_are_good (made_act ops edit) ≡ true
+pub tags_good : (ops : List Operation) → dots_rise ops ≡ true → (name : Replica) (edit : Edit) → refused ops name edit ≡ None → tags_are_good (made_act (ready_ops ops) edit) ≡ true
 tags_good ops rise name (Remove item) none =
     let first = neither (name_refused (ready_ops ops) true (need_of Item item)) None (names_pass ops name (Remove item) none) in
     let there = neither (unless (list_any (meets (need_of Item item)) (ready_ops ops)) (NoSuchItem item)) (unless (not true || is_present (ready_ops ops) item) (Absent item)) first.0 in

@@ -11,7 +11,7 @@ use Rattle.mt_op.specs.Presence.{is_listed}
 use Rattle.mt_opcodec.specs.LogValue.{LogMap, operations}
 use Rattle.mt_sessionview.specs.Content.{Content}
 use Rattle.mt_sessionview.specs.Session.{ready_ops, stamps_of, session_of}
-use Rattle.mt_sessionview.specs.Sorting.{sort_by}
+use Rattle.mt_stamp.specs.Sorting.{sort_by}
 use Rattle.mt_replica.specs.Edit.{Edit}
 use Rattle.mt_replica.specs.Made.{made}
 use Rattle.mt_replica.specs.declared.fault.EditorFault.{EditorFault}

@@ -3,3 +3,5 @@ pub mod Changes
 pub mod Faults
 pub mod Made
 pub mod Kept
+pub mod State
+pub mod Codes

@@ -1,5 +1,5 @@
 -- What an edit makes of a set of operations.
-use Rattle.std.specs.Prelude.{ℕ, suc, Bool, true, false, not, ◌==◌, ◌||◌, List, [], ◌∷◌, ◌++◌, map, filter, length, Option, Some, None, option_map, Result, Ok, Err, nat_le, max}
+use Rattle.std.specs.Prelude.{ℕ, suc, Bool, true, false, not, ◌==◌, ◌||◌, List, [], ◌∷◌, ◌++◌, map, filter, length, Option, Some, None, option_map, unwrap_or, Result, Ok, Err, nat_le, max}
 use Rattle.std.specs.List.{list_any}
 use Rattle.mt_stamp.specs.declared.name.Replica.{Replica}
 use Rattle.mt_stamp.specs.Moment.{Moment, greatest, stamp_cmp}
@@ -9,9 +9,10 @@ use Rattle.mt_op.specs.Needs.{need_of, meets, clock_of}
 use Rattle.mt_op.specs.Operation as act
 use Rattle.mt_op.specs.Operation.{Act, Operation}
 use Rattle.mt_op.specs.Presence.{is_present, live_tags}
+use Rattle.mt_op.specs.Writes.{Written, track_place_written, last_write}
 use Rattle.mt_op.specs.Tags.{greatest_tag_count}
-use Rattle.mt_sessionview.specs.Session.{ready_ops, track_place}
-use Rattle.mt_sessionview.specs.Sorting.{sort_by}
+use Rattle.mt_sessionview.specs.Session.{ready_ops}
+use Rattle.mt_stamp.specs.Sorting.{sort_by}
 use Rattle.mt_replica.specs.Edit.{Edit, AddTrack, MoveTrack, AddClip, MoveClip, TrimClip, SetGain, SetMute, Remove, Restore, AddMarker, MoveMarker, Retitle}
 use Rattle.mt_replica.specs.declared.fault.EditorFault.{EditorFault}
 use Rattle.mt_replica.specs.declared.fault.EditorFault.TheVariants.{ZeroLength, NoSuchItem, Absent, TooManyTags, ClockFull, SeqFull}
@@ -42,25 +43,35 @@ made_stamp ops name = record { clock = suc (greatest_clock ops); replica = name;
 
 -- ---- what it does
 
--- the live tags of an item, rising
-abbrev pub rising_tags : List Operation → Moment → List Moment
-rising_tags ops item = sort_by stamp_cmp (live_tags item (ready_ops ops))
+module _ (ready : List Operation) where
+  -- The current place of a track: the last one that it was put at (the place of its track in a session).
+  abbrev pub current_place : Moment → Moment
+  current_place track = unwrap_or (option_map (λ (w : Written (Option Moment)). w.writer) (last_write track_place_written track ready)) track
 
--- The act that an edit of a set makes: a Remove lists all live tags, and a track is put after another one's current place
--- (profile).
-abbrev pub made_act : List Operation → Edit → Act
-made_act ops (AddTrack after title) = act.AddTrack (option_map (track_place ops) after) title
-made_act ops (MoveTrack track after) = act.MoveTrack track (option_map (track_place ops) after)
-made_act ops (AddClip source track at offset len) = act.AddClip source track at offset len
-made_act ops (MoveClip clip track at) = act.MoveClip clip track at
-made_act ops (TrimClip clip offset len) = act.TrimClip clip offset len
-made_act ops (SetGain item gain) = act.SetGain item gain
-made_act ops (SetMute item on) = act.SetMute item on
-made_act ops (Remove item) = act.Remove item (rising_tags ops item)
-made_act ops (Restore item) = act.Restore item
-made_act ops (AddMarker at title) = act.AddMarker at title
-made_act ops (MoveMarker marker at) = act.MoveMarker marker at
-made_act ops (Retitle item title) = act.Retitle item title
+  -- the live tags of an item, rising
+  abbrev pub rising_tags : Moment → List Moment
+  rising_tags item = sort_by stamp_cmp (live_tags item ready)
+
+  -- The act that an edit makes where these operations are ready: a Remove lists all live tags, and a track is put after
+  -- another one's current place (profile).
+  abbrev pub made_act : Edit → Act
+  made_act (AddTrack after title) = act.AddTrack (option_map current_place after) title
+  made_act (MoveTrack track after) = act.MoveTrack track (option_map current_place after)
+  made_act (AddClip source track at offset len) = act.AddClip source track at offset len
+  made_act (MoveClip clip track at) = act.MoveClip clip track at
+  made_act (TrimClip clip offset len) = act.TrimClip clip offset len
+  made_act (SetGain item gain) = act.SetGain item gain
+  made_act (SetMute item on) = act.SetMute item on
+  made_act (Remove item) = act.Remove item (rising_tags item)
+  made_act (Restore item) = act.Restore item
+  made_act (AddMarker at title) = act.AddMarker at title
+  made_act (MoveMarker marker at) = act.MoveMarker marker at
+  made_act (Retitle item title) = act.Retitle item title
+
+  -- whether a Remove could list all live tags
+  abbrev pub tags_fit : Edit → Bool
+  tags_fit (Remove item) = nat_le (length (rising_tags item)) greatest_tag_count
+  tags_fit _ = true
 
 -- ---- its refusals
 
@@ -115,29 +126,28 @@ abbrev pub names_refused : List Operation → Bool → List Need → Option Edit
 names_refused ready present [] = None
 names_refused ready present (need ∷ needs) = or_else (name_refused ready present need) (names_refused ready present needs)
 
--- whether a Remove could list all live tags
-abbrev pub tags_fit : List Operation → Edit → Bool
-tags_fit ops (Remove item) = nat_le (length (rising_tags ops item)) greatest_tag_count
-tags_fit ops _ = true
+-- whether there is room for another clock and another number
+abbrev pub stamp_refused : List Operation → Replica → Option EditorFault
+stamp_refused ops name = or_else (unless (not (nat_le greatest (greatest_clock ops))) ClockFull) (unless (not (nat_le greatest (greatest_seq name ops))) SeqFull)
 
 -- The first refusal of an edit of a set, in this order.
 abbrev pub refused : List Operation → Replica → Edit → Option EditorFault
 refused ops name edit =
     or_else (unless (plays edit) ZeroLength)
     (or_else (names_refused (ready_ops ops) (names_present edit) (names_of edit))
-    (or_else (unless (tags_fit ops edit) TooManyTags)
-    (or_else (unless (not (nat_le greatest (greatest_clock ops))) ClockFull)
-    (unless (not (nat_le greatest (greatest_seq name ops))) SeqFull))))
+    (or_else (unless (tags_fit (ready_ops ops) edit) TooManyTags)
+    (stamp_refused ops name)))
 
 -- ---- the operation
 
 -- the operation of an edit that is not refused
 abbrev pub made_op : List Operation → Replica → Edit → Operation
-made_op ops name edit = record { stamp = made_stamp ops name; act = made_act ops edit }
+made_op ops name edit = record { stamp = made_stamp ops name; act = made_act (ready_ops ops) edit }
 
-abbrev pub or_made : Option EditorFault → Operation → Result Operation EditorFault
-or_made None o = Ok o
-or_made (Some fault) o = Err fault
+-- a refusal, or what there is without one
+abbrev pub or_made : {X : Type 0} → Option EditorFault → X → Result X EditorFault
+or_made None x = Ok x
+or_made (Some fault) x = Err fault
 
 -- What an edit by a replica makes of a set: its first refusal, or one operation.
 abbrev pub made : List Operation → Replica → Edit → Result Operation EditorFault

@@ -27,7 +27,7 @@ use Rattle.mt_sessionview.proofs.Found.{one_place}
 use Rattle.mt_sessionview.proofs.LastWrites.{Gives, last_written, one_item}
 use Rattle.mt_sessionview.proofs.Markers.{tied_second}
 use Rattle.mt_sessionview.proofs.Shown.{field_is, given, given_or}
-use Rattle.mt_sessionview.proofs.Sorting.{sorted_is_sort_by}
+use Rattle.mt_stamp.proofs.Sorting.{sorted_is_sort_by}
 
 -- a clip that its fields make
 abbrev pub made_clip : Moment → Written (Moment × ℕ) → ℕ × ℕ → Ratio → Bool → Digest → Clip

@@ -12,7 +12,7 @@ use Rattle.mt_op.specs.Writes.{Write, Written, title_written, gain_written, mute
 use Rattle.mt_op.specs.Presence.{is_present}
 use Rattle.mt_sessionview.specs.Content.{Clip, Track, Marker, clip_cmp, marker_cmp}
 use Rattle.mt_sessionview.specs.Session.{ready_ops, source_of, place_added, session_of}
-use Rattle.mt_sessionview.specs.Sorting.{sort_by}
+use Rattle.mt_stamp.specs.Sorting.{sort_by}
 
 -- the definitions of specs/Session.antt, of the ready operations
 module _ (r : List Operation) where

@@ -10,6 +10,7 @@ use Rattle.mt_op.specs.Dots.{dots_rise}
 use Rattle.mt_op.specs.Writes.{Write, Written, kept, written_by, last_write}
 use Rattle.mt_op.proofs.Needs.{stamp_eq-true}
 use Rattle.mt_op.proofs.LastWrite.{latest_is_greatest}
+use Rattle.mt_op.proofs.WriteOf.{IsWriteOf, is_write_of}
 use Rattle.mt_sessionview.proofs.Found.{one_place}
 
 -- an item of a list that passes and gives a value
@@ -44,29 +45,11 @@ module _ {X : Type 0} (field : Moment → Act → Option (Write X)) where
       let last = (latest_is_greatest X).0 (filter_map (written_by field item) (filter p ops)) v is in
       given_by (written_by field item) p ops last.place v last.is
 
-  -- what it wrote is the item's, and under its own stamp
-  pub record IsWriteOf (item : Moment) (o : Operation) (v : Written X) : Type 0 where
-    pub write : Write X
-    pub made : field o.stamp o.act ≡ Some write
-    pub item_is : write.item ≡ item
-    pub value_is : v ≡ record { writer = o.stamp; value = write.value }
-
-  write_of : (item : Moment) (o : Operation) (w : Option (Write X)) (v : Written X) → field o.stamp o.act ≡ w → kept field item o.stamp w ≡ Some v → IsWriteOf item o v
-  write_of item o None v made is = absurd (none-some v is)
-  write_of item o (Some w) v made is = by (stamp_eq w.item item) refl is
-    where
-      by : (b : Bool) → stamp_eq w.item item ≡ b → cond b (Some (record { writer = o.stamp; value = w.value })) None ≡ Some v → IsWriteOf item o v
-      by true same e = record { write = w; made = made; item_is = stamp_eq-true w.item item same; value_is = sym (same_Some (record { writer = o.stamp; value = w.value }) v e) }
-      by false other e = absurd (none-some v e)
-
-  pub is_write_of : (item : Moment) (o : Operation) (v : Written X) → written_by field item o ≡ Some v → IsWriteOf item o v
-  is_write_of item o v is = write_of item o (field o.stamp o.act) v refl is
-
   -- one operation writes a field of one item alone
   pub one_item : (ops : List Operation) → dots_rise ops ≡ true → (i j : Moment) (v w : Written X) (p : Operation → Bool) → Gives (written_by field i) p ops v → Gives (written_by field j) p ops w → v.writer ≡ w.writer → i ≡ j
   one_item ops rise i j v w p of_v of_w same =
-      let a = is_write_of i of_v.item v of_v.is in
-      let b = is_write_of j of_w.item w of_w.is in
+      let a = is_write_of field i of_v.item v of_v.is in
+      let b = is_write_of field j of_w.item w of_w.is in
       let stamps : of_v.item.stamp ≡ of_w.item.stamp = sym (ap (λ (x : Written X). x.writer) a.value_is) ∙ same ∙ ap (λ (x : Written X). x.writer) b.value_is in
       let place = one_place ops rise of_v.place of_w.place of_v.item of_w.item of_v.at of_w.at (ap dot_of stamps) in
       let one : of_v.item ≡ of_w.item = same_Some of_v.item of_w.item (sym of_v.at ∙ ap (slice_get ops) place ∙ of_w.at) in

@@ -1,4 +1,3 @@
-pub mod Sorting
 pub mod Found
 pub mod StampOrder
 pub mod Waiting
@@ -15,7 +14,6 @@ pub mod Shown
 pub mod LastWrites
 pub mod Clips
 pub mod Told
-pub mod Members
 pub mod TrackSorting
 pub mod Standing
 pub mod ClipRows
@@ -23,13 +21,10 @@ pub mod Links
 pub mod PlaceTree
 pub mod Linking
 pub mod Tracking
-pub mod Differing
 pub mod Rules
 pub mod FromReady
 pub mod HeldOps
-pub mod SameItems
 pub mod SameReady
-pub mod SameWrites
 pub mod SamePlaces
 pub mod SameSession
 mod Equal

@@ -20,10 +20,10 @@ use Rattle.mt_op.specs.Dots.{dots_rise}
 use Rattle.mt_op.specs.Writes.{Written, title_written, position_written, last_write}
 use Rattle.mt_sessionview.specs.Content.{Marker, marker_cmp}
 use Rattle.mt_sessionview.specs.Session.{ready_ops, is_shown, shown_ops, marker_of}
-use Rattle.mt_sessionview.specs.Sorting.{sort_by}
+use Rattle.mt_stamp.specs.Sorting.{sort_by}
 use Rattle.mt_sessionview.proofs.Found.{one_place}
 use Rattle.mt_sessionview.proofs.Shown.{field_is, given_or}
-use Rattle.mt_sessionview.proofs.Sorting.{sorted_is_sort_by}
+use Rattle.mt_stamp.proofs.Sorting.{sorted_is_sort_by}
 
 -- the marker of a ready operation that adds one that is present
 pub marker_made : (ops : List Operation) (place : ℕ) (o : Operation) (own_at at : ℕ) (own title : List ℕ) → slice_get ops place ≡ Some o → is_ready clock_of needs meets ops o ≡ true → AddMarker own_at own ≡ o.act

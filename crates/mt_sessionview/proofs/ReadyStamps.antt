@@ -4,8 +4,8 @@ use Rattle.std.specs.List.{All, filter}
 use Rattle.std.specs.List.Sorted.{IsPermutation, IsSorted}
 use Rattle.mt_stamp.specs.Moment.{Moment, stamp_cmp}
 use Rattle.mt_stamp.proofs.Order.{stamp_cmp_total, stamp_cmp-IsAntisymmetric}
-use Rattle.mt_sessionview.specs.Sorting.{sort_by}
-use Rattle.mt_sessionview.proofs.Sorting.{sorted_is_sort_by}
+use Rattle.mt_stamp.specs.Sorting.{sort_by}
+use Rattle.mt_stamp.proofs.Sorting.{sorted_is_sort_by}
 
 pub filter_any : {X : Type 0} (xs : List X) → filter (λ (x : X). true) xs ≡ xs
 filter_any [] = refl

@@ -10,6 +10,7 @@ use Rattle.std.proofs.lemmas.Option.{slice_get-get_or}
 use Rattle.std.proofs.lemmas.List.Elements.{All-filter, filter_passes, recursion_from_All}
 use Rattle.mt_stamp.specs.Moment.{Moment, stamp_cmp}
 use Rattle.mt_stamp.proofs.Order.{stamp_cmp-IsAntisymmetric}
+use Rattle.mt_op.specs.ByStamp.{stamp_of}
 use Rattle.mt_op.specs.Operation.{Operation}
 use Rattle.mt_op.specs.Needs.{needs, meets, clock_of, adds_marker}
 use Rattle.mt_op.specs.Ready.{is_ready}
@@ -18,12 +19,12 @@ use Rattle.mt_op.specs.Writes.{clip_place_written, written_by}
 use Rattle.mt_op.proofs.Needs.{and_first}
 use Rattle.mt_sessionview.specs.Content.{Clip, Marker, clip_cmp, marker_cmp, AreClips}
 use Rattle.mt_sessionview.specs.Session.{ready_ops, is_shown, shown_ops, clip_place, clip_of, is_clip_on, clips_on, marker_of}
-use Rattle.mt_sessionview.specs.Sorting.{sort_by, RisesStrictly, DifferBy}
+use Rattle.mt_stamp.specs.Sorting.{sort_by, RisesStrictly, DifferBy}
 use Rattle.mt_sessionview.proofs.Clips.{clip_cmp_total, place_given}
-use Rattle.mt_sessionview.proofs.Differing.{stamp_of, differ_kept, differ_mapped, differ_also, differ_sorted}
+use Rattle.mt_stamp.proofs.Differing.{differ_kept, differ_mapped, differ_also, differ_sorted}
 use Rattle.mt_sessionview.proofs.LastWrites.{Gives, one_item}
 use Rattle.mt_sessionview.proofs.Markers.{marker_cmp_total, tied_second}
-use Rattle.mt_sessionview.proofs.Members.{AreApart, sort_strict}
+use Rattle.mt_stamp.proofs.Members.{AreApart, sort_strict}
 use Rattle.mt_sessionview.proofs.TrackSorting.{every_stamp}
 
 -- items that differ by a key that ties agree on do not tie

@@ -4,7 +4,7 @@ use Rattle.std.specs.List.{AllByRecursion, list_any}
 use Rattle.mt_stamp.specs.Moment.{Moment, stamp_eq}
 use Rattle.mt_stamp.specs.Tree.{TreePlace, after_of, path_to, path_within, path, path_cmp, tree_cmp}
 use Rattle.mt_stamp.proofs.Order.{stamp_eq-true}
-use Rattle.mt_sessionview.proofs.SameItems.{SameItems, same_any, same_length}
+use Rattle.mt_stamp.proofs.SameItems.{SameItems, same_any, same_length}
 
 abbrev is_listed : List TreePlace → Moment → Bool
 is_listed places p = list_any (λ (t : TreePlace). stamp_eq t.place p) places

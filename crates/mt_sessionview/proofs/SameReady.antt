@@ -2,7 +2,7 @@
 use Rattle.std.proofs.Common.{◌≡◌, ℕ, zero, suc, Bool, List, [], ◌∷◌, not, length, refl, ap, ◌∙◌}
 use Rattle.std.specs.List.{filter, list_any, list_all, sum_by}
 use Rattle.mt_op.specs.Ready.{is_ready_below, is_ready, ready, held}
-use Rattle.mt_sessionview.proofs.SameItems.{SameItems, same_filter, same_any, same_length}
+use Rattle.mt_stamp.proofs.SameItems.{SameItems, same_filter, same_any, same_length}
 
 module _ {D Q : Type 0} (clock : D → ℕ) (needs : D → List Q) (meets : Q → D → Bool) (s t : List D) (same : SameItems s t) where
   met_same : (p q : D → Bool) → p ≡ q → (ns : List Q) → list_all (λ need. list_any p (filter (meets need) s)) ns ≡ list_all (λ need. list_any q (filter (meets need) t)) ns

@@ -22,18 +22,18 @@ use Rattle.mt_op.proofs.LastWrite.{latest_is_greatest}
 use Rattle.mt_op.proofs.Needs.{and_first}
 use Rattle.mt_sessionview.specs.Content.{Clip, Marker, clip_cmp, marker_cmp}
 use Rattle.mt_sessionview.specs.Session.{ready_ops, source_of, place_added}
-use Rattle.mt_sessionview.specs.Sorting.{sort_by}
+use Rattle.mt_stamp.specs.Sorting.{sort_by}
 use Rattle.mt_sessionview.specs.SessionLaws.{AnyListing}
 use Rattle.mt_sessionview.proofs.Clips.{clip_cmp_total}
 use Rattle.mt_sessionview.proofs.FromReady.{value_in, is_shown_in, marker_in, markers_in, clip_place_in, clip_in, is_clip_on_in, clips_in, places_in, track_place_in, track_cmp_in, track_in, tracks_in, markers_are, tracks_are}
 use Rattle.mt_sessionview.proofs.Items.{stamp_eq_same}
 use Rattle.mt_sessionview.proofs.Markers.{tied_second, marker_cmp_total}
-use Rattle.mt_sessionview.proofs.Members.{IsMember, member_stands, member_kept, member_of_kept}
-use Rattle.mt_sessionview.proofs.SameItems.{SameItems, GivenBy, same_filter, same_map, same_filter_map, all_passing, all_map, all_filter_map, all_here, member_gives}
+use Rattle.mt_stamp.proofs.Members.{IsMember, member_stands, member_kept, member_of_kept}
+use Rattle.mt_stamp.proofs.SameItems.{SameItems, GivenBy, same_filter, same_map, same_filter_map, all_passing, all_map, all_filter_map, all_here, member_gives}
 use Rattle.mt_sessionview.proofs.SamePlaces.{tree_cmp_same}
 use Rattle.mt_sessionview.proofs.SameReady.{is_ready_same, ready_same, held_same}
-use Rattle.mt_sessionview.proofs.SameWrites.{one_write, last_write_same, present_same}
-use Rattle.mt_sessionview.proofs.Sorting.{sort_same}
+use Rattle.mt_op.proofs.SameWrites.{one_write, last_write_same, present_same}
+use Rattle.mt_stamp.proofs.Sorting.{sort_same}
 
 -- what each member is
 all_among : (P : Operation → Type 0) (xs : List Operation) → ((o : Operation) → IsMember o xs → P o) → AllByRecursion P xs

@@ -18,8 +18,8 @@ use Rattle.mt_sessionview.specs.Session.{field_write, track_place}
 use Rattle.mt_sessionview.specs.Tables.{IsLastWriter}
 use Rattle.mt_sessionview.specs.TrackOrder.{placed_track, IsStanding}
 use Rattle.mt_sessionview.proofs.Found.{one_place}
-use Rattle.mt_sessionview.proofs.LastWrites.{is_write_of}
-use Rattle.mt_sessionview.proofs.Members.{IsMember, member_stands, member_of_kept}
+use Rattle.mt_op.proofs.WriteOf.{is_write_of}
+use Rattle.mt_stamp.proofs.Members.{IsMember, member_stands, member_of_kept}
 use Rattle.mt_sessionview.proofs.TrackSorting.{has_place, last_place, never_unplaced}
 use Rattle.mt_sessionview.proofs.Waiting.{by_recursion_at}
 

@@ -16,7 +16,7 @@ use Rattle.mt_sessionview.specs.Told.{placed}
 use Rattle.mt_sessionview.specs.declared.values.Placed.{Placed}
 use Rattle.mt_sessionview.proofs.Rows.{at_read, told_at}
 use Rattle.mt_sessionview.proofs.LastWriters.{last_inside}
-use Rattle.mt_sessionview.proofs.LastWrites.{is_write_of}
+use Rattle.mt_op.proofs.WriteOf.{is_write_of}
 use Rattle.mt_sessionview.proofs.ItemMarks.{own_is_there, present_is}
 
 module _ {X : Type 0} (field : Moment → Act → Option (Write X)) where

@@ -8,6 +8,7 @@ use Rattle.std.proofs.lemmas.Cmp.{on_total}
 use Rattle.std.proofs.lemmas.Option.{same_Some, none-some}
 use Rattle.mt_stamp.specs.Moment.{Moment, dot_of}
 use Rattle.mt_stamp.proofs.Tree.{trees_are_ordered}
+use Rattle.mt_op.specs.ByStamp.{stamp_of}
 use Rattle.mt_op.specs.Operation.{Act, AddTrack, Operation}
 use Rattle.mt_op.specs.Needs.{needs, meets, clock_of, adds_track}
 use Rattle.mt_op.specs.Ready.{is_ready}
@@ -15,14 +16,14 @@ use Rattle.mt_op.specs.Dots.{dots_rise}
 use Rattle.mt_op.specs.Writes.{Written, track_place_written, written_by}
 use Rattle.mt_op.proofs.Needs.{and_first}
 use Rattle.mt_sessionview.specs.Session.{ready_ops, field_write, is_shown, shown_ops, places, track_place, track_cmp, track_of}
-use Rattle.mt_sessionview.specs.Sorting.{sort_by, RisesStrictly, DifferBy}
+use Rattle.mt_stamp.specs.Sorting.{sort_by, RisesStrictly, DifferBy}
 use Rattle.mt_sessionview.specs.Content.{Track}
 use Rattle.mt_sessionview.specs.Told.{AreAt}
 use Rattle.mt_sessionview.specs.TrackOrder.{IsTrackAt, IsTrackOrder}
-use Rattle.mt_sessionview.proofs.Differing.{stamp_of, differ_kept, differ_sorted, differ_mapped}
+use Rattle.mt_stamp.proofs.Differing.{differ_kept, differ_sorted, differ_mapped}
 use Rattle.mt_sessionview.proofs.Found.{one_place}
 use Rattle.mt_sessionview.proofs.LastWrites.{Gives, last_written, one_item}
-use Rattle.mt_sessionview.proofs.Members.{IsMember, member_at, member_stands, member_kept, member_of_kept, AreApart, one_list, sort_strict, member_sorted, member_unsorted}
+use Rattle.mt_stamp.proofs.Members.{IsMember, member_at, member_stands, member_kept, member_of_kept, AreApart, one_list, sort_strict, member_sorted, member_unsorted}
 use Rattle.mt_sessionview.proofs.Shown.{field_is}
 
 -- the last write of a track's place is there

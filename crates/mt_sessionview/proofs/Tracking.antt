@@ -15,7 +15,7 @@ use Rattle.mt_op.proofs.Needs.{and_first}
 use Rattle.mt_sessionview.specs.Session.{places, track_place, track_cmp}
 use Rattle.mt_sessionview.specs.TrackOrder.{IsPlaceOrder, IsTrackAt, IsStanding, IsNoneStanding, IsTrackOrder}
 use Rattle.mt_sessionview.proofs.Found.{one_place}
-use Rattle.mt_sessionview.proofs.LastWrites.{is_write_of}
+use Rattle.mt_op.proofs.WriteOf.{is_write_of}
 use Rattle.mt_sessionview.proofs.StampOrder.{slice_get_push_before, slice_get_push_at}
 use Rattle.mt_sessionview.proofs.Standing.{standing_placed}
 use Rattle.mt_sessionview.proofs.TrackSorting.{has_place, last_place}

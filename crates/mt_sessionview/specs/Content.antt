@@ -5,7 +5,7 @@ use Rattle.std.specs.Ordering.{nat_cmp, ordering_then}
 use Rattle.mt_stamp.specs.Moment.{Moment, stamp_cmp}
 use Rattle.mt_op.specs.Gain.{Ratio}
 use Rattle.mt_op.specs.declared.digest.Digest.{Digest}
-use Rattle.mt_sessionview.specs.Sorting.{RisesStrictly, DifferBy}
+use Rattle.mt_stamp.specs.Sorting.{RisesStrictly, DifferBy}
 
 -- a clip: the stamp that names it, the stamp of the operation that gave its place, where it begins in the session, the
 -- first frame of its recording that it plays and how many, in frames, and how it sounds

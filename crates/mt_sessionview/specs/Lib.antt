@@ -1,4 +1,3 @@
-pub mod Sorting
 pub mod Content
 pub mod Session
 pub mod Examples

@@ -11,7 +11,7 @@ use Rattle.mt_op.specs.Needs.{needs, meets, clock_of, stamp_eq, adds_track, adds
 use Rattle.mt_op.specs.Ready.{ready, held}
 use Rattle.mt_op.specs.Writes.{Write, Written, title_written, gain_written, mute_written, track_place_written, clip_place_written, trim_written, position_written, last_write}
 use Rattle.mt_op.specs.Presence.{is_present}
-use Rattle.mt_sessionview.specs.Sorting.{sort_by}
+use Rattle.mt_stamp.specs.Sorting.{sort_by}
 use Rattle.mt_sessionview.specs.Content.{Clip, Track, Marker, Content, clip_cmp, marker_cmp}
 
 -- Only ready operations have an effect (INRIA RR-7506, operation-based objects).

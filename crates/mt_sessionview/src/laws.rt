@@ -6,7 +6,7 @@ ghost use Rattle.mt_op.specs.Operation.{Operation};
 ghost use Rattle.mt_sessionview.specs.Content.{clip_cmp, marker_cmp};
 ghost use Rattle.mt_sessionview.specs.Session.{track_cmp};
 ghost use Rattle.mt_sessionview.specs.SessionLaws.{AnyListing, HeldIsCounted, PlacesAreATree};
-ghost use Rattle.mt_sessionview.specs.Sorting.{Sorts};
+ghost use Rattle.mt_stamp.specs.Sorting.{Sorts};
 
 use crate::session::{ClipView, MarkerView, Session, TrackView};
 use std::alloc::Allocator;

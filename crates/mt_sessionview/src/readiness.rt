@@ -9,7 +9,7 @@ ghost use Rattle.mt_op.specs.Ready.{is_ready};
 ghost use Rattle.mt_op.specs.Valid.{IsOperation};
 ghost use Rattle.mt_opcodec.specs.LogValue.{operations};
 ghost use Rattle.mt_sessionview.specs.Session.{ready_ops, stamps_of};
-ghost use Rattle.mt_sessionview.specs.Sorting.{sort_by};
+ghost use Rattle.mt_stamp.specs.Sorting.{sort_by};
 
 use crate::fault::SessionFault;
 use crate::order::places_by_stamp;

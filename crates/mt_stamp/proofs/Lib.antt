@@ -6,3 +6,7 @@ pub mod Paths
 pub mod Tree
 pub mod Arranging
 pub mod Beginnings
+pub mod Differing
+pub mod Sorting
+pub mod Members
+pub mod SameItems

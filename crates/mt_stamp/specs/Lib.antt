@@ -6,3 +6,4 @@ pub mod Laws
 pub mod Tree
 pub mod TreeLaws
 pub mod TreeExamples
+pub mod Sorting

@@ -6,7 +6,7 @@ use Rattle.mt_op.specs.Ready.{is_ready}
 use Rattle.mt_op.proofs.Needs.{and_first}
 use Rattle.mt_sessionview.specs.Content.{Track, marker_cmp}
 use Rattle.mt_sessionview.specs.Session.{ready_ops, held_ops, shown_ops, marker_of, track_of, track_cmp}
-use Rattle.mt_sessionview.specs.Sorting.{sort_by, RisesStrictly, DifferBy}
+use Rattle.mt_stamp.specs.Sorting.{sort_by, RisesStrictly, DifferBy}
 use Rattle.mt_sessionview.specs.Told.{AreAt, TellsClips}
 use Rattle.mt_sessionview.proofs.Markers.{markers_sorted}
 use Rattle.mt_sessionview.proofs.Shown.{held_is}

@@ -1,5 +1,5 @@
 use Rattle.mt_sessionview.specs.Content.{marker_cmp}
-use Rattle.mt_sessionview.proofs.Sorting.{sorts}
+use Rattle.mt_stamp.proofs.Sorting.{sorts}
 use Rattle.mt_sessionview.proofs.Markers.{marker_cmp_total}
 use Rattle.mt_sessionview.proofs.laws.sorted_markers.Goals as goal
 

@@ -1,6 +1,6 @@
 use Rattle.mt_sessionview.specs.Session.{track_cmp}
 use Rattle.mt_sessionview.proofs.TrackSorting.{track_cmp_total}
-use Rattle.mt_sessionview.proofs.Sorting.{sorts}
+use Rattle.mt_stamp.proofs.Sorting.{sorts}
 use Rattle.mt_sessionview.proofs.laws.sorted_tracks.Goals as goal
 
 pub returns : goal.returns

@@ -1,6 +1,6 @@
 use Rattle.std.proofs.Common.{ap, ◌∙◌}
 use Rattle.mt_stamp.specs.Moment.{stamp_cmp}
-use Rattle.mt_sessionview.specs.Sorting.{sort_by}
+use Rattle.mt_stamp.specs.Sorting.{sort_by}
 use Rattle.mt_sessionview.proofs.ReadyStamps.{stamps_sorted}
 use Rattle.mt_sessionview.proofs.readiness.ready_stamps_of_ops.Goals as goal
 

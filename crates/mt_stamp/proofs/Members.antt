@@ -7,8 +7,8 @@ use Rattle.std.specs.declared.cmp.Ordering.{Ordering}
 use Rattle.std.specs.declared.cmp.Ordering.TheVariants.{Less, Equal, Greater}
 use Rattle.std.specs.List.{AllByRecursion, filter}
 use Rattle.std.proofs.lemmas.Option.{same_Some, none-some}
-use Rattle.mt_sessionview.specs.Sorting.{insert_by, sort_by, RisesStrictly}
-use Rattle.mt_sessionview.proofs.Differing.{all_insert, all_sorted}
+use Rattle.mt_stamp.specs.Sorting.{insert_by, sort_by, RisesStrictly}
+use Rattle.mt_stamp.proofs.Differing.{all_insert, all_sorted}
 
 -- x is one of them
 abbrev pub IsMember : {X : Type 0} → X → List X → Type 0

@@ -9,9 +9,9 @@ use Rattle.std.specs.List.Sorted.{IsPermutation, IsSorted}
 use Rattle.std.proofs.lemmas.List.Sums.{sum_by-cons}
 use Rattle.std.proofs.lemmas.List.Elements.{recursion_from_All}
 use Rattle.std.proofs.lemmas.List.Sorted.{ranks_by, sorted_far, sum_by-IsPermutation, All-permutation}
-use Rattle.mt_sessionview.specs.Sorting as rising
-use Rattle.mt_sessionview.proofs.Differing.{all_insert, all_sorted}
-use Rattle.mt_sessionview.specs.Sorting.{insert_by, sort_by, Sorts}
+use Rattle.mt_stamp.specs.Sorting as rising
+use Rattle.mt_stamp.proofs.Differing.{all_insert, all_sorted}
+use Rattle.mt_stamp.specs.Sorting.{insert_by, sort_by, Sorts}
 
 less_turned : (o p : Ordering) → o ≡ ordering_reverse p → is_lt o ≡ true → is_lt p ≡ false
 less_turned Less Less e h = absurd cc

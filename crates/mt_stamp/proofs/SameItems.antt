@@ -4,7 +4,7 @@ use Rattle.std.specs.Prelude.{slice_get}
 use Rattle.std.specs.List.{AllByRecursion, filter, filter_map, cons_option, flat_map, list_any, sum_by}
 use Rattle.std.proofs.lemmas.Option.{same_Some, none-some}
 use Rattle.std.proofs.lemmas.List.Sums.{sum_by-cons, sum_by-append}
-use Rattle.mt_sessionview.proofs.Members.{IsMember}
+use Rattle.mt_stamp.proofs.Members.{IsMember}
 
 -- whatever is counted of each item adds up to the same
 abbrev pub SameItems : {X : Type 0} → List X → List X → Type 0

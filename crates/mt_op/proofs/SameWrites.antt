@@ -13,8 +13,8 @@ use Rattle.mt_op.specs.Needs.{is_tag_of}
 use Rattle.mt_op.specs.Presence.{is_listed, tags_removed, tags, removed_tags, live_tags, is_any, is_present}
 use Rattle.mt_op.specs.Writes.{Write, Written, latest, written_by, last_write}
 use Rattle.mt_op.proofs.LastWrite.{latest_is_greatest}
-use Rattle.mt_sessionview.proofs.LastWrites.{is_write_of}
-use Rattle.mt_sessionview.proofs.SameItems.{SameItems, GivenBy, same_filter, same_map, same_filter_map, same_flat_map, same_any, all_filter_map, all_here}
+use Rattle.mt_op.proofs.WriteOf.{is_write_of}
+use Rattle.mt_stamp.proofs.SameItems.{SameItems, GivenBy, same_filter, same_map, same_filter_map, same_flat_map, same_any, all_filter_map, all_here}
 
 -- what none of the items passes, none of the same items passes
 none_any : {X : Type 0} (p : X → Bool) (xs : List X) → AllByRecursion (λ x. p x ≡ false) xs → list_any p xs ≡ false

@@ -4,12 +4,7 @@ use Rattle.std.specs.List.{AllByRecursion, filter}
 use Rattle.std.specs.Ordering.{match_ordering}
 use Rattle.std.specs.declared.cmp.Ordering.{Ordering}
 use Rattle.std.specs.declared.cmp.Ordering.TheVariants.{Less, Equal, Greater}
-use Rattle.mt_stamp.specs.Moment.{Moment}
-use Rattle.mt_op.specs.Operation.{Operation}
-use Rattle.mt_sessionview.specs.Sorting.{insert_by, sort_by, DifferBy}
-
-abbrev pub stamp_of : Operation → Moment
-stamp_of o = o.stamp
+use Rattle.mt_stamp.specs.Sorting.{insert_by, sort_by, DifferBy}
 
 pub all_kept : {X : Type 0} (P : X → Type 0) (p : X → Bool) (xs : List X) → AllByRecursion P xs → AllByRecursion P (filter p xs)
 all_kept P p [] all = tt

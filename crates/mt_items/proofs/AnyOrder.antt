@@ -1,0 +1,95 @@
+-- The answers to questions do not depend on the order in which operations were noted.
+use Rattle.std.proofs.Common.{◌≡◌, ℕ, zero, suc, Bool, List, [], ◌∷◌, ◌||◌, not, Some, map, sym, ap, ◌∙◌, true, true≢false}
+use Rattle.std.specs.Prelude.{slice_get}
+use Rattle.std.specs.Cmp.{on_total}
+use Rattle.std.specs.List.{filter, list_any, All, AllByRecursion}
+use Rattle.std.specs.List.Sorted.{IsPermutation}
+use Rattle.std.proofs.lemmas.Option.{same_Some, none-some, slice_get-get_or}
+use Rattle.std.proofs.lemmas.List.Elements.{recursion_from_All}
+use Rattle.std.proofs.lemmas.List.Sorted.{All-permutation, sum_by-IsPermutation}
+use Rattle.mt_stamp.specs.Moment.{Moment, stamp_eq}
+use Rattle.mt_stamp.proofs.Order.{stamp_cmp_total, stamp_cmp-IsAntisymmetric, stamp_eq-itself}
+use Rattle.mt_stamp.proofs.Differing.{all_kept}
+use Rattle.mt_stamp.proofs.SameItems.{SameItems, same_filter, same_map, same_flat_map, same_any}
+use Rattle.mt_stamp.proofs.Sorting.{sort_same}
+use Rattle.mt_op.specs.declared.need.Role.{Role}
+use Rattle.mt_op.specs.Operation.{Operation}
+use Rattle.mt_op.specs.ByStamp.{stamp_of, op_cmp}
+use Rattle.mt_op.specs.Needs.{fits, meets, is_tag_of}
+use Rattle.mt_op.specs.Presence.{is_listed, tags_removed, tags, removed_tags, live_tags}
+use Rattle.mt_op.specs.Writes.{title_written, gain_written, mute_written, track_place_written, clip_place_written, trim_written, source_written, position_written}
+use Rattle.mt_op.proofs.SameWrites.{last_write_same, present_same}
+use Rattle.mt_items.specs.Noting.{AreNoted, is_noted}
+use Rattle.mt_items.specs.Cells.{items_of}
+use Rattle.mt_items.specs.Laws.{AnswerAlike}
+use Rattle.mt_items.proofs.Noting.{either_true}
+
+-- ---- operations of one stamp are one
+
+noted_at : (r : List Operation) (i : ℕ) (a : Operation) → slice_get r i ≡ Some a → is_noted r a.stamp ≡ true
+noted_at [] i a at = absurd (none-some a at)
+noted_at (o ∷ r) zero a at = ap (λ (b : Bool). b || is_noted r a.stamp) (ap (λ (x : Operation). stamp_eq a.stamp x.stamp) (same_Some o a at) ∙ stamp_eq-itself a.stamp)
+noted_at (o ∷ r) (suc i) a at = either_true _ _ (noted_at r i a at)
+
+noted_apart : (r : List Operation) → AreNoted r → (i j : ℕ) (a b : Operation) → slice_get r i ≡ Some a → slice_get r j ≡ Some b → a.stamp ≡ b.stamp → a ≡ b
+noted_apart [] noted i j a b at_i at_j same = absurd (none-some a at_i)
+noted_apart (o ∷ r) noted zero zero a b at_i at_j same = sym (same_Some o a at_i) ∙ same_Some o b at_j
+noted_apart (o ∷ r) noted zero (suc j) a b at_i at_j same =
+    absurd (true≢false (sym (noted_at r j b at_j) ∙ ap (is_noted r) (sym same ∙ ap (λ (x : Operation). x.stamp) (sym (same_Some o a at_i))) ∙ noted.0.fresh))
+noted_apart (o ∷ r) noted (suc i) zero a b at_i at_j same =
+    absurd (true≢false (sym (noted_at r i a at_i) ∙ ap (is_noted r) (same ∙ ap (λ (x : Operation). x.stamp) (sym (same_Some o b at_j))) ∙ noted.0.fresh))
+noted_apart (o ∷ r) noted (suc i) (suc j) a b at_i at_j same = noted_apart r noted.1 i j a b at_i at_j same
+
+-- ---- the same tags are live
+
+live_same : (r u : List Operation) → SameItems r u → (item tag : Moment) → is_listed (live_tags item r) tag ≡ is_listed (live_tags item u) tag
+live_same r u same item tag =
+    let tagged = same_map (filter (λ (o : Operation). is_tag_of item o.stamp o.act) r) (filter (λ (o : Operation). is_tag_of item o.stamp o.act) u) (same_filter r u same (λ o. is_tag_of item o.stamp o.act)) (λ (o : Operation). o.stamp) in
+    let removed = same_flat_map r u same (λ (o : Operation). tags_removed item o.act) in
+    let listed : (t : Moment) → is_listed (removed_tags item r) t ≡ is_listed (removed_tags item u) t = λ t. same_any (removed_tags item r) (removed_tags item u) removed _ in
+    let live : Moment → Bool = λ t. not (is_listed (removed_tags item r) t) in
+    same_any (live_tags item r) (filter live (tags item u)) (same_filter (tags item r) (tags item u) tagged live) (stamp_eq tag)
+    ∙ (λ i. list_any (stamp_eq tag) (filter (λ t. not (listed t i)) (tags item u)))
+
+-- ---- the same operations
+
+abbrev IsIn : List Operation → Operation → Type 0
+IsIn r o = (k : ℕ) × (slice_get r k ≡ Some o)
+
+all_in : (r : List Operation) → All (IsIn r) r
+all_in r = λ k d lt. (k, slice_get-get_or r k d lt)
+
+module _ (r u : List Operation) (noted : AreNoted r) (moved : IsPermutation r u) where
+  same : SameItems r u
+  same f = sym (sum_by-IsPermutation f r u moved)
+
+  one : (a b : Operation) → IsIn r a → IsIn r b → a.stamp ≡ b.stamp → a ≡ b
+  one a b in_a in_b stamps = noted_apart r noted in_a.0 in_b.0 a b in_a.1 in_b.1 stamps
+
+  all_r : AllByRecursion (IsIn r) r
+  all_r = recursion_from_All (IsIn r) r (all_in r)
+
+  all_u : AllByRecursion (IsIn r) u
+  all_u = recursion_from_All (IsIn r) u (All-permutation (IsIn r) r u moved (all_in r))
+
+  same_items : (kind : Role) → items_of kind r ≡ items_of kind u
+  same_items kind =
+      ap (map stamp_of)
+      (sort_same op_cmp (on_total stamp_of stamp_cmp_total) (IsIn r) (λ a b in_a in_b tied. one a b in_a in_b (stamp_cmp-IsAntisymmetric a.stamp b.stamp tied)) (filter (fits kind) r) (filter (fits kind) u)
+      (all_kept (IsIn r) (fits kind) r all_r) (all_kept (IsIn r) (fits kind) u all_u) (same_filter r u same (fits kind)))
+
+  pub answer_alike : AnswerAlike r u
+  answer_alike = record {
+    needs = λ need. same_any r u same (meets need);
+    items = same_items;
+    present = present_same r u same;
+    live = live_same r u same;
+    titles = last_write_same (IsIn r) one r u same all_r all_u title_written;
+    gains = last_write_same (IsIn r) one r u same all_r all_u gain_written;
+    mutes = last_write_same (IsIn r) one r u same all_r all_u mute_written;
+    track_places = last_write_same (IsIn r) one r u same all_r all_u track_place_written;
+    clip_places = last_write_same (IsIn r) one r u same all_r all_u clip_place_written;
+    trims = last_write_same (IsIn r) one r u same all_r all_u trim_written;
+    sources = last_write_same (IsIn r) one r u same all_r all_u source_written;
+    positions = last_write_same (IsIn r) one r u same all_r all_u position_written;
+  }

@@ -1,0 +1,98 @@
+-- When a stamp is new, and what one pass keeps.
+use Rattle.std.proofs.Common.{◌≡◌, Bool, true, false, List, [], ◌∷◌, ◌||◌, refl, sym, ap, ◌∙◌, cond, true≢false}
+use Rattle.std.specs.Prelude.{IsTrue, IfOk, Ok, Err}
+use Rattle.std.specs.declared.result.Result.{Result}
+use Rattle.std.specs.List.{AllByRecursion}
+use Rattle.std.specs.Cmp.{tied_itself}
+use Rattle.std.specs.Ordering.{is_lt, ordering_reverse}
+use Rattle.std.specs.declared.cmp.Ordering.TheVariants.{Less, Equal}
+use Rattle.mt_stamp.specs.Moment.{Moment, stamp_cmp, stamp_eq}
+use Rattle.mt_stamp.specs.Sorting.{RisesStrictly, Rises}
+use Rattle.mt_stamp.proofs.Order.{stamp_cmp_total, stamp_eq-true}
+use Rattle.mt_op.specs.Operation.{Operation}
+use Rattle.mt_op.specs.ByStamp.{op_cmp}
+use Rattle.mt_op.specs.Needs.{names_are_older}
+use Rattle.mt_items.specs.Noting.{is_noted, are_needs_met, one_pass, MayFollow}
+use Rattle.mt_items.proofs.Noting.{unmet}
+
+less_is_not_equal : {A : Type 0} → Less ≡ Equal → A
+less_is_not_equal e = absurd (cc e)
+
+neither : (a b : Bool) → a ≡ false → b ≡ false → (a || b) ≡ false
+neither true b h k = h
+neither false b h k = k
+
+-- a stamp that is greater than each noted one is new
+pub fresh_after : (ops : List Operation) (o : Operation) → AllByRecursion (λ x. op_cmp x o ≡ Less) ops → is_noted ops o.stamp ≡ false
+fresh_after [] o below = refl
+fresh_after (x ∷ ops) o below =
+    neither (stamp_eq o.stamp x.stamp) (is_noted ops o.stamp)
+    (unmet (stamp_eq o.stamp x.stamp) (λ same. less_is_not_equal (sym below.0 ∙ ap (λ (s : Moment). stamp_cmp s o.stamp) (sym (stamp_eq-true o.stamp x.stamp same)) ∙ tied_itself stamp_cmp_total o.stamp)))
+    (fresh_after ops o below.1)
+
+-- so is one that is not in a set that has each noted one
+pub fresh_outside : (ops s : List Operation) (stamp : Moment) → AllByRecursion (λ x. is_noted s x.stamp ≡ true) ops → is_noted s stamp ≡ false → is_noted ops stamp ≡ false
+fresh_outside [] s stamp inside none = refl
+fresh_outside (x ∷ ops) s stamp inside none =
+    neither (stamp_eq stamp x.stamp) (is_noted ops stamp)
+    (unmet (stamp_eq stamp x.stamp) (λ same. true≢false (sym inside.0 ∙ ap (is_noted s) (sym (stamp_eq-true stamp x.stamp same)) ∙ none)))
+    (fresh_outside ops s stamp inside.1 none)
+
+-- ---- one pass over operations that rise strictly
+
+strictly_after : (x : Operation) (ys : List Operation) → AllByRecursion (λ y. op_cmp x y ≡ Less) ys → AllByRecursion (λ y. is_lt (op_cmp y x) ≡ false) ys
+strictly_after x [] less = tt
+strictly_after x (y ∷ ys) less = (ap is_lt (stamp_cmp_total.antisymm y.stamp x.stamp ∙ ap ordering_reverse less.0), strictly_after x ys less.1)
+
+pub strictly_rises : (xs : List Operation) → RisesStrictly op_cmp xs → Rises op_cmp xs
+strictly_rises [] rises = tt
+strictly_rises (x ∷ xs) rises = (strictly_after x xs rises.0, strictly_rises xs rises.1)
+
+abbrev IsOlder : Operation → Type 0
+IsOlder o = IsTrue (names_are_older o)
+
+-- each noted one is smaller than each that is left
+abbrev AreBelow : List Operation → List Operation → Type 0
+AreBelow noted rest = AllByRecursion (λ x. AllByRecursion (λ y. op_cmp x y ≡ Less) rest) noted
+
+firsts : (noted : List Operation) (o : Operation) (rest : List Operation) → AreBelow noted (o ∷ rest) → AllByRecursion (λ x. op_cmp x o ≡ Less) noted
+firsts [] o rest below = tt
+firsts (x ∷ noted) o rest below = (below.0.0, firsts noted o rest below.1)
+
+others : (noted : List Operation) (o : Operation) (rest : List Operation) → AreBelow noted (o ∷ rest) → AreBelow noted rest
+others [] o rest below = tt
+others (x ∷ noted) o rest below = (below.0.1, others noted o rest below.1)
+
+-- what one pass over all has noted so far, and what is left
+pub record IsPassing (all noted rest : List Operation) : Type 0 where
+  pub passed : one_pass noted rest ≡ one_pass [] all
+  pub below : AreBelow noted rest
+  pub rises : RisesStrictly op_cmp rest
+  pub older : AllByRecursion IsOlder rest → AllByRecursion IsOlder all
+
+pub none_passed : (all noted : List Operation) → noted ≡ [] → RisesStrictly op_cmp all → IsPassing all noted all
+none_passed all noted none rises = rw none (record { passed = refl; below = tt; rises = rises; older = λ h. h })
+
+pub next_follows : (all noted rest : List Operation) (o : Operation) → IsPassing all noted (o ∷ rest) → are_needs_met noted o ≡ true → MayFollow noted o
+next_follows all noted rest o so_far met = record { fresh = fresh_after noted o (firsts noted o rest so_far.below); met = met }
+
+pub next_noted : (all noted rest after : List Operation) (o : Operation) → IsPassing all noted (o ∷ rest) → are_needs_met noted o ≡ true → IsOlder o → after ≡ o ∷ noted → IsPassing all after rest
+next_noted all noted rest after o so_far met older is = rw is (record {
+  passed = sym (ap (λ (b : Bool). cond b (one_pass (o ∷ noted) rest) (one_pass noted rest)) met) ∙ so_far.passed;
+  below = (so_far.rises.0, others noted o rest so_far.below);
+  rises = so_far.rises.1;
+  older = λ h. so_far.older (older, h);
+})
+
+pub next_held : (all noted rest : List Operation) (o : Operation) → IsPassing all noted (o ∷ rest) → are_needs_met noted o ≡ false → IsOlder o → IsPassing all noted rest
+next_held all noted rest o so_far unmet_one older = record {
+  passed = sym (ap (λ (b : Bool). cond b (one_pass (o ∷ noted) rest) (one_pass noted rest)) unmet_one) ∙ so_far.passed;
+  below = others noted o rest so_far.below;
+  rises = so_far.rises.1;
+  older = λ h. so_far.older (older, h);
+}
+
+-- what follows from two things that hold of a value, where there is one
+pub ok_from_both : {X E : Type 0} (P Q R : X → Type 0) (r : Result X E) → ((x : X) → P x → Q x → R x) → IfOk r P → IfOk r Q → IfOk r R
+ok_from_both P Q R (Ok x) both p q = both x p q
+ok_from_both P Q R (Err e) both p q = tt

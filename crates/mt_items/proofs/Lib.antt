@@ -1,0 +1,11 @@
+pub mod Noting
+pub mod Marking
+pub mod Each
+pub mod PerKind
+pub mod Roles
+pub mod EmptyStruct
+pub mod Reading
+pub mod AnyOrder
+pub mod OnePass
+pub mod Fresh
+pub mod EachNeed

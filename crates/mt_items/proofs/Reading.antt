@@ -1,0 +1,27 @@
+-- What is read of cells.
+use Rattle.std.proofs.Common.{◌≡◌, false, List, Option, Some, None, ◌||◌, sym, ap, ◌∙◌}
+use Rattle.mt_stamp.specs.Moment.{Moment}
+use Rattle.mt_op.specs.declared.need.Role.{Role}
+use Rattle.mt_op.specs.declared.need.Role.TheVariants.{Track, Clip, Marker, Mixable, Titled, Item}
+use Rattle.mt_op.specs.Operation.{Act, Operation}
+use Rattle.mt_op.specs.Needs.{need_of}
+use Rattle.mt_op.specs.Writes.{Write, Written, last_write}
+use Rattle.mt_items.specs.Noting.{is_need_met, AreNoted}
+use Rattle.mt_items.proofs.Roles.{OfKind, none_written, mixable_is, titled_is, item_apart}
+
+-- a register's value, where the item has one
+pub read_some : {X : Type 0} (field : Moment → Act → Option (Write X)) (item : Moment) (ops now : List Operation) (w : Written X) → ops ≡ now → last_write field item ops ≡ Some w → Some w ≡ last_write field item now
+read_some field item ops now w view held = sym held ∙ ap (last_write field item) view
+
+-- and none, where it is none of the field's kind
+pub read_none : {X : Type 0} (kind : Role) (field : Moment → Act → Option (Write X)) → OfKind kind field → (item : Moment) (ops now : List Operation) → ops ≡ now → AreNoted ops → is_need_met ops (need_of kind item) ≡ false → None ≡ last_write field item now
+read_none kind field rule item ops now view noted none = sym (none_written kind field rule ops item noted none) ∙ ap (last_write field item) view
+
+pub not_titled : (ops : List Operation) (stamp : Moment) → is_need_met ops (need_of Track stamp) ≡ false → is_need_met ops (need_of Marker stamp) ≡ false → is_need_met ops (need_of Titled stamp) ≡ false
+not_titled ops stamp t m = titled_is ops stamp ∙ (λ i. t i || m i)
+
+pub not_mixable : (ops : List Operation) (stamp : Moment) → is_need_met ops (need_of Track stamp) ≡ false → is_need_met ops (need_of Clip stamp) ≡ false → is_need_met ops (need_of Mixable stamp) ≡ false
+not_mixable ops stamp t c = mixable_is ops stamp ∙ (λ i. t i || c i)
+
+pub not_item : (ops : List Operation) (stamp : Moment) → is_need_met ops (need_of Track stamp) ≡ false → is_need_met ops (need_of Clip stamp) ≡ false → is_need_met ops (need_of Marker stamp) ≡ false → is_need_met ops (need_of Item stamp) ≡ false
+not_item ops stamp t c m = item_apart ops stamp ∙ (λ i. not_mixable ops stamp t c i || m i)

@@ -1,0 +1,18 @@
+use Rattle.std.proofs.Common.{List, sym, ap, ◌∙◌, subst}
+use Rattle.std.specs.Prelude.{is_some}
+use Rattle.mt_op.specs.Operation.{Operation}
+use Rattle.mt_cells.specs.Marks.{unmarked}
+use Rattle.mt_items.specs.Tags.{HoldsTags}
+use Rattle.mt_items.proofs.Reading.{not_item}
+use Rattle.mt_items.proofs.Roles.{nothing_marked}
+use Rattle.mt_items.proofs.items.Items.presence.Goals as goal
+
+pub returns-in-None-get-2 : goal.returns-in-None-get-2
+returns-in-None-get-2 g c =
+    let all = c.self.invariant in
+    let item = c.args.item in
+    let ops = c.self.inside.noted.items in
+    let no_track = sym (all.tracks.only item) ∙ ap is_some (sym c.in-None.ensures.value) in
+    let no_clip = sym (all.clips.only item) ∙ ap is_some (sym c.in-None-get.ensures.value) in
+    let no_marker = sym (all.markers.only item) ∙ ap is_some (sym c.in-None-get-2.ensures.value) in
+    subst (λ (l : List Operation). HoldsTags item l unmarked) c.self.view_is (nothing_marked ops item all.noted (not_item ops item no_track no_clip no_marker))

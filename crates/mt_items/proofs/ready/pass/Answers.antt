@@ -1,0 +1,28 @@
+use Rattle.std.proofs.Common.{List, ◌+◌, map, drop, sym, ap, ◌∙◌, subst}
+use Rattle.mt_op.proofs.TagLists.{drop_here}
+use Rattle.mt_items.proofs.Fresh.{IsPassing, next_follows, next_noted, next_held}
+use Rattle.mt_items.proofs.ready.pass.Goals as goal
+use Rattle.mt_items.proofs.ready.pass.Goals.{then-are_needs_met+in_ok-items-2, else-are_needs_met}
+
+pub note-requires : goal.note-requires
+note-requires g c =
+    let ops = c.args.ops.now in
+    let all = map (λ o. o.now) ops in
+    let rest = map (λ o. o.now) (drop (c.loop-op.op-index + 1) ops) in
+    let here = ap (map (λ o. o.now)) (drop_here ops c.loop-op.op-index c.op-item.result c.loop-op-test.true c.op-item.is) in
+    let so_far = subst (IsPassing all c.loop-op.items) here c.loop-op.invariant in
+    record { follows = next_follows all c.loop-op.items rest c.op-item.result.now so_far (sym c.are_needs_met.ensures.met ∙ c.if-are_needs_met.true) }
+
+pub loop-op-preserved : goal.loop-op-preserved
+loop-op-preserved g c =
+    let ops = c.args.ops.now in
+    let all = map (λ o. o.now) ops in
+    let rest = map (λ o. o.now) (drop (c.loop-op.op-index + 1) ops) in
+    let here = ap (map (λ o. o.now)) (drop_here ops c.loop-op.op-index c.op-item.result c.loop-op-test.true c.op-item.is) in
+    let so_far = subst (IsPassing all c.loop-op.items) here c.loop-op.invariant in
+    elim c.if-are_needs_met.branch [
+      | then-are_needs_met+in_ok-items-2 w ↦
+          next_noted all c.loop-op.items rest c.if-are_needs_met.items c.op-item.result.now so_far (sym c.are_needs_met.ensures.met ∙ w.if-are_needs_met.true) c.stamp.ensures.valid.older (w.items-is ∙ w.in_ok-items-2.ensures.ok)
+      | else-are_needs_met w ↦
+          subst (λ (l : List _). IsPassing all l rest) (sym w.items-is) (next_held all c.loop-op.items rest c.op-item.result.now so_far (sym c.are_needs_met.ensures.met ∙ w.if-are_needs_met.false) c.stamp.ensures.valid.older)
+    ]

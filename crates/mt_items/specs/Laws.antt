@@ -1,0 +1,25 @@
+-- What the answers of items depend on.
+use Rattle.std.specs.Prelude.{◌≡◌, List}
+use Rattle.mt_stamp.specs.Moment.{Moment}
+use Rattle.mt_op.specs.declared.need.Role.{Role}
+use Rattle.mt_op.specs.declared.need.Need.{Need}
+use Rattle.mt_op.specs.Operation.{Operation}
+use Rattle.mt_op.specs.Presence.{is_present, is_listed, live_tags}
+use Rattle.mt_op.specs.Writes.{title_written, gain_written, mute_written, track_place_written, clip_place_written, trim_written, source_written, position_written, last_write}
+use Rattle.mt_items.specs.Noting.{is_need_met}
+use Rattle.mt_items.specs.Cells.{items_of}
+
+-- Two lists of operations give the same answer to each question.
+pub record AnswerAlike (r u : List Operation) : Type 0 where
+  pub needs : (need : Need) → is_need_met r need ≡ is_need_met u need
+  pub items : (kind : Role) → items_of kind r ≡ items_of kind u
+  pub present : (item : Moment) → is_present r item ≡ is_present u item
+  pub live : (item tag : Moment) → is_listed (live_tags item r) tag ≡ is_listed (live_tags item u) tag
+  pub titles : (item : Moment) → last_write title_written item r ≡ last_write title_written item u
+  pub gains : (item : Moment) → last_write gain_written item r ≡ last_write gain_written item u
+  pub mutes : (item : Moment) → last_write mute_written item r ≡ last_write mute_written item u
+  pub track_places : (item : Moment) → last_write track_place_written item r ≡ last_write track_place_written item u
+  pub clip_places : (item : Moment) → last_write clip_place_written item r ≡ last_write clip_place_written item u
+  pub trims : (item : Moment) → last_write trim_written item r ≡ last_write trim_written item u
+  pub sources : (item : Moment) → last_write source_written item r ≡ last_write source_written item u
+  pub positions : (item : Moment) → last_write position_written item r ≡ last_write position_written item u

@@ -1,0 +1,6 @@
+pub mod Noting
+pub mod Fields
+pub mod Tags
+pub mod Cells
+pub mod All
+pub mod Laws

@@ -1,0 +1,393 @@
+//! The state of items.
+
+ghost use Rattle.std.specs.Prelude.{◌≡◌, List, [], ◌∷◌, Some, IfOk, IfErr, MatchOption, option_map, slice_get};
+ghost use Rattle.std.specs.List.Sorted.{IsStrictlySortedBy};
+ghost use Rattle.mt_stamp.specs.Moment.{Moment, stamp_cmp};
+ghost use Rattle.mt_op.specs.declared.need.Role.TheVariants.{Track, Place, Clip, Marker, Mixable, Titled, Item, TagOf};
+ghost use Rattle.mt_op.specs.Operation.{Operation};
+ghost use Rattle.mt_op.specs.Needs.{need_of, needs};
+ghost use Rattle.mt_op.specs.declared.need.Need.{Need as NeedOf};
+ghost use Rattle.mt_op.specs.Presence.{is_present, is_listed, live_tags};
+ghost use Rattle.mt_op.specs.Writes.{Written, title_written, gain_written, mute_written, track_place_written, clip_place_written, trim_written, source_written, position_written, last_write};
+ghost use Rattle.mt_cells.specs.Marks.{unmarked};
+ghost use Rattle.mt_items.specs.Noting.{MayFollow, AreNoted, is_need_met, are_needs_met};
+ghost use Rattle.mt_items.specs.Cells.{items_of};
+ghost use Rattle.mt_items.specs.Fields.{written};
+ghost use Rattle.mt_items.specs.Tags.{HoldsTags};
+
+use crate::cells::{ClipCells, MarkerCells, TrackCells};
+use crate::clip::note as note_clip;
+use crate::fault::ItemsFault;
+use crate::history::History;
+use crate::listing::stamps_of;
+use crate::marker::note as note_marker;
+use crate::place::note as note_place;
+use crate::track::note as note_track;
+use mt_cells::{Presence, Register};
+use mt_op::{Digest, Gain, Need, Op, Role, Title};
+use mt_stamp::Stamp;
+use std::alloc::{Allocator, Global};
+use std::collections::{BTreeMap, BTreeSet};
+use std::marker::Model;
+
+/// What noted operations leave of tracks, clips and markers: the last write of each field, and the tags of each item.
+/// It is seen as the list of the operations noted, the last one first. Each was noted after those that it needs.
+///
+/// A write that comes late does not win over one of a greater stamp, and a removal takes away the tags that it names
+/// and no others, so each answer depends on which operations were noted, and not on their order (`laws::any_order`).
+#[derive(Drop)]
+pub struct Items<A: Allocator = Global> {
+    alloc: A,
+    tracks: BTreeMap<Stamp, TrackCells<A>, A>,
+    clips: BTreeMap<Stamp, ClipCells<A>, A>,
+    markers: BTreeMap<Stamp, MarkerCells<A>, A>,
+    places: BTreeSet<Stamp, A>,
+    noted: History<Op<A>>,
+}
+
+impl<A: Allocator> Model for Items<A> {
+    ghost use Rattle.std.specs.Prelude.{List};
+    ghost use Rattle.std.specs.Coded.{coded_list};
+    ghost use Rattle.mt_op.specs.Operation.{Operation};
+    ghost use Rattle.mt_op.specs.Codes.{operation_code};
+    ghost use Rattle.mt_items.specs.All.{HoldsAll};
+
+    ghost Value = { List Operation };
+
+    ghost coded = { coded_list operation_code };
+
+    ghost view = { λ i. i.noted.items };
+
+    ghost invariant = { λ i. HoldsAll i.noted.items i.tracks i.clips i.markers i.places };
+}
+
+impl<A: Allocator> Items<A> {
+    /// Nothing noted. Refused only as `Memory` (0), where the allocator could not be cloned.
+    pub fn new(alloc: A) -> Result<Self, ItemsFault>
+    where
+        A: Clone,
+        ensures ok { IfOk result (λ items. items ≡ []) }
+        ensures err { IfErr result (λ fault. fault ≡ ItemsFault.Memory) }
+    {
+        Ok(Items {
+            tracks: BTreeMap::new(alloc.clone()?),
+            clips: BTreeMap::new(alloc.clone()?),
+            markers: BTreeMap::new(alloc.clone()?),
+            places: BTreeSet::new(alloc.clone()?),
+            alloc,
+            noted: History::new(),
+        })
+    }
+
+    /// Notes an operation of a new stamp whose needs are met by noted ones. `are_needs_met` tells the latter;
+    /// `laws::new_stamps` says of which facts that a caller has a stamp is known to be new. In whatever order
+    /// operations are noted, each takes the logarithm of the number of items. Refused only as `Memory` (0), where a
+    /// growth was refused; what was noted is then dropped.
+    pub fn note(self, op: &Op<A>) -> Result<Self, ItemsFault>
+    where
+        A: Clone,
+        requires follows { MayFollow self op.now }
+        ensures ok { IfOk result (λ items. items ≡ op.now ∷ self) }
+        ensures err { IfErr result (λ fault. fault ≡ ItemsFault.Memory) }
+    {
+        let Items {
+            alloc,
+            mut tracks,
+            mut clips,
+            mut markers,
+            mut places,
+            noted,
+        } = self;
+        note_track(&alloc, &mut tracks, op)?;
+        note_clip(&alloc, &mut clips, op)?;
+        note_marker(&alloc, &mut markers, op)?;
+        note_place(&mut places, op)?;
+        Ok(Items {
+            alloc,
+            tracks,
+            clips,
+            markers,
+            places,
+            noted: noted.and(op),
+        })
+    }
+
+    // The presence of an item.
+    fn presence(&self, item: Stamp) -> Option<&Presence<A>>
+        ensures { MatchOption result (HoldsTags item self.now unmarked) (λ p. HoldsTags item self.now p.now) }
+    {
+        match self.tracks.get(&item) {
+            Some(cells) => Some(&cells.presence),
+            None => match self.clips.get(&item) {
+                Some(cells) => Some(&cells.presence),
+                None => match self.markers.get(&item) {
+                    Some(cells) => Some(&cells.presence),
+                    None => None,
+                },
+            },
+        }
+    }
+
+    // Whether a stamp names a track.
+    fn is_track(&self, stamp: Stamp) -> bool
+        ensures { result ≡ is_need_met self.now (need_of Track stamp) }
+    {
+        self.tracks.contains_key(&stamp)
+    }
+
+    // Whether a stamp names a clip.
+    fn is_clip(&self, stamp: Stamp) -> bool
+        ensures { result ≡ is_need_met self.now (need_of Clip stamp) }
+    {
+        self.clips.contains_key(&stamp)
+    }
+
+    // Whether a stamp names a marker.
+    fn is_marker(&self, stamp: Stamp) -> bool
+        ensures { result ≡ is_need_met self.now (need_of Marker stamp) }
+    {
+        self.markers.contains_key(&stamp)
+    }
+
+    // Whether a stamp names an item that sounds.
+    fn is_mixable(&self, stamp: Stamp) -> bool
+        ensures { result ≡ is_need_met self.now (need_of Mixable stamp) }
+    {
+        self.is_track(stamp) || self.is_clip(stamp)
+    }
+
+    // Whether a stamp names an item that has a title.
+    fn is_titled(&self, stamp: Stamp) -> bool
+        ensures { result ≡ is_need_met self.now (need_of Titled stamp) }
+    {
+        self.is_track(stamp) || self.is_marker(stamp)
+    }
+
+    // Whether a stamp names an item.
+    fn is_item(&self, stamp: Stamp) -> bool
+        ensures { result ≡ is_need_met self.now (need_of Item stamp) }
+    {
+        self.is_mixable(stamp) || self.is_marker(stamp)
+    }
+
+    // Whether a stamp names a place of the track order.
+    fn is_place(&self, stamp: Stamp) -> bool
+        ensures { result ≡ is_need_met self.now (need_of Place stamp) }
+    {
+        self.places.contains(&stamp)
+    }
+
+    // Whether a stamp names a tag of an item.
+    fn is_tag(&self, item: Stamp, stamp: Stamp) -> bool
+        ensures { result ≡ is_need_met self.now (need_of (TagOf item) stamp) }
+    {
+        match self.presence(item) {
+            Some(presence) => presence.has_tag(stamp),
+            None => false,
+        }
+    }
+
+    /// Whether a noted operation meets a need: whether it has this stamp and fits in this role.
+    pub fn meets(&self, need: &Need) -> bool
+        ensures { result ≡ is_need_met self.now need.now }
+    {
+        let stamp = need.stamp;
+        match need.role {
+            Role::Track => self.is_track(stamp),
+            Role::Place => self.is_place(stamp),
+            Role::Clip => self.is_clip(stamp),
+            Role::Marker => self.is_marker(stamp),
+            Role::Mixable => self.is_mixable(stamp),
+            Role::Titled => self.is_titled(stamp),
+            Role::Item => self.is_item(stamp),
+            Role::TagOf(item) => self.is_tag(item, stamp),
+        }
+    }
+
+    // Whether the need of an operation at place `i` is met.
+    fn is_met_at(&self, op: &Op<A>, i: usize) -> bool
+        ensures { (need : NeedOf) → slice_get (needs op.now) i ≡ Some need → result ≡ is_need_met self.now need }
+    {
+        match op.need(i) {
+            Some(need) => self.meets(&need),
+            None => false,
+        }
+    }
+
+    /// Whether noted operations meet each need of an operation.
+    pub fn are_needs_met(&self, op: &Op<A>) -> bool
+        ensures met { result ≡ are_needs_met self.now op.now }
+        ensures noted { AreNoted self.now }
+    {
+        let _ = &self.noted;
+        for i in 0..op.need_count() {
+            if !self.is_met_at(op, i) {
+                return false;
+            }
+        }
+        true
+    }
+
+    /// Whether an item is present: whether one of its tags is live. What is no item is not.
+    pub fn is_present(&self, item: Stamp) -> bool
+        ensures { result ≡ is_present self.now item }
+    {
+        match self.presence(item) {
+            Some(presence) => presence.is_present(),
+            None => false,
+        }
+    }
+
+    /// The live tags of an item, each once, from the least stamp to the greatest: what a Remove of it lists. What is
+    /// no item has none. Refused only as `Memory` (0), where a growth was refused.
+    pub fn live_tags(&self, item: Stamp) -> Result<Vec<Stamp, A>, ItemsFault>
+    where
+        A: Clone,
+        ensures rising { IfOk result (λ tags. IsStrictlySortedBy stamp_cmp tags.items) }
+        ensures live { IfOk result (λ tags. (tag : Moment) → is_listed tags.items tag ≡ is_listed (live_tags item self.now) tag) }
+        ensures err { IfErr result (λ fault. fault ≡ ItemsFault.Memory) }
+        ensures noted { AreNoted self.now }
+    {
+        let _ = &self.noted;
+        match self.presence(item) {
+            Some(presence) => Ok(presence.live_tags()?),
+            None => Ok(Vec::new(self.alloc.clone()?)),
+        }
+    }
+
+    /// The last write of the title of a track or marker. `None` where the stamp names neither.
+    pub fn title(&self, item: Stamp) -> Option<&Register<Title<A>>>
+        ensures { option_map (λ r. written r.now) result ≡ last_write title_written item self.now }
+    {
+        match self.tracks.get(&item) {
+            Some(cells) => Some(&cells.title),
+            None => match self.markers.get(&item) {
+                Some(cells) => Some(&cells.title),
+                None => None,
+            },
+        }
+    }
+
+    /// The last write of the gain of a track or clip. `None` where the stamp names neither.
+    pub fn gain(&self, item: Stamp) -> Option<&Register<Gain>>
+        ensures { option_map (λ r. written r.now) result ≡ last_write gain_written item self.now }
+    {
+        match self.tracks.get(&item) {
+            Some(cells) => Some(&cells.gain),
+            None => match self.clips.get(&item) {
+                Some(cells) => Some(&cells.gain),
+                None => None,
+            },
+        }
+    }
+
+    /// The last write of the mute of a track or clip. `None` where the stamp names neither.
+    pub fn mute(&self, item: Stamp) -> Option<&Register<bool>>
+        ensures { option_map (λ r. written r.now) result ≡ last_write mute_written item self.now }
+    {
+        match self.tracks.get(&item) {
+            Some(cells) => Some(&cells.mute),
+            None => match self.clips.get(&item) {
+                Some(cells) => Some(&cells.mute),
+                None => None,
+            },
+        }
+    }
+
+    /// The last write of a track's place: its stamp is the track's current place, and its value the place that this
+    /// one was put after, none for the head. `None` where the stamp names no track.
+    pub fn track_place(&self, track: Stamp) -> Option<&Register<Option<Stamp>>>
+        ensures { option_map (λ r. written r.now) result ≡ last_write track_place_written track self.now }
+    {
+        match self.tracks.get(&track) {
+            Some(cells) => Some(&cells.place),
+            None => None,
+        }
+    }
+
+    /// The current place of a track: the stamp of the last AddTrack or MoveTrack that put it anywhere. `None` where
+    /// the stamp names no track.
+    pub fn current_place(&self, track: Stamp) -> Option<Stamp>
+        ensures { result ≡ option_map (λ (w : Written _). w.writer) (last_write track_place_written track self.now) }
+    {
+        match self.track_place(track) {
+            Some(place) => Some(place.stamp()),
+            None => None,
+        }
+    }
+
+    /// The last write of a clip's place: its track, and the frame of the session at which it begins. `None` where the
+    /// stamp names no clip.
+    pub fn clip_place(&self, clip: Stamp) -> Option<&Register<(Stamp, u32)>>
+        ensures { option_map (λ r. written r.now) result ≡ last_write clip_place_written clip self.now }
+    {
+        match self.clips.get(&clip) {
+            Some(cells) => Some(&cells.place),
+            None => None,
+        }
+    }
+
+    /// The last write of a clip's trim: the first frame of its recording that it plays, and how many frames. `None`
+    /// where the stamp names no clip.
+    pub fn trim(&self, clip: Stamp) -> Option<&Register<(u32, u32)>>
+        ensures { option_map (λ r. written r.now) result ≡ last_write trim_written clip self.now }
+    {
+        match self.clips.get(&clip) {
+            Some(cells) => Some(&cells.trim),
+            None => None,
+        }
+    }
+
+    /// The recording that a clip plays, which its own AddClip alone writes. `None` where the stamp names no clip.
+    pub fn source(&self, clip: Stamp) -> Option<Digest>
+        ensures { option_map (λ source. record { writer = clip; value = source }) result ≡ last_write source_written clip self.now }
+    {
+        match self.clips.get(&clip) {
+            Some(cells) => Some(cells.source),
+            None => None,
+        }
+    }
+
+    /// The last write of a marker's position, in frames of the session. `None` where the stamp names no marker.
+    pub fn position(&self, marker: Stamp) -> Option<&Register<u32>>
+        ensures { option_map (λ r. written r.now) result ≡ last_write position_written marker self.now }
+    {
+        match self.markers.get(&marker) {
+            Some(cells) => Some(&cells.position),
+            None => None,
+        }
+    }
+
+    /// The stamps of the tracks, present or not, from the least to the greatest. Refused only as `Memory` (0), where
+    /// a growth was refused.
+    pub fn tracks(&self) -> Result<Vec<Stamp, A>, ItemsFault>
+    where
+        A: Clone,
+        ensures ok { IfOk result (λ stamps. stamps.items ≡ items_of Track self.now) }
+        ensures err { IfErr result (λ fault. fault ≡ ItemsFault.Memory) }
+    {
+        stamps_of(self.alloc.clone()?, &self.tracks)
+    }
+
+    /// The stamps of the clips, present or not, from the least to the greatest. Refused only as `Memory` (0), where a
+    /// growth was refused.
+    pub fn clips(&self) -> Result<Vec<Stamp, A>, ItemsFault>
+    where
+        A: Clone,
+        ensures ok { IfOk result (λ stamps. stamps.items ≡ items_of Clip self.now) }
+        ensures err { IfErr result (λ fault. fault ≡ ItemsFault.Memory) }
+    {
+        stamps_of(self.alloc.clone()?, &self.clips)
+    }
+
+    /// The stamps of the markers, present or not, from the least to the greatest. Refused only as `Memory` (0), where
+    /// a growth was refused.
+    pub fn markers(&self) -> Result<Vec<Stamp, A>, ItemsFault>
+    where
+        A: Clone,
+        ensures ok { IfOk result (λ stamps. stamps.items ≡ items_of Marker self.now) }
+        ensures err { IfErr result (λ fault. fault ≡ ItemsFault.Memory) }
+    {
+        stamps_of(self.alloc.clone()?, &self.markers)
+    }
+}

@@ -1,0 +1,68 @@
+//! The cells of a marker.
+
+ghost use Rattle.std.specs.Prelude.{◌≡◌, ◌∷◌, false, List, IfErr, OnOk, IfOk, MatchOption, is_some};
+ghost use Rattle.mt_stamp.specs.Moment.{Moment};
+ghost use Rattle.mt_op.specs.Operation.{Operation};
+ghost use Rattle.mt_op.specs.Needs.{adds_marker};
+ghost use Rattle.mt_items.specs.Noting.{Concerns, MayFollow, AreNoted};
+ghost use Rattle.mt_items.specs.Cells.{HoldsMarker, HoldsMarkers};
+
+use crate::cells::{MarkerCells, first_presence, mark, subject};
+use crate::fault::ItemsFault;
+use crate::fields::{write, written_position, written_title};
+use mt_cells::Register;
+use mt_op::{Body, Op};
+use mt_stamp::Stamp;
+use std::alloc::Allocator;
+use std::collections::BTreeMap;
+
+// The cells of the marker that an operation adds, where it adds one.
+fn added<A: Allocator + Clone>(alloc: &A, op: &Op<A>) -> Result<Option<MarkerCells<A>>, ItemsFault>
+    ensures ok { IfOk result (λ cells. MatchOption cells (adds_marker op.now.act ≡ false) (λ c. (ops : List Operation) → MayFollow ops op.now → AreNoted ops → HoldsMarker op.now.stamp (op.now ∷ ops) c)) }
+    ensures adds { IfOk result (λ cells. is_some cells ≡ adds_marker op.now.act) }
+    ensures err { IfErr result (λ fault. fault ≡ ItemsFault.Memory) }
+{
+    let Body::AddMarker { at, title } = op.body() else {
+        return Ok(None);
+    };
+    let own = op.stamp();
+    let title = match title.try_clone() {
+        Ok(title) => title,
+        Err(_) => return Err(ItemsFault::Memory),
+    };
+    Ok(Some(MarkerCells {
+        position: Register::new(own, *at),
+        title: Register::new(own, title),
+        presence: first_presence(alloc, own)?,
+    }))
+}
+
+// Notes an operation on a marker.
+fn change<A: Allocator + Clone>(cells: &mut MarkerCells<A>, op: &Op<A>) -> Result<(), ItemsFault>
+    ensures ok { OnOk result ((ops : List Operation) (item : Moment) → Concerns ops item op.now → HoldsMarker item ops cells.old → HoldsMarker item (op.now ∷ ops) cells.new) }
+    ensures err { IfErr result (λ fault. fault ≡ ItemsFault.Memory) }
+{
+    let stamp = op.stamp();
+    write(&mut cells.position, stamp, written_position(op))?;
+    write(&mut cells.title, stamp, written_title(op)?)?;
+    mark(&mut cells.presence, op)
+}
+
+// Notes an operation among the markers.
+pub(crate) fn note<A: Allocator + Clone>(
+    alloc: &A,
+    markers: &mut BTreeMap<Stamp, MarkerCells<A>, A>,
+    op: &Op<A>,
+) -> Result<(), ItemsFault>
+    ensures ok { OnOk result ((ops : List Operation) → MayFollow ops op.now → AreNoted ops → HoldsMarkers ops markers.old → HoldsMarkers (op.now ∷ ops) markers.new) }
+    ensures err { IfErr result (λ fault. fault ≡ ItemsFault.Memory) }
+{
+    if let Some(cells) = added(alloc, op)? {
+        markers.insert(op.stamp(), cells)?;
+        return Ok(());
+    }
+    if let Some(cells) = markers.get_mut(&subject(op)) {
+        change(cells, op)?;
+    }
+    Ok(())
+}

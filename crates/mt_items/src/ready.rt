@@ -1,0 +1,45 @@
+//! The items that the ready operations of a set leave.
+
+ghost use Rattle.std.specs.Prelude.{◌≡◌, [], IfOk, IfErr, IsTrue, map, reverse};
+ghost use Rattle.std.specs.List.{AllByRecursion};
+ghost use Rattle.mt_stamp.specs.Sorting.{RisesStrictly};
+ghost use Rattle.mt_op.specs.ByStamp.{op_cmp};
+ghost use Rattle.mt_op.specs.Needs.{needs, meets, clock_of, names_are_older};
+ghost use Rattle.mt_op.specs.Ready.{ready};
+ghost use Rattle.mt_items.specs.Noting.{one_pass};
+
+use crate::fault::ItemsFault;
+use crate::items::Items;
+use mt_op::Op;
+use std::alloc::Allocator;
+
+// Notes each of these operations whose needs the noted ones meet.
+fn pass<A: Allocator + Clone>(alloc: A, ops: &[&Op<A>]) -> Result<Items<A>, ItemsFault>
+    requires rising { RisesStrictly op_cmp (map (λ o. o.now) ops.now) }
+    ensures ok { IfOk result (λ items. items ≡ one_pass [] (map (λ o. o.now) ops.now)) }
+    ensures older { IfOk result (λ items. AllByRecursion (λ o. IsTrue (names_are_older o)) (map (λ o. o.now) ops.now)) }
+    ensures err { IfErr result (λ fault. fault ≡ ItemsFault.Memory) }
+{
+    let mut items = Items::new(alloc)?;
+    for op in ops {
+        let _ = op.stamp();
+        if items.are_needs_met(op) {
+            items = items.note(op)?;
+        }
+    }
+    Ok(items)
+}
+
+/// The items that the ready ones of these operations leave, which rise by stamp, each stamp once. The ready ones are
+/// noted, from the least stamp to the greatest; those that are held change nothing. n operations cost n log n.
+/// Refused only as `Memory` (0), where a growth was refused.
+pub fn items_of_ready<A: Allocator + Clone>(
+    alloc: A,
+    ops: &[&Op<A>],
+) -> Result<Items<A>, ItemsFault>
+    requires rising { RisesStrictly op_cmp (map (λ o. o.now) ops.now) }
+    ensures ok { IfOk result (λ items. items ≡ reverse (ready clock_of needs meets (map (λ o. o.now) ops.now))) }
+    ensures err { IfErr result (λ fault. fault ≡ ItemsFault.Memory) }
+{
+    pass(alloc, ops)
+}

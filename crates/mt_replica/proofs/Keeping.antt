@@ -1,0 +1,181 @@
+-- What an editor keeps after an edit.
+use Rattle.std.proofs.Common.{◌≡◌, ◌≢◌, ℕ, zero, suc, ◌+◌, ◌≤◌, ◌<◌, Bool, true, false, cond, List, [], ◌∷◌, map, refl, sym, ap, ◌∙◌, subst, inl, inr, arith}
+use Rattle.std.specs.Prelude.{Option, Some, None, Result, Ok, Err, IsTrue, IsOk, IsErrOf, IfErr, max, ◌==◌, ◌⊎◌}
+use Rattle.std.specs.List.{AllByRecursion, filter, list_any, list_all, sum_by}
+use Rattle.std.specs.FinMap as fin
+use Rattle.std.specs.FinMap.Entries.{find}
+use Rattle.std.specs.Ordering.{is_eq}
+use Rattle.std.specs.declared.cmp.Ordering.{Ordering}
+use Rattle.std.specs.declared.cmp.Ordering.TheVariants.{Less, Equal, Greater}
+use Rattle.std.proofs.lemmas.Bool.{eq-eqb, true≢false}
+use Rattle.std.proofs.lemmas.List.Sums.{sum_by-cons}
+use Rattle.std.proofs.Math.Nat.{max-eq_left}
+use Rattle.mt_stamp.specs.declared.name.Dot.{Dot}
+use Rattle.mt_stamp.specs.declared.name.Replica.{Replica}
+use Rattle.mt_stamp.specs.Moment.{Moment, stamp_eq, dot_cmp}
+use Rattle.mt_stamp.proofs.Order.{dot_cmp-IsAntisymmetric}
+use Rattle.mt_stamp.proofs.Members.{IsMember, member_kept, member_of_kept}
+use Rattle.mt_stamp.proofs.SameItems.{SameItems, same_any}
+use Rattle.mt_op.specs.declared.need.Need.{Need}
+use Rattle.mt_op.specs.Operation.{Act, Operation}
+use Rattle.mt_op.specs.Dots.{op_dot, entry_of}
+use Rattle.mt_op.specs.Needs.{needs, meets, clock_of, names_are_older}
+use Rattle.mt_op.specs.Ready.{is_ready}
+use Rattle.mt_op.specs.Valid.{IsOperation}
+use Rattle.mt_op.proofs.Needs.{stamp_eq-true}
+use Rattle.mt_opcodec.specs.LogValue.{LogMap, operations, log_of, AreLogged}
+use Rattle.mt_opcodec.proofs.Logs.{entries-log_of}
+use Rattle.mt_items.specs.Noting.{MayFollow, is_noted, is_need_met, are_needs_met}
+use Rattle.mt_sessionview.specs.Session.{ready_ops}
+use Rattle.mt_sessionview.proofs.SameReady.{ready_same}
+use Rattle.mt_replica.specs.Edit.{Edit}
+use Rattle.mt_replica.specs.Kept.{with_op}
+use Rattle.mt_replica.specs.Made.{is_by, greatest_of, greatest_clock, greatest_seq, plays, names_of, names_present, names_refused, tags_fit, unless, or_else, stamp_refused, refused, or_made, made, made_act, made_stamp, made_op}
+use Rattle.mt_replica.specs.State.{Named, IsState, IsMade, body_refused}
+use Rattle.mt_replica.specs.declared.fault.EditorFault.{EditorFault}
+use Rattle.mt_replica.specs.declared.fault.EditorFault.TheVariants.{ZeroLength, TooManyTags}
+use Rattle.mt_op.specs.declared.fault.OpFault.{OpFault}
+use Rattle.mt_op.specs.declared.fault.OpFault.TheVariants.{NameNotOlder, BadTags}
+use Rattle.mt_op.specs.declared.fault.OpFault.TheVariants as op
+use Rattle.mt_op.specs.Valid.{length_is_good, tags_are_good}
+use Rattle.mt_op.specs.Dots.{dots_rise}
+use Rattle.mt_replica.proofs.Bridging.{refused_in_parts}
+use Rattle.mt_replica.proofs.Making.{Met, any_member, member_all, mapped_below, all_members}
+use Rattle.mt_replica.proofs.Valid.{newest, all_met, older, it_plays, same_length, tags_good}
+use Rattle.mt_replica.proofs.Gaining.{ready_gains}
+use Rattle.mt_replica.proofs.Inserted.{insert_same}
+use Rattle.mt_replica.proofs.Numbers.{clock_same, seq_same}
+
+abbrev is_made : {X : Type 0} → Result X EditorFault → Bool
+is_made (Ok x) = true
+is_made (Err fault) = false
+
+abbrev out : {X : Type 0} → X → Result X EditorFault → X
+out d (Ok x) = x
+out d (Err fault) = d
+
+-- what was made was not refused
+pub unmade : {X : Type 0} (r : Option EditorFault) (x y : X) → or_made r x ≡ Ok y → (r ≡ None) × (x ≡ y)
+unmade None x y is = (refl, ap (out x) is)
+unmade (Some fault) x y is = absurd (true≢false (sym (ap is_made is)))
+
+find_none : (dot : Dot) (ops : List Operation) → AllByRecursion (λ x. op_dot x ≢ dot) ops → find dot_cmp dot (map entry_of ops) ≡ None
+find_none dot [] other = refl
+find_none dot (x ∷ ops) other = by (dot_cmp dot (op_dot x)) refl (find_none dot ops other.1)
+  where
+    by : (o : Ordering) → dot_cmp dot (op_dot x) ≡ o → find dot_cmp dot (map entry_of ops) ≡ None → cond (is_eq o) (Some x) (find dot_cmp dot (map entry_of ops)) ≡ None
+    by Less is rest = rest
+    by Equal is rest = absurd (other.0 (sym (dot_cmp-IsAntisymmetric dot (op_dot x) is)))
+    by Greater is rest = rest
+
+all_older : (ops : List Operation) → AllByRecursion IsOperation ops → AllByRecursion (λ x. IsTrue (names_are_older x)) ops
+all_older [] valid = tt
+all_older (x ∷ ops) valid = (valid.0.older, all_older ops valid.1)
+
+module _ (name : Replica) (log : LogMap) (edit : Edit) (logged : AreLogged (operations log)) (whole : log_of (operations log) ≡ log) (none : refused (operations log) name edit ≡ None) where
+  own : is_by name (made_op (operations log) name edit) ≡ true
+  own = eq-eqb name.0 name.0 refl
+
+  other_dot : (x : Operation) → IsMember x (operations log) → op_dot x ≢ op_dot (made_op (operations log) name edit)
+  other_dot x m same =
+      let mine : is_by name x ≡ true = eq-eqb x.stamp.replica.0 name.0 (ap (λ (d : Dot). d.replica.0) same) in
+      let seq : x.stamp.seq ≡ suc (greatest_seq name (operations log)) = ap (λ (d : Dot). d.seq) same in
+      let below : x.stamp.seq ≤ greatest_seq name (operations log) = mapped_below (λ (y : Operation). y.stamp.seq) (filter (is_by name) (operations log)) x (member_kept (is_by name) (operations log) x m mine) in
+      omega (arith, seq, below)
+
+  -- no operation of the log has its dot
+  pub absent : fin.get log (op_dot (made_op (operations log) name edit)) ≡ None
+  absent =
+      let dot : Dot = op_dot (made_op (operations log) name edit) in
+      fin.get-entries log dot
+      ∙ ap (λ (m : LogMap). find dot_cmp dot (fin.entries m)) (sym whole)
+      ∙ ap (find dot_cmp dot) (entries-log_of (operations log) logged.rise)
+      ∙ find_none dot (operations log) (all_members (λ x. op_dot x ≢ dot) (operations log) other_dot)
+
+  older_all : AllByRecursion (λ x. IsTrue (names_are_older x)) (made_op (operations log) name edit ∷ operations log)
+  older_all = (older (operations log) name edit none, all_older (operations log) logged.valid)
+
+  -- it may be noted after the ready ones
+  pub follows : (items : List Operation) → SameItems items (ready_ops (operations log)) → MayFollow items (made_op (operations log) name edit)
+  follows items same = record { fresh = fresh; met = each (needs (made_op (operations log) name edit)) (all_met (operations log) name edit none) }
+    where
+      each : (ns : List Need) → AllByRecursion (Met (operations log)) ns → list_all (is_need_met items) ns ≡ true
+      each [] met = refl
+      each (n ∷ ns) met = rw (same_any items (ready_ops (operations log)) same (meets n) ∙ met.0) (each ns met.1)
+
+      by : (b : Bool) → is_noted items (made_op (operations log) name edit).stamp ≡ b → b ≡ false
+      by true is =
+          let p : Operation → Bool = λ (x : Operation). stamp_eq (made_op (operations log) name edit).stamp x.stamp in
+          let one = any_member p (ready_ops (operations log)) (sym (same_any items (ready_ops (operations log)) same p) ∙ is) in
+          let there = member_of_kept (is_ready clock_of needs meets (operations log)) (operations log) one.0 one.1.0 in
+          let stamps = stamp_eq-true (made_op (operations log) name edit).stamp one.0.stamp one.1.1 in
+          let clock : suc (greatest_clock (operations log)) ≡ clock_of one.0 = ap (λ (m : Moment). m.clock) stamps in
+          let below = mapped_below clock_of (operations log) one.0 there.0 in
+          absurd (omega (arith, clock, below))
+      by false is = refl
+
+      fresh : is_noted items (made_op (operations log) name edit).stamp ≡ false
+      fresh = by (is_noted items (made_op (operations log) name edit).stamp) refl
+
+  -- one operation more in the log is that one more
+  with_same : SameItems (operations (with_op log (made_op (operations log) name edit))) (made_op (operations log) name edit ∷ operations log)
+  with_same = insert_same log (made_op (operations log) name edit) absent
+
+  -- ready gains it and nothing else
+  pub ready_more : SameItems (ready_ops (operations (with_op log (made_op (operations log) name edit)))) (made_op (operations log) name edit ∷ ready_ops (operations log))
+  ready_more f =
+      ready_same clock_of needs meets (operations (with_op log (made_op (operations log) name edit))) (made_op (operations log) name edit ∷ operations log) with_same f
+      ∙ ap (sum_by f) (ready_gains (operations log) (made_op (operations log) name edit) older_all (newest (operations log)) (all_met (operations log) name edit none))
+
+  pub kept : (items : List Operation) (clock seq : ℕ) → IsState (record { name = name; log = log }) items clock seq
+      → IsState (record { name = name; log = with_op log (made_op (operations log) name edit) }) (made_op (operations log) name edit ∷ items) (suc (greatest_clock (operations log))) (suc (greatest_seq name (operations log)))
+  kept items clock seq is = record {
+    noted = λ f. sum_by-cons f (made_op (operations log) name edit) items ∙ ap (λ (n : ℕ). f (made_op (operations log) name edit) + n) (is.noted f) ∙ sym (sum_by-cons f (made_op (operations log) name edit) (ready_ops (operations log))) ∙ sym (ready_more f);
+    clock_is = sym (clock_same (operations (with_op log (made_op (operations log) name edit))) (made_op (operations log) name edit ∷ operations log) with_same ∙ max-eq_left (omega arith));
+    seq_is = sym (seq_same name (operations (with_op log (made_op (operations log) name edit))) (made_op (operations log) name edit ∷ operations log) with_same
+        ∙ ap (λ (b : Bool). greatest_of (map (λ (x : Operation). x.stamp.seq) (cond b (made_op (operations log) name edit ∷ filter (is_by name) (operations log)) (filter (is_by name) (operations log))))) own
+        ∙ max-eq_left (omega arith));
+  }
+
+-- ---- what is made of its parts
+
+pub made_is : (ops : List Operation) (name : Replica) (edit : Edit) (stamp : Moment) (does : Act) → body_refused ops edit ≡ None → or_made (stamp_refused ops name) (made_stamp ops name) ≡ Ok stamp
+    → does ≡ made_act (ready_ops ops) edit → (refused ops name edit ≡ None) × (made_op ops name edit ≡ record { stamp = stamp; act = does })
+made_is ops name edit stamp does body stamped acts =
+    let parts = unmade (stamp_refused ops name) (made_stamp ops name) stamp stamped in
+    (refused_in_parts (unless (plays edit) ZeroLength) (names_refused (ready_ops ops) (names_present edit) (names_of edit)) (unless (tags_fit (ready_ops ops) edit) TooManyTags) (stamp_refused ops name)
+        ∙ (λ i. or_else (body i) (parts.0 i)),
+    λ i. record { stamp = parts.1 i; act = sym acts i })
+
+pub made_as : (ops : List Operation) (name : Replica) (edit : Edit) (o : Operation) → refused ops name edit ≡ None → made_op ops name edit ≡ o → made ops name edit ≡ Ok o
+made_as ops name edit o none is = λ i. or_made (none i) (is i)
+
+-- nothing else refuses what was made
+pub it_is_made : {X : Type 0} (ops : List Operation) (name : Replica) (edit : Edit) (o : Operation) (r : Result X OpFault) → dots_rise ops ≡ true → refused ops name edit ≡ None → made_op ops name edit ≡ o
+    → (IsErrOf r NameNotOlder → names_are_older o ≡ false) → (IsErrOf r op.ZeroLength → length_is_good o.act ≡ false) → (IsErrOf r BadTags → tags_are_good o.act ≡ false)
+    → IfErr r (λ fault. (fault ≡ NameNotOlder) ⊎ ((fault ≡ op.ZeroLength) ⊎ (fault ≡ BadTags))) → IsOk r
+it_is_made ops name edit o (Ok x) rise none is not_older zero_length bad_tags err = refl
+it_is_made {X} ops name edit o (Err fault) rise none is not_older zero_length bad_tags err = absurd (by err)
+  where
+    by : (fault ≡ NameNotOlder) ⊎ ((fault ≡ op.ZeroLength) ⊎ (fault ≡ BadTags)) → ⊥
+    by (inl one) = true≢false (sym (older ops name edit none) ∙ ap names_are_older is ∙ not_older (ap Err one))
+    by (inr (inl one)) = true≢false (sym (it_plays ops name edit none) ∙ sym (same_length ops edit) ∙ ap (λ (p : Operation). length_is_good p.act) is ∙ zero_length (ap Err one))
+    by (inr (inr one)) = true≢false (sym (tags_good ops rise name edit none) ∙ ap (λ (p : Operation). tags_are_good p.act) is ∙ bad_tags (ap Err one))
+
+-- ---- the state with an operation that a change made
+
+module _ (state : Named) (o : Operation) (made_it : IsMade state o) (logged : AreLogged (operations state.log)) (whole : log_of (operations state.log) ≡ state.log) where
+  pub made_follows : (items : List Operation) → SameItems items (ready_ops (operations state.log)) → MayFollow items o
+  made_follows items same =
+      let parts = unmade (refused (operations state.log) state.name made_it.0) (made_op (operations state.log) state.name made_it.0) o made_it.1 in
+      subst (MayFollow items) parts.1 (follows state.name state.log made_it.0 logged whole parts.0 items same)
+
+  pub made_absent : fin.get state.log (op_dot o) ≡ None
+  made_absent =
+      let parts = unmade (refused (operations state.log) state.name made_it.0) (made_op (operations state.log) state.name made_it.0) o made_it.1 in
+      subst (λ (p : Operation). fin.get state.log (op_dot p) ≡ None) parts.1 (absent state.name state.log made_it.0 logged whole parts.0)
+
+  pub made_kept : (items : List Operation) (clock seq : ℕ) → IsState state items clock seq → IsState (record { name = state.name; log = with_op state.log o }) (o ∷ items) o.stamp.clock o.stamp.seq
+  made_kept items clock seq is =
+      let parts = unmade (refused (operations state.log) state.name made_it.0) (made_op (operations state.log) state.name made_it.0) o made_it.1 in
+      subst (λ (p : Operation). IsState (record { name = state.name; log = with_op state.log p }) (p ∷ items) p.stamp.clock p.stamp.seq) parts.1 (kept state.name state.log made_it.0 logged whole parts.0 items clock seq is)

@@ -1,0 +1,52 @@
+-- Working definitions: what an editor keeps beside its log.
+use Rattle.std.specs.Prelude.{◌≡◌, ℕ, cond, Bool, true, List, length, nat_le, Option, Some, None, Ok}
+use Rattle.std.specs.List.{sum_by}
+use Rattle.mt_stamp.specs.declared.name.Replica.{Replica}
+use Rattle.mt_op.specs.Operation.{Act, Operation, Remove}
+use Rattle.mt_op.specs.Tags.{greatest_tag_count}
+use Rattle.mt_opcodec.specs.LogValue.{LogMap, operations}
+use Rattle.mt_sessionview.specs.Session.{ready_ops}
+use Rattle.mt_replica.specs.Edit.{Edit}
+use Rattle.mt_replica.specs.Kept.{Kept}
+use Rattle.mt_replica.specs.Made.{is_by, greatest_clock, greatest_seq, plays, names_of, names_present, names_refused, tags_fit, unless, or_else, made}
+use Rattle.mt_replica.specs.declared.fault.EditorFault.{EditorFault}
+use Rattle.mt_replica.specs.declared.fault.EditorFault.TheVariants.{ZeroLength, TooManyTags}
+
+-- a log and the name of its editor
+pub record Named : Type 0 where
+  pub name : Replica
+  pub log : LogMap
+
+-- Noted are the ready operations of the log, and the greatest clock and number are known.
+pub record IsState (state : Named) (items : List Operation) (clock seq : ℕ) : Type 0 where
+  pub noted : (f : Operation → ℕ) → sum_by f items ≡ sum_by f (ready_ops (operations state.log))
+  pub clock_is : clock ≡ greatest_clock (operations state.log)
+  pub seq_is : seq ≡ greatest_seq state.name (operations state.log)
+
+-- a change made the operation of the log
+abbrev pub IsMade : Named → Operation → Type 0
+IsMade state op = (edit : Edit) × (made (operations state.log) state.name edit ≡ Ok op)
+
+-- a change made it of what an editor holds
+abbrev pub IsMadeIn : Replica → Option LogMap → Operation → Type 0
+IsMadeIn name None op = ⊥
+IsMadeIn name (Some log) op = IsMade (record { name = name; log = log }) op
+
+abbrev pub IsMadeOf : Kept → Operation → Type 0
+IsMadeOf kept op = IsMadeIn kept.name kept.log op
+
+-- why a change has no body
+abbrev pub body_refused : List Operation → Edit → Option EditorFault
+body_refused ops edit =
+    or_else (unless (plays edit) ZeroLength)
+    (or_else (names_refused (ready_ops ops) (names_present edit) (names_of edit))
+    (unless (tags_fit (ready_ops ops) edit) TooManyTags))
+
+-- whether an act lists no more tags than it may
+abbrev pub lists_few : Act → Bool
+lists_few (Remove item tags) = nat_le (length tags) greatest_tag_count
+lists_few _ = true
+
+-- the number of an operation of this replica, 0 of another's
+unfoldable pub own_seq : Replica → Operation → ℕ
+own_seq name o = cond (is_by name o) o.stamp.seq 0

@@ -1,0 +1,147 @@
+//! What a change does to a session.
+
+ghost use Rattle.std.specs.Prelude.{◌≡◌, option_map, IfOk, IfErr};
+ghost use Rattle.mt_op.specs.Bodies.{act_of};
+ghost use Rattle.mt_replica.specs.Changes.{edit_of};
+ghost use Rattle.mt_replica.specs.Made.{plays, current_place, rising_tags, made_act};
+ghost use Rattle.mt_replica.specs.State.{lists_few};
+
+use crate::change::Change;
+use crate::fault::EditorFault;
+use mt_items::Items;
+use mt_op::{Body, Title};
+use mt_stamp::{List, Stamp};
+use std::alloc::Allocator;
+
+/// Whether a clip that a change adds or trims would play at least one frame.
+pub(crate) fn plays<A: Allocator>(change: &Change<A>) -> bool
+    ensures { result ≡ plays (edit_of change.now) }
+{
+    match change {
+        Change::AddClip { len, .. } | Change::TrimClip { len, .. } => *len >= 1,
+        _ => true,
+    }
+}
+
+// The current place of a track; of what is no track, its own stamp.
+fn place_of<A: Allocator>(items: &Items<A>, track: Stamp) -> Stamp
+    ensures { result ≡ current_place items.now track }
+{
+    match items.current_place(track) {
+        Some(place) => place,
+        None => track,
+    }
+}
+
+// The current place of a track that another is put after.
+fn place_after<A: Allocator>(items: &Items<A>, after: Option<Stamp>) -> Option<Stamp>
+    ensures { result ≡ option_map (current_place items.now) after }
+{
+    match after {
+        Some(track) => Some(place_of(items, track)),
+        None => None,
+    }
+}
+
+// The live tags of an item, rising.
+fn tags_of<A: Allocator + Clone>(
+    items: &Items<A>,
+    item: Stamp,
+) -> Result<List<Stamp, A>, EditorFault>
+    ensures ok { IfOk result (λ tags. tags ≡ rising_tags items.now item) }
+    ensures err { IfErr result (λ fault. fault ≡ EditorFault.Memory) }
+{
+    match items.live_tags(item) {
+        Ok(tags) => Ok(List::new(tags)),
+        Err(_) => Err(EditorFault::Memory),
+    }
+}
+
+/// What a change does where these operations are ready. Refused as `Memory` (0) where a growth was refused.
+pub(crate) fn body_of<A: Allocator + Clone>(
+    items: &Items<A>,
+    change: &Change<A>,
+) -> Result<Body<A>, EditorFault>
+    ensures ok { IfOk result (λ body. act_of body ≡ made_act items.now (edit_of change.now)) }
+    ensures err { IfErr result (λ fault. fault ≡ EditorFault.Memory) }
+{
+    Ok(match change {
+        Change::AddTrack { after, title } => Body::AddTrack {
+            after: place_after(items, *after),
+            title: copied(title)?,
+        },
+        Change::MoveTrack { track, after } => Body::MoveTrack {
+            track: *track,
+            after: place_after(items, *after),
+        },
+        Change::AddClip {
+            source,
+            track,
+            at,
+            offset,
+            len,
+        } => Body::AddClip {
+            source: *source,
+            track: *track,
+            at: *at,
+            offset: *offset,
+            len: *len,
+        },
+        Change::MoveClip { clip, track, at } => Body::MoveClip {
+            clip: *clip,
+            track: *track,
+            at: *at,
+        },
+        Change::TrimClip { clip, offset, len } => Body::TrimClip {
+            clip: *clip,
+            offset: *offset,
+            len: *len,
+        },
+        Change::SetGain { item, gain } => Body::SetGain {
+            item: *item,
+            gain: *gain,
+        },
+        Change::SetMute { item, on } => Body::SetMute {
+            item: *item,
+            on: *on,
+        },
+        Change::Remove { item } => Body::Remove {
+            item: *item,
+            tags: tags_of(items, *item)?,
+        },
+        Change::Restore { item } => Body::Restore { item: *item },
+        Change::AddMarker { at, title } => Body::AddMarker {
+            at: *at,
+            title: copied(title)?,
+        },
+        Change::MoveMarker { marker, at } => Body::MoveMarker {
+            marker: *marker,
+            at: *at,
+        },
+        Change::Retitle { item, title } => Body::Retitle {
+            item: *item,
+            title: copied(title)?,
+        },
+    })
+}
+
+/// Whether a Remove lists no more tags than it may.
+pub(crate) fn lists_few<A: Allocator>(body: &Body<A>) -> bool
+    ensures { result ≡ lists_few (act_of body.now) }
+{
+    match body {
+        Body::Remove { tags, .. } => tags.items().len() <= 65_535,
+        _ => true,
+    }
+}
+
+// A copy of a title.
+fn copied<A: Allocator + Clone>(title: &Title<A>) -> Result<Title<A>, EditorFault>
+    ensures ok { IfOk result (λ copy. copy ≡ title.now) }
+    ensures err { IfErr result (λ fault. fault ≡ EditorFault.Memory) }
+{
+    match title.try_clone() {
+        Ok(copy) => Ok(copy),
+        Err(_) => Err(EditorFault::Memory),
+    }
+}

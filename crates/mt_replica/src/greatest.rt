@@ -1,0 +1,50 @@
+//! The greatest clock and number of operations.
+
+ghost use Rattle.std.specs.Prelude.{◌≡◌, List, map, max};
+ghost use Rattle.mt_replica.specs.Made.{greatest_of, greatest_clock};
+ghost use Rattle.mt_replica.specs.State.{own_seq};
+
+use mt_op::Op;
+use mt_stamp::Replica;
+use std::alloc::Allocator;
+
+// The greater of two numbers.
+fn greater(first: u64, second: u64) -> u64
+    ensures { result ≡ max first second }
+{
+    if first < second { second } else { first }
+}
+
+/// The greatest clock of these operations, 0 where there is none.
+pub(crate) fn greatest_clock<A: Allocator>(ops: &[Op<A>]) -> u64
+    ensures { result ≡ greatest_clock ops.now }
+{
+    let mut greatest = 0;
+    for op in ops {
+        greatest = greater(greatest, op.stamp().clock());
+    }
+    greatest
+}
+
+// An operation's number where this replica made it, and else 0.
+#[tactic(auto, unfolding(crate::specs::State::own_seq))]
+fn own_seq<A: Allocator>(name: Replica, op: &Op<A>) -> u64
+    ensures { result ≡ own_seq name op.now }
+{
+    if op.stamp().replica() == name {
+        op.stamp().seq()
+    } else {
+        0
+    }
+}
+
+/// The greatest number of this replica's among these operations, 0 where there is none.
+pub(crate) fn greatest_seq<A: Allocator>(name: Replica, ops: &[Op<A>]) -> u64
+    ensures { result ≡ greatest_of (map (own_seq name) ops.now) }
+{
+    let mut greatest = 0;
+    for op in ops {
+        greatest = greater(greatest, own_seq(name, op));
+    }
+    greatest
+}
