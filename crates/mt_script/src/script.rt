@@ -8,7 +8,7 @@ use crate::fault::ScriptFault;
 use crate::forms::change_of;
 use crate::lines::{cut_line, is_silent};
 use mt_op::{Op, Role};
-use mt_replica::{Editor, EditorFault};
+use mt_replica::{Draft, Editor, EditorFault};
 use mt_stamp::Stamp;
 use std::alloc::Allocator;
 
@@ -26,12 +26,12 @@ fn item_of<A: Allocator>(op: &Op<A>) -> Option<Stamp>
 // Makes what a line asks for, notes which item that is, and answers how many operations it took: one or none.
 fn make_line<A: Allocator + Clone>(
     alloc: A,
-    editor: &mut Editor<A>,
+    draft: &mut Draft<A>,
     items: &mut Vec<Option<Stamp>, A>,
     line: &[u8],
 ) -> Result<usize, ScriptFault>
-    requires { editor.now.log ≢ None }
-    ensures { LineGives editor.old items.old.items line.now result editor.new items.new.items }
+    requires { draft.now.log ≢ None }
+    ensures { LineGives draft.old items.old.items line.now result draft.new items.new.items }
 {
     if is_silent(line) {
         items.push(None)?;
@@ -40,7 +40,7 @@ fn make_line<A: Allocator + Clone>(
     let Some(change) = change_of(alloc, items, line)? else {
         return Err(ScriptFault::BadLine(items.len() + 1));
     };
-    match editor.edit(&change) {
+    match draft.edit(&change) {
         Ok(op) => {
             items.push(item_of(&op))?;
             Ok(1)
@@ -53,18 +53,18 @@ fn make_line<A: Allocator + Clone>(
 // Makes what the lines of a text ask for, and answers how many operations they took.
 fn make_lines<A: Allocator + Clone>(
     alloc: A,
-    editor: &mut Editor<A>,
+    draft: &mut Draft<A>,
     text: &[u8],
 ) -> Result<usize, ScriptFault>
-    requires { editor.now.log ≢ None }
-    ensures { LinesGive editor.old text.now result editor.new }
+    requires { draft.now.log ≢ None }
+    ensures { LinesGive draft.old text.now result draft.new }
 {
     let mut items = Vec::new(alloc.clone()?);
     let mut count = 0;
     let mut rest = text;
     while !rest.is_empty() {
         let (line, others) = cut_line(rest);
-        count += make_line(alloc.clone()?, editor, &mut items, line)?;
+        count += make_line(alloc.clone()?, draft, &mut items, line)?;
         rest = others;
     }
     Ok(count)
@@ -74,7 +74,7 @@ fn make_lines<A: Allocator + Clone>(
 ///
 /// Refused as `Failed` (20) where the editor has failed; then at the first line at fault, counted from 1, as `BadLine` (41) where it
 /// has none of the forms, and as `Refused` (42) where the editor refuses its change for another cause than memory, with that
-/// cause; and as `Memory` (0) where there is none. The changes are made in a copy: after every refusal the editor is as it was.
+/// cause; and as `Memory` (0) where there is none. The changes are made in a draft: after every refusal the editor is as it was.
 pub fn run<A: Allocator + Clone>(
     alloc: A,
     editor: &mut Editor<A>,
@@ -84,16 +84,19 @@ pub fn run<A: Allocator + Clone>(
     ensures holds { editor.new ≡ after_run editor.old text.now result }
     ensures failed { IsErrOf result ScriptFault.Failed ↔ (editor.old.log ≡ None) }
 {
-    let mut copy = match editor.try_clone() {
-        Ok(copy) => copy,
+    let mut draft = match editor.draft() {
+        Ok(draft) => draft,
         Err(EditorFault::Failed) => return Err(ScriptFault::Failed),
         Err(_) => return Err(ScriptFault::Memory),
     };
-    match make_lines(alloc, &mut copy, text) {
-        Ok(count) => {
-            *editor = copy;
-            Ok(count)
-        }
+    match make_lines(alloc, &mut draft, text) {
+        Ok(count) => match Editor::of_draft(draft) {
+            Ok(made) => {
+                *editor = made;
+                Ok(count)
+            }
+            Err(_) => Err(ScriptFault::Memory),
+        },
         Err(fault) => Err(fault),
     }
 }

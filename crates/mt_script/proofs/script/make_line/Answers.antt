@@ -11,5 +11,5 @@ returns-in-Ok g c =
     ap (λ (is : Items). asked is c.args.line.now) (sym c.deref.ensures.value) ∙ sym c.in_ok-change.ensures ∙ ap (option_map edit_of) c.in-Some.is in
     let speaks = sym c.is_silent.ensures ∙ c.if-is_silent.false in
     let noted = c.in_ok-push-in-Ok.ensures.items ∙ ap (λ i. c.args.items.now.items ++ i ∷ []) c.item_of.ensures in
-    line_made c.args.editor.now c.args.items.now.items c.args.line.now (edit_of c.in-Some.change) c.in-Ok.op c.edit.new.self c.push-in-Ok.new.self.items
-    speaks asks c.in-Ok.ensures.gives c.in-Ok.ensures.holds noted
+    line_made c.args.draft.now c.args.items.now.items c.args.line.now (edit_of c.in-Some.change) c.in-Ok.op c.edit.new.self c.push-in-Ok.new.self.items
+    speaks asks c.in-Ok.ensures.answer c.in-Ok.ensures.after noted
