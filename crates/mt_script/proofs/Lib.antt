@@ -1,0 +1,7 @@
+mod Cuts
+mod Options
+mod Numbers
+mod Asked
+mod Stamps
+mod TextLines
+mod Runs

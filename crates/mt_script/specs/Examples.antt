@@ -1,0 +1,54 @@
+-- Lines and what they ask for: what the definitions compute.
+use Rattle.std.specs.Prelude.{◌≡◌, List, [], ◌∷◌, ◌++◌, Option, Some, None, refl, codes}
+use Rattle.std.specs.Fmt.{digits}
+use Rattle.mt_stamp.specs.Moment.{Moment}
+use Rattle.mt_replica.specs.Edit.{TrimClip, SetGain}
+use Rattle.mt_script.specs.Lines.{newline, lines}
+use Rattle.mt_script.specs.Words.{number_below, gain, stamp, item}
+use Rattle.mt_script.specs.Forms.{Items, said, trim_clip, set_gain, set_mute, remove}
+
+pub empty_text : lines [] ≡ []
+empty_text = refl
+
+-- an empty line and a remark count, and the last newline ends the last line
+pub counted_lines : lines (codes "a" ++ newline ∷ newline ∷ codes "# b" ++ newline ∷ []) ≡ codes "a" ∷ [] ∷ codes "# b" ∷ []
+counted_lines = refl
+
+pub unended_line : lines (codes "a" ++ newline ∷ codes "b") ≡ codes "a" ∷ codes "b" ∷ []
+unended_line = refl
+
+-- the second line made an item, the first none
+abbrev pub track : Moment
+track = record { clock = 1; replica = record { 0 = 10 }; seq = 1 }
+
+abbrev pub one_item : Items
+one_item = None ∷ Some track ∷ []
+
+pub half : said one_item (codes "gain $2 1/2") ≡ Some (SetGain track (record { num = 1; den = 2 }))
+unfolding said set_gain gain item stamp number_below digits
+half = refl
+
+pub no_item_of_line : said one_item (codes "remove $1") ≡ None
+unfolding said remove item stamp number_below digits
+no_item_of_line = refl
+
+pub later_line : said one_item (codes "remove $3") ≡ None
+unfolding said remove item stamp number_below digits
+later_line = refl
+
+pub line_zero : said one_item (codes "remove $0") ≡ None
+unfolding said remove item stamp number_below digits
+line_zero = refl
+
+pub two_spaces : said one_item (codes "mute $2  on") ≡ None
+unfolding said set_mute item stamp number_below digits
+two_spaces = refl
+
+pub leading_zero : said one_item (codes "trim-clip $2 00 5") ≡ None
+unfolding said trim_clip item stamp number_below digits
+leading_zero = refl
+
+-- a length of 0 is well-formed
+pub length_zero : said one_item (codes "trim-clip $2 7 0") ≡ Some (TrimClip track 7 0)
+unfolding said trim_clip item stamp number_below digits
+length_zero = refl

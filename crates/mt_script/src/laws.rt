@@ -1,0 +1,18 @@
+//! What holds of the words and lines of scripts, as the contracts of functions.
+
+ghost use Rattle.mt_script.specs.Laws.{NumbersAreSpelled, StampsAreSpelled, LinesAreRead};
+
+/// A number is read from its decimal spelling, with no sign and no leading zero, and from no other text.
+pub fn numbers()
+    ensures { NumbersAreSpelled }
+{}
+
+/// A stamp is read from its text and from no other.
+pub fn stamps()
+    ensures { StampsAreSpelled }
+{}
+
+/// Lines that are written, each ended by a newline but perhaps the last, are the lines that are read.
+pub fn lines_read()
+    ensures { LinesAreRead }
+{}

@@ -1,0 +1,102 @@
+//! Running a script.
+
+ghost use Rattle.std.specs.Prelude.{◌≡◌, ◌≢◌, ◌↔◌, ◌∷◌, [], None, IsErrOf};
+ghost use Rattle.mt_script.specs.Script.{RunGives, after_run, item_made};
+ghost use Rattle.mt_script.specs.Running.{LineGives, LinesGive};
+
+use crate::fault::ScriptFault;
+use crate::forms::change_of;
+use crate::lines::{cut_line, is_silent};
+use mt_op::{Op, Role};
+use mt_replica::{Draft, Editor, EditorFault};
+use mt_stamp::Stamp;
+use std::alloc::Allocator;
+
+// The item that an operation makes, if it makes one.
+fn item_of<A: Allocator>(op: &Op<A>) -> Option<Stamp>
+    ensures { result ≡ item_made (op.now ∷ []) }
+{
+    if op.fits(&Role::Item) {
+        Some(op.stamp())
+    } else {
+        None
+    }
+}
+
+// Makes what a line asks for, notes which item that is, and answers how many operations it took: one or none.
+fn make_line<A: Allocator + Clone>(
+    alloc: A,
+    draft: &mut Draft<A>,
+    items: &mut Vec<Option<Stamp>, A>,
+    line: &[u8],
+) -> Result<usize, ScriptFault>
+    requires { draft.now.log ≢ None }
+    ensures { LineGives draft.old items.old.items line.now result draft.new items.new.items }
+{
+    if is_silent(line) {
+        items.push(None)?;
+        return Ok(0);
+    }
+    let Some(change) = change_of(alloc, items, line)? else {
+        return Err(ScriptFault::BadLine(items.len() + 1));
+    };
+    match draft.edit(&change) {
+        Ok(op) => {
+            items.push(item_of(&op))?;
+            Ok(1)
+        }
+        Err(EditorFault::Memory) => Err(ScriptFault::Memory),
+        Err(cause) => Err(ScriptFault::Refused(items.len() + 1, cause)),
+    }
+}
+
+// Makes what the lines of a text ask for, and answers how many operations they took.
+fn make_lines<A: Allocator + Clone>(
+    alloc: A,
+    draft: &mut Draft<A>,
+    text: &[u8],
+) -> Result<usize, ScriptFault>
+    requires { draft.now.log ≢ None }
+    ensures { LinesGive draft.old text.now result draft.new }
+{
+    let mut items = Vec::new(alloc.clone()?);
+    let mut count = 0;
+    let mut rest = text;
+    while !rest.is_empty() {
+        let (line, others) = cut_line(rest);
+        count += make_line(alloc.clone()?, draft, &mut items, line)?;
+        rest = others;
+    }
+    Ok(count)
+}
+
+/// Makes the changes of a script in order, and answers how many. Titles and what the lines made are kept in memory of `alloc`.
+///
+/// Refused as `Failed` (20) where the editor has failed; then at the first line at fault, counted from 1, as `BadLine` (41) where it
+/// has none of the forms, and as `Refused` (42) where the editor refuses its change for another cause than memory, with that
+/// cause; and as `Memory` (0) where there is none. The changes are made in a draft: after every refusal the editor is as it was.
+pub fn run<A: Allocator + Clone>(
+    alloc: A,
+    editor: &mut Editor<A>,
+    text: &[u8],
+) -> Result<usize, ScriptFault>
+    ensures gives { RunGives editor.old text.now result }
+    ensures holds { editor.new ≡ after_run editor.old text.now result }
+    ensures failed { IsErrOf result ScriptFault.Failed ↔ (editor.old.log ≡ None) }
+{
+    let mut draft = match editor.draft() {
+        Ok(draft) => draft,
+        Err(EditorFault::Failed) => return Err(ScriptFault::Failed),
+        Err(_) => return Err(ScriptFault::Memory),
+    };
+    match make_lines(alloc, &mut draft, text) {
+        Ok(count) => match Editor::of_draft(draft) {
+            Ok(made) => {
+                *editor = made;
+                Ok(count)
+            }
+            Err(_) => Err(ScriptFault::Memory),
+        },
+        Err(fault) => Err(fault),
+    }
+}
