@@ -11,7 +11,7 @@ case(
     stdout="31 Unsupported: a wave file is no PCM of 8, 16, 24 or 32 bits\nConvert it: `sox IN -e signed-integer -b 24 OUT` (`mediainfo NAME` shows its format).\n",
 )
 USAGE = "Usage: radio explain [N]\n\nFor more information, try '--help'.\n"
-for name, number in (("explain_no_refusal", 25), ("explain_past_the_last", 255)):
+for name, number in (("explain_no_refusal", 60), ("explain_past_the_last", 255)):
     case(name, ["explain", str(number)], status=2, stderr="error: no refusal has the number %d\n\n" % number + USAGE)
 case("explain_256", ["explain", "256"], status=2, stderr="error: invalid value '256' for '[N]': 256 is not in 0..=255\n\nFor more information, try '--help'.\n")
 case("explain_a_word", ["explain", "Read"], status=2, stderr="error: invalid value 'Read' for '[N]': invalid digit found in string\n\nFor more information, try '--help'.\n")

@@ -16,4 +16,5 @@ import cases_of_logs
 import cases_of_merges
 import cases_of_waves
 import cases_of_command_lines
+import cases_of_edits
 import cases_of_refusals

@@ -3,6 +3,7 @@
 use clap::{Arg, ArgAction};
 use std::alloc::Global;
 
+pub(crate) mod edit;
 pub(crate) mod explain;
 pub(crate) mod info;
 pub(crate) mod merge;

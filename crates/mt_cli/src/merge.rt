@@ -14,7 +14,7 @@ use std::alloc::Allocator;
 use std::io::{Read, Write};
 
 // Writes the text of a log.
-fn put_log<A: Allocator + Clone, W: Write>(
+pub(crate) fn put_log<A: Allocator + Clone, W: Write>(
     log: &Log<A>,
     output: &mut Latch<W>,
 ) -> Result<(), CliFault>

@@ -153,6 +153,40 @@ pub const OF_LOGS: [Refusal; 10] = [
     },
 ];
 
+/// The refusals of edits.
+pub const OF_EDITS: [Refusal; 5] = [
+    Refusal {
+        number: 21,
+        name: "NoSuchItem",
+        meaning: "a change names a stamp that no ready operation gives to such an item",
+        advice: "Look the item up with `radio view`: its stamp stands after `track`, `clip` or `marker`. A marker has no gain, and a clip no title.",
+    },
+    Refusal {
+        number: 22,
+        name: "Absent",
+        meaning: "a change names an item that was removed",
+        advice: "Restore it first: `restore ITEM` in the script.",
+    },
+    Refusal {
+        number: 23,
+        name: "ClockFull",
+        meaning: "an operation of the log has the greatest clock, 2^62",
+        advice: "A faulty program made that operation: go on from a log without it.",
+    },
+    Refusal {
+        number: 24,
+        name: "SeqFull",
+        meaning: "the replica has an operation with the greatest number, 2^62",
+        advice: "Go on under another replica's UUID.",
+    },
+    Refusal {
+        number: 25,
+        name: "TooManyTags",
+        meaning: "an item was restored more than 65,534 times and cannot be removed at once",
+        advice: "Mute a track or clip instead, or move a marker behind the programme's end.",
+    },
+];
+
 /// The refusals of wave files.
 pub const OF_WAVES: [Refusal; 7] = [
     Refusal {
@@ -221,13 +255,25 @@ pub const OF_RENDERING: [Refusal; 3] = [
     },
 ];
 
-/// The refusals of reading and writing, and of the parts of operations.
-pub const OF_FILES_AND_PARTS: [Refusal; 6] = [
+/// The refusals of reading and writing, of scripts, and of the parts of operations.
+pub const OF_FILES_AND_PARTS: [Refusal; 8] = [
     Refusal {
         number: 37,
         name: "Write",
         meaning: "the output failed, or cannot be made or get its name; or there is an OUT.part already",
         advice: "See that there is room and that the folder may be written. An OUT.part that no program is writing any more may be deleted.",
+    },
+    Refusal {
+        number: 41,
+        name: "BadLine",
+        meaning: "a line of a script is none of the forms of a change",
+        advice: "Look for a misspelt word, two spaces, a number with a leading zero, a line end with CR, or a `$k` of a line that adds nothing.",
+    },
+    Refusal {
+        number: 42,
+        name: "Refused",
+        meaning: "a line of a script asks for a change that cannot be made (6, or 21 to 25)",
+        advice: "See that the items of that line are there and present, and that a clip has at least one frame.",
     },
     Refusal {
         number: 43,
@@ -266,6 +312,7 @@ pub fn find_refusal(number: u8) -> Option<&'static Refusal> {
     for table in [
         OF_OPERATIONS.as_slice(),
         OF_LOGS.as_slice(),
+        OF_EDITS.as_slice(),
         OF_WAVES.as_slice(),
         OF_RENDERING.as_slice(),
         OF_FILES_AND_PARTS.as_slice(),

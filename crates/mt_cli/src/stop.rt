@@ -2,6 +2,9 @@
 
 use crate::fault::CliFault;
 use clap::error::ErrorKind;
+use mt_replica::EditorFault;
+use mt_script::ScriptFault;
+use mt_stamp::StampFault;
 use std::alloc::{AllocError, Global};
 
 /// What stops a command.
@@ -37,6 +40,24 @@ impl From<AllocError> for Stop {
 
 impl From<CliFault> for Stop {
     fn from(fault: CliFault) -> Stop {
+        Stop::Refused(fault.number())
+    }
+}
+
+impl From<StampFault> for Stop {
+    fn from(fault: StampFault) -> Stop {
+        Stop::Refused(fault.number())
+    }
+}
+
+impl From<EditorFault> for Stop {
+    fn from(fault: EditorFault) -> Stop {
+        Stop::Refused(fault.number())
+    }
+}
+
+impl From<ScriptFault> for Stop {
+    fn from(fault: ScriptFault) -> Stop {
         Stop::Refused(fault.number())
     }
 }

@@ -61,10 +61,10 @@ noted_differ (o ∷ ops) noted = (each ops noted.0.fresh, noted_differ ops noted
     each [] fresh = tt
     each (x ∷ xs) fresh = ((λ same. true≢false (sym (stamp_eq_same o.stamp x.stamp same) ∙ first_false (stamp_eq o.stamp x.stamp) (is_noted xs o.stamp) fresh)), each xs (rest_false (stamp_eq o.stamp x.stamp) (is_noted xs o.stamp) fresh))
 
-listed_member : (xs : List Moment) (t : Moment) → is_listed xs t ≡ true → IsMember t xs
+pub listed_member : (xs : List Moment) (t : Moment) → is_listed xs t ≡ true → IsMember t xs
 listed_member xs t found = let one = any_member (stamp_eq t) xs found in subst (λ (m : Moment). IsMember m xs) (sym (stamp_eq-true t one.0 one.1.1)) one.1.0
 
-member_listed : (xs : List Moment) (t : Moment) → IsMember t xs → is_listed xs t ≡ true
+pub member_listed : (xs : List Moment) (t : Moment) → IsMember t xs → is_listed xs t ≡ true
 member_listed xs t m = member_any (stamp_eq t) xs t m (stamp_eq_same t t refl)
 
 strictly : (xs : List Moment) → IsStrictlySortedBy stamp_cmp xs → RisesStrictly stamp_cmp xs
@@ -97,7 +97,7 @@ turned_tie Greater Less e h k = absurd (true≢false k)
 turned_tie Greater Equal e h k = absurd cc
 turned_tie Greater Greater e h k = absurd cc
 
-not_true : (b : Bool) → (b ≡ true → ⊥) → b ≡ false
+pub not_true : (b : Bool) → (b ≡ true → ⊥) → b ≡ false
 not_true true no_way = absurd (no_way refl)
 not_true false no_way = refl
 

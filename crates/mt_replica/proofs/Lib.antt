@@ -6,3 +6,4 @@ pub mod Numbers
 pub mod Refs
 pub mod Bridging
 pub mod Keeping
+pub mod Taking

@@ -47,7 +47,7 @@ mapped_sorted f (x ∷ xs) sorted k d low high =
     rw (index_map f (x ∷ xs) (k + 1) d x under, index_map f (x ∷ xs) k d x (omega (arith, under))) (sorted k x low under)
 
 -- what differs by a key is one where the keys are
-one_of : {X Y : Type 0} (key : X → Y) (xs : List X) (a b : X) → DifferBy key xs → IsMember a xs → IsMember b xs → key a ≡ key b → a ≡ b
+pub one_of : {X Y : Type 0} (key : X → Y) (xs : List X) (a b : X) → DifferBy key xs → IsMember a xs → IsMember b xs → key a ≡ key b → a ≡ b
 one_of key [] a b differ in_a in_b same = absurd in_a
 one_of key (x ∷ xs) a b differ (inl here) (inl there) same = sym here ∙ there
 one_of key (x ∷ xs) a b differ (inl here) (inr later) same = absurd (member_all (λ y. key x ≢ key y) xs b differ.0 later (ap key here ∙ same))

@@ -1,6 +1,12 @@
 -- Working definitions: what an editor keeps beside its log.
-use Rattle.std.specs.Prelude.{◌≡◌, ℕ, cond, Bool, true, List, length, nat_le, Option, Some, None, Ok}
+use Rattle.std.specs.Prelude.{◌≡◌, ◌≢◌, ℕ, cond, not, Bool, true, false, List, filter, length, nat_le, Option, Some, None, Ok}
 use Rattle.std.specs.List.{sum_by}
+use Rattle.std.specs.FinMap as map
+use Rattle.mt_stamp.specs.Moment.{Moment}
+use Rattle.mt_op.specs.Dots.{op_dot}
+use Rattle.mt_op.specs.Presence.{is_listed}
+use Rattle.mt_replica.specs.declared.taken.Taken.{Taken}
+use Rattle.mt_replica.specs.declared.taken.Taken.TheVariants.{Already, Held, Applied}
 use Rattle.mt_stamp.specs.declared.name.Replica.{Replica}
 use Rattle.mt_op.specs.Operation.{Act, Operation, Remove}
 use Rattle.mt_op.specs.Tags.{greatest_tag_count}
@@ -50,3 +56,24 @@ lists_few _ = true
 -- the number of an operation of this replica, 0 of another's
 unfoldable pub own_seq : Replica → Operation → ℕ
 own_seq name o = cond (is_by name o) o.stamp.seq 0
+
+-- what a log has under an operation's dot: nothing, the same operation, or another
+abbrev pub Found : LogMap → Operation → Option Bool → Type 0
+Found log op None = map.get log (op_dot op) ≡ None
+Found log op (Some true) = map.get log (op_dot op) ≡ Some op
+Found log op (Some false) = (other : Operation) × ((map.get log (op_dot op) ≡ Some other) × (other ≢ op))
+
+-- the stamps that are not among the earlier ones
+abbrev pub others_of : List Moment → List Moment → List Moment
+others_of earlier stamps = filter (λ s. not (is_listed earlier s)) stamps
+
+-- what became of an operation of this stamp, from the stamps that were ready before and those that are
+abbrev pub TakenGives : {A : Type 0} → Moment → List Moment → List Moment → Taken A → Type 0
+TakenGives stamp before after Already = ⊥
+TakenGives stamp before after Held = is_listed after stamp ≡ false
+TakenGives stamp before after (Applied stamps) = (is_listed after stamp ≡ true) × (stamps ≡ others_of before after)
+
+-- an editor has a log, and nothing under the operation's dot
+abbrev pub IsNewTo : Option LogMap → Operation → Type 0
+IsNewTo None op = ⊥
+IsNewTo (Some log) op = map.get log (op_dot op) ≡ None

@@ -1,6 +1,6 @@
 //! A log that is edited, without its session.
 
-ghost use Rattle.std.specs.Prelude.{◌≡◌, ◌≢◌, IfOk, IfErr, OnOk, None, Some, option_map};
+ghost use Rattle.std.specs.Prelude.{◌≡◌, ◌≢◌, ◌↔◌, IsErrOf, IfOk, IfErr, OnOk, Ok, None, Some, option_map};
 ghost use Rattle.std.specs.Option.{option_copied};
 ghost use Rattle.mt_op.specs.Operation.{Operation};
 ghost use Rattle.mt_replica.specs.Changes.{edit_of};
@@ -8,8 +8,10 @@ ghost use Rattle.mt_replica.specs.Changes.{edit_of};
 use crate::change::Change;
 use crate::fault::EditorFault;
 use crate::state::State;
+use crate::taken::Taken;
 use mt_op::Op;
 use mt_opcodec::Log;
+use mt_sessionview::{Session, from_scratch};
 use mt_stamp::Replica;
 use std::alloc::{Allocator, Global};
 use std::marker::Model;
@@ -40,8 +42,8 @@ impl<A: Allocator> Model for Draft<A> {
 }
 
 impl<A: Allocator + Clone> Draft<A> {
-    ghost use Rattle.mt_replica.specs.Kept.{Kept, kept_with, failed, EditGives, after_edit, TakeGives, after_take};
-    ghost use Rattle.mt_replica.specs.State.{IsMadeOf};
+    ghost use Rattle.mt_replica.specs.Kept.{Kept, session_in, kept_with, failed, EditGives, after_edit, TakeGives, after_take};
+    ghost use Rattle.mt_replica.specs.State.{IsMadeOf, IsNewTo};
 
     /// A draft that has taken a log's operations. Refused only as `Memory` (0).
     pub fn new(alloc: A, name: Replica, log: Log<A>) -> Result<Self, EditorFault>
@@ -74,6 +76,42 @@ impl<A: Allocator + Clone> Draft<A> {
         }
     }
 
+    // The session of its log; none where it has failed.
+    pub(crate) fn session(&self) -> Result<Option<Session<A>>, EditorFault>
+        ensures ok { IfOk result (λ session. session ≡ session_in self.now) }
+        ensures err { IfErr result (λ fault. fault ≡ EditorFault.Memory) }
+    {
+        let Some(state) = &self.state else {
+            return Ok(None);
+        };
+        match from_scratch(self.alloc.clone()?, state.log()) {
+            Ok(session) => Ok(Some(session)),
+            Err(_) => Err(EditorFault::Memory),
+        }
+    }
+
+    /// An equal draft. Refused as `Failed` (20) where it has failed, and as `Memory` (0), which leaves it unchanged.
+    pub fn try_clone(&self) -> Result<Self, EditorFault>
+        ensures ok { IfOk result (λ copy. copy ≡ self.now) }
+        ensures failed { IsErrOf result EditorFault.Failed ↔ (self.now.log ≡ None) }
+        ensures err { IfErr result (λ fault. fault ≢ EditorFault.Failed → fault ≡ EditorFault.Memory) }
+    {
+        let Some(state) = &self.state else {
+            return Err(EditorFault::Failed);
+        };
+        match state.log().try_clone() {
+            Ok(log) => Draft::new(self.alloc.clone()?, self.name, log),
+            Err(_) => Err(EditorFault::Memory),
+        }
+    }
+
+    // Lets it fail.
+    pub(crate) fn fail(&mut self)
+        ensures { self.new ≡ failed self.old }
+    {
+        self.state = None;
+    }
+
     // Keeps an operation that a change made.
     fn keep(&mut self, op: Op<A>) -> Result<Op<A>, EditorFault>
         requires made { IsMadeOf self.old op }
@@ -93,8 +131,8 @@ impl<A: Allocator + Clone> Draft<A> {
 
     /// Makes the operation of a change, takes it and gives a copy, as an editor does.
     pub fn edit(&mut self, change: &Change<A>) -> Result<Op<A>, EditorFault>
-        ensures answer { EditGives self.old (edit_of change.now) result }
-        ensures after { self.new ≡ after_edit self.old result }
+        ensures gives { EditGives self.old (edit_of change.now) result }
+        ensures holds { self.new ≡ after_edit self.old result }
     {
         let made = match &self.state {
             Some(state) => state.made(change),
@@ -107,6 +145,40 @@ impl<A: Allocator + Clone> Draft<A> {
                 Err(EditorFault::Memory)
             }
             Err(fault) => Err(fault),
+        }
+    }
+
+    // Takes an operation under a new dot.
+    fn add(&mut self, op: Op<A>) -> Result<Taken<A>, EditorFault>
+        requires new { IsNewTo self.old.log op }
+        ensures ok { IfOk result (λ taken. TakeGives self.old.log op (Ok taken)) }
+        ensures kept { OnOk result (self.new ≡ kept_with self.old op) }
+        ensures err { IfErr result (λ fault. fault ≡ EditorFault.Memory) }
+        ensures failed { IfErr result (λ fault. self.new ≡ failed self.old) }
+    {
+        match self.state.take() {
+            Some(state) => {
+                let (state, taken) = state.taking(&self.alloc, op)?;
+                self.state = Some(state);
+                Ok(taken)
+            }
+            None => unreachable!(),
+        }
+    }
+
+    /// Takes an operation into the log, as an editor does.
+    pub fn take(&mut self, op: Op<A>) -> Result<Taken<A>, EditorFault>
+        ensures gives { TakeGives self.old.log op result }
+        ensures holds { self.new ≡ after_take self.old op result }
+    {
+        let found = match &self.state {
+            Some(state) => state.found(&op),
+            None => return Err(EditorFault::Failed),
+        };
+        match found {
+            Some(true) => Ok(Taken::Already),
+            Some(false) => Err(EditorFault::Conflict(op.dot())),
+            None => self.add(op),
         }
     }
 }

@@ -8,8 +8,8 @@ ghost use Rattle.mt_op.specs.Bodies.{act_of};
 ghost use Rattle.mt_opcodec.specs.LogValue.{operations};
 ghost use Rattle.mt_replica.specs.Changes.{edit_of};
 ghost use Rattle.mt_replica.specs.Made.{made, made_act, made_stamp, stamp_refused, or_made};
-ghost use Rattle.mt_replica.specs.Kept.{with_op};
-ghost use Rattle.mt_replica.specs.State.{IsMade, body_refused};
+ghost use Rattle.mt_replica.specs.Kept.{with_op, TakeOf};
+ghost use Rattle.mt_replica.specs.State.{IsMade, Found, body_refused};
 ghost use Rattle.mt_sessionview.specs.Session.{ready_ops};
 
 use crate::body::{body_of, lists_few, plays};
@@ -18,7 +18,10 @@ use crate::change::Change;
 use crate::fault::EditorFault;
 use crate::greatest::{greatest_clock, greatest_seq};
 use crate::names::names_refused;
+use crate::newly::{ready_in, taken_as};
+use crate::taken::Taken;
 use mt_items::Items;
+use mt_op::laws::equal_ops;
 use mt_op::{Body, Op};
 use mt_opcodec::{Log, LogFault};
 use mt_stamp::{Replica, Stamp};
@@ -143,6 +146,34 @@ impl<A: Allocator + Clone> State<A> {
             clock: op.stamp().clock(),
             seq: op.stamp().seq(),
         })
+    }
+
+    /// What the log has under an operation's dot: nothing, the same operation (`true`), or another one (`false`).
+    pub fn found(&self, op: &Op<A>) -> Option<bool>
+        ensures { Found self.now.log op.now result }
+    {
+        let _ = &self.items;
+        match self.log.get(&op.dot()) {
+            Some(there) => Some(equal_ops(there, op)),
+            None => None,
+        }
+    }
+
+    /// The state with an operation under a new dot, and what became of it. Refused as `Memory` (0) where a growth was refused.
+    pub fn taking(self, alloc: &A, op: Op<A>) -> Result<(Self, Taken<A>), EditorFault>
+        requires new { map.get self.log (op_dot op) ≡ None }
+        ensures state { IfOk result (λ both. both.0 ≡ record { name = self.name; log = with_op self.log op }) }
+        ensures taken { IfOk result (λ both. TakeOf self.log op (Ok both.1)) }
+        ensures err { IfErr result (λ fault. fault ≡ EditorFault.Memory) }
+    {
+        let State { name, mut log, .. } = self;
+        let stamp = op.stamp();
+        let before = ready_in(alloc, &log)?;
+        add_new(&mut log, op)?;
+        let _ = log.ops();
+        let after = ready_in(alloc, &log)?;
+        let taken = taken_as(alloc, stamp, &before, &after)?;
+        Ok((State::of(alloc, name, log)?, taken))
     }
 }
 

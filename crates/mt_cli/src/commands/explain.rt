@@ -2,7 +2,7 @@
 
 use crate::fault::CliFault;
 use crate::refusals::{
-    OF_FILES_AND_PARTS, OF_LOGS, OF_OPERATIONS, OF_RENDERING, OF_WAVES, Refusal, find_refusal,
+    OF_EDITS, OF_FILES_AND_PARTS, OF_LOGS, OF_OPERATIONS, OF_RENDERING, OF_WAVES, Refusal, find_refusal,
 };
 use crate::stop::Stop;
 use clap::error::ErrorKind;
@@ -50,6 +50,7 @@ fn put_all<W: Write>(output: &mut Latch<W>) -> Result<(), CliFault> {
     for table in [
         OF_OPERATIONS.as_slice(),
         OF_LOGS.as_slice(),
+        OF_EDITS.as_slice(),
         OF_WAVES.as_slice(),
         OF_RENDERING.as_slice(),
         OF_FILES_AND_PARTS.as_slice(),

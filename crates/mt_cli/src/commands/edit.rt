@@ -1,0 +1,80 @@
+//! `radio edit`.
+
+use crate::fault::CliFault;
+use crate::files::open;
+use crate::merge::put_log;
+use crate::part::Part;
+use crate::read::{read_all, read_log};
+use crate::stop::Stop;
+use clap::{Arg, ArgMatches, Command};
+use mt_opcodec::Latch;
+use mt_replica::Editor;
+use mt_script::run as run_script;
+use mt_stamp::Replica;
+use std::alloc::{AllocError, Global};
+use std::io::{Read, Write};
+use std::rt::Files;
+
+pub(crate) fn words<'a>(alloc: Global) -> Result<Command<'a>, AllocError> {
+    Command::new(alloc, "edit")
+        .about("Makes the changes of a script, all or none, and writes the new log")
+        .after_help(
+            "Example: radio edit 00000000-0000-0000-0000-00000000000a desk.log changes.txt desk.log\n\nExit status: 0 done, 1 refused (`radio explain` tells why), 2 the command line does not parse.",
+        )
+        .arg(word(alloc, "REPLICA", "The UUID of the editor who makes the changes"))?
+        .arg(word(alloc, "LOG", "The log to begin with"))?
+        .arg(word(alloc, "SCRIPT", "The changes, a line each"))?
+        .arg(word(alloc, "OUT", "The log to write, which may be LOG"))
+}
+
+fn word<'a>(alloc: Global, name: &'a str, help: &'a str) -> Arg<'a> {
+    Arg::new(alloc, name).required(true).help(help)
+}
+
+// An editor of the log that an input holds.
+fn editor_of<R: Read>(
+    alloc: Global,
+    name: Replica,
+    input: &mut Latch<R>,
+) -> Result<Editor, Stop> {
+    let log = read_log(alloc, 0, input)?;
+    Ok(Editor::from_log(alloc, name, log)?)
+}
+
+// Writes the editor's log into the part, and how many operations were made to the output.
+fn put_edited<W: Write, P: Write>(
+    editor: &Editor,
+    made: usize,
+    output: &mut Latch<W>,
+    part: &mut Latch<P>,
+) -> Result<(), CliFault> {
+    let Some(log) = editor.log() else {
+        return Err(CliFault::Memory);
+    };
+    put_log(log, part)?;
+    let mut digits = itoa::Buffer::new();
+    for text in ["ops ", digits.format(made), "\n"] {
+        if output.put(text.as_bytes()).is_err() {
+            return Err(CliFault::Write);
+        }
+    }
+    Ok(())
+}
+
+pub(crate) fn run<F: Files + AllocGlobal, W: Write>(
+    rt: &F,
+    words: &ArgMatches<'_>,
+    output: &mut Latch<W>,
+) -> Result<(), Stop> {
+    let alloc = rt.alloc();
+    let name = Replica::read(words.get_str("REPLICA").unwrap_or(""))?;
+    let mut log = open(rt, 0, words.get_str("LOG").unwrap_or(""))?;
+    let mut script = open(rt, 1, words.get_str("SCRIPT").unwrap_or(""))?;
+    let mut editor = editor_of(alloc, name, &mut log)?;
+    let text = read_all(alloc, 1, &mut script)?;
+    let made = run_script(alloc, &mut editor, &text)?;
+    let out = words.get_str("OUT").unwrap_or("");
+    let mut part = Part::create(alloc, rt, out)?;
+    let written = put_edited(&editor, made, output, part.output());
+    Ok(part.finish(rt, out, written)?)
+}

@@ -1,0 +1,183 @@
+//! The editor.
+
+ghost use Rattle.std.specs.Prelude.{◌≡◌, ◌≢◌, ◌↔◌, IfOk, IfErr, OnOk, IsErrOf, None, Some, option_map};
+ghost use Rattle.std.specs.Option.{option_copied};
+ghost use Rattle.mt_replica.specs.Changes.{edit_of};
+ghost use Rattle.mt_replica.specs.Kept.{session_in, failed};
+
+use crate::change::Change;
+use crate::draft::Draft;
+use crate::fault::EditorFault;
+use crate::taken::Taken;
+use mt_op::Op;
+use mt_opcodec::Log;
+use mt_sessionview::{Session, from_scratch};
+use mt_stamp::Replica;
+use std::alloc::{Allocator, Global};
+use std::marker::Model;
+
+/// An editor: a name, a log and the session of the log's operations. Once a growth was refused in `take` or `edit` it has failed:
+/// it has neither log nor session any more, and every call that can be refused answers `Failed` (20).
+#[derive(Drop)]
+pub struct Editor<A: Allocator = Global> {
+    draft: Draft<A>,
+    session: Option<Session<A>>,
+}
+
+impl<A: Allocator> Model for Editor<A> {
+    ghost use Rattle.std.specs.Prelude.{◌≡◌};
+    ghost use Rattle.mt_replica.specs.Kept.{Kept, session_in};
+    ghost use Rattle.mt_replica.specs.Codes.{kept_code};
+
+    ghost Value = { Kept };
+
+    ghost coded = { kept_code };
+
+    ghost view = { λ e. e.draft };
+
+    ghost invariant = { λ e. e.session ≡ session_in e.draft };
+}
+
+impl<A: Allocator + Clone> Editor<A> {
+    ghost use Rattle.mt_replica.specs.Kept.{Kept, session_in, failed, EditGives, after_edit, TakeGives, after_take};
+
+    /// An editor of this name that has taken a log's operations. Refused only as `Memory` (0).
+    pub fn from_log(alloc: A, name: Replica, log: Log<A>) -> Result<Self, EditorFault>
+        ensures ok { IfOk result (λ editor. editor ≡ record { name = name; log = Some log }) }
+        ensures err { IfErr result (λ fault. fault ≡ EditorFault.Memory) }
+    {
+        Editor::of_draft(Draft::new(alloc, name, log)?)
+    }
+
+    /// The editor of a draft, which has not failed. Refused only as `Memory` (0).
+    pub fn of_draft(draft: Draft<A>) -> Result<Self, EditorFault>
+        requires whole { draft.log ≢ None }
+        ensures ok { IfOk result (λ editor. editor ≡ draft) }
+        ensures err { IfErr result (λ fault. fault ≡ EditorFault.Memory) }
+    {
+        let session = draft.session()?;
+        Ok(Editor { draft, session })
+    }
+
+    /// Its name.
+    pub fn name(&self) -> Replica
+        ensures { result ≡ self.now.name }
+    {
+        let _ = &self.session;
+        self.draft.name()
+    }
+
+    /// Its log: all operations that it has taken, those that are held too; `None` where it has failed.
+    pub fn log(&self) -> Option<&Log<A>>
+        ensures { option_copied result ≡ self.now.log }
+    {
+        let _ = &self.session;
+        self.draft.log()
+    }
+
+    /// The session of the operations in its log; `None` where it has failed.
+    pub fn session(&self) -> Option<&Session<A>>
+        ensures { option_copied result ≡ session_in self.now }
+    {
+        let _ = &self.draft;
+        match &self.session {
+            Some(session) => Some(session),
+            None => None,
+        }
+    }
+
+    /// A draft of its name with a copy of its log: for many edits between which nobody looks at the session. Refused as `Failed`
+    /// (20) where the editor has failed, and as `Memory` (0), which leaves it unchanged.
+    pub fn draft(&self) -> Result<Draft<A>, EditorFault>
+        ensures ok { IfOk result (λ draft. draft ≡ self.now) }
+        ensures failed { IsErrOf result EditorFault.Failed ↔ (self.now.log ≡ None) }
+        ensures err { IfErr result (λ fault. fault ≢ EditorFault.Failed → fault ≡ EditorFault.Memory) }
+    {
+        let _ = &self.session;
+        self.draft.try_clone()
+    }
+
+    /// An equal editor of the same name. Refused as `Failed` (20) where the editor has failed, and as `Memory` (0), which leaves it
+    /// unchanged.
+    pub fn try_clone(&self) -> Result<Self, EditorFault>
+        ensures ok { IfOk result (λ copy. copy ≡ self.now) }
+        ensures failed { IsErrOf result EditorFault.Failed ↔ (self.now.log ≡ None) }
+        ensures err { IfErr result (λ fault. fault ≢ EditorFault.Failed → fault ≡ EditorFault.Memory) }
+    {
+        let draft = self.draft()?;
+        Editor::of_draft(draft)
+    }
+
+    /// Makes the operation of a change, takes it, and gives a copy. Its clock is 1 above the greatest in the log, held operations
+    /// included, and its number 1 above the greatest of this replica there. A Remove lists all live tags of its item, and a track
+    /// is put after the current place of the one that is named.
+    ///
+    /// Refused, in this order: `Failed` (20) where the editor has failed; `ZeroLength` (6) where a clip would play no frame; then
+    /// for each item that the change names, in the order of its fields, `NoSuchItem` (21) where no ready operation of that stamp
+    /// adds such an item and `Absent` (22) where it is not present, which a Restore does not ask; `TooManyTags` (25) where a
+    /// Remove would list over 65,535; `ClockFull` (23) and `SeqFull` (24) where the greatest clock or number is 2^62. All these
+    /// change nothing. `Memory` (0) where a growth was refused: then the editor has failed.
+    pub fn edit(&mut self, change: &Change<A>) -> Result<Op<A>, EditorFault>
+        ensures gives { EditGives self.old (edit_of change.now) result }
+        ensures holds { self.new ≡ after_edit self.old result }
+    {
+        match self.draft.edit(change) {
+            Ok(op) => {
+                renew(&mut self.draft, &mut self.session)?;
+                Ok(op)
+            }
+            Err(EditorFault::Memory) => {
+                self.session = None;
+                Err(EditorFault::Memory)
+            }
+            Err(fault) => Err(fault),
+        }
+    }
+
+    /// Takes an operation, of this replica or of another, into the log: `Already` where the same one is there, `Held` where it
+    /// has to wait for others, and `Applied` with the stamps of all that became ready by it, rising.
+    ///
+    /// Refused as `Failed` (20) where the editor has failed, and as `Conflict` (17) with its dot where another operation has that
+    /// dot; both change nothing. `Memory` (0) where a growth was refused: then the editor has failed.
+    pub fn take(&mut self, op: Op<A>) -> Result<Taken<A>, EditorFault>
+        ensures gives { TakeGives self.old.log op result }
+        ensures holds { self.new ≡ after_take self.old op result }
+    {
+        match self.draft.take(op) {
+            Ok(Taken::Already) => Ok(Taken::Already),
+            Ok(taken) => {
+                renew(&mut self.draft, &mut self.session)?;
+                Ok(taken)
+            }
+            Err(EditorFault::Memory) => {
+                self.session = None;
+                Err(EditorFault::Memory)
+            }
+            Err(fault) => Err(fault),
+        }
+    }
+}
+
+// Works the session out anew, or lets the draft fail where a growth is refused.
+fn renew<A: Allocator + Clone>(
+    draft: &mut Draft<A>,
+    session: &mut Option<Session<A>>,
+) -> Result<(), EditorFault>
+    ensures same { OnOk result (draft.new ≡ draft.old) }
+    ensures renewed { OnOk result (session.new ≡ session_in draft.old) }
+    ensures err { IfErr result (λ fault. fault ≡ EditorFault.Memory) }
+    ensures failed { IfErr result (λ fault. draft.new ≡ failed draft.old) }
+    ensures none { IfErr result (λ fault. session.new ≡ None) }
+{
+    match draft.session() {
+        Ok(fresh) => {
+            *session = fresh;
+            Ok(())
+        }
+        Err(fault) => {
+            draft.fail();
+            *session = None;
+            Err(fault)
+        }
+    }
+}
