@@ -1,1 +1,5 @@
 pub mod Putting
+pub mod Heads
+pub mod Sizing
+pub mod Marking
+pub mod Blocks

@@ -1,5 +1,5 @@
 -- Putting one piece after another.
-use Rattle.std.proofs.Common.{arith, ◌≡◌, ℕ, ◌+◌, Bool, true, false, List, [], ◌∷◌, ◌++◌, length, take, refl, sym, ap, subst, ◌∙◌, append_assoc}
+use Rattle.std.proofs.Common.{arith, ◌≡◌, ℕ, ◌+◌, ◌%◌, Bool, true, false, List, [], ◌∷◌, ◌++◌, length, take, refl, sym, ap, subst, ◌∙◌, append_assoc}
 use Rattle.std.specs.Prelude.{Option, min, Ok, Err, is_err, OnOk}
 use Rattle.std.specs.declared.result.Result.{Result}
 use Rattle.std.specs.Io.KnownBytes.{Appends}
@@ -7,6 +7,8 @@ use Rattle.std.proofs.KnownBytes.{Appends-nil, Appends-trans}
 use Rattle.std.proofs.lemmas.List.{take-append-le, take_min}
 use Rattle.std.proofs.Math.Seq.{take-append-add}
 use Rattle.mt_opcodec.specs.Latch.{Latched, AppendsFront}
+use Rattle.byteorder.specs.Endian.{little_bytes}
+use Rattle.mt_cuewrite.specs.File.{zeros, padded}
 use Rattle.mt_cuewrite.specs.Putting.{Puts}
 
 -- a front of some bytes is a front of what begins with them
@@ -77,3 +79,16 @@ module _ {W : Type 0} (contents : W → Option (List ℕ)) where
     stays = h.stays;
     reads = h.reads;
   }
+
+  -- a chunk: its id and its size, its content, and its pad byte
+  pub puts_chunk : {o m n r : Latched W} (id content : List ℕ) (size : ℕ) → size ≡ length content → Puts contents o m (id ++ little_bytes 4 size)
+      → Puts contents m n content → Puts contents n r (zeros (size % 2)) → Puts contents o r (padded (record { id = id; content = content }))
+  unfolding padded
+  puts_chunk id content size is head inside pad =
+      then_puts (then_puts (puts_same (ap (λ (k : ℕ). id ++ little_bytes 4 k) is) head) inside) (puts_same (ap (λ (k : ℕ). zeros (k % 2)) is) pad)
+
+  -- a chunk of even size has no pad byte
+  pub puts_even : {o m n : Latched W} (id content : List ℕ) (size : ℕ) → size ≡ length content → size % 2 ≡ 0 → Puts contents o m (id ++ little_bytes 4 size)
+      → Puts contents m n content → Puts contents o n (padded (record { id = id; content = content }))
+  puts_even {o} {m} {n} id content size is even head inside =
+      puts_chunk id content size is head inside (puts_same (ap zeros (sym even)) (puts_none n))

@@ -30,7 +30,7 @@ is_form (f ∷ form) [] = false
 is_form (f ∷ form) (b ∷ text) = is_form_byte f b && is_form form text
 
 -- The first text that is not taken, counted from 1. The calendar is not checked.
-unfoldable pub bad_text : HeadText → Option ℕ
+abbrev pub bad_text : HeadText → Option ℕ
 bad_text h =
     if not (is_text 256 h.description) then Some 1
     else if not (is_text 32 h.originator) then Some 2

@@ -16,7 +16,7 @@ marks_size n labels = if n == 0 then 0 else (if labels == 2 ^ 32 then 2 ^ 32 els
 
 -- the sizes of a file that fits
 pub record AreSizes (p : Programme) (ms : List Marker) (h : HeadText) (s : Sizes) : Type 0 where
-  pub data : s.data ≡ length (samples p)
-  pub markers : s.markers ≡ length (before (length_of p.tracks) ms)
-  pub labels : s.labels ≡ length (labels (before (length_of p.tracks) ms))
-  pub riff : s.riff ≡ length (riff p ms h)
+  pub samples_size : s.samples ≡ length (samples p)
+  pub marker_count : s.markers ≡ length (before (length_of p.tracks) ms)
+  pub labels_size : s.labels ≡ length (labels (before (length_of p.tracks) ms))
+  pub riff_size : s.riff ≡ length (riff p ms h)

@@ -1,6 +1,6 @@
 //! The samples, block by block.
 
-ghost use Rattle.std.specs.Prelude.{◌≡◌, ℕ, ◌+◌, ◌*◌, ◌/◌, ◌%◌, ◌<◌, ◌≤◌, ◌^◌, length, slice_index_or, pos};
+ghost use Rattle.std.specs.Prelude.{◌≡◌, ℕ, ◌++◌, drop, ◌+◌, ◌*◌, ◌/◌, ◌%◌, ◌<◌, ◌≤◌, ◌^◌, length, slice_index_or, pos};
 ghost use Rattle.std.specs.List.{flat_map};
 ghost use Rattle.mt_render.specs.Mix.{length_of, mixed_sample};
 ghost use Rattle.mt_cuewrite.specs.Putting.{Puts};
@@ -22,6 +22,17 @@ pub(crate) const SAMPLES: usize = 8192;
 /// The bytes that these take at most, of 24 bits each.
 const BYTES: usize = 24_576;
 
+// Spells a sample of so many bits, 16 or 24, at the front of the bytes.
+#[tactic(auto, unfolding(crate::specs::File::sample))]
+fn spell_one(bits: u16, value: i32, bytes: &mut [u8])
+    requires low { 16 ≤ bits }
+    requires high { bits ≤ 24 }
+    requires room { bits / 8 ≤ length bytes.old }
+    ensures { bytes.new ≡ sample bits value ++ drop (bits / 8) bytes.old }
+{
+    LittleEndian::write_int(bytes, i64::from(value), usize::from(bits / 8));
+}
+
 // Spells samples of so many bits, 16 or 24.
 fn spell(bits: u16, samples: &[i32], bytes: &mut [u8])
     requires low { 16 ≤ bits }
@@ -31,7 +42,7 @@ fn spell(bits: u16, samples: &[i32], bytes: &mut [u8])
 {
     let width = usize::from(bits / 8);
     for index in 0..samples.len() {
-        LittleEndian::write_int(&mut bytes[width * index..], i64::from(samples[index]), width);
+        spell_one(bits, samples[index], &mut bytes[width * index..]);
     }
 }
 
@@ -50,9 +61,10 @@ fn put_block<A: Allocator, W: Write>(
     let bits = mix.format().bits();
     let size = usize::from(bits / 8) * samples.len();
     let mut bytes = [0; BYTES];
+    let spelled = &mut bytes[..size];
     mix.block(first, samples);
-    spell(bits, samples, &mut bytes[..size]);
-    put(output, &bytes[..size]);
+    spell(bits, samples, spelled);
+    put(output, spelled);
 }
 
 /// Puts the samples of all frames, through room for a block of them.

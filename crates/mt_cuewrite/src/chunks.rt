@@ -29,7 +29,8 @@ fn decimal_size(number: u32) -> u32
 
 // How long the coding history is.
 fn history_size(format: Format) -> u32
-    ensures { result ≡ length (history format) }
+    ensures value { result ≡ length (history format) }
+    ensures small { result ≤ 200 }
 {
     let word = channels_word(format.channels()).len() as u32;
     8 + decimal_size(format.rate()) + 3 + decimal_size(u32::from(format.bits())) + 3 + word + 2

@@ -73,7 +73,7 @@ fn put_file<A: Allocator, B: Allocator, W: Write>(
     put(output, b"WAVE");
     put_bext(output, mix.format(), head);
     put_format(output, mix.format());
-    put_data(output, mix, sizes.data, room);
+    put_data(output, mix, sizes.samples, room);
     put_marks(output, mix.length(), markers, sizes);
 }
 

@@ -25,6 +25,6 @@ mod size;
 #[cfg(test)]
 mod tests;
 
-pub use file::bounce;
 pub use fault::{BounceFault, HeadFault};
+pub use file::bounce;
 pub use head::Head;

@@ -1,6 +1,6 @@
 //! The cue points and their labels.
 
-ghost use Rattle.std.specs.Prelude.{◌≡◌, ℕ, ◌+◌, ◌*◌, ◌<◌, ◌≤◌, ◌^◌, min, length, codes};
+ghost use Rattle.std.specs.Prelude.{◌≡◌, ℕ, nat_lt, ◌+◌, ◌*◌, ◌<◌, ◌≤◌, ◌^◌, min, length, codes};
 ghost use Rattle.mt_cuewrite.specs.Putting.{Puts};
 ghost use Rattle.mt_cuewrite.specs.File.{padded, before, point, points, label_content, label, labels, named};
 
@@ -9,6 +9,13 @@ use mt_opcodec::Latch;
 use mt_sessionview::MarkerView;
 use std::alloc::Allocator;
 use std::io::Write;
+
+/// Whether a marker stands before the end, so that it is written.
+pub(crate) fn is_before<A: Allocator>(marker: &MarkerView<A>, end: u64) -> bool
+    ensures { result ≡ nat_lt marker.now.at end }
+{
+    u64::from(marker.at) < end
+}
 
 // Puts the cue point of this name.
 fn put_point<A: Allocator, W: Write>(output: &mut Latch<W>, name: u32, marker: &MarkerView<A>)
@@ -29,7 +36,7 @@ fn put_points<A: Allocator, W: Write>(output: &mut Latch<W>, end: u64, markers: 
 {
     let mut name = 1;
     for marker in markers {
-        if u64::from(marker.at) < end {
+        if is_before(marker, end) {
             put_point(output, name, marker);
             name += 1;
         }
@@ -70,7 +77,7 @@ fn put_labels<A: Allocator, W: Write>(output: &mut Latch<W>, end: u64, markers: 
 {
     let mut name = 1;
     for marker in markers {
-        if u64::from(marker.at) < end {
+        if is_before(marker, end) {
             put_label(output, name, marker);
             name += 1;
         }

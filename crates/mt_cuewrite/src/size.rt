@@ -8,7 +8,7 @@ ghost use Rattle.mt_cuewrite.specs.Sizes.{padded_size, marks_size, AreSizes};
 
 use crate::chunks::bext_size;
 use crate::head::Head;
-use crate::marks::label_size;
+use crate::marks::{is_before, label_size};
 use mt_render::Mix;
 use mt_sessionview::MarkerView;
 use std::alloc::Allocator;
@@ -20,7 +20,7 @@ const LIMIT: u64 = 4_294_967_296;
 #[derive(Clone, Copy)]
 pub(crate) struct Sizes {
     /// The content of `data`.
-    pub(crate) data: u32,
+    pub(crate) samples: u32,
     /// The markers before the end.
     pub(crate) markers: u32,
     /// The content of `LIST`.
@@ -55,7 +55,7 @@ fn count_marks<A: Allocator>(end: u64, markers: &[MarkerView<A>]) -> Marks
         labels: 4,
     };
     for marker in markers {
-        if u64::from(marker.at) < end {
+        if is_before(marker, end) {
             let label = padded_size(u64::from(label_size(marker)));
             marks.markers += 1;
             marks.labels = (marks.labels + label).min(LIMIT);
@@ -89,15 +89,15 @@ pub(crate) fn sizes_of<A: Allocator, B: Allocator>(
     ensures too_long { IfNone result (2 ^ 32 ≤ length (riff mix.now markers.now head.now)) }
 {
     let format = mix.format();
-    let data = mix.length() * u64::from(format.channels() * (format.bits() / 8));
+    let samples = mix.length() * u64::from(format.channels() * (format.bits() / 8));
     let marks = count_marks(mix.length(), markers);
     let bext = padded_size(u64::from(bext_size(format, head)));
-    let riff = 4 + bext + padded_size(16) + padded_size(data) + marks_size(marks);
+    let riff = 4 + bext + padded_size(16) + padded_size(samples) + marks_size(marks);
     if riff >= LIMIT {
         return None;
     }
     Some(Sizes {
-        data: data as u32,
+        samples: samples as u32,
         markers: marks.markers as u32,
         labels: marks.labels as u32,
         riff: riff as u32,
