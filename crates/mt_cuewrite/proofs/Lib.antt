@@ -3,3 +3,4 @@ pub mod Heads
 pub mod Sizing
 pub mod Marking
 pub mod Blocks
+pub mod Totals

@@ -120,3 +120,24 @@ fewer_than_bytes ms =
 -- adding up to a limit
 pub up_to_limit : (limit a b c s : ℕ) → s ≡ min limit a → c ≡ a + b → min (s + b) limit ≡ min limit c
 up_to_limit limit a b c s so sum = omega arith
+
+-- ---- counting
+
+pub count_more : (end : ℕ) (ms : List Marker) (i n : ℕ) (x : Marker) → i < length ms → x ≡ get_or ms i x → nat_lt x.at end ≡ true → n ≡ length (before end (take i ms)) → n + 1 ≡ length (before end (take (i + 1) ms))
+count_more end ms i n x lt is shown count =
+    let more = ap length (shown_more end ms i x lt is shown) ∙ length-append (before end (take i ms)) (x ∷ []) in
+    omega arith
+
+pub count_as_before : (end : ℕ) (ms : List Marker) (i n : ℕ) (x : Marker) → i < length ms → x ≡ get_or ms i x → nat_lt x.at end ≡ false → n ≡ length (before end (take i ms)) → n ≡ length (before end (take (i + 1) ms))
+count_as_before end ms i n x lt is hidden count = count ∙ ap length (sym (hidden_more end ms i x lt is hidden))
+
+pub labels_so_far : (end : ℕ) (ms : List Marker) (i l size : ℕ) (x : Marker) → i < length ms → x ≡ get_or ms i x → nat_lt x.at end ≡ true → l ≡ min (2 ^ 32) (length (labels (before end (take i ms))))
+    → size ≡ padded_size (length (label_content 1 x)) → min (l + size) (2 ^ 32) ≡ min (2 ^ 32) (length (labels (before end (take (i + 1) ms))))
+labels_so_far end ms i l size x lt is shown so_far size_is =
+    let more : length (labels (before end (take (i + 1) ms))) ≡ length (labels (before end (take i ms))) + size =
+    ap (λ (s : List Marker). length (labels s)) (shown_more end ms i x lt is shown) ∙ length-labels-more (before end (take i ms)) x ∙ ap (λ (k : ℕ). length (labels (before end (take i ms))) + k) (sym (size_is ∙ ap padded_size (length-label_content 1 x))) in
+    up_to_limit (2 ^ 32) (length (labels (before end (take i ms)))) size (length (labels (before end (take (i + 1) ms)))) l so_far more
+
+pub labels_as_before : (end : ℕ) (ms : List Marker) (i l : ℕ) (x : Marker) → i < length ms → x ≡ get_or ms i x → nat_lt x.at end ≡ false → l ≡ min (2 ^ 32) (length (labels (before end (take i ms))))
+    → l ≡ min (2 ^ 32) (length (labels (before end (take (i + 1) ms))))
+labels_as_before end ms i l x lt is hidden so_far = so_far ∙ ap (λ (s : List Marker). min (2 ^ 32) (length (labels s))) (sym (hidden_more end ms i x lt is hidden))

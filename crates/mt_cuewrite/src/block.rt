@@ -46,17 +46,18 @@ fn spell(bits: u16, samples: &[i32], bytes: &mut [u8])
     }
 }
 
-// Puts the frames from `first` on, as many as the samples have room for.
+// Puts so many frames from `first` on, for which the samples have room.
 fn put_block<A: Allocator, W: Write>(
     output: &mut Latch<W>,
     mix: &Mix<'_, '_, A>,
     first: u64,
+    count: u64,
     samples: &mut [i32],
 )
-    requires few { length samples.old ≤ 8192 }
-    requires whole { length samples.old % mix.now.layout.channels ≡ 0 }
-    requires within { first + length samples.old / mix.now.layout.channels ≤ length_of mix.now.tracks }
-    ensures { Puts W.contents output.old output.new (frames_from mix.now first (length samples.old / mix.now.layout.channels)) }
+    requires few { count ≤ 4096 }
+    requires room { length samples.old ≡ count * mix.now.layout.channels }
+    requires within { first + count ≤ length_of mix.now.tracks }
+    ensures { Puts W.contents output.old output.new (frames_from mix.now first count) }
 {
     let bits = mix.format().bits();
     let size = usize::from(bits / 8) * samples.len();
@@ -81,7 +82,7 @@ pub(crate) fn put_samples<A: Allocator, W: Write>(
     let mut first = 0;
     while first < frames {
         let count = (frames - first).min(BLOCK);
-        put_block(output, mix, first, &mut samples[..count as usize * channels]);
+        put_block(output, mix, first, count, &mut samples[..count as usize * channels]);
         if output.failed() {
             return;
         }
