@@ -134,3 +134,7 @@ pub frames_more : (p : Programme) (first count : ℕ) → frames_from p 0 first 
 frames_more p first count =
     let zero : first ≡ 0 + first = omega arith in
     ap (λ (n : ℕ). frames_from p 0 first ++ frames_from p n count) zero ∙ frames_join p 0 first count
+
+pub frames_none : (p : Programme) (f : ℕ) → frames_from p f 0 ≡ []
+unfolding frames_from
+frames_none p f = refl

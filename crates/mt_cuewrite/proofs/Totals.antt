@@ -1,5 +1,5 @@
 -- The size of a file, as it is counted.
-use Rattle.std.proofs.Common.{arith, ◌≡◌, ◌≢◌, ℕ, zero, suc, ◌<◌, ◌≤◌, ◌+◌, ◌*◌, ◌%◌, ◌^◌, Bool, true, false, List, [], ◌∷◌, ◌++◌, length, refl, sym, ap, ◌∙◌, inl, inr, length-append}
+use Rattle.std.proofs.Common.{arith, ◌≡◌, ◌≢◌, ℕ, zero, suc, ◌<◌, ◌≤◌, ◌+◌, ◌*◌, ◌/◌, ◌%◌, ◌^◌, Bool, true, false, List, [], ◌∷◌, ◌++◌, length, refl, sym, ap, ◌∙◌, inl, inr, length-append}
 use Rattle.std.specs.Prelude.{◌==◌, min, codes, Option}
 use Rattle.std.specs.List.{flat_map}
 use Rattle.std.proofs.lemmas.Bool.{eqb-true, ne_eqb, eq-eqb, false≢true}
@@ -15,7 +15,7 @@ use Rattle.mt_cuewrite.specs.Putting.{Puts}
 use Rattle.mt_cuewrite.specs.Sizes.{padded_size, marks_size}
 use Rattle.mt_cuewrite.proofs.Putting.{then_puts, puts_same}
 use Rattle.mt_cuewrite.proofs.Sizing.{length-two, length-padded, length-format}
-use Rattle.mt_cuewrite.proofs.Marking.{fewer_than_bytes}
+use Rattle.mt_cuewrite.proofs.Blocks.{length-frames}
 
 -- ---- the points
 
@@ -79,7 +79,10 @@ marks_counted (m ∷ ms) l is =
     not_none = ne_eqb (length (m ∷ ms)) 0 (λ none. omega arith)
 
     by : (b : Bool) → (l == 2 ^ 32) ≡ b → marks_size (length (m ∷ ms)) l ≡ min (2 ^ 32) (length (flat_map padded (marker_chunks (m ∷ ms))))
-    by true e = let full : l ≡ 2 ^ 32 = eqb-true l (2 ^ 32) e in rw (not_none, e) (omega arith)
+    by true e =
+        let full : l ≡ 2 ^ 32 = eqb-true l (2 ^ 32) e in
+        let all = some in
+        rw (not_none, e) (omega arith)
     by false e =
         let other : l ≢ 2 ^ 32 = eqb_apart l (2 ^ 32) e in
         let all : l ≡ length (labels (m ∷ ms)) = omega arith in
@@ -101,9 +104,15 @@ length-riff p ms h =
     let all = length-append (codes "WAVE") (flat_map padded (chunks p ms h)) in
     omega arith
 
+pub samples_size : (p : Programme) (frames align channels bits : ℕ) → frames ≡ length_of p.tracks → align ≡ channels * (bits / 8) → channels ≡ p.layout.channels → bits ≡ p.layout.bits → frames * align ≡ length (samples p)
+samples_size p frames align channels bits a b c d = rw (a, b, c, d) (sym (length-frames p 0 (length_of p.tracks)))
+
+pub total_of : (pb b pf pd d m k : ℕ) → pb ≡ padded_size b → pf ≡ 24 → pd ≡ padded_size d → m ≡ k → 4 + pb + pf + pd + m ≡ 4 + padded_size b + 24 + padded_size d + k
+total_of pb b pf pd d m k a e f h = rw (a, e, f, h) refl
+
 -- the points of a file that fits fit
-pub points_fit : (p : Programme) (ms : List Marker) (h : HeadText) (size : ℕ) → size ≡ length (riff p ms h) → size < 2 ^ 32 → 4 + 24 * length (before (length_of p.tracks) ms) < 2 ^ 32
-points_fit p ms h size is fits = by (before (length_of p.tracks) ms) refl
+pub points_fit : (p : Programme) (ms : List Marker) (h : HeadText) → length (riff p ms h) < 2 ^ 32 → 4 + 24 * length (before (length_of p.tracks) ms) < 2 ^ 32
+points_fit p ms h fits = by (before (length_of p.tracks) ms) refl
   where
     by : (some : List Marker) → before (length_of p.tracks) ms ≡ some → 4 + 24 * length (before (length_of p.tracks) ms) < 2 ^ 32
     by [] e = rw e (omega arith)

@@ -1,5 +1,5 @@
 -- The sizes of what is written, as they are counted: no definition of the subject.
-use Rattle.std.specs.Prelude.{◌≡◌, ℕ, ◌+◌, ◌*◌, ◌%◌, ◌^◌, ◌==◌, if◌then◌else◌, List, length, min}
+use Rattle.std.specs.Prelude.{◌≡◌, ℕ, ◌+◌, ◌*◌, ◌%◌, ◌^◌, ◌<◌, ◌==◌, if◌then◌else◌, List, length, min}
 use Rattle.mt_sessionview.specs.Content.{Marker}
 use Rattle.mt_render.specs.Mix.{Programme, length_of}
 use Rattle.mt_cuewrite.specs.Head.{HeadText}
@@ -20,3 +20,4 @@ pub record AreSizes (p : Programme) (ms : List Marker) (h : HeadText) (s : Sizes
   pub marker_count : s.markers ≡ length (before (length_of p.tracks) ms)
   pub labels_size : s.labels ≡ length (labels (before (length_of p.tracks) ms))
   pub riff_size : s.riff ≡ length (riff p ms h)
+  pub riff_fits : length (riff p ms h) < 2 ^ 32
