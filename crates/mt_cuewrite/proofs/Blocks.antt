@@ -45,7 +45,7 @@ frames_by p (suc n) f xs len each =
     channels_are p f 0 (take w xs) (λ k lt. get_or-take w xs k (pos 0) (omega arith) ∙ at_first f k (each 0 k (omega arith) (omega arith))) ∙ ap (channels_from p f 0) front_length in
     let back : spell (drop w xs) ≡ frames_from p (suc f) n =
     frames_by p n (suc f) (drop w xs) back_length (λ g c in_frames in_frame.
-        get_or-drop w xs (g * w + c) (pos 0) ∙ ap (λ (k : ℕ). get_or xs k (pos 0)) (further g w c) ∙ each (suc g) c (omega arith) in_frame ∙ ap (λ (k : ℕ). mixed_sample p k c) (next f g)) in
+    get_or-drop w xs (g * w + c) (pos 0) ∙ ap (λ (k : ℕ). get_or xs k (pos 0)) (further g w c) ∙ each (suc g) c (omega arith) in_frame ∙ ap (λ (k : ℕ). mixed_sample p k c) (next f g)) in
     ap spell (sym (take-append-drop w xs)) ∙ flat_map-append (sample p.layout.bits) (take w xs) (drop w xs) ∙ ap (λ (l : List ℕ). l ++ spell (drop w xs)) front ∙ ap (λ (l : List ℕ). channels_from p f 0 w ++ l) back
   where
     further : (g w c : ℕ) → w + (g * w + c) ≡ suc g * w + c
@@ -63,9 +63,9 @@ pub frames_are : (p : Programme) (n f : ℕ) (xs : List ℤ) → length xs ≡ n
     → ((k : ℕ) → k < length xs → get_or xs k (pos 0) ≡ mixed_sample p (f + k / p.layout.channels) (k % p.layout.channels)) → flat_map (sample p.layout.bits) xs ≡ frames_from p f n
 frames_are p n f xs len each =
     frames_by p n f xs len (λ g c in_frames in_frame.
-        let w = p.layout.channels in
-        each (g * w + c) (within g c in_frames in_frame) ∙ ap (λ (k : ℕ). mixed_sample p (f + k) ((g * w + c) % w)) (div-mul-add g w c in_frame)
-        ∙ ap (mixed_sample p (f + g)) (mul-add-mod_self_right g w c ∙ mod-eq_of_lt in_frame))
+    let w = p.layout.channels in
+    each (g * w + c) (within g c in_frames in_frame) ∙ ap (λ (k : ℕ). mixed_sample p (f + k) ((g * w + c) % w)) (div-mul-add g w c in_frame)
+    ∙ ap (mixed_sample p (f + g)) (mul-add-mod_self_right g w c ∙ mod-eq_of_lt in_frame))
   where
     within : (g c : ℕ) → g < n → c < p.layout.channels → g * p.layout.channels + c < length xs
     within g c in_frames in_frame =

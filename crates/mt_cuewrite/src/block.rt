@@ -82,7 +82,13 @@ pub(crate) fn put_samples<A: Allocator, W: Write>(
     let mut first = 0;
     while first < frames {
         let count = (frames - first).min(BLOCK);
-        put_block(output, mix, first, count, &mut samples[..count as usize * channels]);
+        put_block(
+            output,
+            mix,
+            first,
+            count,
+            &mut samples[..count as usize * channels],
+        );
         if output.failed() {
             return;
         }

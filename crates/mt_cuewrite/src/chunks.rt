@@ -6,7 +6,9 @@ ghost use Rattle.mt_cuewrite.specs.Putting.{Puts};
 ghost use Rattle.mt_cuewrite.specs.File.{padded, channels_word, history, texts, bext, format as format_content};
 
 use crate::head::Head;
-use crate::put::{put, put_chunk_head, put_decimal, put_filled, put_pad, put_u16, put_u32, put_u64, put_zeros};
+use crate::put::{
+    put, put_chunk_head, put_decimal, put_filled, put_pad, put_u16, put_u32, put_u64, put_zeros,
+};
 use mt_opcodec::Latch;
 use mt_render::Format;
 use std::io::Write;

@@ -52,7 +52,11 @@ pub(crate) fn label_size<A: Allocator>(marker: &MarkerView<A>) -> u32
 }
 
 // Puts the content of the label of this name.
-fn put_label_content<A: Allocator, W: Write>(output: &mut Latch<W>, name: u32, marker: &MarkerView<A>)
+fn put_label_content<A: Allocator, W: Write>(
+    output: &mut Latch<W>,
+    name: u32,
+    marker: &MarkerView<A>,
+)
     ensures { Puts W.contents output.old output.new (label_content name marker.now) }
 {
     put_u32(output, name);
