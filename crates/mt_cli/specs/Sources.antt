@@ -1,5 +1,5 @@
 -- Reading recordings from readers, and why one is refused.
-use Rattle.std.specs.Prelude.{◌≡◌, ◌≢◌, ℕ, true, List, [], ◌∷◌, ◌+◌, Option, Some, map, ◌⊎◌}
+use Rattle.std.specs.Prelude.{◌≡◌, ◌≢◌, ℕ, true, List, [], ◌∷◌, ◌+◌, Option, Some, map, Vec, ◌⊎◌}
 use Rattle.sha2.specs.Sha256.{sha256}
 use Rattle.mt_op.specs.declared.digest.Digest.{Digest}
 use Rattle.mt_opcodec.specs.Latch.{Latched}
@@ -8,6 +8,10 @@ use Rattle.mt_render.specs.Sources.{Sources}
 use Rattle.mt_cli.specs.declared.fault.CliFault.{CliFault}
 use Rattle.mt_cli.specs.declared.fault.CliFault.TheVariants.{Memory, Read, Log, Merge, Source, Mix, Write}
 use Rattle.mt_cli.specs.Reading.{Gave, IsRead}
+
+-- the bytes of each recording that is kept
+abbrev pub bytes_in : {Z : Type 0} → List (Vec ℕ Z) → List (List ℕ)
+bytes_in texts = map (λ t. t.items) texts
 
 -- recordings under their digests; of several under one digest the first is found
 abbrev pub under_digest : List ℕ → Digest × List ℕ

@@ -6,6 +6,7 @@ use std::alloc::Global;
 pub(crate) mod explain;
 pub(crate) mod info;
 pub(crate) mod merge;
+pub(crate) mod render;
 pub(crate) mod view;
 
 // The words of a command that names logs.

@@ -2,7 +2,7 @@
 
 ghost use Rattle.std.specs.Prelude.{◌≡◌, ◌≤◌};
 
-use crate::commands::{explain, info, merge, view};
+use crate::commands::{explain, info, merge, render, view};
 use crate::fault::CliFault;
 use crate::stop::Stop;
 use clap::Command;
@@ -62,6 +62,7 @@ fn run<F: Files + AllocGlobal, R: Read, W: Write>(
     match matches.subcommand() {
         Some(("view", words)) => view::run(rt, words, input, output),
         Some(("merge", words)) => merge::run(rt, words),
+        Some(("render", words)) => render::run(rt, words),
         Some(("info", words)) => info::run(rt, words, output),
         Some(("explain", words)) => explain::run(rt.alloc(), words, output),
         _ => Err(Stop::Told {
@@ -82,6 +83,7 @@ fn radio<'a>(alloc: Global) -> Result<Command<'a>, AllocError> {
         .subcommand_required(true)
         .subcommand(view::words(alloc)?)?
         .subcommand(merge::words(alloc)?)?
+        .subcommand(render::words(alloc)?)?
         .subcommand(info::words(alloc)?)?
         .subcommand(explain::words(alloc)?)
 }

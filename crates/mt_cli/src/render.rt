@@ -1,12 +1,14 @@
 //! Rendering logs and recordings.
 
-ghost use Rattle.std.specs.Prelude.{◌≡◌, ◌≢◌, ◌+◌, ◌<◌, ◌^◌, length, map, IfErr, OnOk};
+ghost use Rattle.std.specs.Prelude.{◌≡◌, ◌≢◌, ◌+◌, ◌<◌, ◌^◌, length, IfErr, OnOk};
 ghost use Rattle.std.specs.Io.KnownBytes.{Appends};
 ghost use Rattle.mt_opcodec.specs.LogValue.{operations};
 ghost use Rattle.mt_sessionview.specs.Session.{session_of};
 ghost use Rattle.mt_render.specs.declared.fault.MixFault.TheVariants as mix;
+ghost use Rattle.mt_cli.specs.Faults.{file_fault};
 ghost use Rattle.mt_cli.specs.Bouncing.{CanBounce, session_file, SessionFails, BounceFails, HasBounced};
 ghost use Rattle.mt_cli.specs.Reading.{AreRead};
+ghost use Rattle.mt_cli.specs.Sources.{bytes_in};
 
 use crate::fault::CliFault;
 use crate::sources::{catalogue_of, read_sources};
@@ -19,13 +21,24 @@ use std::alloc::Allocator;
 use std::io::{Read, Write};
 
 // Why a programme is not mixed.
-fn refused(fault: MixFault) -> CliFault
+fn refused_mix(fault: MixFault) -> CliFault
     ensures memory { fault ≡ mix.Memory → result ≡ CliFault.Memory }
     ensures other { fault ≢ mix.Memory → result ≡ CliFault.Mix fault }
 {
     match fault {
         MixFault::Memory => CliFault::Memory,
         _ => CliFault::Mix(fault),
+    }
+}
+
+// Why a file is not written.
+fn refused_file(fault: BounceFault) -> CliFault
+    ensures { result ≡ file_fault fault }
+{
+    match fault {
+        BounceFault::Memory => CliFault::Memory,
+        BounceFault::TooLong => CliFault::Mix(MixFault::TooLong),
+        BounceFault::Write => CliFault::Write,
     }
 }
 
@@ -38,20 +51,18 @@ fn put_session<A: Allocator + Clone, W: Write>(
     format: Format,
     output: &mut Latch<W>,
 ) -> Result<(), CliFault>
-    ensures can { OnOk result (CanBounce session.now (map (λ t. t.items) texts.now) format head.now) }
-    ensures ok { OnOk result (Appends (W.contents output.old.inner) (W.contents output.new.inner) (session_file session.now (map (λ t. t.items) texts.now) format head.now)) }
-    ensures err { IfErr result (SessionFails W.contents session.now (map (λ t. t.items) texts.now) format head.now output.old output.new) }
+    ensures can { OnOk result (CanBounce session.now (bytes_in texts.now) format head.now) }
+    ensures ok { OnOk result (Appends (W.contents output.old.inner) (W.contents output.new.inner) (session_file session.now (bytes_in texts.now) format head.now)) }
+    ensures err { IfErr result (SessionFails W.contents session.now (bytes_in texts.now) format head.now output.old output.new) }
 {
     let catalogue = catalogue_of(alloc.clone()?, texts)?;
     let mix = match Mix::new(alloc.clone()?, session, &catalogue, format) {
         Ok(mix) => mix,
-        Err(fault) => return Err(refused(fault)),
+        Err(fault) => return Err(refused_mix(fault)),
     };
     match bounce(alloc, &mix, session.markers.items(), head, output) {
         Ok(()) => Ok(()),
-        Err(BounceFault::Memory) => Err(CliFault::Memory),
-        Err(BounceFault::TooLong) => Err(CliFault::Mix(MixFault::TooLong)),
-        Err(BounceFault::Write) => Err(CliFault::Write),
+        Err(fault) => Err(refused_file(fault)),
     }
 }
 
@@ -64,9 +75,9 @@ fn put_log<A: Allocator + Clone, W: Write>(
     format: Format,
     output: &mut Latch<W>,
 ) -> Result<(), CliFault>
-    ensures can { OnOk result (CanBounce (session_of (operations log.now)) (map (λ t. t.items) texts.now) format head.now) }
-    ensures ok { OnOk result (Appends (W.contents output.old.inner) (W.contents output.new.inner) (session_file (session_of (operations log.now)) (map (λ t. t.items) texts.now) format head.now)) }
-    ensures err { IfErr result (SessionFails W.contents (session_of (operations log.now)) (map (λ t. t.items) texts.now) format head.now output.old output.new) }
+    ensures can { OnOk result (CanBounce (session_of (operations log.now)) (bytes_in texts.now) format head.now) }
+    ensures ok { OnOk result (Appends (W.contents output.old.inner) (W.contents output.new.inner) (session_file (session_of (operations log.now)) (bytes_in texts.now) format head.now)) }
+    ensures err { IfErr result (SessionFails W.contents (session_of (operations log.now)) (bytes_in texts.now) format head.now output.old output.new) }
 {
     let Ok(session) = from_scratch(alloc.clone()?, log) else {
         return Err(CliFault::Memory);

@@ -1,16 +1,15 @@
 //! Reading recordings.
 
-ghost use Rattle.std.specs.Prelude.{◌≡◌, ◌+◌, ◌<◌, ◌≤◌, ◌^◌, length, IfOk, IfErr, OnOk};
+ghost use Rattle.std.specs.Prelude.{◌≡◌, ◌+◌, ◌<◌, ◌^◌, length, IfOk, IfErr, OnOk};
 ghost use Rattle.mt_bwfread.specs.Wave.{IsWave};
 ghost use Rattle.mt_op.specs.declared.digest.Digest.{Digest as DigestOf};
 ghost use Rattle.mt_render.specs.Sources.{found};
 ghost use Rattle.mt_cli.specs.Reading.{Gave, IsRead, AreRead};
-ghost use Rattle.mt_cli.specs.Sources.{GaveWaves, IsSourceCause, HasSourceCause, sources_of};
+ghost use Rattle.mt_cli.specs.Sources.{GaveWaves, IsSourceCause, HasSourceCause, sources_of, bytes_in};
 
 use crate::fault::CliFault;
-use crate::read::read_all;
 use mt_bwfread::Wave;
-use mt_opcodec::Latch;
+use mt_opcodec::{Latch, LatchFault};
 use mt_render::Catalogue;
 use std::alloc::Allocator;
 use std::io::Read;
@@ -27,7 +26,11 @@ fn read_source<A: Allocator, R: Read>(
     ensures ok { IfOk result (λ bytes. Gave R.remaining input.old bytes.items × IsWave bytes.items) }
     ensures err { IfErr result (IsSourceCause R.remaining others index input.old input.new) }
 {
-    let bytes = read_all(alloc, others + index, input)?;
+    let bytes = match input.get_all(alloc) {
+        Ok(bytes) => bytes,
+        Err(LatchFault::Memory) => return Err(CliFault::Memory),
+        Err(_) => return Err(CliFault::Read(others + index)),
+    };
     match Wave::read(&bytes) {
         Ok(_) => Ok(bytes),
         Err(fault) => Err(CliFault::Source(index, fault)),
@@ -42,7 +45,7 @@ pub(crate) fn read_sources<A: Allocator + Clone, R: Read>(
 ) -> Result<Vec<Vec<u8, A>, A>, CliFault>
     requires few { others + length inputs.old < 2 ^ 64 }
     ensures read { OnOk result (AreRead R.remaining inputs.new) }
-    ensures ok { IfOk result (λ texts. GaveWaves R.remaining inputs.old (map (λ t. t.items) texts.items)) }
+    ensures ok { IfOk result (λ texts. GaveWaves R.remaining inputs.old (bytes_in texts.items)) }
     ensures err { IfErr result (HasSourceCause R.remaining others 0 inputs.old inputs.new) }
 {
     let mut texts = Vec::new(alloc.clone()?);
@@ -59,7 +62,7 @@ pub(crate) fn catalogue_of<'a, A: Allocator + Clone>(
     alloc: A,
     texts: &'a [Vec<u8, A>],
 ) -> Result<Catalogue<'a, A>, CliFault>
-    ensures ok { IfOk result (λ c. (d : DigestOf) → found c d ≡ found (sources_of (map (λ t. t.items) texts.now)) d) }
+    ensures ok { IfOk result (λ c. (d : DigestOf) → found c d ≡ found (sources_of (bytes_in texts.now)) d) }
     ensures err { IfErr result (λ fault. fault ≡ CliFault.Memory) }
 {
     let mut catalogue = Catalogue::new(alloc);

@@ -2,6 +2,8 @@
 
 use crate::fault::CliFault;
 use clap::error::ErrorKind;
+use mt_cuewrite::HeadFault;
+use mt_render::FormatFault;
 use std::alloc::{AllocError, Global};
 
 /// What stops a command.
@@ -37,6 +39,18 @@ impl From<AllocError> for Stop {
 
 impl From<CliFault> for Stop {
     fn from(fault: CliFault) -> Stop {
+        Stop::Refused(fault.number())
+    }
+}
+
+impl From<HeadFault> for Stop {
+    fn from(fault: HeadFault) -> Stop {
+        Stop::Refused(fault.number())
+    }
+}
+
+impl From<FormatFault> for Stop {
+    fn from(fault: FormatFault) -> Stop {
         Stop::Refused(fault.number())
     }
 }

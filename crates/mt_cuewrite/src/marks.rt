@@ -10,6 +10,9 @@ use mt_sessionview::MarkerView;
 use std::alloc::Allocator;
 use std::io::Write;
 
+/// The name of the first cue point.
+const FIRST: u32 = 1;
+
 /// Whether a marker stands before the end, so that it is written.
 pub(crate) fn is_before<A: Allocator>(marker: &MarkerView<A>, end: u64) -> bool
     ensures { result ≡ nat_lt marker.now.at end }
@@ -21,8 +24,9 @@ pub(crate) fn is_before<A: Allocator>(marker: &MarkerView<A>, end: u64) -> bool
 fn put_point<A: Allocator, W: Write>(output: &mut Latch<W>, name: u32, marker: &MarkerView<A>)
     ensures { Puts W.contents output.old output.new (point name marker.now) }
 {
+    let position = marker.at;
     put_u32(output, name);
-    put_u32(output, marker.at);
+    put_u32(output, position);
     put(output, b"data");
     put_u32(output, 0);
     put_u32(output, 0);
@@ -34,7 +38,7 @@ fn put_points<A: Allocator, W: Write>(output: &mut Latch<W>, end: u64, markers: 
     requires few { length (before end markers.now) < 2 ^ 31 }
     ensures { Puts W.contents output.old output.new (named point 1 (before end markers.now)) }
 {
-    let mut name = 1;
+    let mut name = FIRST;
     for marker in markers {
         if is_before(marker, end) {
             put_point(output, name, marker);
@@ -79,7 +83,7 @@ fn put_labels<A: Allocator, W: Write>(output: &mut Latch<W>, end: u64, markers: 
     requires few { length (before end markers.now) < 2 ^ 31 }
     ensures { Puts W.contents output.old output.new (named label 1 (before end markers.now)) }
 {
-    let mut name = 1;
+    let mut name = FIRST;
     for marker in markers {
         if is_before(marker, end) {
             put_label(output, name, marker);
