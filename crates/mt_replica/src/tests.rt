@@ -10,11 +10,6 @@ const A: Replica = Replica(10);
 
 const B: Replica = Replica(11);
 
-// The stamp of the marker of the tests.
-fn first() -> Option<Stamp> {
-    Stamp::new(1, A, 1).ok()
-}
-
 // An AddMarker of this stamp.
 fn marker<M: Allocator>(memory: M, stamp: Stamp) -> Result<Op<M>, OpFault> {
     let title = Title::new(memory, "News")?;
@@ -88,31 +83,44 @@ fn takes_an_operation_once(rt: HostRuntime) -> Result<(), Fail> {
     Ok(())
 }
 
-// The titles that two Retitles leave, taken in one order and in the other.
-fn two_retitles<M: Allocator + Clone>(memory: &M, turned: bool) -> Result<bool, Fail> {
-    let item = Stamp::new(1, A, 1)?;
-    let mut editor = newcomer(memory, B)?;
-    let _ = editor.take(marker(memory.clone()?, item)?)?;
-    let late = retitle(memory.clone()?, Stamp::new(2, B, 1)?, item)?;
-    let title = Title::new(memory.clone()?, "Early")?;
-    let early = Op::new(Stamp::new(2, A, 2)?, Body::Retitle { item, title })?;
-    let (one, other) = if turned { (late, early) } else { (early, late) };
-    let _ = editor.take(one)?;
-    let _ = editor.take(other)?;
-    Ok(is_titled(&editor, "Late"))
+// An editor that has taken the marker of this stamp.
+fn one_marker<M: Allocator + Clone>(
+    memory: &M,
+    name: Replica,
+    item: Stamp,
+) -> Result<Editor<M>, EditorFault> {
+    let Ok(op) = marker(memory.clone()?, item) else {
+        return Err(EditorFault::Memory);
+    };
+    let mut editor = newcomer(memory, name)?;
+    let _ = editor.take(op)?;
+    Ok(editor)
+}
+
+// Whether a marker that was retitled as `Late` by a greater stamp still has that title after an operation of a smaller one.
+fn keeps_late<M: Allocator + Clone>(editor: &mut Editor<M>, late: Op<M>, early: Op<M>) -> bool {
+    let taken = editor.take(late).is_ok() && editor.take(early).is_ok();
+    taken && is_titled(editor, "Late")
 }
 
 #[test]
-fn keeps_the_last_title_in_both_orders(rt: HostRuntime) -> Result<(), Fail> {
-    assert!(rt; two_retitles(&rt.alloc(), false)?);
-    assert!(rt; two_retitles(&rt.alloc(), true)?);
+fn keeps_the_last_title_in_any_order(rt: HostRuntime) -> Result<(), Fail> {
+    let item = Stamp::new(1, A, 1)?;
+    let mut editor = one_marker(&rt.alloc(), B, item)?;
+    let late = retitle(rt.alloc(), Stamp::new(3, B, 1)?, item)?;
+    let title = Title::new(rt.alloc(), "Early")?;
+    let early = Op::new(Stamp::new(2, A, 2)?, Body::Retitle { item, title })?;
+    assert!(rt; keeps_late(&mut editor, late, early));
     Ok(())
 }
 
 // What a change of the log with the one marker is refused for, by the editor B.
-fn refusal<M: Allocator + Clone>(memory: &M, change: &Change<M>) -> Result<Option<EditorFault>, Fail> {
-    let mut editor = newcomer(memory, B)?;
-    let _ = editor.take(marker(memory.clone()?, Stamp::new(1, A, 1)?)?)?;
+fn refusal<M: Allocator + Clone>(
+    memory: &M,
+    item: Stamp,
+    change: &Change<M>,
+) -> Result<Option<EditorFault>, EditorFault> {
+    let mut editor = one_marker(memory, B, item)?;
     Ok(editor.edit(change).err())
 }
 
@@ -120,7 +128,8 @@ fn refusal<M: Allocator + Clone>(memory: &M, change: &Change<M>) -> Result<Optio
 fn refuses_what_is_not_there(rt: HostRuntime) -> Result<(), Fail> {
     let item = Stamp::new(9, B, 9)?;
     let title = Title::new(rt.alloc(), "x")?;
-    let fault = refusal(&rt.alloc(), &Change::Retitle { item, title })?;
+    let first = Stamp::new(1, A, 1)?;
+    let fault = refusal(&rt.alloc(), first, &Change::Retitle { item, title })?;
     assert_eq!(rt; fault, Some(EditorFault::NoSuchItem(item)));
     Ok(())
 }
@@ -133,7 +142,9 @@ fn refuses_a_clip_of_no_frame_first(rt: HostRuntime) -> Result<(), Fail> {
         offset: 0,
         len: 0,
     };
-    assert_eq!(rt; refusal(&rt.alloc(), &change)?, Some(EditorFault::ZeroLength));
+    let first = Stamp::new(1, A, 1)?;
+    let fault = refusal(&rt.alloc(), first, &change)?;
+    assert_eq!(rt; fault, Some(EditorFault::ZeroLength));
     Ok(())
 }
 
@@ -145,7 +156,8 @@ fn refuses_a_marker_for_a_clip(rt: HostRuntime) -> Result<(), Fail> {
         track: clip,
         at: 0,
     };
-    assert_eq!(rt; refusal(&rt.alloc(), &change)?, Some(EditorFault::NoSuchItem(clip)));
+    let fault = refusal(&rt.alloc(), clip, &change)?;
+    assert_eq!(rt; fault, Some(EditorFault::NoSuchItem(clip)));
     Ok(())
 }
 
@@ -163,23 +175,28 @@ fn made<M: Allocator + Clone>(
 #[test]
 fn removes_and_restores(rt: HostRuntime) -> Result<(), Fail> {
     let item = Stamp::new(1, A, 1)?;
-    let mut editor = newcomer(&rt.alloc(), B)?;
-    let _ = editor.take(marker(rt.alloc(), item)?)?;
-    assert_eq!(rt; made(&mut editor, &Change::Remove { item }), Ok(Stamp::new(2, B, 1)?));
-    assert_eq!(rt; made(&mut editor, &Change::Remove { item }), Err(EditorFault::Absent(item)));
+    let mut editor = one_marker(&rt.alloc(), B, item)?;
+    let removed = made(&mut editor, &Change::Remove { item });
+    let again = made(&mut editor, &Change::Remove { item });
     assert_eq!(rt; counts(&editor), Some((2, 0, 0)));
-    assert_eq!(rt; made(&mut editor, &Change::Restore { item }), Ok(Stamp::new(3, B, 2)?));
+    let restored = made(&mut editor, &Change::Restore { item });
     assert_eq!(rt; counts(&editor), Some((3, 0, 1)));
+    assert_eq!(rt; again, Err(EditorFault::Absent(item)));
+    assert_eq!(rt; removed, Ok(Stamp::new(2, B, 1)?));
+    assert_eq!(rt; restored, Ok(Stamp::new(3, B, 2)?));
     Ok(())
 }
 
-// What an AddMarker is refused for where the log has one marker of this stamp.
-fn next_after<M: Allocator + Clone>(memory: &M, last: Stamp) -> Result<Option<EditorFault>, Fail> {
-    let mut editor = newcomer(memory, A)?;
-    let _ = editor.take(marker(memory.clone()?, last)?)?;
-    let title = Title::new(memory.clone()?, "x")?;
-    let fault = editor.edit(&Change::AddMarker { at: u32::MAX, title }).err();
-    Ok(fault)
+// What an AddMarker by A is refused for where the log has one marker of this stamp.
+fn next_after<M: Allocator + Clone>(
+    memory: &M,
+    last: Stamp,
+) -> Result<Option<EditorFault>, EditorFault> {
+    let Ok(title) = Title::new(memory.clone()?, "x") else {
+        return Err(EditorFault::Memory);
+    };
+    let mut editor = one_marker(memory, A, last)?;
+    Ok(editor.edit(&Change::AddMarker { at: u32::MAX, title }).err())
 }
 
 #[test]
@@ -194,45 +211,50 @@ fn stops_at_the_greatest_clock_and_number(rt: HostRuntime) -> Result<(), Fail> {
     Ok(())
 }
 
-// A copy that edits leaves the first editor as it was, and a draft becomes an editor of its log.
-fn copies<M: Allocator + Clone>(memory: &M) -> Result<bool, EditorFault> {
-    let Some(item) = first() else {
-        return Ok(false);
-    };
-    let mut editor = newcomer(memory, B)?;
-    match marker(memory.clone()?, item) {
-        Ok(op) => {
-            let _ = editor.take(op)?;
-        }
-        Err(_) => return Err(EditorFault::Memory),
-    }
+// What a copy of an editor has after it removed this item.
+fn of_a_copy<M: Allocator + Clone>(
+    editor: &Editor<M>,
+    item: Stamp,
+) -> Result<Option<(usize, u64, usize)>, EditorFault> {
     let mut copy = editor.try_clone()?;
     let _ = copy.edit(&Change::Remove { item })?;
+    Ok(counts(&copy))
+}
+
+// What the editor of a draft has after the draft removed this item.
+fn of_a_draft<M: Allocator + Clone>(
+    editor: &Editor<M>,
+    item: Stamp,
+) -> Result<Option<(usize, u64, usize)>, EditorFault> {
     let mut draft = editor.draft()?;
     let _ = draft.edit(&Change::Remove { item })?;
-    let drafted = match draft.log() {
-        Some(_) => Editor::of_draft(draft)?,
-        None => return Ok(false),
-    };
-    Ok(editor.name() == B
-        && copy.name() == B
-        && counts(&editor) == Some((1, 0, 1))
-        && counts(&copy) == Some((2, 0, 0))
-        && counts(&drafted) == Some((2, 0, 0)))
+    let drafted = Editor::of_draft(draft)?;
+    Ok(counts(&drafted))
+}
+
+// Whether a copy and a draft that remove an item leave the first editor as it was.
+fn copies<M: Allocator + Clone>(memory: &M, item: Stamp) -> Result<bool, EditorFault> {
+    let editor = one_marker(memory, B, item)?;
+    let copy = of_a_copy(&editor, item)?;
+    let draft = of_a_draft(&editor, item)?;
+    let removed = Some((2, 0, 0));
+    Ok(counts(&editor) == Some((1, 0, 1)) && copy == removed && draft == removed)
 }
 
 #[test]
 fn copies_an_editor(rt: HostRuntime) -> Result<(), Fail> {
-    assert!(rt; copies(&rt.alloc())?);
+    let item = Stamp::new(1, A, 1)?;
+    assert_eq!(rt; copies(&rt.alloc(), item), Ok(true));
     Ok(())
 }
 
 // Each growth is refused in turn, until none is.
 #[test]
 fn answers_each_refused_growth(rt: HostRuntime) -> Result<(), Fail> {
+    let item = Stamp::new(1, A, 1)?;
     for at in 0..400 {
         let memory = Refusing::new(rt.alloc(), at);
-        let done = copies(&&memory);
+        let done = copies(&&memory, item);
         if !memory.has_refused() {
             assert!(rt; at > 20);
             assert_eq!(rt; done, Ok(true));
