@@ -1,5 +1,6 @@
 mod bad_lines;
 mod forms;
+mod scripts;
 
 use mt_stamp::{Replica, Stamp, StampFault};
 

@@ -97,12 +97,7 @@ fn of_gains(rt: HostRuntime) -> Result<(), Fail> {
 
 #[test]
 fn of_switches(rt: HostRuntime) -> Result<(), Fail> {
-    let lines: [&[u8]; 4] = [
-        b"mute $1 yes",
-        b"mute $1 On",
-        b"mute $1 on ",
-        b"mute $1",
-    ];
+    let lines: [&[u8]; 4] = [b"mute $1 yes", b"mute $1 On", b"mute $1 on ", b"mute $1"];
     assert_eq!(rt; asking(rt.alloc(), &lines)?, 0);
     Ok(())
 }

@@ -53,7 +53,13 @@ fn adds_a_marker(rt: HostRuntime) -> Result<(), Fail> {
 #[test]
 fn retitles_an_item(rt: HostRuntime) -> Result<(), Fail> {
     assert!(rt; retitles(rt.alloc(), b"retitle $1 Late News", "Late News")?);
-    assert!(rt; retitles(rt.alloc(), b"retitle 1.1.00000000-0000-0000-0000-00000000000a x", "x")?);
+    assert!(rt;
+        retitles(
+            rt.alloc(),
+            b"retitle 1.1.00000000-0000-0000-0000-00000000000a x",
+            "x"
+        )?
+    );
     Ok(())
 }
 
@@ -99,7 +105,13 @@ fn moves_and_trims_a_clip(rt: HostRuntime) -> Result<(), Fail> {
     let clip = Stamp::new(1, A, 1)?;
     let track = Stamp::new(2, A, 2)?;
     let moved = Change::MoveClip { clip, track, at: 7 };
-    assert!(rt; asks(rt.alloc(), b"move-clip $1 2.2.00000000-0000-0000-0000-00000000000a 7", moved)?);
+    assert!(rt;
+        asks(
+            rt.alloc(),
+            b"move-clip $1 2.2.00000000-0000-0000-0000-00000000000a 7",
+            moved
+        )?
+    );
     let trimmed = Change::TrimClip {
         clip,
         offset: 5,
@@ -113,9 +125,27 @@ fn moves_and_trims_a_clip(rt: HostRuntime) -> Result<(), Fail> {
 fn sets_gain_and_mute(rt: HostRuntime) -> Result<(), Fail> {
     let item = Stamp::new(1, A, 1)?;
     let gain = Gain::new(0, 65535)?;
-    assert!(rt; asks(rt.alloc(), b"gain $1 0/65535", Change::SetGain { item, gain })?);
-    assert!(rt; asks(rt.alloc(), b"mute $1 on", Change::SetMute { item, on: true })?);
-    assert!(rt; asks(rt.alloc(), b"mute $1 off", Change::SetMute { item, on: false })?);
+    assert!(rt;
+        asks(
+            rt.alloc(),
+            b"gain $1 0/65535",
+            Change::SetGain { item, gain }
+        )?
+    );
+    assert!(rt;
+        asks(
+            rt.alloc(),
+            b"mute $1 on",
+            Change::SetMute { item, on: true }
+        )?
+    );
+    assert!(rt;
+        asks(
+            rt.alloc(),
+            b"mute $1 off",
+            Change::SetMute { item, on: false }
+        )?
+    );
     Ok(())
 }
 
@@ -124,7 +154,16 @@ fn removes_restores_and_moves(rt: HostRuntime) -> Result<(), Fail> {
     let item = Stamp::new(1, A, 1)?;
     assert!(rt; asks(rt.alloc(), b"remove $1", Change::Remove { item })?);
     assert!(rt; asks(rt.alloc(), b"restore $1", Change::Restore { item })?);
-    assert!(rt; asks(rt.alloc(), b"move-marker $1 480", Change::MoveMarker { marker: item, at: 480 })?);
+    assert!(rt;
+        asks(
+            rt.alloc(),
+            b"move-marker $1 480",
+            Change::MoveMarker {
+                marker: item,
+                at: 480
+            }
+        )?
+    );
     Ok(())
 }
 
