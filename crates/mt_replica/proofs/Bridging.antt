@@ -1,6 +1,6 @@
 -- What the items noted answer is what the ready operations answer, where they are the same.
-use Rattle.std.proofs.Common.{◌≡◌, ◌≢◌, ℕ, Bool, true, false, not, ◌||◌, List, [], ◌∷◌, map, length, refl, sym, ap, ◌∙◌, subst, inl, inr}
-use Rattle.std.specs.Prelude.{Option, Some, None, option_map, unwrap_or, nat_le}
+use Rattle.std.proofs.Common.{◌≡◌, ◌≢◌, Bool, true, false, not, ◌||◌, List, [], ◌∷◌, refl, sym, ap, ◌∙◌, subst}
+use Rattle.std.specs.Prelude.{Option, Some, None, option_map, unwrap_or}
 use Rattle.std.specs.List.{AllByRecursion, filter, filter_map, list_any, sum_by}
 use Rattle.std.specs.Ordering.{is_lt, ordering_reverse}
 use Rattle.std.specs.declared.cmp.Ordering.{Ordering}
@@ -8,7 +8,7 @@ use Rattle.std.specs.declared.cmp.Ordering.TheVariants.{Less, Equal, Greater}
 use Rattle.std.specs.List.Sorted.{IsStrictlySortedBy}
 use Rattle.std.proofs.lemmas.Bool.{true≢false}
 use Rattle.mt_stamp.specs.Moment.{Moment, stamp_cmp, stamp_eq}
-use Rattle.mt_stamp.specs.Sorting.{sort_by, DifferBy, RisesStrictly}
+use Rattle.mt_stamp.specs.Sorting.{DifferBy, RisesStrictly}
 use Rattle.mt_stamp.proofs.Order.{stamp_cmp_total, stamp_cmp-IsAntisymmetric}
 use Rattle.mt_stamp.proofs.Sorting.{sort_same}
 use Rattle.mt_stamp.proofs.Members.{IsMember, member_at, one_list, sort_strict, member_sorted, member_unsorted}
@@ -17,8 +17,8 @@ use Rattle.mt_op.specs.declared.need.Need.{Need}
 use Rattle.mt_op.specs.Operation as act
 use Rattle.mt_op.specs.Operation.{Act, Operation}
 use Rattle.mt_op.specs.Needs.{meets, is_tag_of}
-use Rattle.mt_op.specs.Presence.{is_present, tags, live_tags, tags_removed, removed_tags, is_listed}
-use Rattle.mt_op.specs.Writes.{Written, track_place_written, written_by, last_write, latest}
+use Rattle.mt_op.specs.Presence.{tags, live_tags, tags_removed, removed_tags, is_listed}
+use Rattle.mt_op.specs.Writes.{Written, track_place_written, written_by, latest}
 use Rattle.mt_op.proofs.LastWrite.{latest_is_greatest}
 use Rattle.mt_op.specs.ByStamp.{stamp_of}
 use Rattle.mt_op.proofs.Needs.{stamp_eq-true}

@@ -1,5 +1,5 @@
 -- One operation more whose needs are met by ready ones, and whose clock passes every other, is ready and makes nothing else so.
-use Rattle.std.proofs.Common.{◌≡◌, ℕ, ◌<◌, Bool, true, false, cond, List, [], ◌∷◌, ◌||◌, refl, sym, ap, ◌∙◌, arith, inl, inr}
+use Rattle.std.proofs.Common.{◌≡◌, ℕ, ◌<◌, Bool, true, false, cond, List, [], ◌∷◌, refl, ap, ◌∙◌, arith, inr}
 use Rattle.std.specs.Prelude.{IsTrue}
 use Rattle.std.specs.List.{AllByRecursion, filter, list_any, list_all}
 use Rattle.mt_op.specs.declared.need.Need.{Need}
@@ -8,7 +8,7 @@ use Rattle.mt_op.specs.Needs.{needs, meets, clock_of, names_are_older}
 use Rattle.mt_op.specs.Ready.{is_met, is_ready}
 use Rattle.mt_op.proofs.Needs.{ready_is_defined, needs_are_older}
 use Rattle.mt_sessionview.specs.Session.{ready_ops}
-use Rattle.mt_stamp.proofs.Members.{IsMember, member_kept, member_of_kept}
+use Rattle.mt_stamp.proofs.Members.{member_kept, member_of_kept}
 use Rattle.mt_replica.proofs.Making.{Met, any_member, member_any, member_all}
 
 same_kept : (p q : Operation → Bool) (xs : List Operation) → AllByRecursion (λ x. p x ≡ q x) xs → filter p xs ≡ filter q xs

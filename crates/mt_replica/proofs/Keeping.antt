@@ -1,7 +1,7 @@
 -- What an editor keeps after an edit.
-use Rattle.std.proofs.Common.{◌≡◌, ◌≢◌, ℕ, zero, suc, ◌+◌, ◌≤◌, ◌<◌, Bool, true, false, cond, List, [], ◌∷◌, map, refl, sym, ap, ◌∙◌, subst, inl, inr, arith}
-use Rattle.std.specs.Prelude.{Option, Some, None, Result, Ok, Err, IsTrue, IsOk, IsErrOf, IfErr, max, ◌==◌, ◌⊎◌}
-use Rattle.std.specs.List.{AllByRecursion, filter, list_any, list_all, sum_by}
+use Rattle.std.proofs.Common.{◌≡◌, ◌≢◌, ℕ, suc, ◌+◌, ◌≤◌, Bool, true, false, cond, List, [], ◌∷◌, map, refl, sym, ap, ◌∙◌, subst, inl, inr, arith}
+use Rattle.std.specs.Prelude.{Option, Some, None, Result, Ok, Err, IsTrue, IsOk, IsErrOf, IfErr, ◌⊎◌}
+use Rattle.std.specs.List.{AllByRecursion, filter, list_all, sum_by}
 use Rattle.std.specs.FinMap as fin
 use Rattle.std.specs.FinMap.Entries.{find}
 use Rattle.std.specs.Ordering.{is_eq}
@@ -25,7 +25,7 @@ use Rattle.mt_op.specs.Valid.{IsOperation}
 use Rattle.mt_op.proofs.Needs.{stamp_eq-true}
 use Rattle.mt_opcodec.specs.LogValue.{LogMap, operations, log_of, AreLogged}
 use Rattle.mt_opcodec.proofs.Logs.{entries-log_of}
-use Rattle.mt_items.specs.Noting.{MayFollow, is_noted, is_need_met, are_needs_met}
+use Rattle.mt_items.specs.Noting.{MayFollow, is_noted, is_need_met}
 use Rattle.mt_sessionview.specs.Session.{ready_ops}
 use Rattle.mt_sessionview.proofs.SameReady.{ready_same}
 use Rattle.mt_replica.specs.Edit.{Edit}
@@ -40,7 +40,7 @@ use Rattle.mt_op.specs.declared.fault.OpFault.TheVariants as op
 use Rattle.mt_op.specs.Valid.{length_is_good, tags_are_good}
 use Rattle.mt_op.specs.Dots.{dots_rise}
 use Rattle.mt_replica.proofs.Bridging.{refused_in_parts}
-use Rattle.mt_replica.proofs.Making.{Met, any_member, member_all, mapped_below, all_members}
+use Rattle.mt_replica.proofs.Making.{Met, any_member, mapped_below, all_members}
 use Rattle.mt_replica.proofs.Valid.{newest, all_met, older, it_plays, same_length, tags_good}
 use Rattle.mt_replica.proofs.Gaining.{ready_gains}
 use Rattle.mt_replica.proofs.Inserted.{insert_same}

@@ -1,15 +1,14 @@
 -- What an edit that is not refused makes: an operation whose needs are met by ready operations, and that names older ones.
-use Rattle.std.proofs.Common.{◌≡◌, ◌≢◌, ℕ, zero, suc, ◌≤◌, ◌<◌, Bool, true, false, not, ◌&&◌, ◌||◌, List, [], ◌∷◌, map, length, refl, sym, ap, ◌∙◌, subst, ◌⊎◌, inl, inr, cond, arith}
-use Rattle.std.specs.Prelude.{Option, Some, None, option_map, unwrap_or, nat_le, nat_lt, max, IsTrue}
-use Rattle.std.specs.List.{AllByRecursion, filter, filter_map, list_any, list_all}
-use Rattle.std.proofs.lemmas.Option.{same_Some, none-some}
+use Rattle.std.proofs.Common.{◌≡◌, ℕ, suc, ◌≤◌, Bool, true, false, not, ◌||◌, List, [], ◌∷◌, map, refl, sym, ap, ◌∙◌, subst, inl, inr, arith}
+use Rattle.std.specs.Prelude.{Option, Some, None, option_map, unwrap_or, nat_lt}
+use Rattle.std.specs.List.{AllByRecursion, filter, filter_map, list_any}
+use Rattle.std.proofs.lemmas.Option.{none-some}
 use Rattle.std.proofs.lemmas.Bool.{false≢true, lt-ltb}
 use Rattle.std.proofs.Math.Nat.{le-max_left, le-max_right}
 use Rattle.mt_stamp.specs.Moment.{Moment, stamp_cmp, stamp_eq}
-use Rattle.mt_op.specs.declared.need.Role.{Role}
-use Rattle.mt_op.specs.declared.need.Role.TheVariants.{Track, Place, Clip, Marker, Mixable, Titled, Item, TagOf}
+use Rattle.mt_op.specs.declared.need.Role.TheVariants.{Track, Place, TagOf}
 use Rattle.mt_op.specs.declared.need.Need.{Need}
-use Rattle.mt_op.specs.Needs.{need_of, place_needs, needs_of, needs, meets, clock_of, fits, act_fits, adds_place, is_tag_of, names_are_older}
+use Rattle.mt_op.specs.Needs.{need_of, place_needs, needs_of, needs, meets, clock_of, fits, act_fits, adds_place, is_tag_of}
 use Rattle.mt_op.specs.Ready.{is_ready}
 use Rattle.mt_stamp.proofs.Order.{stamp_cmp_total}
 use Rattle.mt_op.proofs.WriteOf.{is_write_of}
@@ -21,11 +20,10 @@ use Rattle.mt_op.specs.Writes.{Write, Written, track_place_written, written_by, 
 use Rattle.mt_op.proofs.LastWrite.{latest_is_greatest}
 use Rattle.mt_op.proofs.Needs.{and_first, and_second, stamp_eq-true}
 use Rattle.mt_sessionview.specs.Session.{ready_ops}
-use Rattle.mt_stamp.specs.Sorting.{sort_by}
 use Rattle.mt_stamp.proofs.Members.{IsMember, member_of_kept, member_unsorted}
 use Rattle.mt_stamp.proofs.SameItems.{all_filter_map, all_here, all_map, GivenBy}
 use Rattle.mt_replica.specs.Edit.{Edit, AddTrack, MoveTrack, AddClip, MoveClip, TrimClip, SetGain, SetMute, Remove, Restore, AddMarker, MoveMarker, Retitle}
-use Rattle.mt_replica.specs.Made.{greatest_of, greatest_clock, current_place, rising_tags, made_act, made_op, named_track, names_of, names_present, unless, or_else, name_refused, names_refused, refused}
+use Rattle.mt_replica.specs.Made.{greatest_of, greatest_clock, current_place, rising_tags, made_act, named_track, names_of, unless, or_else, name_refused, names_refused}
 use Rattle.mt_replica.specs.declared.fault.EditorFault.{EditorFault}
 
 -- ---- no refusal

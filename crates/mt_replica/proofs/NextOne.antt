@@ -1,8 +1,6 @@
 -- What an edit makes of a log is the next operation of it.
-use Rattle.std.proofs.Common.{◌≡◌, ℕ, ◌+◌, Bool, List, ◌∷◌, sym, ap, ◌∙◌, subst}
-use Rattle.std.specs.List.{sum_by}
+use Rattle.std.proofs.Common.{◌∷◌, ◌∙◌, subst}
 use Rattle.std.proofs.lemmas.List.Sums.{sum_by-cons}
-use Rattle.mt_op.specs.Operation.{Operation}
 use Rattle.mt_op.specs.Needs.{needs, meets, clock_of}
 use Rattle.mt_opcodec.specs.LogValue.{operations}
 use Rattle.mt_sessionview.specs.Session.{ready_ops}

@@ -1,23 +1,20 @@
 -- What an edit that is not refused makes is an operation.
-use Rattle.std.proofs.Common.{◌≡◌, ◌≢◌, ℕ, zero, suc, ◌≤◌, ◌<◌, Bool, true, false, not, ◌&&◌, ◌||◌, List, [], ◌∷◌, map, length, refl, sym, ap, ◌∙◌, subst, inl, inr, cond, arith}
-use Rattle.std.specs.Prelude.{Option, Some, None, nat_le, nat_lt, IsTrue}
+use Rattle.std.proofs.Common.{◌≡◌, ◌≢◌, suc, ◌<◌, Bool, true, false, not, ◌||◌, List, [], ◌∷◌, length, refl, inl, arith}
+use Rattle.std.specs.Prelude.{Some, None, nat_le, nat_lt}
 use Rattle.std.specs.List.{AllByRecursion, filter, list_all, list_any}
-use Rattle.std.specs.Ordering.{is_lt}
-use Rattle.std.specs.declared.cmp.Ordering.{Ordering}
-use Rattle.std.specs.declared.cmp.Ordering.TheVariants.{Less, Equal, Greater}
+use Rattle.std.specs.declared.cmp.Ordering.TheVariants.{Less, Equal}
 use Rattle.std.proofs.lemmas.Bool.{false≢true, le-leb}
 use Rattle.mt_stamp.specs.declared.name.Replica.{Replica}
-use Rattle.mt_stamp.specs.Moment.{Moment, IsMoment, greatest, stamp_cmp}
+use Rattle.mt_stamp.specs.Moment.{Moment, greatest, stamp_cmp}
 use Rattle.mt_stamp.proofs.Order.{stamp_cmp_total, stamp_cmp-IsAntisymmetric}
 use Rattle.mt_op.specs.declared.need.Need.{Need}
 use Rattle.mt_op.specs.declared.need.Role.TheVariants.{Item}
 use Rattle.mt_op.specs.Needs.{need_of, needs, meets, clock_of, is_tag_of, names_are_older}
 use Rattle.mt_op.specs.Ready.{is_ready}
-use Rattle.mt_op.specs.Operation as act
-use Rattle.mt_op.specs.Operation.{Act, Operation}
+use Rattle.mt_op.specs.Operation.{Operation}
 use Rattle.mt_op.specs.Dots.{dots_rise}
 use Rattle.mt_op.specs.Presence.{is_present, is_any, is_listed, live_tags, removed_tags, tags}
-use Rattle.mt_op.specs.Tags.{is_after, rises_from, stamps_rise, are_tags, greatest_tag_count}
+use Rattle.mt_op.specs.Tags.{rises_from, stamps_rise}
 use Rattle.mt_op.specs.Valid.{length_is_good, tags_are_good}
 use Rattle.mt_sessionview.specs.Session.{ready_ops}
 use Rattle.mt_stamp.specs.Sorting.{sort_by, RisesStrictly, DifferBy}
@@ -26,8 +23,7 @@ use Rattle.mt_op.specs.ByStamp.{stamp_of}
 use Rattle.mt_stamp.proofs.Members.{IsMember, AreApart, sort_strict, member_sorted}
 use Rattle.mt_sessionview.proofs.TrackSorting.{every_stamp}
 use Rattle.mt_replica.specs.Edit.{Edit, AddTrack, MoveTrack, AddClip, MoveClip, TrimClip, SetGain, SetMute, Remove, Restore, AddMarker, MoveMarker, Retitle}
-use Rattle.mt_replica.specs.Made.{greatest_clock, greatest_seq, rising_tags, made_stamp, made_act, made_op, plays, names_of, names_present, unless, or_else, name_refused, names_refused, tags_fit, refused}
-use Rattle.mt_replica.specs.declared.fault.EditorFault.{EditorFault}
+use Rattle.mt_replica.specs.Made.{greatest_clock, greatest_seq, rising_tags, made_act, made_op, plays, names_of, names_present, unless, or_else, name_refused, names_refused, tags_fit, refused}
 use Rattle.mt_replica.specs.declared.fault.EditorFault.TheVariants.{ZeroLength, NoSuchItem, Absent, TooManyTags, ClockFull, SeqFull}
 use Rattle.mt_replica.proofs.Making.{Met, neither, passed, names_met, needs_met, met_older, mapped_below, all_members}
 

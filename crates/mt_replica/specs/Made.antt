@@ -1,5 +1,5 @@
 -- What an edit makes of a set of operations.
-use Rattle.std.specs.Prelude.{ℕ, suc, Bool, true, false, not, ◌==◌, ◌||◌, List, [], ◌∷◌, ◌++◌, map, filter, length, Option, Some, None, option_map, unwrap_or, Result, Ok, Err, nat_le, max}
+use Rattle.std.specs.Prelude.{ℕ, suc, Bool, true, false, not, ◌==◌, ◌||◌, List, [], ◌∷◌, map, filter, length, Option, Some, None, option_map, unwrap_or, Result, Ok, Err, nat_le, max}
 use Rattle.std.specs.List.{list_any}
 use Rattle.mt_stamp.specs.declared.name.Replica.{Replica}
 use Rattle.mt_stamp.specs.Moment.{Moment, greatest, stamp_cmp}

@@ -1,4 +1,4 @@
-use Rattle.std.proofs.Common.{◌≡◌, ◌∙◌, rules}
+use Rattle.std.proofs.Common.{◌∙◌}
 use Rattle.mt_replica.proofs.Bridging.{live_in_order}
 use Rattle.mt_replica.proofs.body.tags_of.Goals as goal
 

@@ -1,4 +1,4 @@
-use Rattle.std.proofs.Common.{◌≡◌, ◌∙◌, Bor, rules, arith}
+use Rattle.std.proofs.Common.{◌∙◌, Bor, rules}
 use Rattle.std.proofs.lemmas.List.Sorted.{answers_always}
 use Rattle.mt_op.specs.declared.op.Op.{Op}
 use Rattle.mt_sessionview.proofs.TrackSorting.{every_stamp}

@@ -1,5 +1,5 @@
 use Rattle.std.proofs.Common.{◌≡◌, ◌∙◌, ap, refl, length, map}
-use Rattle.std.specs.Prelude.{ℕ, max, slice_get, Some}
+use Rattle.std.specs.Prelude.{max, slice_get, Some}
 use Rattle.std.proofs.lemmas.Option.{slice_get_read}
 use Rattle.mt_replica.specs.State.{own_seq}
 use Rattle.mt_replica.specs.Made.{greatest_of}

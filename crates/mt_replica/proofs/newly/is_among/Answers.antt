@@ -1,4 +1,4 @@
-use Rattle.std.proofs.Common.{◌≡◌, ◌∙◌}
+use Rattle.std.proofs.Common.{◌∙◌}
 use Rattle.mt_replica.proofs.Taking.{search_tells}
 use Rattle.mt_replica.proofs.newly.is_among.Goals as goal
 

@@ -1,6 +1,5 @@
-use Rattle.std.proofs.Common.{◌≡◌, ◌∙◌, sym, ap, inr, Bool, false, true}
+use Rattle.std.proofs.Common.{◌≡◌, ◌∙◌, sym, ap, inr, false, true}
 use Rattle.mt_op.specs.Bodies.{act_of}
-use Rattle.mt_op.specs.Operation.{Act}
 use Rattle.mt_opcodec.specs.LogValue.{operations}
 use Rattle.mt_sessionview.specs.Session.{ready_ops}
 use Rattle.mt_replica.specs.Changes.{edit_of}

@@ -1,4 +1,4 @@
-use Rattle.std.proofs.Common.{◌≡◌, ◌∙◌, ap, refl, rules, arith, ◌+◌}
+use Rattle.std.proofs.Common.{refl, rules, arith, ◌+◌}
 use Rattle.mt_stamp.specs.Moment.{IsMoment}
 use Rattle.mt_replica.proofs.state.State.next_stamp.Goals as goal
 

@@ -1,4 +1,4 @@
-use Rattle.std.proofs.Common.{◌≡◌, ◌∙◌, ap}
+use Rattle.std.proofs.Common.{◌∙◌, ap}
 use Rattle.mt_replica.specs.Made.{greatest_clock, greatest_seq}
 use Rattle.mt_replica.proofs.Numbers.{own_is}
 use Rattle.mt_replica.proofs.state.State.of.Goals as goal

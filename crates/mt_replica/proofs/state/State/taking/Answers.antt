@@ -1,4 +1,4 @@
-use Rattle.std.proofs.Common.{◌≡◌, ◌∙◌, sym, ap, subst}
+use Rattle.std.proofs.Common.{◌∙◌, ap, subst}
 use Rattle.mt_stamp.specs.Moment.{stamp_cmp}
 use Rattle.mt_stamp.specs.Sorting.{sort_by}
 use Rattle.mt_opcodec.specs.LogValue.{LogMap, operations, AreLogged}

@@ -1,5 +1,4 @@
-use Rattle.std.proofs.Common.{◌≡◌, ◌∙◌, sym, ap, subst}
-use Rattle.mt_op.specs.Operation.{Operation}
+use Rattle.std.proofs.Common.{◌≡◌, ap, subst}
 use Rattle.mt_opcodec.specs.LogValue.{operations, log_of, AreLogged}
 use Rattle.mt_sessionview.specs.Session.{ready_ops}
 use Rattle.mt_stamp.proofs.SameItems.{SameItems}
