@@ -1,5 +1,5 @@
 -- What the loop over the lines keeps.
-use Rattle.std.proofs.Common.{◌≡◌, ◌≢◌, ◌==◌, ◌≤◌, ◌<◌, ◌+◌, ℕ, zero, suc, Bool, true, false, if◌then◌else◌, List, [], ◌∷◌, ◌++◌, length, Option, Some, None, Result, Ok, Err, refl, sym, ap, ◌∙◌, arith, subst}
+use Rattle.std.proofs.Common.{◌≡◌, ◌≢◌, ◌==◌, ◌<◌, ◌+◌, ℕ, suc, Bool, true, false, if◌then◌else◌, List, [], ◌∷◌, ◌++◌, length, Option, Some, None, Result, Ok, Err, refl, sym, ap, ◌∙◌, arith, subst}
 use mathlib.Core.List.{append_assoc}
 use Rattle.std.proofs.lemmas.List.{length-append, append-nil}
 use Rattle.std.specs.Option.{option_map}
@@ -15,7 +15,7 @@ use Rattle.mt_script.specs.declared.fault.ScriptFault.TheVariants.{Memory, Faile
 use Rattle.mt_script.specs.Lines.{lines, is_silent}
 use Rattle.mt_script.specs.Forms.{Items, asked}
 use Rattle.mt_script.specs.Script.{made_at, asked_at, made_by_line, made_by_lines, item_made, with_ops, scripted_from, scripted_in, kept_with_ops, ◌>>=◌}
-use Rattle.mt_script.specs.Running.{line_from, line_in, lines_from, lines_in, onto, Reached, LineMade, LineGives, LinesGive}
+use Rattle.mt_script.specs.Running.{line_from, line_in, lines_from, lines_in, onto, Reached, LineGives, LinesGive}
 
 -- ---- lists of operations
 

@@ -1,15 +1,12 @@
 -- Stamps and their texts.
-use Rattle.std.proofs.Common.{◌≡◌, ◌≢◌, ℕ, ◌<◌, ◌≤◌, ◌^◌, List, ◌∷◌, ◌++◌, Option, Some, None, Bool, true, false, nat_lt, nat_le, ◌&&◌, if◌then◌else◌, refl, sym, ap, ◌∙◌, arith, Result, Ok, Err, IfOk, IfErr, subst}
+use Rattle.std.proofs.Common.{◌≡◌, ℕ, ◌<◌, ◌≤◌, ◌^◌, List, ◌∷◌, ◌++◌, Option, Some, None, Bool, true, false, nat_lt, ◌&&◌, refl, sym, ap, ◌∙◌, arith, Result, Ok, Err, IfOk, subst}
 use Rattle.std.specs.Fmt.{decimal}
-use Rattle.std.specs.Int.{w128, from_be_bytes}
 use Rattle.std.specs.Result.{result_ok}
 use Rattle.std.specs.Str.{bytes_eq}
-use Rattle.std.specs.Str.Parse.{digits_value}
 use Rattle.std.proofs.lemmas.Slice.Eq.{bytes_eq-Decides}
 use Rattle.std.proofs.lemmas.Fmt.{decimal_is_IsNumeral}
-use Rattle.uuid.specs.Text.{parsed}
 use Rattle.mt_stamp.specs.Moment.{Moment, IsMoment, greatest}
-use Rattle.mt_stamp.specs.Texts.{point, replica_bytes, replica_text, stamp_text}
+use Rattle.mt_stamp.specs.Texts.{point, replica_text, stamp_text}
 use Rattle.mt_stamp.proofs.Texts.{replica_text_parses, decimal_has_no_point}
 use Rattle.mt_stamp.proofs.Words.{from_be_bytes-to_be_bytes_16}
 use Rattle.mt_opcodec.specs.OpReading.{is_in_range, is_stamp}

@@ -1,5 +1,5 @@
 -- Lines and what they ask for: what the definitions compute.
-use Rattle.std.specs.Prelude.{◌≡◌, List, [], ◌∷◌, ◌++◌, Option, Some, None, refl, codes}
+use Rattle.std.specs.Prelude.{◌≡◌, [], ◌∷◌, ◌++◌, Some, None, refl, codes}
 use Rattle.std.specs.Fmt.{digits}
 use Rattle.mt_stamp.specs.Moment.{Moment}
 use Rattle.mt_replica.specs.Edit.{TrimClip, SetGain}

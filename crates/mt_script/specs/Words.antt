@@ -1,6 +1,6 @@
 -- The words of a script's lines, and what each says (profile): none where it says nothing of its kind.
 use Rattle.std.specs.Prelude.{ℕ, ◌-◌, ◌^◌, Bool, true, false, ◌==◌, ◌&&◌, nat_lt, List, [], ◌∷◌, drop, slice_get, slice_index, Option, Some, None, if◌then◌else◌, codes}
-use Rattle.std.specs.Option.{option_map, option_flatten, unwrap_or}
+use Rattle.std.specs.Option.{option_map, option_flatten}
 use Rattle.std.specs.Result.{result_ok}
 use Rattle.std.specs.Fmt.{decimal}
 use Rattle.std.specs.Int.{w128, from_be_bytes}

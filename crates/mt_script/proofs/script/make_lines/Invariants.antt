@@ -1,4 +1,4 @@
-use Rattle.std.proofs.Common.{◌≡◌, ◌≢◌, None, length}
+use Rattle.std.proofs.Common.{length}
 use Rattle.mt_script.specs.Running.{Reached}
 use Rattle.mt_script.proofs.script.make_lines.Given as goal
 

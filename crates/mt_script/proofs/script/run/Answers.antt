@@ -1,4 +1,4 @@
-use Rattle.std.proofs.Common.{◌≡◌, ◌≢◌, None, ap, sym, ◌∙◌}
+use Rattle.std.proofs.Common.{◌≢◌, None, ap, sym, ◌∙◌}
 use Rattle.mt_replica.specs.Kept.{Kept}
 use Rattle.mt_script.proofs.Runs.{not_failed}
 use Rattle.mt_script.proofs.script.run.Goals as goal
