@@ -42,7 +42,7 @@ abbrev pub IsMixRefusal : Content → List (List ℕ) → Layout → HeadText �
 IsMixRefusal session texts layout head fault =
     (fault ≢ mix.Memory)
     × (IsMixFault (programme session texts layout) fault
-        ⊎ (IsMixable (programme session texts layout) × (fault ≡ mix.TooLong) × (2 ^ 32 ≤ length (riff (programme session texts layout) session.markers head))))
+    ⊎ (IsMixable (programme session texts layout) × (fault ≡ mix.TooLong) × (2 ^ 32 ≤ length (riff (programme session texts layout) session.markers head))))
 
 module _ {W : Type 0} (contents : W → Option (List ℕ)) where
   -- why the file of a session is not written: each with the output as it was, but where that has failed, and holds a front of it

@@ -111,8 +111,8 @@ module _ {X : Type 0} where
       let of_w = (latest_is_greatest X).0 ys w is_w in
       let below : Written X → Bool = λ u. is_lt (stamp_cmp w.writer u.writer) in
       not_true (below v) (λ h.
-          let there = any_member below ys (sym (same_any xs ys same below) ∙ member_any below xs v (member_at xs of_v.place v of_v.is) h) in
-          true≢false (sym there.1.1 ∙ member_all (λ u. is_lt (stamp_cmp w.writer u.writer) ≡ false) ys there.0 of_w.greatest there.1.0))
+      let there = any_member below ys (sym (same_any xs ys same below) ∙ member_any below xs v (member_at xs of_v.place v of_v.is) h) in
+      true≢false (sym there.1.1 ∙ member_all (λ u. is_lt (stamp_cmp w.writer u.writer) ≡ false) ys there.0 of_w.greatest there.1.0))
 
   none_of : (xs ys : List (Written X)) → SameItems xs ys → (w : Written X) → latest xs ≡ None → latest ys ≡ Some w → ⊥
   none_of xs ys same w none is =

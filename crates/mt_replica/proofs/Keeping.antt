@@ -142,10 +142,11 @@ module _ (name : Replica) (log : LogMap) (edit : Edit) (logged : AreLogged (oper
 pub made_is : (ops : List Operation) (name : Replica) (edit : Edit) (stamp : Moment) (does : Act) → body_refused ops edit ≡ None → or_made (stamp_refused ops name) (made_stamp ops name) ≡ Ok stamp
     → does ≡ made_act (ready_ops ops) edit → (refused ops name edit ≡ None) × (made_op ops name edit ≡ record { stamp = stamp; act = does })
 made_is ops name edit stamp does body stamped acts =
-    let parts = unmade (stamp_refused ops name) (made_stamp ops name) stamp stamped in
-    (refused_in_parts (unless (plays edit) ZeroLength) (names_refused (ready_ops ops) (names_present edit) (names_of edit)) (unless (tags_fit (ready_ops ops) edit) TooManyTags) (stamp_refused ops name)
-        ∙ (λ i. or_else (body i) (parts.0 i)),
-    λ i. record { stamp = parts.1 i; act = sym acts i })
+    let parts = unmade (stamp_refused ops name) (made_stamp ops name) stamp stamped in (
+      refused_in_parts (unless (plays edit) ZeroLength) (names_refused (ready_ops ops) (names_present edit) (names_of edit)) (unless (tags_fit (ready_ops ops) edit) TooManyTags) (stamp_refused ops name)
+          ∙ (λ i. or_else (body i) (parts.0 i)),
+      λ i. record { stamp = parts.1 i; act = sym acts i },
+    )
 
 pub made_as : (ops : List Operation) (name : Replica) (edit : Edit) (o : Operation) → refused ops name edit ≡ None → made_op ops name edit ≡ o → made ops name edit ≡ Ok o
 made_as ops name edit o none is = λ i. or_made (none i) (is i)

@@ -114,8 +114,8 @@ module _ (ops : List Operation) where
           let last = (latest_is_greatest (Option Moment)).0 (filter_map (written_by track_place_written t) (ready_ops ops)) w some in
           let among : Operation → Type 0 = λ o. IsMember o (ready_ops ops) in
           let given : GivenBy among (written_by track_place_written t) w =
-              all_here (GivenBy among (written_by track_place_written t)) (filter_map (written_by track_place_written t) (ready_ops ops))
-              (all_filter_map among (written_by track_place_written t) (ready_ops ops) (all_members among (ready_ops ops) (λ o m. m))) last.place w last.is in
+          all_here (GivenBy among (written_by track_place_written t)) (filter_map (written_by track_place_written t) (ready_ops ops))
+          (all_filter_map among (written_by track_place_written t) (ready_ops ops) (all_members among (ready_ops ops) (λ o m. m))) last.place w last.is in
           let o : Operation = given.0 in
           let is = is_write_of track_place_written t o w given.2 in
           let same : stamp_eq w.writer o.stamp ≡ true = stamp_eq_same w.writer o.stamp (ap (λ (x : Written (Option Moment)). x.writer) is.value_is) in

@@ -22,7 +22,7 @@ made_is_next log name edit o logged whole made_it =
       newest = newest (operations log);
       absent = absent name log edit logged whole none;
       ready = (λ i. is_ready_same clock_of needs meets (operations (with_op log it)) (it ∷ operations log) (with_same name log edit logged whole none) i it)
-        ∙ it_is_ready (operations log) it (older_all name log edit logged whole none) (newest (operations log)) (all_met (operations log) name edit none);
+          ∙ it_is_ready (operations log) it (older_all name log edit logged whole none) (newest (operations log)) (all_met (operations log) name edit none);
       only = λ f. ready_more name log edit logged whole none f ∙ sum_by-cons f it (ready_ops (operations log));
     } in
     subst (IsNext log) parts.1 next

@@ -29,7 +29,6 @@ impl<A: Allocator> Model for Draft<A> {
     ghost use Rattle.std.specs.Prelude.{◌≡◌, option_map, IfSome};
     ghost use Rattle.mt_replica.specs.Kept.{Kept};
     ghost use Rattle.mt_replica.specs.State.{Named};
-
     ghost use Rattle.mt_replica.specs.Codes.{kept_code};
 
     ghost Value = { Kept };

@@ -66,7 +66,10 @@ fn move_refused<A: Allocator>(
 ) -> Option<EditorFault>
     ensures { result ≡ names_refused items.now true (need_of Role.Track track ∷ named_track after) }
 {
-    first_of(name_refused(items, track, Role::Track, true), after_refused(items, after))
+    first_of(
+        name_refused(items, track, Role::Track, true),
+        after_refused(items, after),
+    )
 }
 
 /// The first refusal of the items that a change names, in the order of its fields.

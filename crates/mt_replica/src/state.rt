@@ -41,7 +41,6 @@ pub(crate) struct State<A: Allocator> {
 
 impl<A: Allocator> Model for State<A> {
     ghost use Rattle.mt_replica.specs.State.{Named, IsState};
-
     ghost use Rattle.mt_replica.specs.Codes.{named_code};
 
     ghost Value = { Named };

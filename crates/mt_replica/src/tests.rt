@@ -196,7 +196,14 @@ fn next_after<M: Allocator + Clone>(
         return Err(EditorFault::Memory);
     };
     let mut editor = one_marker(memory, A, last)?;
-    Ok(editor.edit(&Change::AddMarker { at: u32::MAX, title }).err())
+    Ok(
+        editor
+            .edit(&Change::AddMarker {
+                at: u32::MAX,
+                title,
+            })
+            .err(),
+    )
 }
 
 #[test]
@@ -318,10 +325,12 @@ fn fails_at_each_refused_growth(rt: HostRuntime) -> Result<(), Fail> {
             assert!(rt; at > 20);
             return Ok(());
         }
-        assert!(rt; match done {
-            Ok(left) => is_failed(&left) || is_copy_refused(&left),
-            Err(fault) => fault == EditorFault::Memory,
-        });
+        assert!(rt;
+            match done {
+                Ok(left) => is_failed(&left) || is_copy_refused(&left),
+                Err(fault) => fault == EditorFault::Memory,
+            }
+        );
     }
     assert!(rt; false);
     Ok(())

@@ -21,7 +21,11 @@ pub(crate) fn words<'a>(alloc: Global) -> Result<Command<'a>, AllocError> {
         .after_help(
             "Example: radio edit 00000000-0000-0000-0000-00000000000a desk.log changes.txt desk.log\n\nExit status: 0 done, 1 refused (`radio explain` tells why), 2 the command line does not parse.",
         )
-        .arg(word(alloc, "REPLICA", "The UUID of the editor who makes the changes"))?
+        .arg(word(
+            alloc,
+            "REPLICA",
+            "The UUID of the editor who makes the changes",
+        ))?
         .arg(word(alloc, "LOG", "The log to begin with"))?
         .arg(word(alloc, "SCRIPT", "The changes, a line each"))?
         .arg(word(alloc, "OUT", "The log to write, which may be LOG"))
@@ -32,11 +36,7 @@ fn word<'a>(alloc: Global, name: &'a str, help: &'a str) -> Arg<'a> {
 }
 
 // An editor of the log that an input holds.
-fn editor_of<R: Read>(
-    alloc: Global,
-    name: Replica,
-    input: &mut Latch<R>,
-) -> Result<Editor, Stop> {
+fn editor_of<R: Read>(alloc: Global, name: Replica, input: &mut Latch<R>) -> Result<Editor, Stop> {
     let log = read_log(alloc, 0, input)?;
     Ok(Editor::from_log(alloc, name, log)?)
 }

@@ -2,7 +2,8 @@
 
 use crate::fault::CliFault;
 use crate::refusals::{
-    OF_EDITS, OF_FILES_AND_PARTS, OF_LOGS, OF_OPERATIONS, OF_RENDERING, OF_WAVES, Refusal, find_refusal,
+    OF_EDITS, OF_FILES_AND_PARTS, OF_LOGS, OF_OPERATIONS, OF_RENDERING, OF_WAVES, Refusal,
+    find_refusal,
 };
 use crate::stop::Stop;
 use clap::error::ErrorKind;

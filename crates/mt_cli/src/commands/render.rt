@@ -24,7 +24,8 @@ pub(crate) fn words<'a>(alloc: Global) -> Result<Command<'a>, AllocError> {
     head_words(alloc, format_words(alloc, command)?)
 }
 
-const AFTER_HELP: &str = "Example: radio render news.wav desk.log jingle.wav interview.wav --bits 16 --description 'Morning news'\n\nExit status: 0 done, 1 refused (`radio explain` tells why), 2 the command line does not parse.";
+const AFTER_HELP: &str =
+    "Example: radio render news.wav desk.log jingle.wav interview.wav --bits 16 --description 'Morning news'\n\nExit status: 0 done, 1 refused (`radio explain` tells why), 2 the command line does not parse.";
 
 // The words that name recordings.
 fn sources<'a>(alloc: Global) -> Arg<'a> {
@@ -36,12 +37,15 @@ fn sources<'a>(alloc: Global) -> Arg<'a> {
 
 // The options of the format.
 fn format_words<'a>(alloc: Global, command: Command<'a>) -> Result<Command<'a>, AllocError> {
-    let rate = number(alloc, "rate", "48000", "Frames a second, 1 to 384000")
-        .value_parser(value_parser!(u32));
-    let bits = number(alloc, "bits", "24", "Bits of a sample, 16 or 24")
-        .value_parser(value_parser!(u16));
-    let channels =
-        number(alloc, "channels", "1", "Channels, 1 or 2").value_parser(value_parser!(u16));
+    let rate = number(alloc, "rate", "48000", "Frames a second, 1 to 384000").value_parser(
+        value_parser!(u32),
+    );
+    let bits = number(alloc, "bits", "24", "Bits of a sample, 16 or 24").value_parser(value_parser!(
+        u16
+    ));
+    let channels = number(alloc, "channels", "1", "Channels, 1 or 2").value_parser(value_parser!(
+        u16
+    ));
     command.arg(rate)?.arg(bits)?.arg(channels)
 }
 

@@ -221,9 +221,15 @@ fn trims_a_clip(rt: HostRuntime) -> Result<(), Fail> {
 fn keeps_gain_and_mute_apart(rt: HostRuntime) -> Result<(), Fail> {
     let clip = stamp('c')?;
     let half = Gain::new(1, 2)?;
-    assert_eq!(rt; sound(rt.alloc(), "tuc", clip), Ok(Some((Gain::UNCHANGED, false))));
+    assert_eq!(rt;
+        sound(rt.alloc(), "tuc", clip),
+        Ok(Some((Gain::UNCHANGED, false)))
+    );
     assert_eq!(rt; sound(rt.alloc(), "tucg", clip), Ok(Some((half, false))));
-    assert_eq!(rt; sound(rt.alloc(), "tuch", clip), Ok(Some((Gain::UNCHANGED, true))));
+    assert_eq!(rt;
+        sound(rt.alloc(), "tuch", clip),
+        Ok(Some((Gain::UNCHANGED, true)))
+    );
     Ok(())
 }
 
@@ -276,11 +282,7 @@ fn meets_a_need_of_a_tag(rt: HostRuntime) -> Result<(), Fail> {
 }
 
 // Whether each need of an operation is met after these.
-fn may_follow<M: Allocator + Clone>(
-    memory: M,
-    names: &str,
-    name: char,
-) -> Result<bool, NoFixture> {
+fn may_follow<M: Allocator + Clone>(memory: M, names: &str, name: char) -> Result<bool, NoFixture> {
     let next = op(memory.clone()?, name)?;
     let items = left_by(memory, names)?;
     Ok(items.are_needs_met(&next))

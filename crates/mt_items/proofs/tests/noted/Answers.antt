@@ -10,10 +10,12 @@ pub note-requires : goal.note-requires
 note-requires g c =
     let o = c.op-item.result in
     let known = sym c.contains.ensures ∙ c.if-contains.false in
-    record { follows = record {
-      fresh = sym (c.loop-op.invariant o.stamp) ∙ ap (contains stamp_cmp c.loop-op.known) (sym c.stamp.ensures.value) ∙ known;
-      met = sym c.are_needs_met.ensures.met ∙ c.if-not-are_needs_met.false;
-    } }
+    record {
+      follows = record {
+        fresh = sym (c.loop-op.invariant o.stamp) ∙ ap (contains stamp_cmp c.loop-op.known) (sym c.stamp.ensures.value) ∙ known;
+        met = sym c.are_needs_met.ensures.met ∙ c.if-not-are_needs_met.false;
+      };
+    }
 
 pub loop-op-preserved : goal.loop-op-preserved
 loop-op-preserved g c = λ stamp.
