@@ -1,7 +1,7 @@
 use crate::{Change, Editor, EditorFault, Taken};
 use mt_op::{Body, Op, OpFault, Title};
 use mt_opcodec::Log;
-use mt_stamp::{Dot, Replica, Stamp};
+use mt_stamp::{Replica, Stamp};
 use mt_testalloc::Refusing;
 use std::alloc::Allocator;
 use std::test::Fail;
@@ -54,32 +54,67 @@ fn is_titled<M: Allocator + Clone>(editor: &Editor<M>, title: &str) -> bool {
     }
 }
 
+// Takes a marker, and tells what became of it.
+fn take_marker<M: Allocator + Clone>(
+    editor: &mut Editor<M>,
+    memory: &M,
+    item: Stamp,
+) -> Result<(&'static str, usize), EditorFault> {
+    let Ok(op) = marker(memory.clone()?, item) else {
+        return Err(EditorFault::Memory);
+    };
+    match editor.take(op) {
+        Ok(taken) => Ok(told(&taken)),
+        Err(fault) => Err(fault),
+    }
+}
+
+// Takes a Retitle of an item, and tells what became of it.
+fn take_retitle<M: Allocator + Clone>(
+    editor: &mut Editor<M>,
+    memory: &M,
+    stamp: Stamp,
+    item: Stamp,
+) -> Result<(&'static str, usize), EditorFault> {
+    let Ok(op) = retitle(memory.clone()?, stamp, item) else {
+        return Err(EditorFault::Memory);
+    };
+    match editor.take(op) {
+        Ok(taken) => Ok(told(&taken)),
+        Err(fault) => Err(fault),
+    }
+}
+
 #[test]
 fn takes_an_early_retitle(rt: HostRuntime) -> Result<(), Fail> {
-    let item = Stamp::new(1, A, 1)?;
+    let (item, stamp) = (Stamp::new(1, A, 1)?, Stamp::new(2, B, 1)?);
     let mut editor = newcomer(&rt.alloc(), B)?;
-    let later = editor.take(retitle(rt.alloc(), Stamp::new(2, B, 1)?, item)?)?;
-    assert_eq!(rt; told(&later), ("held", 0));
-    assert_eq!(rt; counts(&editor), Some((1, 1, 0)));
-    let marker = editor.take(marker(rt.alloc(), item)?)?;
-    assert_eq!(rt; told(&marker), ("applied", 2));
-    assert_eq!(rt; counts(&editor), Some((2, 0, 1)));
-    assert!(rt; is_titled(&editor, "Late"));
+    let later = take_retitle(&mut editor, &rt.alloc(), stamp, item);
+    let waiting = counts(&editor);
+    let marker = take_marker(&mut editor, &rt.alloc(), item);
+    let (all, is_late) = (counts(&editor), is_titled(&editor, "Late"));
+    drop(editor);
+    assert_eq!(rt; later, Ok(("held", 0)));
+    assert_eq!(rt; waiting, Some((1, 1, 0)));
+    assert_eq!(rt; marker, Ok(("applied", 2)));
+    assert_eq!(rt; all, Some((2, 0, 1)));
+    assert!(rt; is_late);
     Ok(())
 }
 
 #[test]
 fn takes_an_operation_once(rt: HostRuntime) -> Result<(), Fail> {
-    let item = Stamp::new(1, A, 1)?;
+    let (item, other) = (Stamp::new(1, A, 1)?, Stamp::new(2, A, 1)?);
     let mut editor = newcomer(&rt.alloc(), B)?;
-    let once = editor.take(marker(rt.alloc(), item)?)?;
-    let again = editor.take(marker(rt.alloc(), item)?)?;
-    assert_eq!(rt; told(&once), ("applied", 1));
-    assert_eq!(rt; told(&again), ("already", 0));
-    let other = editor.take(marker(rt.alloc(), Stamp::new(2, A, 1)?)?);
-    let dot = Dot { replica: A, seq: 1 };
-    assert_eq!(rt; other.err(), Some(EditorFault::Conflict(dot)));
-    assert_eq!(rt; counts(&editor), Some((1, 0, 1)));
+    let once = take_marker(&mut editor, &rt.alloc(), item);
+    let again = take_marker(&mut editor, &rt.alloc(), item);
+    let clash = take_marker(&mut editor, &rt.alloc(), other);
+    let all = counts(&editor);
+    drop(editor);
+    assert_eq!(rt; once, Ok(("applied", 1)));
+    assert_eq!(rt; again, Ok(("already", 0)));
+    assert_eq!(rt; clash, Err(EditorFault::Conflict(item.dot())));
+    assert_eq!(rt; all, Some((1, 0, 1)));
     Ok(())
 }
 
@@ -97,20 +132,24 @@ fn one_marker<M: Allocator + Clone>(
     Ok(editor)
 }
 
-// Whether a marker that was retitled as `Late` by a greater stamp still has that title after an operation of a smaller one.
-fn keeps_late<M: Allocator + Clone>(editor: &mut Editor<M>, late: Op<M>, early: Op<M>) -> bool {
-    let taken = editor.take(late).is_ok() && editor.take(early).is_ok();
-    taken && is_titled(editor, "Late")
+// Takes a Retitle with a greater stamp before one with a smaller one.
+fn take_turned<M: Allocator + Clone>(memory: &M, item: Stamp, late: Stamp, early: Op<M>) -> bool {
+    let Ok(mut editor) = one_marker(memory, B, item) else {
+        return false;
+    };
+    let first = take_retitle(&mut editor, memory, late, item);
+    let second = editor.take(early);
+    first == Ok(("applied", 1)) && second.is_ok() && is_titled(&editor, "Late")
 }
 
 #[test]
 fn keeps_the_last_title_in_any_order(rt: HostRuntime) -> Result<(), Fail> {
     let item = Stamp::new(1, A, 1)?;
-    let mut editor = one_marker(&rt.alloc(), B, item)?;
-    let late = retitle(rt.alloc(), Stamp::new(3, B, 1)?, item)?;
+    let late = Stamp::new(3, B, 1)?;
+    let stamp = Stamp::new(2, A, 2)?;
     let title = Title::new(rt.alloc(), "Early")?;
-    let early = Op::new(Stamp::new(2, A, 2)?, Body::Retitle { item, title })?;
-    assert!(rt; keeps_late(&mut editor, late, early));
+    let early = Op::new(stamp, Body::Retitle { item, title })?;
+    assert!(rt; take_turned(&rt.alloc(), item, late, early));
     Ok(())
 }
 
@@ -175,15 +214,19 @@ fn made<M: Allocator + Clone>(
 #[test]
 fn removes_and_restores(rt: HostRuntime) -> Result<(), Fail> {
     let item = Stamp::new(1, A, 1)?;
+    let (second, third) = (Stamp::new(2, B, 1)?, Stamp::new(3, B, 2)?);
     let mut editor = one_marker(&rt.alloc(), B, item)?;
     let removed = made(&mut editor, &Change::Remove { item });
     let again = made(&mut editor, &Change::Remove { item });
-    assert_eq!(rt; counts(&editor), Some((2, 0, 0)));
+    let gone = counts(&editor);
     let restored = made(&mut editor, &Change::Restore { item });
-    assert_eq!(rt; counts(&editor), Some((3, 0, 1)));
+    let back = counts(&editor);
+    drop(editor);
+    assert_eq!(rt; removed, Ok(second));
     assert_eq!(rt; again, Err(EditorFault::Absent(item)));
-    assert_eq!(rt; removed, Ok(Stamp::new(2, B, 1)?));
-    assert_eq!(rt; restored, Ok(Stamp::new(3, B, 2)?));
+    assert_eq!(rt; restored, Ok(third));
+    assert_eq!(rt; gone, Some((2, 0, 0)));
+    assert_eq!(rt; back, Some((3, 0, 1)));
     Ok(())
 }
 
