@@ -8,6 +8,7 @@ sh tests/refusals.sh "$PWD/crates/radio/out/radio"
 if command -v python3 >/dev/null 2>&1; then
   python3 tests/model.py "$PWD/crates/radio/out/radio" --sets 300
   python3 tests/real_waves.py "$PWD/crates/radio/out/radio"
+  python3 tests/rendered_waves.py "$PWD/crates/radio/out/radio"
 else
   echo "skipped the comparisons with the model and with other programs' wave files: no python3"
 fi

@@ -15,6 +15,7 @@ import cases_of_tracks
 import cases_of_logs
 import cases_of_merges
 import cases_of_waves
+import cases_of_renders
 import cases_of_command_lines
 import cases_of_edits
 import cases_of_refusals

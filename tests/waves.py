@@ -56,3 +56,16 @@ def info(file, rate=48000, channels=1, bits=24, frames=1, extension=("bext none"
     """The text of this file, whose lines on the extension and on the cues are given."""
     lines = ["digest " + hashlib.sha256(file).hexdigest(), "rate %d" % rate, "channels %d" % channels, "bits %d" % bits, "frames %d" % frames]
     return "".join(line + "\n" for line in lines + list(extension) + list(cues))
+
+
+def rendered(samples, markers=(), rate=48000, bits=24, channels=1, description=b"", originator=b"", reference=b"", date=b"2000-01-01", time=b"00:00:00", reference_time=0):
+    """The file that `radio render` writes of these samples, the channels of a frame side by side, and of the markers (frame and
+    title) before the end."""
+    history = b"A=PCM,F=%d,W=%d,M=%s\r\n" % (rate, bits, b"mono" if channels == 1 else b"stereo")
+    extension = bext(description, originator, reference, date, time, reference_time, history=history)
+    sound = b"".join(sample.to_bytes(bits // 8, "little", signed=True) for sample in samples)
+    chunks = [chunk(b"bext", extension), fmt(channels, rate, bits), data(sound)]
+    if markers:
+        chunks.append(cue(*[point(name, at, at, 0) for name, (at, _) in enumerate(markers, 1)]))
+        chunks.append(adtl(*[labl(name, title.encode() + b"\0") for name, (_, title) in enumerate(markers, 1)]))
+    return riff(*chunks)

@@ -446,3 +446,24 @@ fn refuses_each_growth_of_a_join(rt: HostRuntime) -> Result<(), Fail> {
     }
     Err(Fail::from("each run met a refusal"))
 }
+
+// Whether a stamp that tags the item and was removed is a tag, and whether one that was only removed is.
+fn tags_told<M: Allocator + Clone>(
+    memory: M,
+    tagged: Stamp,
+    removed: Stamp,
+) -> Result<(bool, bool), CellFault> {
+    let mut presence = Presence::new(memory);
+    presence.add_tag(tagged)?;
+    presence.remove_tag(tagged)?;
+    presence.remove_tag(removed)?;
+    Ok((presence.has_tag(tagged), presence.has_tag(removed)))
+}
+
+#[test]
+fn tells_tags_from_removals(rt: HostRuntime) -> Result<(), Fail> {
+    let tagged = Stamp::new(1, A, 1)?;
+    let removed = Stamp::new(2, A, 2)?;
+    assert_eq!(rt; tags_told(rt.alloc(), tagged, removed), Ok((true, false)));
+    Ok(())
+}

@@ -67,5 +67,6 @@ all_failed items first rest i log all some at is lt here h faults.Memory f = tt
 all_failed items first rest i log all some at is lt here h (faults.Merge dot) f = clash_first items first rest dot some at is (HasLogs-fails first rest i log all dot lt here h f)
 all_failed items first rest i log all some at is lt here h (faults.Read place) f = absurd f
 all_failed items first rest i log all some at is lt here h (faults.Source place fault) f = absurd f
+all_failed items first rest i log all some at is lt here h (faults.Mix fault) f = absurd f
 all_failed items first rest i log all some at is lt here h (faults.Log place fault) f = absurd f
 all_failed items first rest i log all some at is lt here h faults.Write f = absurd f

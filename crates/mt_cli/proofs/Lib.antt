@@ -3,3 +3,6 @@ pub mod Readers
 pub mod Writing
 pub mod Buffering
 pub mod Labels
+pub mod Recordings
+pub mod SameSources
+pub mod Rendering

@@ -34,6 +34,7 @@ union_fails text contents faults.Memory logs old new agree fails = fails
 union_fails text contents faults.Write logs old new agree fails = (agree, fails.0, fails.1)
 union_fails text contents (faults.Read place) logs old new agree fails = absurd fails
 union_fails text contents (faults.Source place fault) logs old new agree fails = absurd fails
+union_fails text contents (faults.Mix fault) logs old new agree fails = absurd fails
 union_fails text contents (faults.Log place fault) logs old new agree fails = absurd fails
 union_fails text contents (faults.Merge dot) logs old new agree fails = absurd fails
 

@@ -5,3 +5,5 @@ pub mod Viewing
 pub mod Writing
 pub mod Buffering
 pub mod Info
+pub mod Sources
+pub mod Bouncing

@@ -7,6 +7,7 @@ pub(crate) mod edit;
 pub(crate) mod explain;
 pub(crate) mod info;
 pub(crate) mod merge;
+pub(crate) mod render;
 pub(crate) mod view;
 
 // The words of a command that names logs.

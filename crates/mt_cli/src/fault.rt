@@ -6,6 +6,7 @@ ghost use Rattle.mt_cli.specs.declared.fault.CliFault.TheVariants.{Memory};
 
 use mt_bwfread::WaveFault;
 use mt_opcodec::LogFault;
+use mt_render::MixFault;
 use mt_stamp::Dot;
 use std::alloc::{AllocError, AllocFailed};
 use thiserror::Error;
@@ -27,6 +28,9 @@ pub enum CliFault {
     /// The bytes of the recording of this index are no wave file.
     #[error("recording {0} is no wave file: {1}")]
     Source(usize, WaveFault),
+    /// The programme cannot be mixed, or its file is too long.
+    #[error("the programme cannot be rendered: {0}")]
+    Mix(MixFault),
     /// The output failed, or cannot be made or get its name.
     #[error("the output cannot be written")]
     Write,
@@ -43,6 +47,7 @@ impl CliFault {
             CliFault::Log(_, fault) => fault.number(),
             CliFault::Merge(_) => 17,
             CliFault::Source(_, fault) => fault.number(),
+            CliFault::Mix(fault) => fault.number(),
             CliFault::Write => 37,
         }
     }

@@ -11,6 +11,8 @@ mod part;
 mod program;
 mod read;
 mod refusals;
+mod render;
+mod sources;
 mod stop;
 #[cfg(test)]
 mod tests;
@@ -22,4 +24,5 @@ pub use info::write_info;
 pub use merge::merge_logs;
 pub use program::command;
 pub use refusals::{Refusal, find_refusal};
+pub use render::bounce_logs;
 pub use view::{view_log, view_logs};

@@ -2,7 +2,7 @@
 
 ghost use Rattle.std.specs.Prelude.{◌≡◌, ◌≤◌};
 
-use crate::commands::{edit, explain, info, merge, view};
+use crate::commands::{edit, explain, info, merge, render, view};
 use crate::fault::CliFault;
 use crate::stop::Stop;
 use clap::Command;
@@ -63,6 +63,7 @@ fn run<F: Files + AllocGlobal, R: Read, W: Write>(
         Some(("view", words)) => view::run(rt, words, input, output),
         Some(("merge", words)) => merge::run(rt, words),
         Some(("edit", words)) => edit::run(rt, words, output),
+        Some(("render", words)) => render::run(rt, words),
         Some(("info", words)) => info::run(rt, words, output),
         Some(("explain", words)) => explain::run(rt.alloc(), words, output),
         _ => Err(Stop::Told {
@@ -84,6 +85,7 @@ fn radio<'a>(alloc: Global) -> Result<Command<'a>, AllocError> {
         .subcommand(view::words(alloc)?)?
         .subcommand(merge::words(alloc)?)?
         .subcommand(edit::words(alloc)?)?
+        .subcommand(render::words(alloc)?)?
         .subcommand(info::words(alloc)?)?
         .subcommand(explain::words(alloc)?)
 }

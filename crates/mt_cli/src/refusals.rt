@@ -234,7 +234,7 @@ pub const OF_WAVES: [Refusal; 7] = [
 ];
 
 /// The refusals of rendering.
-pub const OF_RENDERING: [Refusal; 3] = [
+pub const OF_RENDERING: [Refusal; 4] = [
     Refusal {
         number: 33,
         name: "MissingSource",
@@ -252,6 +252,12 @@ pub const OF_RENDERING: [Refusal; 3] = [
         name: "TooLong",
         meaning: "the programme is too long for a wave file",
         advice: "Look for a clip that was placed by mistake far behind the others, or render fewer channels or bits.",
+    },
+    Refusal {
+        number: 36,
+        name: "BadHead",
+        meaning: "a text of the head of a wave file cannot be written",
+        advice: "Use printing ASCII, at most 256 bytes for --description and 32 for --originator and --reference, and write --date as dddd-dd-dd and --time as dd:dd:dd.",
     },
 ];
 

@@ -2,6 +2,8 @@
 
 use crate::fault::CliFault;
 use clap::error::ErrorKind;
+use mt_cuewrite::HeadFault;
+use mt_render::FormatFault;
 use mt_replica::EditorFault;
 use mt_script::ScriptFault;
 use mt_stamp::StampFault;
@@ -40,6 +42,18 @@ impl From<AllocError> for Stop {
 
 impl From<CliFault> for Stop {
     fn from(fault: CliFault) -> Stop {
+        Stop::Refused(fault.number())
+    }
+}
+
+impl From<HeadFault> for Stop {
+    fn from(fault: HeadFault) -> Stop {
+        Stop::Refused(fault.number())
+    }
+}
+
+impl From<FormatFault> for Stop {
+    fn from(fault: FormatFault) -> Stop {
         Stop::Refused(fault.number())
     }
 }

@@ -5,12 +5,14 @@ mod fakes;
 mod infos;
 mod merges;
 mod refused_growth;
+mod renders;
 mod views;
 
 use crate::CliFault;
 use mt_bwfread::WaveFault;
-use mt_op::{Body, Op, OpFault, Title};
+use mt_op::{Body, Digest, Op, OpFault, Title};
 use mt_opcodec::{Log, LogFault, ReadFault};
+use mt_render::MixFault;
 use mt_stamp::{Dot, Replica, Stamp};
 use std::test::Fail;
 
@@ -76,6 +78,8 @@ fn numbers_its_refusals(rt: HostRuntime) {
         (CliFault::Source(4, WaveFault::BadFmt), 30),
         (CliFault::Source(5, WaveFault::Unsupported), 31),
         (CliFault::Source(6, WaveFault::NoData), 32),
+        (CliFault::Mix(MixFault::RateDiffers(Digest([0; 32]))), 34),
+        (CliFault::Mix(MixFault::TooLong), 35),
         (CliFault::Write, 37),
     ] {
         assert_eq!(rt; fault.number(), number);

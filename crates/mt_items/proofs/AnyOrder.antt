@@ -53,43 +53,37 @@ live_same r u same item tag =
 
 -- ---- the same operations
 
+-- of two lists in which operations of one stamp are one
+module _ (P : Operation → Type 0) (one : (a b : Operation) → P a → P b → a.stamp ≡ b.stamp → a ≡ b) (r u : List Operation) (all_r : AllByRecursion P r) (all_u : AllByRecursion P u) (same : SameItems r u) where
+  same_items : (kind : Role) → items_of kind r ≡ items_of kind u
+  same_items kind =
+      ap (map stamp_of)
+      (sort_same op_cmp (on_total stamp_of stamp_cmp_total) P (λ a b in_a in_b tied. one a b in_a in_b (stamp_cmp-IsAntisymmetric a.stamp b.stamp tied)) (filter (fits kind) r) (filter (fits kind) u)
+      (all_kept P (fits kind) r all_r) (all_kept P (fits kind) u all_u) (same_filter r u same (fits kind)))
+
+  pub same_answers : AnswerAlike r u
+  same_answers = record {
+    needs = λ need. same_any r u same (meets need);
+    items = same_items;
+    present = present_same r u same;
+    live = live_same r u same;
+    titles = last_write_same P one r u same all_r all_u title_written;
+    gains = last_write_same P one r u same all_r all_u gain_written;
+    mutes = last_write_same P one r u same all_r all_u mute_written;
+    track_places = last_write_same P one r u same all_r all_u track_place_written;
+    clip_places = last_write_same P one r u same all_r all_u clip_place_written;
+    trims = last_write_same P one r u same all_r all_u trim_written;
+    sources = last_write_same P one r u same all_r all_u source_written;
+    positions = last_write_same P one r u same all_r all_u position_written;
+  }
+
 abbrev IsIn : List Operation → Operation → Type 0
 IsIn r o = (k : ℕ) × (slice_get r k ≡ Some o)
 
 all_in : (r : List Operation) → All (IsIn r) r
 all_in r = λ k d lt. (k, slice_get-get_or r k d lt)
 
-module _ (r u : List Operation) (noted : AreNoted r) (moved : IsPermutation r u) where
-  same : SameItems r u
-  same f = sym (sum_by-IsPermutation f r u moved)
-
-  one : (a b : Operation) → IsIn r a → IsIn r b → a.stamp ≡ b.stamp → a ≡ b
-  one a b in_a in_b stamps = noted_apart r noted in_a.0 in_b.0 a b in_a.1 in_b.1 stamps
-
-  all_r : AllByRecursion (IsIn r) r
-  all_r = recursion_from_All (IsIn r) r (all_in r)
-
-  all_u : AllByRecursion (IsIn r) u
-  all_u = recursion_from_All (IsIn r) u (All-permutation (IsIn r) r u moved (all_in r))
-
-  same_items : (kind : Role) → items_of kind r ≡ items_of kind u
-  same_items kind =
-      ap (map stamp_of)
-      (sort_same op_cmp (on_total stamp_of stamp_cmp_total) (IsIn r) (λ a b in_a in_b tied. one a b in_a in_b (stamp_cmp-IsAntisymmetric a.stamp b.stamp tied)) (filter (fits kind) r) (filter (fits kind) u)
-      (all_kept (IsIn r) (fits kind) r all_r) (all_kept (IsIn r) (fits kind) u all_u) (same_filter r u same (fits kind)))
-
-  pub answer_alike : AnswerAlike r u
-  answer_alike = record {
-    needs = λ need. same_any r u same (meets need);
-    items = same_items;
-    present = present_same r u same;
-    live = live_same r u same;
-    titles = last_write_same (IsIn r) one r u same all_r all_u title_written;
-    gains = last_write_same (IsIn r) one r u same all_r all_u gain_written;
-    mutes = last_write_same (IsIn r) one r u same all_r all_u mute_written;
-    track_places = last_write_same (IsIn r) one r u same all_r all_u track_place_written;
-    clip_places = last_write_same (IsIn r) one r u same all_r all_u clip_place_written;
-    trims = last_write_same (IsIn r) one r u same all_r all_u trim_written;
-    sources = last_write_same (IsIn r) one r u same all_r all_u source_written;
-    positions = last_write_same (IsIn r) one r u same all_r all_u position_written;
-  }
+pub answer_alike : (r u : List Operation) → AreNoted r → IsPermutation r u → AnswerAlike r u
+answer_alike r u noted moved =
+    same_answers (IsIn r) (λ a b in_a in_b stamps. noted_apart r noted in_a.0 in_b.0 a b in_a.1 in_b.1 stamps) r u (recursion_from_All (IsIn r) r (all_in r))
+    (recursion_from_All (IsIn r) u (All-permutation (IsIn r) r u moved (all_in r))) (λ f. sym (sum_by-IsPermutation f r u moved))

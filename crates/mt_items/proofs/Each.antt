@@ -24,7 +24,7 @@ use Rattle.mt_items.proofs.Marking.{tests_alike}
 pub match_some : {X : Type 0} (N : Type 0) (P : X → Type 0) (o : Option X) (x : X) → o ≡ Some x → MatchOption o N P → P x
 match_some {X} N P o x e m = let n : MatchOption (Some x) N P = subst (λ (p : Option X). MatchOption p N P) e m in n
 
-at_is : (k item : Moment) → is_eq (stamp_cmp k item) ≡ stamp_eq item k
+pub at_is : (k item : Moment) → is_eq (stamp_cmp k item) ≡ stamp_eq item k
 at_is k item = (eq_by_cmp_equiv stamp_cmp_total).symm k item ∙ tests_alike item k
 
 -- a new key stands where its operation is sorted

@@ -1,11 +1,11 @@
 -- When a stamp is new, and what one pass keeps.
-use Rattle.std.proofs.Common.{◌≡◌, Bool, true, false, List, [], ◌∷◌, ◌||◌, refl, sym, ap, ◌∙◌, cond, true≢false}
+use Rattle.std.proofs.Common.{◌≡◌, Ordering, ℕ, zero, suc, ◌+◌, ◌≤◌, length, drop, map, arith, Bool, true, false, List, [], ◌∷◌, ◌||◌, refl, sym, ap, ◌∙◌, cond, true≢false}
 use Rattle.std.specs.Prelude.{IsTrue, IfOk, Ok, Err}
 use Rattle.std.specs.declared.result.Result.{Result}
 use Rattle.std.specs.List.{AllByRecursion}
 use Rattle.std.specs.Cmp.{tied_itself}
-use Rattle.std.specs.Ordering.{is_lt, ordering_reverse}
-use Rattle.std.specs.declared.cmp.Ordering.TheVariants.{Less, Equal}
+use Rattle.std.specs.Ordering.{is_lt, is_eq, ordering_reverse}
+use Rattle.std.specs.declared.cmp.Ordering.TheVariants.{Less, Equal, Greater}
 use Rattle.mt_stamp.specs.Moment.{Moment, stamp_cmp, stamp_eq}
 use Rattle.mt_stamp.specs.Sorting.{RisesStrictly, Rises}
 use Rattle.mt_stamp.proofs.Order.{stamp_cmp_total, stamp_eq-true}
@@ -13,6 +13,7 @@ use Rattle.mt_op.specs.Operation.{Operation}
 use Rattle.mt_op.specs.ByStamp.{op_cmp}
 use Rattle.mt_op.specs.Needs.{names_are_older}
 use Rattle.mt_items.specs.Noting.{is_noted, are_needs_met, one_pass, MayFollow}
+use Rattle.mt_items.proofs.Each.{at_is}
 use Rattle.mt_items.proofs.Noting.{unmet}
 
 less_is_not_equal : {A : Type 0} → Less ≡ Equal → A
@@ -96,3 +97,32 @@ next_held all noted rest o so_far unmet_one older = record {
 pub ok_from_both : {X E : Type 0} (P Q R : X → Type 0) (r : Result X E) → ((x : X) → P x → Q x → R x) → IfOk r P → IfOk r Q → IfOk r R
 ok_from_both P Q R (Ok x) both p q = both x p q
 ok_from_both P Q R (Err e) both p q = tt
+
+-- one more stamp is known where one more operation is noted
+pub one_more_known : (key stamp : Moment) (before : Bool) → cond (is_eq (stamp_cmp key stamp)) true before ≡ (stamp_eq stamp key || before)
+one_more_known key stamp before = ap (λ (b : Bool). cond b true before) (at_is key stamp) ∙ either (stamp_eq stamp key)
+  where
+    either : (b : Bool) → cond b true before ≡ (b || before)
+    either true = refl
+    either false = refl
+
+-- what stands before a greater one that rises
+pub rises_before : (x y : Operation) (ys : List Operation) → op_cmp x y ≡ Less → RisesStrictly op_cmp (y ∷ ys) → RisesStrictly op_cmp (x ∷ y ∷ ys)
+rises_before x y ys less rises = ((less, all_after ys rises.0), rises)
+  where
+    all_after : (zs : List Operation) → AllByRecursion (λ z. op_cmp y z ≡ Less) zs → AllByRecursion (λ z. op_cmp x z ≡ Less) zs
+    all_after [] all = tt
+    all_after (z ∷ zs) all = (stamp_cmp_total.trans x.stamp y.stamp z.stamp less all.0, all_after zs all.1)
+
+pub is_less : (o : Ordering) → is_lt o ≡ true → o ≡ Less
+is_less Less e = refl
+is_less Equal e = absurd (true≢false (sym e))
+is_less Greater e = absurd (true≢false (sym e))
+
+-- the last one alone rises
+pub last_rises : {X : Type 0} (f : X → Operation) (xs : List X) (i : ℕ) → length xs ≤ i + 1 → RisesStrictly op_cmp (map f (drop i xs))
+last_rises f [] zero within = tt
+last_rises f [] (suc i) within = tt
+last_rises f (x ∷ []) zero within = (tt, tt)
+last_rises f (x ∷ y ∷ xs) zero within = absurd (omega (arith, within))
+last_rises f (x ∷ xs) (suc i) within = last_rises f xs i (omega (arith, within))

@@ -35,6 +35,7 @@ pub other_clip : {A : Type 0} (item : Moment) (o : Operation) (ops : List Operat
 other_clip item o ops c other held = record {
   place = other_held clip_place_written (at_subject clip_place_in) item o ops c.place other held.place;
   trim = other_held trim_written (at_subject trim_in) item o ops c.trim other held.trim;
+  positive = held.positive;
   gain = other_held gain_written (at_subject gain_in) item o ops c.gain other held.gain;
   mute = other_held mute_written (at_subject mute_in) item o ops c.mute other held.mute;
   source = other_held source_written (at_subject source_in) item o ops (record { stamp = item; value = c.source }) other held.source;

@@ -12,10 +12,11 @@ use Rattle.mt_items.specs.declared.cells.MarkerCells.{MarkerCells}
 use Rattle.mt_items.specs.declared.cells.ClipCells.{ClipCells}
 use Rattle.mt_items.specs.declared.cells.TrackCells.{TrackCells}
 
--- the places that were given
+-- A working predicate: the places that were given.
 abbrev pub HoldsPlaces : List Operation → BTreeSet Moment → Type 0
 HoldsPlaces ops places = (stamp : Moment) → contains stamp_cmp places stamp ≡ is_need_met ops (need_of Place stamp)
 
+-- A working predicate: all that an `Items` holds.
 pub record HoldsAll {A : Type 0} (ops : List Operation) (t : BTreeMap Moment (TrackCells A)) (c : BTreeMap Moment (ClipCells A)) (m : BTreeMap Moment (MarkerCells A)) (p : BTreeSet Moment) : Type 0 where
   pub noted : AreNoted ops
   pub tracks : HoldsTracks ops t

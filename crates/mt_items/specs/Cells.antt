@@ -1,5 +1,5 @@
--- What the cells of items hold of the operations noted.
-use Rattle.std.specs.Prelude.{◌≡◌, List, Some, is_some, map, filter}
+-- The items of a kind, and what the cells of items hold of the operations noted.
+use Rattle.std.specs.Prelude.{◌≡◌, ◌≤◌, List, Some, is_some, map, filter}
 use Rattle.std.specs.BTreeMap.{BTreeMap, get, keys}
 use Rattle.mt_stamp.specs.Moment.{Moment, stamp_cmp}
 use Rattle.mt_op.specs.declared.need.Role.{Role}
@@ -16,22 +16,23 @@ use Rattle.mt_items.specs.declared.cells.MarkerCells.{MarkerCells}
 use Rattle.mt_items.specs.declared.cells.ClipCells.{ClipCells}
 use Rattle.mt_items.specs.declared.cells.TrackCells.{TrackCells}
 
--- the cells of a marker
+-- A working predicate: the cells of a marker.
 pub record HoldsMarker {A : Type 0} (item : Moment) (ops : List Operation) (cells : MarkerCells A) : Type 0 where
   pub position : HoldsLast position_written item ops cells.position
   pub title : HoldsLast title_written item ops cells.title
   pub presence : HoldsTags item ops cells.presence
 
--- the cells of a clip
+-- A working predicate: the cells of a clip.
 pub record HoldsClip {A : Type 0} (item : Moment) (ops : List Operation) (cells : ClipCells A) : Type 0 where
   pub place : HoldsLast clip_place_written item ops cells.place
   pub trim : HoldsLast trim_written item ops cells.trim
+  pub positive : 1 ≤ cells.trim.value.1
   pub gain : HoldsLast gain_written item ops cells.gain
   pub mute : HoldsLast mute_written item ops cells.mute
   pub source : HoldsLast source_written item ops (record { stamp = item; value = cells.source })
   pub presence : HoldsTags item ops cells.presence
 
--- the cells of a track
+-- A working predicate: the cells of a track.
 pub record HoldsTrack {A : Type 0} (item : Moment) (ops : List Operation) (cells : TrackCells A) : Type 0 where
   pub place : HoldsLast track_place_written item ops cells.place
   pub title : HoldsLast title_written item ops cells.title
@@ -43,7 +44,7 @@ pub record HoldsTrack {A : Type 0} (item : Moment) (ops : List Operation) (cells
 abbrev pub items_of : Role → List Operation → List Moment
 items_of kind ops = map stamp_of (sort_by op_cmp (filter (fits kind) ops))
 
--- the cells of the items of a kind, and of nothing else
+-- A working predicate: the cells of the items of a kind, and of nothing else.
 pub record HoldsEach {C : Type 0} (kind : Role) (Holds : Moment → List Operation → C → Type 0) (ops : List Operation) (cells : BTreeMap Moment C) : Type 0 where
   pub each : (item : Moment) (c : C) → get stamp_cmp cells item ≡ Some c → Holds item ops c
   pub keys : keys cells ≡ items_of kind ops

@@ -1,5 +1,6 @@
 pub mod Noting
 pub mod Fields
+pub mod Keeping
 pub mod Tags
 pub mod Cells
 pub mod All

@@ -1,6 +1,6 @@
 //! The state of items.
 
-ghost use Rattle.std.specs.Prelude.{◌≡◌, List, [], ◌∷◌, Some, IfOk, IfErr, MatchOption, option_map, slice_get};
+ghost use Rattle.std.specs.Prelude.{◌≡◌, List, [], ◌∷◌, Some, ◌≤◌, IfOk, IfErr, IfSome, MatchOption, option_map, slice_get};
 ghost use Rattle.std.specs.List.Sorted.{IsStrictlySortedBy};
 ghost use Rattle.mt_stamp.specs.Moment.{Moment, stamp_cmp};
 ghost use Rattle.mt_op.specs.declared.need.Role.TheVariants.{Track, Place, Clip, Marker, Mixable, Titled, Item, TagOf};
@@ -260,9 +260,9 @@ impl<A: Allocator> Items<A> {
         ensures { option_map (λ r. written r.now) result ≡ last_write title_written item self.now }
     {
         match self.tracks.get(&item) {
-            Some(cells) => Some(&cells.title),
+            Some(track) => Some(&track.title),
             None => match self.markers.get(&item) {
-                Some(cells) => Some(&cells.title),
+                Some(marker) => Some(&marker.title),
                 None => None,
             },
         }
@@ -273,9 +273,9 @@ impl<A: Allocator> Items<A> {
         ensures { option_map (λ r. written r.now) result ≡ last_write gain_written item self.now }
     {
         match self.tracks.get(&item) {
-            Some(cells) => Some(&cells.gain),
+            Some(track) => Some(&track.gain),
             None => match self.clips.get(&item) {
-                Some(cells) => Some(&cells.gain),
+                Some(clip) => Some(&clip.gain),
                 None => None,
             },
         }
@@ -286,9 +286,9 @@ impl<A: Allocator> Items<A> {
         ensures { option_map (λ r. written r.now) result ≡ last_write mute_written item self.now }
     {
         match self.tracks.get(&item) {
-            Some(cells) => Some(&cells.mute),
+            Some(track) => Some(&track.mute),
             None => match self.clips.get(&item) {
-                Some(cells) => Some(&cells.mute),
+                Some(clip) => Some(&clip.mute),
                 None => None,
             },
         }
@@ -300,7 +300,7 @@ impl<A: Allocator> Items<A> {
         ensures { option_map (λ r. written r.now) result ≡ last_write track_place_written track self.now }
     {
         match self.tracks.get(&track) {
-            Some(cells) => Some(&cells.place),
+            Some(found) => Some(&found.place),
             None => None,
         }
     }
@@ -327,10 +327,11 @@ impl<A: Allocator> Items<A> {
         }
     }
 
-    /// The last write of a clip's trim: the first frame of its recording that it plays, and how many frames. `None`
-    /// where the stamp names no clip.
+    /// The last write of a clip's trim: the first frame of its recording that it plays, and how many frames,
+    /// at least 1. `None` where the stamp names no clip.
     pub fn trim(&self, clip: Stamp) -> Option<&Register<(u32, u32)>>
-        ensures { option_map (λ r. written r.now) result ≡ last_write trim_written clip self.now }
+        ensures write { option_map (λ r. written r.now) result ≡ last_write trim_written clip self.now }
+        ensures positive { IfSome result (λ r. 1 ≤ r.now.value.1) }
     {
         match self.clips.get(&clip) {
             Some(cells) => Some(&cells.trim),

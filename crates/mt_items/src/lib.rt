@@ -1,4 +1,25 @@
-//! The state of items.
+//! The state of items: of the operations noted so far, what each field of each item holds, and which items are there.
+//!
+//! An editor takes operations one by one, from several replicas and in any order in which each stands after those that it
+//! needs. `Items` notes each, and answers at any time what a session is made of: the last write of each field with the
+//! stamp of its writer, the live tags of each item, and the tracks, clips and markers by their stamps.
+//!
+//! ```text
+//! let news = Stamp::new(1, a, 1)?;
+//! let mut items = Items::new(alloc.clone()?)?;
+//! items = items.note(&Op::new(news, Body::AddMarker { at: 480, title })?)?;
+//! // two replicas retitle it; the one of greater stamp arrives first
+//! items = items.note(&Op::new(Stamp::new(2, b, 1)?, Body::Retitle { item: news, title: late })?)?;
+//! items = items.note(&Op::new(Stamp::new(2, a, 2)?, Body::Retitle { item: news, title: early })?)?;
+//! // items.title(news) is "Late", by 2.1.b; items.is_present(news); items.live_tags(news)? is [news]
+//! ```
+//!
+//! Whether an operation may be noted next is a condition that the caller shows: its stamp is new (`laws::new_stamps`), and
+//! `are_needs_met` says true. `items_of_ready` does so for a whole set that stands by rising stamp, in one pass.
+//!
+//! An operation costs the logarithm of the number of items, whatever came before it. Contracts see an `Items` as the list of the
+//! operations noted, and each answer is a definition of mt_op over that list; on which operations these are it depends, and
+//! on nothing else (`laws::any_order`).
 #![tactic(auto)]
 
 mod cells;
@@ -12,6 +33,8 @@ mod listing;
 mod marker;
 mod place;
 mod ready;
+#[cfg(test)]
+mod tests;
 mod track;
 
 pub use fault::ItemsFault;

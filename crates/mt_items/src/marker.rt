@@ -1,10 +1,8 @@
 //! The cells of a marker.
 
-ghost use Rattle.std.specs.Prelude.{◌≡◌, ◌∷◌, false, List, IfErr, OnOk, IfOk, MatchOption, is_some};
-ghost use Rattle.mt_stamp.specs.Moment.{Moment};
-ghost use Rattle.mt_op.specs.Operation.{Operation};
+ghost use Rattle.std.specs.Prelude.{◌≡◌, false, IfErr, OnOk, IfOk, MatchOption, is_some};
 ghost use Rattle.mt_op.specs.Needs.{adds_marker};
-ghost use Rattle.mt_items.specs.Noting.{Concerns, MayFollow, AreNoted};
+ghost use Rattle.mt_items.specs.Keeping.{Makes, Keeps, KeepsAll};
 ghost use Rattle.mt_items.specs.Cells.{HoldsMarker, HoldsMarkers};
 
 use crate::cells::{MarkerCells, first_presence, mark, subject};
@@ -18,7 +16,7 @@ use std::collections::BTreeMap;
 
 // The cells of the marker that an operation adds, where it adds one.
 fn added<A: Allocator + Clone>(alloc: &A, op: &Op<A>) -> Result<Option<MarkerCells<A>>, ItemsFault>
-    ensures ok { IfOk result (λ cells. MatchOption cells (adds_marker op.now.act ≡ false) (λ c. (ops : List Operation) → MayFollow ops op.now → AreNoted ops → HoldsMarker op.now.stamp (op.now ∷ ops) c)) }
+    ensures ok { IfOk result (λ cells. MatchOption cells (adds_marker op.now.act ≡ false) (Makes HoldsMarker op.now)) }
     ensures adds { IfOk result (λ cells. is_some cells ≡ adds_marker op.now.act) }
     ensures err { IfErr result (λ fault. fault ≡ ItemsFault.Memory) }
 {
@@ -39,7 +37,7 @@ fn added<A: Allocator + Clone>(alloc: &A, op: &Op<A>) -> Result<Option<MarkerCel
 
 // Notes an operation on a marker.
 fn change<A: Allocator + Clone>(cells: &mut MarkerCells<A>, op: &Op<A>) -> Result<(), ItemsFault>
-    ensures ok { OnOk result ((ops : List Operation) (item : Moment) → Concerns ops item op.now → HoldsMarker item ops cells.old → HoldsMarker item (op.now ∷ ops) cells.new) }
+    ensures ok { OnOk result (Keeps HoldsMarker op.now cells.old cells.new) }
     ensures err { IfErr result (λ fault. fault ≡ ItemsFault.Memory) }
 {
     let stamp = op.stamp();
@@ -54,7 +52,7 @@ pub(crate) fn note<A: Allocator + Clone>(
     markers: &mut BTreeMap<Stamp, MarkerCells<A>, A>,
     op: &Op<A>,
 ) -> Result<(), ItemsFault>
-    ensures ok { OnOk result ((ops : List Operation) → MayFollow ops op.now → AreNoted ops → HoldsMarkers ops markers.old → HoldsMarkers (op.now ∷ ops) markers.new) }
+    ensures ok { OnOk result (KeepsAll HoldsMarkers op.now markers.old markers.new) }
     ensures err { IfErr result (λ fault. fault ≡ ItemsFault.Memory) }
 {
     if let Some(cells) = added(alloc, op)? {

@@ -92,7 +92,7 @@ module _ (name : Replica) (log : LogMap) (edit : Edit) (logged : AreLogged (oper
       ∙ ap (find dot_cmp dot) (entries-log_of (operations log) logged.rise)
       ∙ find_none dot (operations log) (all_members (λ x. op_dot x ≢ dot) (operations log) other_dot)
 
-  older_all : AllByRecursion (λ x. IsTrue (names_are_older x)) (made_op (operations log) name edit ∷ operations log)
+  pub older_all : AllByRecursion (λ x. IsTrue (names_are_older x)) (made_op (operations log) name edit ∷ operations log)
   older_all = (older (operations log) name edit none, all_older (operations log) logged.valid)
 
   -- it may be noted after the ready ones
@@ -118,7 +118,7 @@ module _ (name : Replica) (log : LogMap) (edit : Edit) (logged : AreLogged (oper
       fresh = by (is_noted items (made_op (operations log) name edit).stamp) refl
 
   -- one operation more in the log is that one more
-  with_same : SameItems (operations (with_op log (made_op (operations log) name edit))) (made_op (operations log) name edit ∷ operations log)
+  pub with_same : SameItems (operations (with_op log (made_op (operations log) name edit))) (made_op (operations log) name edit ∷ operations log)
   with_same = insert_same log (made_op (operations log) name edit) absent
 
   -- ready gains it and nothing else

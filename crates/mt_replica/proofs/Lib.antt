@@ -7,3 +7,4 @@ pub mod Refs
 pub mod Bridging
 pub mod Keeping
 pub mod Taking
+pub mod NextOne

@@ -5,3 +5,4 @@ pub mod Made
 pub mod Kept
 pub mod State
 pub mod Codes
+pub mod Laws

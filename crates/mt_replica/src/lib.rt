@@ -1,4 +1,17 @@
-//! An editor of a session.
+//! An editor of a session: a name, a log, and the session of the log's operations.
+//!
+//! An editor takes the operations of others, in whatever order they come, and makes its own from changes:
+//!
+//! ```text
+//! let mut editor = Editor::from_log(alloc, desk, Log::new(alloc))?;
+//! let marker = editor.edit(&Change::AddMarker { at: 480, title })?;   // its operation, for the others
+//! editor.take(theirs)?;                                               // Already, Held, or Applied with what became ready
+//! editor.session()                                                    // of all that was taken
+//! ```
+//!
+//! What an edit makes is one definition (`specs/Made.antt`): the first refusal in its order, or one operation whose clock passes every clock of
+//! the log. `Draft` is the same without a session, for many edits between which nobody looks at one. `laws` says what holds of
+//! what is made.
 #![tactic(auto)]
 
 mod body;
@@ -8,10 +21,13 @@ mod draft;
 mod editor;
 mod fault;
 mod greatest;
+pub mod laws;
 mod names;
 mod newly;
 mod state;
 mod taken;
+#[cfg(test)]
+mod tests;
 
 pub use change::Change;
 pub use draft::Draft;

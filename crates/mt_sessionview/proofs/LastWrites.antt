@@ -5,12 +5,10 @@ use Rattle.std.specs.List.{filter, filter_map, cons_option}
 use Rattle.std.proofs.lemmas.Option.{same_Some, none-some}
 use Rattle.mt_stamp.specs.Moment.{Moment, dot_of}
 use Rattle.mt_op.specs.Operation.{Act, Operation}
-use Rattle.mt_op.specs.Needs.{stamp_eq}
 use Rattle.mt_op.specs.Dots.{dots_rise}
-use Rattle.mt_op.specs.Writes.{Write, Written, kept, written_by, last_write}
-use Rattle.mt_op.proofs.Needs.{stamp_eq-true}
+use Rattle.mt_op.specs.Writes.{Write, Written, written_by, last_write}
 use Rattle.mt_op.proofs.LastWrite.{latest_is_greatest}
-use Rattle.mt_op.proofs.WriteOf.{IsWriteOf, is_write_of}
+use Rattle.mt_op.proofs.WriteOf.{is_write_of}
 use Rattle.mt_sessionview.proofs.Found.{one_place}
 
 -- an item of a list that passes and gives a value

@@ -8,12 +8,12 @@ use Rattle.mt_items.proofs.items.Items.title.Goals as goal
 
 pub returns-in-Some : goal.returns-in-Some
 returns-in-Some g c =
-    let cells = c.self.invariant.tracks.each c.args.item c.in-Some.cells.now (sym c.in-Some.ensures.value) in
+    let cells = c.self.invariant.tracks.each c.args.item c.in-Some.track.now (sym c.in-Some.ensures.value) in
     read_some title_written c.args.item c.self.inside.noted.items c.args.self.now _ c.self.view_is cells.title
 
 pub returns-in-Some-get : goal.returns-in-Some-get
 returns-in-Some-get g c =
-    let cells = c.self.invariant.markers.each c.args.item c.in-Some-get.cells.now (sym c.in-Some-get.ensures.value) in
+    let cells = c.self.invariant.markers.each c.args.item c.in-Some-get.marker.now (sym c.in-Some-get.ensures.value) in
     read_some title_written c.args.item c.self.inside.noted.items c.args.self.now _ c.self.view_is cells.title
 
 pub returns-in-None-get : goal.returns-in-None-get

@@ -8,7 +8,7 @@ use Rattle.mt_items.proofs.items.Items.track_place.Goals as goal
 
 pub returns-in-Some : goal.returns-in-Some
 returns-in-Some g c =
-    let cells = c.self.invariant.tracks.each c.args.track c.in-Some.cells.now (sym c.in-Some.ensures.value) in
+    let cells = c.self.invariant.tracks.each c.args.track c.in-Some.found.now (sym c.in-Some.ensures.value) in
     read_some track_place_written c.args.track c.self.inside.noted.items c.args.self.now _ c.self.view_is cells.place
 
 pub returns-in-None : goal.returns-in-None

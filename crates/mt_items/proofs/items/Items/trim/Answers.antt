@@ -6,13 +6,16 @@ use Rattle.mt_items.proofs.Roles.{trims}
 use Rattle.mt_items.proofs.Reading.{read_some, read_none}
 use Rattle.mt_items.proofs.items.Items.trim.Goals as goal
 
-pub returns-in-Some : goal.returns-in-Some
-returns-in-Some g c =
+pub returns-in-Some-clause-write : goal.returns-in-Some-clause-write
+returns-in-Some-clause-write g c =
     let cells = c.self.invariant.clips.each c.args.clip c.in-Some.cells.now (sym c.in-Some.ensures.value) in
     read_some trim_written c.args.clip c.self.inside.noted.items c.args.self.now _ c.self.view_is cells.trim
 
-pub returns-in-None : goal.returns-in-None
-returns-in-None g c =
+pub returns-in-None-clause-write : goal.returns-in-None-clause-write
+returns-in-None-clause-write g c =
     let all = c.self.invariant in
     let none = sym (all.clips.only c.args.clip) ∙ ap is_some (sym c.in-None.ensures.value) in
     read_none Clip trim_written trims c.args.clip c.self.inside.noted.items c.args.self.now c.self.view_is all.noted none
+
+pub returns-in-Some-clause-positive : goal.returns-in-Some-clause-positive
+returns-in-Some-clause-positive g c = (c.self.invariant.clips.each c.args.clip c.in-Some.cells.now (sym c.in-Some.ensures.value)).positive

@@ -1,0 +1,45 @@
+-- Reading recordings from readers, and why one is refused.
+use Rattle.std.specs.Prelude.{◌≡◌, ◌≢◌, ℕ, true, List, [], ◌∷◌, ◌+◌, Option, Some, map, Vec, ◌⊎◌}
+use Rattle.sha2.specs.Sha256.{sha256}
+use Rattle.mt_op.specs.declared.digest.Digest.{Digest}
+use Rattle.mt_opcodec.specs.Latch.{Latched}
+use Rattle.mt_bwfread.specs.Wave.{IsWave, fault_of}
+use Rattle.mt_render.specs.Sources.{Sources}
+use Rattle.mt_cli.specs.declared.fault.CliFault.{CliFault}
+use Rattle.mt_cli.specs.declared.fault.CliFault.TheVariants.{Memory, Read, Log, Merge, Source, Mix, Write}
+use Rattle.mt_cli.specs.Reading.{Gave, IsRead}
+
+-- the bytes of each recording that is kept
+abbrev pub bytes_in : {Z : Type 0} → List (Vec ℕ Z) → List (List ℕ)
+bytes_in texts = map (λ t. t.items) texts
+
+-- recordings under their digests; of several under one digest the first is found
+abbrev pub under_digest : List ℕ → Digest × List ℕ
+under_digest text = (record { 0 = sha256 text }, text)
+
+abbrev pub sources_of : List (List ℕ) → Sources
+sources_of texts = map under_digest texts
+
+module _ {R : Type 0} (remaining : R → Option (List ℕ)) where
+  -- each reader gave the wave file at its place
+  abbrev pub GaveWaves : List (Latched R) → List (List ℕ) → Type 0
+  GaveWaves [] [] = Unit {0}
+  GaveWaves [] (text ∷ texts) = ⊥
+  GaveWaves (latch ∷ latches) [] = ⊥
+  GaveWaves (latch ∷ latches) (text ∷ texts) = (Gave remaining latch text × IsWave text) × GaveWaves latches texts
+
+  -- Why the reader of an index gave no wave file: the latch has failed, or its bytes are none, by the first of their faults. As a
+  -- reader it is counted behind so many others, and as a recording it is not.
+  abbrev pub IsSourceCause : ℕ → ℕ → Latched R → Latched R → CliFault → Type 0
+  IsSourceCause others index old new Memory = Unit {0}
+  IsSourceCause others index old new (Read place) = (place ≡ others + index) × (new.failed ≡ true)
+  IsSourceCause others index old new (Source place fault) = (place ≡ index) × (IsRead remaining new × ((bytes : List ℕ) × (Gave remaining old bytes × (fault_of bytes ≡ Some fault))))
+  IsSourceCause others index old new _ = ⊥
+
+  -- The same of the readers from an index on: those before the one at fault gave wave files and are at their ends, and those behind
+  -- it were not asked, unless memory ran out.
+  abbrev pub HasSourceCause : ℕ → ℕ → List (Latched R) → List (Latched R) → CliFault → Type 0
+  HasSourceCause others index [] new fault = fault ≡ Memory
+  HasSourceCause others index (latch ∷ latches) [] fault = ⊥
+  HasSourceCause others index (latch ∷ latches) (after ∷ afters) fault =
+      (IsSourceCause others index latch after fault × (fault ≢ Memory → afters ≡ latches)) ⊎ ((text : List ℕ) × ((Gave remaining latch text × IsWave text) × (IsRead remaining after × HasSourceCause others (index + 1) latches afters fault)))

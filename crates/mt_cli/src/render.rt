@@ -1,0 +1,122 @@
+//! Rendering logs and recordings.
+
+ghost use Rattle.std.specs.Prelude.{◌≡◌, ◌≢◌, ◌+◌, ◌<◌, ◌^◌, length, IfErr, OnOk};
+ghost use Rattle.std.specs.Io.KnownBytes.{Appends};
+ghost use Rattle.mt_opcodec.specs.LogValue.{operations};
+ghost use Rattle.mt_sessionview.specs.Session.{session_of};
+ghost use Rattle.mt_render.specs.declared.fault.MixFault.TheVariants as mix;
+ghost use Rattle.mt_cli.specs.Faults.{file_fault};
+ghost use Rattle.mt_cli.specs.Bouncing.{CanBounce, session_file, SessionFails, BounceFails, HasBounced};
+ghost use Rattle.mt_cli.specs.Reading.{AreRead};
+ghost use Rattle.mt_cli.specs.Sources.{bytes_in};
+
+use crate::fault::CliFault;
+use crate::sources::{catalogue_of, read_sources};
+use crate::union::union_of;
+use mt_cuewrite::{BounceFault, Head, bounce};
+use mt_opcodec::{Latch, Log};
+use mt_render::{Format, Mix, MixFault};
+use mt_sessionview::{Session, from_scratch};
+use std::alloc::Allocator;
+use std::io::{Read, Write};
+
+// Why a programme is not mixed.
+fn refused_mix(fault: MixFault) -> CliFault
+    ensures memory { fault ≡ mix.Memory → result ≡ CliFault.Memory }
+    ensures other { fault ≢ mix.Memory → result ≡ CliFault.Mix fault }
+{
+    match fault {
+        MixFault::Memory => CliFault::Memory,
+        _ => CliFault::Mix(fault),
+    }
+}
+
+// Why a file is not written.
+fn refused_file(fault: BounceFault) -> CliFault
+    ensures { result ≡ file_fault fault }
+{
+    match fault {
+        BounceFault::Memory => CliFault::Memory,
+        BounceFault::TooLong => CliFault::Mix(MixFault::TooLong),
+        BounceFault::Write => CliFault::Write,
+    }
+}
+
+// Writes the file of a session over these recordings.
+fn put_session<A: Allocator + Clone, W: Write>(
+    alloc: A,
+    session: &Session<A>,
+    texts: &[Vec<u8, A>],
+    head: &Head<'_>,
+    format: Format,
+    output: &mut Latch<W>,
+) -> Result<(), CliFault>
+    ensures can { OnOk result (CanBounce session.now (bytes_in texts.now) format head.now) }
+    ensures ok { OnOk result (Appends (W.contents output.old.inner) (W.contents output.new.inner) (session_file session.now (bytes_in texts.now) format head.now)) }
+    ensures err { IfErr result (SessionFails W.contents session.now (bytes_in texts.now) format head.now output.old output.new) }
+{
+    let catalogue = catalogue_of(alloc.clone()?, texts)?;
+    let mix = match Mix::new(alloc.clone()?, session, &catalogue, format) {
+        Ok(mix) => mix,
+        Err(fault) => return Err(refused_mix(fault)),
+    };
+    match bounce(alloc, &mix, session.markers.items(), head, output) {
+        Ok(()) => Ok(()),
+        Err(fault) => Err(refused_file(fault)),
+    }
+}
+
+// Writes the file of a log's session over these recordings.
+fn put_log<A: Allocator + Clone, W: Write>(
+    alloc: A,
+    log: &Log<A>,
+    texts: &[Vec<u8, A>],
+    head: &Head<'_>,
+    format: Format,
+    output: &mut Latch<W>,
+) -> Result<(), CliFault>
+    ensures can { OnOk result (CanBounce (session_of (operations log.now)) (bytes_in texts.now) format head.now) }
+    ensures ok { OnOk result (Appends (W.contents output.old.inner) (W.contents output.new.inner) (session_file (session_of (operations log.now)) (bytes_in texts.now) format head.now)) }
+    ensures err { IfErr result (SessionFails W.contents (session_of (operations log.now)) (bytes_in texts.now) format head.now output.old output.new) }
+{
+    let Ok(session) = from_scratch(alloc.clone()?, log) else {
+        return Err(CliFault::Memory);
+    };
+    put_session(alloc, &session, texts, head, format, output)
+}
+
+/// Writes the file of the session of the union of the logs' sets, played from the recordings, in a format and with a head, and
+/// nothing else. Of several recordings under one digest the first is played.
+///
+/// Refused, in this order: `Read` with the index of a log's input whose latch has failed, or `Log` with the index of one whose bytes
+/// are no log's text, from left to right; `Merge` where a log has another operation under a dot than the logs before it; `Read` with
+/// the index of a recording's input whose latch has failed, counted behind the logs, or `Source` with the index of a recording
+/// that is no wave file, counted from 0; `Mix` where the programme cannot be mixed, or its file is too long; `Write` where the output's latch has
+/// failed, which then holds a front of the file. Nothing is written before all else has passed. `Memory` where a growth was
+/// refused, and nothing was written then. Each input is read to its end, but for those behind one at fault, which are not asked.
+///
+/// The memory is that of the logs, of the session and of the recordings, which are kept whole; not of the programme.
+pub fn bounce_logs<A: Allocator + Clone, R: Read, W: Write>(
+    alloc: A,
+    logs: &mut [Latch<R>],
+    sources: &mut [Latch<R>],
+    head: &Head<'_>,
+    format: Format,
+    output: &mut Latch<W>,
+) -> Result<(), CliFault>
+    ensures ok { OnOk result (HasBounced W.contents R.remaining logs.old logs.new sources.old sources.new format head.now output.old output.new) }
+    ensures read_logs { OnOk result (AreRead R.remaining logs.new) }
+    ensures read_sources { OnOk result (AreRead R.remaining sources.new) }
+    ensures err { IfErr result (BounceFails W.contents R.remaining logs.old logs.new sources.old sources.new format head.now output.old output.new) }
+{
+    let count = logs.len();
+    let log = match union_of(alloc.clone()?, logs) {
+        Ok(log) => log,
+        Err(fault) => return Err(fault),
+    };
+    let texts = match read_sources(alloc.clone()?, count, sources) {
+        Ok(texts) => texts,
+        Err(fault) => return Err(fault),
+    };
+    put_log(alloc, &log, &texts, head, format, output)
+}

@@ -1,0 +1,10 @@
+use Rattle.std.proofs.Common.{◌≡◌, ◌+◌, length, take}
+use Rattle.mt_cuewrite.specs.File.{before, named, label}
+use Rattle.mt_cuewrite.specs.Putting.{Puts}
+use Rattle.mt_cuewrite.proofs.marks.put_labels.Given as goal
+
+abbrev pub invariant-loop-marker : goal.invariant-loop-marker
+invariant-loop-marker g l = record {
+  put : Puts g.W.Write.contents l.initial.output l.output (named label 1 (before l.end (take l.marker-index l.markers)));
+  count : l.name ≡ 1 + length (before l.end (take l.marker-index l.markers));
+}

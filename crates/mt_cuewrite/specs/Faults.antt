@@ -1,0 +1,33 @@
+-- Why a file is not written (profile).
+use Rattle.std.specs.Prelude.{◌≡◌, ℕ, ◌^◌, ◌<◌, ◌≤◌, true, List, length, Option, Some}
+use Rattle.mt_opcodec.specs.Latch.{Latched, AppendsFront}
+use Rattle.mt_sessionview.specs.Content.{Marker}
+use Rattle.mt_render.specs.Mix.{Programme}
+use Rattle.mt_cuewrite.specs.declared.fault.BounceFault.{BounceFault}
+use Rattle.mt_cuewrite.specs.declared.fault.BounceFault.TheVariants.{Memory, TooLong, Write}
+use Rattle.mt_cuewrite.specs.declared.fault.HeadFault.{HeadFault}
+use Rattle.mt_cuewrite.specs.declared.fault.HeadFault.TheVariants.{BadHead}
+use Rattle.mt_cuewrite.specs.Head.{HeadText, bad_text}
+use Rattle.mt_cuewrite.specs.File.{riff, file}
+
+-- the first text of a head that is not taken
+abbrev pub IsBadHead : HeadText → HeadFault → Type 0
+IsBadHead h (BadHead n) = bad_text h ≡ Some n
+
+-- the refusals' numbers
+abbrev pub bounce_number : BounceFault → ℕ
+bounce_number Memory = 0
+bounce_number TooLong = 35
+bounce_number Write = 37
+
+-- the size of the RIFF chunk's content has to fit in four bytes
+abbrev pub Fits : Programme → List Marker → HeadText → Type 0
+Fits p ms h = length (riff p ms h) < 2 ^ 32
+
+module _ {W : Type 0} (contents : W → Option (List ℕ)) where
+  -- What refuses it: a size that does not fit, or memory, each with the output as it was; or the output has failed, and holds
+  -- a front of the file.
+  abbrev pub BounceFails : Programme → List Marker → HeadText → Latched W → Latched W → BounceFault → Type 0
+  BounceFails p ms h old new Memory = Fits p ms h × (new ≡ old)
+  BounceFails p ms h old new TooLong = (2 ^ 32 ≤ length (riff p ms h)) × (new ≡ old)
+  BounceFails p ms h old new Write = Fits p ms h × (new.failed ≡ true) × AppendsFront (contents old.inner) (contents new.inner) (file p ms h)

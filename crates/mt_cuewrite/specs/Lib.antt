@@ -1,0 +1,5 @@
+pub mod Head
+pub mod File
+pub mod Faults
+pub mod Putting
+pub mod Sizes

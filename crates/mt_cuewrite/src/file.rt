@@ -1,0 +1,114 @@
+//! The file.
+
+ghost use Rattle.std.specs.Prelude.{◌≡◌, ◌+◌, ◌*◌, ◌^◌, ◌<◌, true, false, length, IfErr, OnOk, codes};
+ghost use Rattle.std.specs.Io.KnownBytes.{Appends};
+ghost use Rattle.mt_render.specs.Mix.{length_of};
+ghost use Rattle.mt_cuewrite.specs.Faults.{Fits, BounceFails};
+ghost use Rattle.mt_cuewrite.specs.File.{before, labels, marker_chunks, padded, samples as all_samples, file};
+ghost use Rattle.mt_cuewrite.specs.Putting.{Puts};
+ghost use Rattle.mt_cuewrite.specs.Sizes.{AreSizes};
+ghost use Rattle.std.specs.List.{flat_map};
+
+use crate::block::{SAMPLES, put_samples};
+use crate::chunks::{put_bext, put_format};
+use crate::fault::BounceFault;
+use crate::head::Head;
+use crate::marks::{put_cue, put_list};
+use crate::put::{put, put_chunk_head, put_pad};
+use crate::size::{Sizes, sizes_of};
+use mt_opcodec::Latch;
+use mt_render::Mix;
+use mt_sessionview::MarkerView;
+use std::alloc::Allocator;
+use std::io::Write;
+
+// Puts the chunk `data`.
+fn put_data<A: Allocator, W: Write>(
+    output: &mut Latch<W>,
+    mix: &Mix<'_, '_, A>,
+    size: u32,
+    room: &mut [i32],
+)
+    requires size { size ≡ length (all_samples mix.now) }
+    requires room { length room.old ≡ 8192 }
+    ensures { Puts W.contents output.old output.new (padded (record { id = codes "data"; content = all_samples mix.now })) }
+{
+    put_chunk_head(output, b"data", size);
+    put_samples(output, mix, room);
+    put_pad(output, size);
+}
+
+// Puts the chunks of the markers, where there are any before the end.
+fn put_marks<A: Allocator, W: Write>(
+    output: &mut Latch<W>,
+    end: u64,
+    markers: &[MarkerView<A>],
+    sizes: Sizes,
+)
+    requires few { 4 + 24 * length (before end markers.now) < 2 ^ 32 }
+    requires count { sizes.markers ≡ length (before end markers.now) }
+    requires size { sizes.labels ≡ length (labels (before end markers.now)) }
+    ensures { Puts W.contents output.old output.new (flat_map padded (marker_chunks (before end markers.now))) }
+{
+    if sizes.markers > 0 {
+        put_cue(output, end, markers, sizes.markers);
+        put_list(output, end, markers, sizes.labels);
+    }
+}
+
+// Puts the file.
+fn put_file<A: Allocator, B: Allocator, W: Write>(
+    output: &mut Latch<W>,
+    mix: &Mix<'_, '_, A>,
+    markers: &[MarkerView<B>],
+    head: &Head<'_>,
+    sizes: Sizes,
+    room: &mut [i32],
+)
+    requires sizes { AreSizes mix.now markers.now head.now sizes }
+    requires room { length room.old ≡ 8192 }
+    ensures { Puts W.contents output.old output.new (file mix.now markers.now head.now) }
+{
+    put_chunk_head(output, b"RIFF", sizes.riff);
+    put(output, b"WAVE");
+    put_bext(output, mix.format(), head);
+    put_format(output, mix.format());
+    put_data(output, mix, sizes.samples, room);
+    put_marks(output, mix.length(), markers, sizes);
+}
+
+/// Writes the file of a mix, of markers and of a head, and nothing else. Markers that stand at the programme's end or behind it
+/// are left out; the others are cue points in the order of the slice, named 1, 2 and so on.
+///
+/// Refused, in this order: `TooLong` (35) where the size of the RIFF chunk is over 4,294,967,295 bytes, and `Memory` (0) where the
+/// room for a block of samples, its one growth, was refused, each with nothing written; then `Write` (37) where the output's latch
+/// has failed, which then holds a front of the file.
+///
+/// The output is given pieces of at most 24,576 bytes, a block of 4,096 frames at a time. The memory is 32,768 bytes, whatever the
+/// length is; the time is that of the mix, and of one walk over the markers for each of their two chunks and for their sizes.
+pub fn bounce<A: Allocator, B: Allocator, W: Write>(
+    alloc: A,
+    mix: &Mix<'_, '_, B>,
+    markers: &[MarkerView<B>],
+    head: &Head<'_>,
+    output: &mut Latch<W>,
+) -> Result<(), BounceFault>
+    ensures ok { OnOk result (Appends (W.contents output.old.inner) (W.contents output.new.inner) (file mix.now markers.now head.now)) }
+    ensures fits { OnOk result (Fits mix.now markers.now head.now) }
+    ensures sound { OnOk result (output.new.failed ≡ false) }
+    ensures err { IfErr result (BounceFails W.contents mix.now markers.now head.now output.old output.new) }
+    ensures stays_failed { output.old.failed ≡ true → output.new ≡ output.old }
+    ensures no_read { output.new.reads_left ≡ output.old.reads_left }
+{
+    let Some(sizes) = sizes_of(mix, markers, head) else {
+        return Err(BounceFault::TooLong);
+    };
+    let Ok(mut room) = vec![in alloc; 0; SAMPLES] else {
+        return Err(BounceFault::Memory);
+    };
+    put_file(output, mix, markers, head, sizes, &mut room);
+    if output.failed() {
+        return Err(BounceFault::Write);
+    }
+    Ok(())
+}

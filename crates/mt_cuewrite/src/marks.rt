@@ -1,0 +1,126 @@
+//! The cue points and their labels.
+
+ghost use Rattle.std.specs.Prelude.{◌≡◌, ℕ, nat_lt, ◌+◌, ◌*◌, ◌<◌, ◌≤◌, ◌^◌, min, length, codes};
+ghost use Rattle.mt_cuewrite.specs.Putting.{Puts};
+ghost use Rattle.mt_cuewrite.specs.File.{padded, before, point, points, label_content, label, labels, named};
+
+use crate::put::{put, put_chunk_head, put_pad, put_u32, put_zeros};
+use mt_opcodec::Latch;
+use mt_sessionview::MarkerView;
+use std::alloc::Allocator;
+use std::io::Write;
+
+/// The name of the first cue point.
+const FIRST: u32 = 1;
+
+/// Whether a marker stands before the end, so that it is written.
+pub(crate) fn is_before<A: Allocator>(marker: &MarkerView<A>, end: u64) -> bool
+    ensures { result ≡ nat_lt marker.now.at end }
+{
+    u64::from(marker.at) < end
+}
+
+// Puts the cue point of this name.
+fn put_point<A: Allocator, W: Write>(output: &mut Latch<W>, name: u32, marker: &MarkerView<A>)
+    ensures { Puts W.contents output.old output.new (point name marker.now) }
+{
+    let position = marker.at;
+    put_u32(output, name);
+    put_u32(output, position);
+    put(output, b"data");
+    put_u32(output, 0);
+    put_u32(output, 0);
+    put_u32(output, marker.at);
+}
+
+// Puts the cue point of each marker before the end.
+fn put_points<A: Allocator, W: Write>(output: &mut Latch<W>, end: u64, markers: &[MarkerView<A>])
+    requires few { length (before end markers.now) < 2 ^ 31 }
+    ensures { Puts W.contents output.old output.new (named point 1 (before end markers.now)) }
+{
+    let mut name = FIRST;
+    for marker in markers {
+        if is_before(marker, end) {
+            put_point(output, name, marker);
+            name += 1;
+        }
+    }
+}
+
+/// How long the content of a marker's label is.
+pub(crate) fn label_size<A: Allocator>(marker: &MarkerView<A>) -> u32
+    ensures value { (name : ℕ) → result ≡ length (label_content name marker.now) }
+    ensures small { result ≤ 260 }
+{
+    marker.title.text().len() as u32 + 5
+}
+
+// Puts the content of the label of this name.
+fn put_label_content<A: Allocator, W: Write>(
+    output: &mut Latch<W>,
+    name: u32,
+    marker: &MarkerView<A>,
+)
+    ensures { Puts W.contents output.old output.new (label_content name marker.now) }
+{
+    put_u32(output, name);
+    put(output, marker.title.text().as_bytes());
+    put_zeros(output, 1);
+}
+
+// Puts the label of this name.
+fn put_label<A: Allocator, W: Write>(output: &mut Latch<W>, name: u32, marker: &MarkerView<A>)
+    ensures { Puts W.contents output.old output.new (label name marker.now) }
+{
+    let size = label_size(marker);
+    put_chunk_head(output, b"labl", size);
+    put_label_content(output, name, marker);
+    put_pad(output, size);
+}
+
+// Puts the label of each marker before the end.
+fn put_labels<A: Allocator, W: Write>(output: &mut Latch<W>, end: u64, markers: &[MarkerView<A>])
+    requires few { length (before end markers.now) < 2 ^ 31 }
+    ensures { Puts W.contents output.old output.new (named label 1 (before end markers.now)) }
+{
+    let mut name = FIRST;
+    for marker in markers {
+        if is_before(marker, end) {
+            put_label(output, name, marker);
+            name += 1;
+        }
+    }
+}
+
+/// Puts the chunk `cue ` of so many points.
+pub(crate) fn put_cue<A: Allocator, W: Write>(
+    output: &mut Latch<W>,
+    end: u64,
+    markers: &[MarkerView<A>],
+    count: u32,
+)
+    requires count { count ≡ length (before end markers.now) }
+    requires few { 4 + 24 * length (before end markers.now) < 2 ^ 32 }
+    ensures { Puts W.contents output.old output.new (padded (record { id = codes "cue "; content = points (before end markers.now) })) }
+{
+    put_chunk_head(output, b"cue ", 4 + 24 * count);
+    put_u32(output, count);
+    put_points(output, end, markers);
+}
+
+/// Puts the chunk `LIST` of the labels, of a content of this size.
+pub(crate) fn put_list<A: Allocator, W: Write>(
+    output: &mut Latch<W>,
+    end: u64,
+    markers: &[MarkerView<A>],
+    size: u32,
+)
+    requires size { size ≡ length (labels (before end markers.now)) }
+    requires few { length (before end markers.now) < 2 ^ 31 }
+    ensures { Puts W.contents output.old output.new (padded (record { id = codes "LIST"; content = labels (before end markers.now) })) }
+{
+    put_chunk_head(output, b"LIST", size);
+    put(output, b"adtl");
+    put_labels(output, end, markers);
+    put_pad(output, size);
+}

@@ -1,0 +1,105 @@
+//! How long a file is, before anything of it is written.
+
+ghost use Rattle.std.specs.Prelude.{◌≡◌, ℕ, ◌+◌, ◌*◌, ◌<◌, ◌≤◌, ◌^◌, min, length, IfSome, IfNone};
+ghost use Rattle.mt_render.specs.Mix.{length_of};
+ghost use Rattle.mt_cuewrite.specs.Faults.{Fits};
+ghost use Rattle.mt_cuewrite.specs.File.{before, labels, marker_chunks, riff};
+ghost use Rattle.mt_cuewrite.specs.Sizes.{padded_size, marks_size, AreSizes};
+
+use crate::chunks::bext_size;
+use crate::head::Head;
+use crate::marks::{is_before, label_size};
+use mt_render::Mix;
+use mt_sessionview::MarkerView;
+use std::alloc::Allocator;
+
+/// One more than the greatest size that four bytes hold.
+const LIMIT: u64 = 4_294_967_296;
+
+/// How long the parts of a file are that vary, in bytes, and how many markers are written.
+#[derive(Clone, Copy)]
+pub(crate) struct Sizes {
+    /// The content of `data`.
+    pub(crate) samples: u32,
+    /// The markers before the end.
+    pub(crate) markers: u32,
+    /// The content of `LIST`.
+    pub(crate) labels: u32,
+    /// The content of `RIFF`.
+    pub(crate) riff: u32,
+}
+
+// How many markers are written, and how long the content of `LIST` is, or the limit where that is less.
+#[derive(Clone, Copy)]
+struct Marks {
+    markers: u64,
+    labels: u64,
+}
+
+// How long a chunk is whose content has so many bytes, its pad byte too.
+fn padded_size(size: u64) -> u64
+    requires small { size < 2 ^ 40 }
+    ensures { result ≡ padded_size size }
+{
+    8 + size + size % 2
+}
+
+// Counts the markers before the end.
+fn count_marks<A: Allocator>(end: u64, markers: &[MarkerView<A>]) -> Marks
+    ensures markers { result.markers ≡ length (before end markers.now) }
+    ensures labels { result.labels ≡ min (2 ^ 32) (length (labels (before end markers.now))) }
+    ensures few { result.labels < 2 ^ 32 → result.markers < 2 ^ 32 }
+{
+    let mut marks = Marks {
+        markers: 0,
+        labels: 4,
+    };
+    for marker in markers {
+        if is_before(marker, end) {
+            let label = padded_size(u64::from(label_size(marker)));
+            marks.markers += 1;
+            marks.labels = (marks.labels + label).min(LIMIT);
+        }
+    }
+    marks
+}
+
+// How long the chunks `cue ` and `LIST` are together, or the limit where that is less.
+fn marks_size(marks: Marks) -> u64
+    requires few { marks.labels < 2 ^ 32 → marks.markers < 2 ^ 32 }
+    requires limit { marks.labels ≤ 2 ^ 32 }
+    ensures { result ≡ marks_size marks.markers marks.labels }
+{
+    if marks.markers == 0 {
+        return 0;
+    }
+    if marks.labels == LIMIT {
+        return LIMIT;
+    }
+    (padded_size(4 + 24 * marks.markers) + padded_size(marks.labels)).min(LIMIT)
+}
+
+/// The sizes of a file, or `None` where the size of its RIFF chunk does not fit in four bytes.
+pub(crate) fn sizes_of<A: Allocator, B: Allocator>(
+    mix: &Mix<'_, '_, A>,
+    markers: &[MarkerView<B>],
+    head: &Head<'_>,
+) -> Option<Sizes>
+    ensures sizes { IfSome result (AreSizes mix.now markers.now head.now) }
+    ensures too_long { IfNone result (2 ^ 32 ≤ length (riff mix.now markers.now head.now)) }
+{
+    let format = mix.format();
+    let samples = mix.length() * u64::from(format.channels() * (format.bits() / 8));
+    let marks = count_marks(mix.length(), markers);
+    let bext = padded_size(u64::from(bext_size(format, head)));
+    let riff = 4 + bext + padded_size(16) + padded_size(samples) + marks_size(marks);
+    if riff >= LIMIT {
+        return None;
+    }
+    Some(Sizes {
+        samples: samples as u32,
+        markers: marks.markers as u32,
+        labels: marks.labels as u32,
+        riff: riff as u32,
+    })
+}
