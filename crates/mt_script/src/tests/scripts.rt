@@ -41,15 +41,22 @@ fn makes_all_lines(rt: HostRuntime) -> Result<(), Fail> {
     Ok(())
 }
 
+// The text of an editor's session.
+fn text_of(alloc: Global, editor: &Editor<Global>) -> Result<Vec<u8>, ScriptFault> {
+    let mut output = Latch::new(Vec::new(alloc));
+    let Some(session) = editor.session() else {
+        return Err(ScriptFault::Failed);
+    };
+    match write_text(alloc, session, &mut output) {
+        Ok(()) => Ok(output.into_inner()),
+        Err(_) => Err(ScriptFault::Memory),
+    }
+}
+
 // Whether the session that a script makes has this text.
 fn shows(alloc: Global, text: &[u8], wanted: &[u8]) -> Result<bool, Fail> {
     let editor = editor_of(alloc, text)?;
-    let Some(session) = editor.session() else {
-        return Ok(false);
-    };
-    let mut output = Latch::new(Vec::new(alloc));
-    write_text(alloc, session, &mut output)?;
-    Ok(output.into_inner().as_slice() == wanted)
+    Ok(text_of(alloc, &editor)?.as_slice() == wanted)
 }
 
 #[test]
