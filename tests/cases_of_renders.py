@@ -109,7 +109,7 @@ refused("missing_recording", 45, ["out", "log", "missing"], READY)
 refused("missing_before_damaged", 45, ["out", "cut", "missing"], {"cut": log(ONE_CLIP)[:-1]})
 refused("a_damaged_log", 13, ["out", "cut", "text"], {"cut": log(ONE_CLIP)[:-1], "text": b"text"})
 refused("a_recording_that_is_none", 26, ["out", "log", "r", "text"], dict(READY, text=b"text"))
-refused("the_first_recording_that_is_none", 28, ["out", "log", "cut", "text"], dict(READY, text=b"text", cut=THREE[:-1]))
+refused("the_first_recording_that_is_none", 28, ["out", "log", "cut", "text"], dict(READY, text=b"text", cut=THREE[:-2]))
 refused("a_recording_before_the_mix", 32, ["out", "log", "empty"], dict(READY, empty=riff(fmt())))
 refused("a_log_as_recording", 26, ["out", "log", "log"], READY)
 refused("no_recording", 33, ["out", "log"], READY)
@@ -136,7 +136,33 @@ HEAD = ("bext 0", "description ", "originator ", "reference ", "date 2000-01-01"
 case("info_of_a_rendered_file", ["info", "out"], files={"out": MARKED}, stdout=info(MARKED, frames=3, extension=HEAD, cues=("cue 1 at 1 label News",)))
 
 # command lines
-USAGE = "Usage: radio render [OPTIONS] <OUT> <LOG> [SOURCE]...\n\nFor more information, try '--help'.\n"
+USAGE = "Usage: radio render <OUT> <LOG> [SOURCE]...\n\nFor more information, try '--help'.\n"
 case("render_of_nothing", ["render"], status=2, stderr="error: the following required arguments were not provided:\n  <OUT>\n  <LOG>\n\n" + USAGE)
 case("render_at_no_number", ["render", "out", "log", "--rate", "fast"], status=2, stderr="error: invalid value 'fast' for '--rate <N>': invalid digit found in string\n\nFor more information, try '--help'.\n")
 case("render_in_too_many_bits", ["render", "out", "log", "--bits", "70000"], status=2, stderr="error: invalid value '70000' for '--bits <N>': 70000 is not in 0..=65535\n\nFor more information, try '--help'.\n")
+HELP = """Writes the session of a log as a broadcast wave file, its markers as cue points
+
+Usage: radio render [OPTIONS] <OUT> <LOG> [SOURCE]...
+
+Arguments:
+  <OUT>        The wave file to write
+  <LOG>        The log
+  [SOURCE]...  The recordings that clips name by their digests, in any order
+
+Options:
+      --rate <N>            Frames a second, 1 to 384000 [default: 48000]
+      --bits <N>            Bits of a sample, 16 or 24 [default: 24]
+      --channels <N>        Channels, 1 or 2 [default: 1]
+      --description <TEXT>  What it is, of at most 256 bytes [default: ""]
+      --originator <TEXT>   Who made it, of at most 32 bytes [default: ""]
+      --reference <TEXT>    Its reference there, of at most 32 bytes [default: ""]
+      --date <TEXT>         The date, as dddd-dd-dd [default: 2000-01-01]
+      --time <TEXT>         The time, as dd:dd:dd [default: 00:00:00]
+      --time-reference <N>  Frames from midnight to the first [default: 0]
+  -h, --help                Print help
+
+Example: radio render news.wav desk.log jingle.wav interview.wav --bits 16 --description 'Morning news'
+
+Exit status: 0 done, 1 refused (`radio explain` tells why), 2 the command line does not parse.
+"""
+case("help_of_render", ["render", "--help"], stdout=HELP)
