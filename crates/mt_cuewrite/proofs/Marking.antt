@@ -1,14 +1,12 @@
 -- Markers before the end, one after another.
-use Rattle.std.proofs.Common.{arith, ◌≡◌, ℕ, zero, suc, ◌<◌, ◌≤◌, ◌+◌, ◌*◌, ◌%◌, ◌^◌, Bool, true, false, List, [], ◌∷◌, ◌++◌, length, take, drop, get_or, refl, sym, ap, ◌∙◌, append_assoc, length-append}
+use Rattle.std.proofs.Common.{arith, ◌≡◌, ℕ, suc, ◌<◌, ◌≤◌, ◌+◌, ◌^◌, true, false, List, [], ◌∷◌, ◌++◌, length, take, drop, get_or, refl, sym, ap, ◌∙◌, append_assoc, length-append}
 use Rattle.std.specs.Prelude.{nat_lt, min, codes, Option}
-use Rattle.std.specs.List.{filter}
 use Rattle.std.proofs.lemmas.List.{take_more, take-append-drop, append-nil, length-take-le}
 use Rattle.std.proofs.lemmas.List.Elements.{filter-append}
 use Rattle.std.proofs.lemmas.List.Sums.{length-filter, count_by-le-length}
 use Rattle.mt_opcodec.specs.Latch.{Latched}
 use Rattle.mt_sessionview.specs.Content.{Marker}
-use Rattle.mt_bwfread.specs.Riff.{Chunk}
-use Rattle.mt_cuewrite.specs.File.{zeros, padded, before, named, label_content, label, labels}
+use Rattle.mt_cuewrite.specs.File.{before, named, label_content, label, labels}
 use Rattle.mt_cuewrite.specs.Putting.{Puts}
 use Rattle.mt_cuewrite.specs.Sizes.{padded_size}
 use Rattle.mt_cuewrite.proofs.Putting.{then_puts, puts_same}

@@ -1,5 +1,5 @@
 -- How long the parts of a file are.
-use Rattle.std.proofs.Common.{arith, ◌≡◌, ℕ, zero, suc, ◌≤◌, ◌<◌, ◌+◌, ◌*◌, ◌-◌, ◌%◌, ◌/◌, List, [], ◌∷◌, ◌++◌, length, replicate, refl, sym, ap, ◌∙◌, length-append}
+use Rattle.std.proofs.Common.{arith, ◌≡◌, ℕ, ◌≤◌, ◌+◌, ◌-◌, ◌%◌, List, ◌++◌, length, refl, ◌∙◌, length-append}
 use Rattle.std.specs.Prelude.{codes, None}
 use Rattle.std.specs.Fmt.{decimal}
 use Rattle.std.proofs.lemmas.List.{length-replicate}
@@ -8,7 +8,7 @@ use Rattle.mt_sessionview.specs.Content.{Marker}
 use Rattle.mt_bwfread.specs.Riff.{Chunk, chunk_text}
 use Rattle.mt_render.specs.Layout.{Layout}
 use Rattle.mt_cuewrite.specs.Head.{HeadText, bad_text}
-use Rattle.mt_cuewrite.specs.File.{zeros, padded, filled, history, channels_word, texts, bext, format, point, points, label_content, label, labels, named}
+use Rattle.mt_cuewrite.specs.File.{zeros, padded, filled, history, channels_word, texts, bext, format, label_content}
 use Rattle.mt_cuewrite.specs.Sizes.{padded_size}
 use Rattle.mt_cuewrite.proofs.Heads.{description_within, originator_within, reference_within, length-date, length-time}
 

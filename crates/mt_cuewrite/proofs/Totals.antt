@@ -1,19 +1,16 @@
 -- The size of a file, as it is counted.
-use Rattle.std.proofs.Common.{arith, ◌≡◌, ◌≢◌, ℕ, zero, suc, ◌<◌, ◌≤◌, ◌+◌, ◌*◌, ◌/◌, ◌%◌, ◌^◌, Bool, true, false, List, [], ◌∷◌, ◌++◌, length, refl, sym, ap, ◌∙◌, inl, inr, length-append}
-use Rattle.std.specs.Prelude.{◌==◌, min, codes, Option}
+use Rattle.std.proofs.Common.{arith, ◌≡◌, ◌≢◌, ℕ, suc, ◌<◌, ◌≤◌, ◌+◌, ◌*◌, ◌/◌, ◌%◌, ◌^◌, Bool, true, false, List, [], ◌∷◌, ◌++◌, length, refl, sym, ap, ◌∙◌, length-append}
+use Rattle.std.specs.Prelude.{◌==◌, min, codes}
 use Rattle.std.specs.List.{flat_map}
 use Rattle.std.proofs.lemmas.Bool.{eqb-true, ne_eqb, eq-eqb, false≢true}
 use Rattle.std.proofs.lemmas.List.{append-nil}
-use Rattle.mt_opcodec.specs.Latch.{Latched}
 use Rattle.mt_sessionview.specs.Content.{Marker}
 use Rattle.mt_bwfread.specs.Riff.{Chunk}
 use Rattle.mt_render.specs.Mix.{Programme, length_of}
 use Rattle.byteorder.specs.Endian.{little_bytes}
 use Rattle.mt_cuewrite.specs.Head.{HeadText}
-use Rattle.mt_cuewrite.specs.File.{zeros, padded, before, named, point, points, labels, bext, format, samples, marker_chunks, chunks, riff}
-use Rattle.mt_cuewrite.specs.Putting.{Puts}
+use Rattle.mt_cuewrite.specs.File.{padded, before, named, point, points, labels, bext, format, samples, marker_chunks, chunks, riff}
 use Rattle.mt_cuewrite.specs.Sizes.{padded_size, marks_size}
-use Rattle.mt_cuewrite.proofs.Putting.{then_puts, puts_same}
 use Rattle.mt_cuewrite.proofs.Sizing.{length-two, length-padded, length-format}
 use Rattle.mt_cuewrite.proofs.Blocks.{length-frames}
 

@@ -1,7 +1,7 @@
 -- The file that is written. Chunks are those of RIFF (Microsoft, "Multimedia Programming Interface and Data Specifications 1.0",
 -- chapters 2 and 3), and `bext` is that of EBU Tech 3285 in version 0. Their order, and what the cue points and the coding
 -- history say, is profile.
-use Rattle.std.specs.Prelude.{ℕ, zero, suc, ◌+◌, ◌*◌, ◌-◌, ◌/◌, ◌%◌, ◌==◌, nat_lt, if◌then◌else◌, List, [], ◌∷◌, ◌++◌, length, replicate, codes, ℤ}
+use Rattle.std.specs.Prelude.{ℕ, zero, suc, ◌*◌, ◌-◌, ◌/◌, ◌%◌, ◌==◌, nat_lt, if◌then◌else◌, List, [], ◌∷◌, ◌++◌, length, replicate, codes, ℤ}
 use Rattle.std.specs.Int.{w64}
 use Rattle.std.specs.Fmt.{decimal}
 use Rattle.std.specs.List.{filter, flat_map}

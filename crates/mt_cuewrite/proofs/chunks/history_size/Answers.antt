@@ -1,4 +1,4 @@
-use Rattle.std.proofs.Common.{ℕ, length, refl, sym, ap, ◌∙◌}
+use Rattle.std.proofs.Common.{ℕ, length, sym, ap, ◌∙◌}
 use Rattle.std.specs.Fmt.{decimal}
 use Rattle.mt_cuewrite.specs.File.{channels_word}
 use Rattle.mt_cuewrite.proofs.Sizing.{length-history}

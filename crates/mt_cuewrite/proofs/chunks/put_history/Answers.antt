@@ -1,4 +1,4 @@
-use Rattle.std.proofs.Common.{ℕ, ap, ◌∙◌}
+use Rattle.std.proofs.Common.{ap, ◌∙◌}
 use Rattle.std.specs.Fmt.{decimal}
 use Rattle.mt_cuewrite.specs.File.{channels_word, history}
 use Rattle.mt_cuewrite.proofs.Putting.{then_puts, puts_same}

@@ -1,6 +1,6 @@
 use Rattle.std.proofs.Common.{ℕ, ◌*◌, ◌/◌, ap, ◌∙◌}
 use Rattle.byteorder.specs.Endian.{little_bytes}
-use Rattle.mt_cuewrite.specs.File.{format, block_align}
+use Rattle.mt_cuewrite.specs.File.{format}
 use Rattle.mt_cuewrite.proofs.Putting.{then_puts, puts_same}
 use Rattle.mt_cuewrite.proofs.chunks.put_numbers.Goals as goal
 

@@ -1,5 +1,5 @@
 use Rattle.mt_cuewrite.specs.File.{texts}
-use Rattle.std.proofs.Common.{sym, ap}
+use Rattle.std.proofs.Common.{ap}
 use Rattle.mt_cuewrite.proofs.Putting.{then_puts, puts_same}
 use Rattle.mt_cuewrite.proofs.chunks.put_texts.Goals as goal
 

@@ -1,4 +1,4 @@
-use Rattle.std.proofs.Common.{ℕ, ◌++◌, length, sym, ap, subst, ◌∙◌, ◌+◌, ◌*◌, ◌<◌, ◌^◌}
+use Rattle.std.proofs.Common.{ℕ, ◌++◌, length, sym, ap, subst, ◌+◌, ◌*◌, ◌<◌, ◌^◌}
 use Rattle.std.specs.Prelude.{codes}
 use Rattle.std.specs.List.{flat_map}
 use Rattle.byteorder.specs.Endian.{little_bytes}

@@ -1,4 +1,4 @@
-use Rattle.std.proofs.Common.{arith, length, sym}
+use Rattle.std.proofs.Common.{arith, sym}
 use Rattle.mt_cuewrite.specs.File.{before}
 use Rattle.mt_cuewrite.proofs.Putting.{then_puts, puts_same, puts_none}
 use Rattle.mt_cuewrite.proofs.Totals.{no_marks, some_marks}

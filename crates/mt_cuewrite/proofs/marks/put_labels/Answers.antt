@@ -1,4 +1,4 @@
-use Rattle.std.proofs.Common.{arith, rules, refl, sym, length, ◌∙◌}
+use Rattle.std.proofs.Common.{arith, refl, sym, ◌∙◌}
 use Rattle.mt_cuewrite.specs.File.{label}
 use Rattle.mt_cuewrite.proofs.Putting.{puts_same, puts_none}
 use Rattle.mt_cuewrite.proofs.Marking.{named-none, few_so_far, one_named, one_hidden, next_name, same_name}

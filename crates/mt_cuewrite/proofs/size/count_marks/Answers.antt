@@ -1,6 +1,5 @@
-use Rattle.std.proofs.Common.{arith, rules, refl, sym, ap, ◌+◌, ◌^◌, length, take, ◌∙◌}
-use Rattle.std.specs.Prelude.{min}
-use Rattle.mt_cuewrite.specs.File.{before, labels}
+use Rattle.std.proofs.Common.{arith, rules, refl, sym, ap, take, ◌∙◌}
+use Rattle.mt_cuewrite.specs.File.{before}
 use Rattle.mt_cuewrite.specs.Sizes.{padded_size}
 use Rattle.mt_cuewrite.proofs.Marking.{few_of_those, fewer_than_bytes, labels_so_far, labels_as_before, count_more, count_as_before}
 use Rattle.mt_cuewrite.proofs.Totals.{labels_none}

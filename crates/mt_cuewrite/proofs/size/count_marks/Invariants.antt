@@ -1,4 +1,4 @@
-use Rattle.std.proofs.Common.{◌≡◌, ◌^◌, ◌≤◌, length, take}
+use Rattle.std.proofs.Common.{◌≡◌, ◌^◌, length, take}
 use Rattle.std.specs.Prelude.{min}
 use Rattle.mt_cuewrite.specs.File.{before, labels}
 use Rattle.mt_cuewrite.proofs.size.count_marks.Given as goal

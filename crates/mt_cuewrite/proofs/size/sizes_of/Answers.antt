@@ -1,4 +1,4 @@
-use Rattle.std.proofs.Common.{arith, ℕ, ◌+◌, ◌*◌, ◌^◌, ◌<◌, length, subst, ap, sym, ◌∙◌}
+use Rattle.std.proofs.Common.{arith, ℕ, ◌*◌, ◌^◌, ◌<◌, length, subst, ap, ◌∙◌}
 use Rattle.std.specs.Prelude.{min}
 use Rattle.mt_render.specs.Layout.{Layout}
 use Rattle.mt_cuewrite.specs.File.{before, labels, bext}
