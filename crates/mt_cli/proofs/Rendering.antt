@@ -1,10 +1,9 @@
 -- Files that are rendered, or refused.
-use Rattle.std.proofs.Common.{◌≡◌, ◌≢◌, ℕ, List, Option, Result, Ok, Err, inr, refl, subst, sym, ap, ◌∙◌, ◌<◌, ◌≤◌, ◌^◌, length}
+use Rattle.std.proofs.Common.{◌≡◌, ◌≢◌, ℕ, List, Option, Result, Ok, Err, inr, refl, subst, ap, ◌∙◌, ◌<◌, ◌≤◌, ◌^◌, length}
 use Rattle.std.specs.Prelude.{OnOk, IfErr}
 use Rattle.std.specs.Io.KnownBytes.{Appends}
 use Rattle.mt_opcodec.specs.Latch.{Latched, AppendsFront}
 use Rattle.mt_opcodec.specs.LogValue.{LogMap, operations}
-use Rattle.mt_opcodec.specs.Union.{union_all}
 use Rattle.mt_sessionview.specs.Session.{session_of}
 use Rattle.mt_sessionview.specs.Content.{Content, Marker}
 use Rattle.mt_op.specs.declared.digest.Digest.{Digest}

@@ -1,5 +1,5 @@
 -- Only what is found under digests counts of the recordings.
-use Rattle.std.proofs.Common.{◌≡◌, ℕ, zero, suc, ◌<◌, ◌≤◌, ◌^◌, Bool, true, false, List, [], ◌∷◌, ◌++◌, Option, Some, None, length, refl, sym, ap, subst, ◌∙◌, ℤ, pos, ◌+ℤ◌}
+use Rattle.std.proofs.Common.{◌≡◌, ℕ, zero, suc, Bool, List, [], ◌∷◌, ◌++◌, Option, Some, None, refl, sym, ap, ◌∙◌, ℤ, pos, ◌+ℤ◌}
 use Rattle.std.specs.Prelude.{codes, if◌then◌else◌, unwrap_or}
 use Rattle.std.specs.List.{flat_map}
 use Rattle.mt_op.specs.Gain.{Ratio}
@@ -9,11 +9,11 @@ use Rattle.mt_bwfread.specs.Riff.{chunk_text}
 use Rattle.mt_render.specs.declared.fault.MixFault.{MixFault}
 use Rattle.mt_render.specs.declared.fault.MixFault.TheVariants.{Memory, MissingSource, RateDiffers, TooLong}
 use Rattle.mt_render.specs.Layout.{Layout}
-use Rattle.mt_render.specs.Sources.{Sources, found, source_of}
+use Rattle.mt_render.specs.Sources.{Sources, found}
 use Rattle.mt_render.specs.Mix.{Programme, length_of, clip_sample, track_sample, mixed, mixed_sample, output, contribution, heard, sounding}
 use Rattle.mt_render.specs.Refusals.{IsMixable, IsMixFault, IsLeast, PassAll, is_missing, rate_differs, missing_from, differs_from, audible}
 use Rattle.mt_cuewrite.specs.Head.{HeadText}
-use Rattle.mt_cuewrite.specs.File.{padded, bext, format, sample, samples, channels_from, frames_from, before, marker_chunks, riff, file}
+use Rattle.mt_cuewrite.specs.File.{padded, bext, format, sample, channels_from, frames_from, before, marker_chunks, riff, file}
 
 least_same : (clips : List Clip) (f g : Digest → Bool) (d : Digest) → ((e : Digest) → f e ≡ g e) → IsLeast clips f d → IsLeast clips g d
 least_same clips f g d same least = record {

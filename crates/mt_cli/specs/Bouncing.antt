@@ -4,7 +4,7 @@ use Rattle.std.specs.Io.KnownBytes.{Appends}
 use Rattle.mt_opcodec.specs.Latch.{Latched, AppendsFront}
 use Rattle.mt_opcodec.specs.LogValue.{LogMap, operations}
 use Rattle.mt_opcodec.specs.Union.{union_all, AllAgree}
-use Rattle.mt_sessionview.specs.Content.{Content, Marker}
+use Rattle.mt_sessionview.specs.Content.{Content}
 use Rattle.mt_sessionview.specs.Session.{session_of}
 use Rattle.mt_render.specs.declared.fault.MixFault.{MixFault}
 use Rattle.mt_render.specs.declared.fault.MixFault.TheVariants as mix
@@ -15,7 +15,7 @@ use Rattle.mt_cuewrite.specs.Head.{HeadText}
 use Rattle.mt_cuewrite.specs.File.{riff, file}
 use Rattle.mt_cuewrite.specs.Faults.{Fits}
 use Rattle.mt_cli.specs.declared.fault.CliFault.{CliFault}
-use Rattle.mt_cli.specs.declared.fault.CliFault.TheVariants.{Memory, Read, Log, Merge, Source, Mix, Write}
+use Rattle.mt_cli.specs.declared.fault.CliFault.TheVariants.{Memory, Mix, Write}
 use Rattle.mt_cli.specs.Reading.{GaveLogs, AreRead}
 use Rattle.mt_cli.specs.Joining.{UnionFails}
 use Rattle.mt_cli.specs.Sources.{sources_of, GaveWaves, HasSourceCause}

@@ -10,7 +10,7 @@ use Rattle.mt_bwfread.specs.Wave.{IsWave, fault_of, rate_of, channels_of, bits_o
 use Rattle.mt_bwfread.specs.Extension.{Extension, bext_of}
 use Rattle.mt_bwfread.specs.Cues.{CueText, cues_of}
 use Rattle.mt_cli.specs.declared.fault.CliFault.{CliFault}
-use Rattle.mt_cli.specs.declared.fault.CliFault.TheVariants.{Memory, Read, Log, Merge, Source, Mix, Write}
+use Rattle.mt_cli.specs.declared.fault.CliFault.TheVariants.{Memory, Source, Write}
 
 -- A byte of a file's text: a printing character of ASCII stands for itself, but the backslash. Every other byte
 -- is `\x` and its two hex digits in lower case.

@@ -4,7 +4,7 @@ use Rattle.mt_opcodec.specs.Latch.{Latched}
 use Rattle.mt_opcodec.specs.LogValue.{LogMap}
 use Rattle.mt_opcodec.specs.Union.{IsFirstClash, FirstClash}
 use Rattle.mt_cli.specs.declared.fault.CliFault.{CliFault}
-use Rattle.mt_cli.specs.declared.fault.CliFault.TheVariants.{Memory, Read, Log, Merge, Source, Mix, Write}
+use Rattle.mt_cli.specs.declared.fault.CliFault.TheVariants.{Memory, Merge}
 use Rattle.mt_cli.specs.Reading.{GaveLogs, AreRead, HasCause}
 
 -- memory, or the first dot at which the two logs clash

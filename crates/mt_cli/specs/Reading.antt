@@ -8,7 +8,7 @@ use Rattle.mt_opcodec.specs.LogText.{log_text}
 use Rattle.mt_opcodec.specs.LogReading.{log_at, LogFails}
 use Rattle.mt_opcodec.specs.LogValue.{LogMap, operations}
 use Rattle.mt_cli.specs.declared.fault.CliFault.{CliFault}
-use Rattle.mt_cli.specs.declared.fault.CliFault.TheVariants.{Memory, Read, Log, Merge, Source, Mix, Write}
+use Rattle.mt_cli.specs.declared.fault.CliFault.TheVariants.{Memory, Read, Log}
 
 -- the one text of a log
 abbrev pub text_of : LogMap → List ℕ

@@ -6,7 +6,7 @@ use Rattle.mt_opcodec.specs.Latch.{Latched}
 use Rattle.mt_bwfread.specs.Wave.{IsWave, fault_of}
 use Rattle.mt_render.specs.Sources.{Sources}
 use Rattle.mt_cli.specs.declared.fault.CliFault.{CliFault}
-use Rattle.mt_cli.specs.declared.fault.CliFault.TheVariants.{Memory, Read, Log, Merge, Source, Mix, Write}
+use Rattle.mt_cli.specs.declared.fault.CliFault.TheVariants.{Memory, Read, Source}
 use Rattle.mt_cli.specs.Reading.{Gave, IsRead}
 
 -- the bytes of each recording that is kept

@@ -4,7 +4,7 @@ use Rattle.mt_opcodec.specs.Latch.{Latched, AppendsFront}
 use Rattle.mt_opcodec.specs.LogValue.{LogMap}
 use Rattle.mt_opcodec.specs.Union.{union_all, AllAgree, FirstClash}
 use Rattle.mt_cli.specs.declared.fault.CliFault.{CliFault}
-use Rattle.mt_cli.specs.declared.fault.CliFault.TheVariants.{Memory, Read, Log, Merge, Source, Mix, Write}
+use Rattle.mt_cli.specs.declared.fault.CliFault.TheVariants.{Memory, Merge, Write}
 use Rattle.mt_cli.specs.Reading.{text_of, Gave, GaveLogs, IsRead, AreRead, IsCause, HasCause}
 
 module _ (text : LogMap → List ℕ) {W : Type 0} (contents : W → Option (List ℕ)) where

@@ -1,7 +1,4 @@
-use Rattle.std.proofs.Common.{◌≡◌, ◌≢◌, ◌+◌, ◌++◌, ◌∷◌, List, [], ℕ, Option, Some, take, unwrap_or, subst, sym, ap, ◌∙◌}
-use Rattle.std.specs.Prelude.{IfOk, OnOk, is_err}
-use Rattle.sha2.specs.Sha256.{sha256}
-use Rattle.mt_op.specs.declared.digest.Digest.{Digest}
+use Rattle.std.proofs.Common.{List, ℕ, take, sym, ap, ◌∙◌}
 use Rattle.mt_render.specs.Sources.{found}
 use Rattle.mt_cli.specs.Sources.{sources_of, bytes_in}
 use Rattle.mt_cli.proofs.Recordings.{bytes_so_far, found_added}
