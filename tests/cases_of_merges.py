@@ -31,19 +31,16 @@ for order in ("xyz", "xzy", "yxz", "yzx", "zxy", "zyx"):
     merged("merge_" + order, [(name, {"x": X, "y": Y, "z": Z}[name]) for name in order], XYZ)
 merged("merge_held_operations", [("late", log([LATE])), ("z", Z)], log([LATE, COAST]))
 merged("merge_twelve_bodies", [("even", log(twelve[0::2])), ("odd", log(twelve[1::2]))], log(twelve))
-# the example that the README shows
+# the example that the README shows, which examples/make.sh made
 EXAMPLES = os.path.join(os.path.dirname(os.path.dirname(os.path.abspath(__file__))), "examples")
-MORNING = [
-    add_marker((1, A, 1), 480, "News"), add_marker((2, A, 2), 96000, "Weather"),
-    retitle((3, B, 1), (1, A, 1), "Headlines"), retitle((4, B, 2), (2, A, 2), "Weather for the coast")]
-DESK = [move_marker((5, C, 1), (2, A, 2), 144000), add_marker((6, C, 2), 240000, "Traffic")]
-with open(os.path.join(EXAMPLES, "morning.log"), "wb") as file:
-    file.write(log(MORNING))
-with open(os.path.join(EXAMPLES, "desk.log"), "wb") as file:
-    file.write(log(DESK))
-merged("example_merge", [("morning.log", log(MORNING)), ("desk.log", log(DESK))], log(MORNING + DESK))
-MARKERS = [marker_line((1, A, 1), 480, "Headlines"), marker_line((2, A, 2), 144000, "Weather for the coast"), marker_line((6, C, 2), 240000, "Traffic")]
-case("example_merge_viewed", ["view", "both.log"], files={"both.log": log(MORNING + DESK)}, stdout="".join(MARKERS) + "held 0\n")
+PUT = [add_marker((1, A, 1), 480, "News"), add_marker((2, A, 2), 96000, "Weather")]
+TITLES = [retitle((3, B, 1), (1, A, 1), "Headlines"), retitle((4, B, 2), (2, A, 2), "Weather for the coast")]
+TRAFFIC = [move_marker((3, C, 1), (2, A, 2), 144000), add_marker((4, C, 2), 240000, "Traffic")]
+EXAMPLE_LOGS = [("morning.log", log(PUT + TITLES)), ("desk.log", log(PUT + TRAFFIC))]
+for name, text in EXAMPLE_LOGS:
+    with open(os.path.join(EXAMPLES, name), "rb") as file:
+        assert file.read() == text, name
+merged("example_merge", EXAMPLE_LOGS, log(PUT + TITLES + TRAFFIC))
 
 # what is refused
 OTHER = add_marker((1, A, 1), 480, "Other")

@@ -1,10 +1,5 @@
 """Cases of wave files: what `radio info` tells of them, the examples, and what is refused."""
-import hashlib
-import os
-
 from case import case, fault, not_told, told
-from logs import (
-    A, B, C, add_clip, add_marker, add_track, clip_line, log, marker_line, move_clip, retitle, set_gain, set_mute, track_line, trim_clip)
 from waves import FLOAT, adtl, bext, chunk, cue, data, extensible, fmt, info, labl, point, riff
 
 # what wave files say of themselves
@@ -55,27 +50,6 @@ told("label_of_three_bytes", riff(fmt(), FRAME, cue(point(1, 5)), adtl(chunk(b"l
 told("bad_list_ends_by_itself", riff(fmt(), FRAME, cue(point(1, 5), point(2, 6)), adtl(labl(1, b"News\0"), b"labl\xff\0\0\0\x02\0\0\0"), adtl(labl(2, b"Late\0"))), cues=["cue 1 at 5 label News", "cue 2 at 6 label Late"])
 told("other_lists_and_notes", riff(fmt(), FRAME, cue(point(1, 5)), chunk(b"LIST", b"INFO" + labl(1, b"Info\0")), adtl(chunk(b"note", b"\x01\0\0\0Note\0"), labl(1, b"News\0"))), cues=["cue 1 at 5 label News"])
 told("list_of_two_bytes", riff(fmt(), FRAME, cue(point(1, 5)), chunk(b"LIST", b"ad")), cues=["cue 1 at 5"])
-# the examples that the README shows
-EXAMPLES = os.path.join(os.path.dirname(os.path.dirname(os.path.abspath(__file__))), "examples")
-with open(os.path.join(EXAMPLES, "morning.log"), "rb") as file:
-    MORNING = file.read()
-case("example_log", ["view", "log"], files={"log": MORNING}, stdout=marker_line((1, A, 1), 480, "Headlines") + marker_line((2, A, 2), 96000, "Weather for the coast") + "held 0\n")
-JINGLE = riff(
-    chunk(b"bext", bext(b"Jingle of the morning programme", b"Davonelume", b"DE-0001", b"2026-11-22", b"06:00:00", 1036800000, 0, b"A=PCM,F=48000,W=16,M=mono\r\n")),
-    fmt(bits=16), data(bytes(range(96))), cue(point(1, 0), point(2, 24)), adtl(labl(1, b"Bell\0"), labl(2, b"Voice\0")),
-)
-with open(os.path.join(EXAMPLES, "jingle.wav"), "wb") as file:
-    file.write(JINGLE)
-JINGLE_DIGEST = hashlib.sha256(JINGLE).digest()
-PROGRAMME = log([
-    add_track((1, A, 1), None, "Speech"), add_track((2, A, 2), (1, A, 1), "Music"), add_clip((3, A, 3), JINGLE_DIGEST, (1, A, 1), 0, 0, 480000), add_marker((4, A, 4), 480, "Headlines"),
-    retitle((5, B, 1), (1, A, 1), "Voice"), set_gain((6, B, 2), (3, A, 3), 1, 2), move_clip((7, B, 3), (3, A, 3), (1, A, 1), 48000), set_mute((8, B, 4), (2, A, 2), 1), trim_clip((9, B, 5), (6, C, 1), 0, 96000),
-])
-with open(os.path.join(EXAMPLES, "programme.log"), "wb") as file:
-    file.write(PROGRAMME)
-case("example_programme", ["view", "log"], files={"log": PROGRAMME}, stdout=track_line((1, A, 1), "Voice") + clip_line((3, A, 3), (7, B, 3), 48000, 0, 480000, JINGLE_DIGEST, gain=(1, 2)) + track_line((2, A, 2), "Music", mute=True) + marker_line((4, A, 4), 480, "Headlines") + "held 1\n")
-told("example_wave", JINGLE, bits=16, frames=48, extension=["bext 0", "description Jingle of the morning programme", "originator Davonelume", "reference DE-0001", "date 2026-11-22", "time 06:00:00", "time-reference 1036800000", "history A=PCM,F=48000,W=16,M=mono\\x0d\\x0a"],
-     cues=["cue 1 at 0 label Bell", "cue 2 at 24 label Voice"])
 case("wave_called_dash", ["info", "-"], files={"-": SMALLEST}, stdout=info(SMALLEST, **EIGHT))
 
 # wave files that are refused

@@ -1,5 +1,5 @@
 #!/usr/bin/env python3
-"""Writes tests/cases anew, and the files of examples/. The wanted texts are written by hand in
+"""Writes tests/cases anew. The wanted texts are written by hand in
 cases_of_*.py, each of which writes its cases as it is read (case.py); nothing here runs the program."""
 import os
 import shutil

@@ -13,14 +13,13 @@ use Rattle.std.proofs.lemmas.Map.Text.{is_eq-slice_cmp}
 use Rattle.std.specs.Str.{bytes_eq}
 use Rattle.mt_stamp.proofs.Texts.{unlike}
 use Rattle.sha2.specs.Sha256.{sha256}
-use Rattle.mt_op.specs.declared.digest.Digest.{Digest}
 use Rattle.mt_bwfread.specs.Wave.{IsWave}
 use Rattle.mt_opcodec.specs.Latch.{Latched}
 use Rattle.mt_render.specs.Sources.{Sources, digest_cmp, found}
 use Rattle.mt_cli.specs.declared.fault.CliFault.{CliFault}
 use Rattle.mt_cli.specs.declared.fault.CliFault.TheVariants.{Memory}
 use Rattle.mt_cli.specs.Reading.{Gave, AreRead}
-use Rattle.mt_cli.specs.Sources.{sources_of, under_digest, bytes_in, GaveWaves, IsSourceCause, HasSourceCause}
+use Rattle.mt_cli.specs.Sources.{bytes_in, GaveWaves, IsSourceCause, HasSourceCause}
 
 -- ---- from readers
 
@@ -65,59 +64,3 @@ bytes_more {Z} texts text = map-append (λ (t : Vec ℕ Z). t.items) texts (text
 
 pub bytes_so_far : {Z : Type 0} (texts : List (Vec ℕ Z)) (i : ℕ) (text : Vec ℕ Z) → i < length texts → text ≡ get_or texts i text → bytes_in (take (i + 1) texts) ≡ bytes_in (take i texts) ++ text.items ∷ []
 bytes_so_far {Z} texts i text lt is = ap bytes_in (take_more texts i text lt ∙ ap (λ (t : Vec ℕ Z). take i texts ++ t ∷ []) (sym is)) ∙ bytes_more (take i texts) text
-
--- ---- under their digests
-
-equal_of : (o : Ordering) → is_eq o ≡ true → o ≡ Equal
-equal_of Less h = absurd (false≢true h)
-equal_of Equal h = refl
-equal_of Greater h = absurd (false≢true h)
-
-same_digest : (d e : Digest) → d.0 ≡ e.0 → d ≡ e
-same_digest d e bytes = λ i. record { 0 = bytes i }
-
-tie : (d e : Digest) → is_eq (digest_cmp d e) ≡ true → d ≡ e
-tie d e h = same_digest d e (slice_cmp-IsAntisymmetric nat_cmp-IsAntisymmetric d.0 e.0 (equal_of (digest_cmp d e) h))
-
-no_tie : (d e : Digest) → is_eq (digest_cmp d e) ≡ false → d ≢ e
-no_tie d e h same = unlike (bytes_eq d.0 e.0) d.0 e.0 (sym (is_eq-slice_cmp d.0 e.0) ∙ h) refl (ap (λ (k : Digest). k.0) same)
-
--- one recording more
-found_behind : (xs : List (List ℕ)) (x : List ℕ) (d : Digest) → found (sources_of (xs ++ x ∷ [])) d ≡ option_or (found (sources_of xs) d) (found (sources_of (x ∷ [])) d)
-found_behind [] x d = refl
-found_behind (y ∷ xs) x d = elim (cases_Bool (is_eq (digest_cmp d (under_digest y).0))) [
-  | inl same ↦ rw same refl
-  | inr other ↦ rw other (found_behind xs x d)
-]
-
-first_kept : (o : Option (List ℕ)) (x : List ℕ) → Some (unwrap_or o x) ≡ option_or o (Some x)
-first_kept None x = refl
-first_kept (Some t) x = refl
-
-none_more : (o : Option (List ℕ)) → o ≡ option_or o None
-none_more None = refl
-none_more (Some t) = refl
-
-pub found_more : (xs : List (List ℕ)) (x : List ℕ) (old new : Sources) (k : Digest) → ((e : Digest) → found old e ≡ found (sources_of xs) e) → k.0 ≡ sha256 x → found new k ≡ Some (unwrap_or (found old k) x)
-    → ((e : Digest) → e ≢ k → found new e ≡ found old e) → (d : Digest) → found new d ≡ found (sources_of (xs ++ x ∷ [])) d
-found_more xs x old new k before key put others d =
-    let k_is : k ≡ (under_digest x).0 = same_digest k (under_digest x).0 key in
-    elim (cases_Bool (is_eq (digest_cmp d (under_digest x).0))) [
-      | inl same ↦
-          let d_is : d ≡ k = tie d (under_digest x).0 same ∙ sym k_is in
-          let here : found (sources_of (x ∷ [])) d ≡ Some x = rw same refl in
-          ap (found new) d_is ∙ put ∙ ap (λ (e : Digest). Some (unwrap_or (found old e) x)) (sym d_is) ∙ ap (λ (o : Option (List ℕ)). Some (unwrap_or o x)) (before d) ∙ first_kept (found (sources_of xs) d) x
-          ∙ ap (option_or (found (sources_of xs) d)) (sym here) ∙ sym (found_behind xs x d)
-      | inr apart ↦
-          let d_is_not : d ≢ k = λ (d_is : d ≡ k). no_tie d (under_digest x).0 apart (d_is ∙ k_is) in
-          let here : found (sources_of (x ∷ [])) d ≡ None = rw apart refl in
-          others d d_is_not ∙ before d ∙ none_more (found (sources_of xs) d) ∙ ap (option_or (found (sources_of xs) d)) (sym here) ∙ sym (found_behind xs x d)
-    ]
-
--- the same of what adding it answers
-pub found_added : {E : Type 0} (xs : List (List ℕ)) (x now : List ℕ) (old new : Sources) (r : Result Digest E) → ((e : Digest) → found old e ≡ found (sources_of xs) e) → is_err r ≡ false → now ≡ x
-    → IfOk r (λ k. k.0 ≡ sha256 now) → IfOk r (λ k. found new k ≡ Some (unwrap_or (found old k) now)) → IfOk r (λ k. (e : Digest) → e ≢ k → found new e ≡ found old e)
-    → (d : Digest) → found new d ≡ found (sources_of (xs ++ x ∷ [])) d
-found_added xs x now old new (Ok k) before done is key put others d =
-    found_more xs x old new k before (key ∙ ap sha256 is) (put ∙ ap (λ (t : List ℕ). Some (unwrap_or (found old k) t)) is) others d
-found_added xs x now old new (Err e) before done is key put others d = cc done

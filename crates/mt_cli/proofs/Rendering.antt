@@ -9,7 +9,7 @@ use Rattle.mt_sessionview.specs.Content.{Content, Marker}
 use Rattle.mt_op.specs.declared.digest.Digest.{Digest}
 use Rattle.mt_render.specs.declared.fault.MixFault.TheVariants as mix_faults
 use Rattle.mt_render.specs.Layout.{Layout}
-use Rattle.mt_render.specs.Sources.{Sources, found}
+use Rattle.mt_render.specs.Sources.{Sources, found, sources_of}
 use Rattle.mt_render.specs.Mix.{Programme}
 use Rattle.mt_render.specs.Refusals.{IsMixable}
 use Rattle.mt_cuewrite.specs.File.{riff, file}
@@ -21,7 +21,7 @@ use Rattle.mt_cuewrite.specs.Head.{HeadText}
 use Rattle.mt_cli.specs.declared.fault.CliFault.{CliFault}
 use Rattle.mt_cli.specs.Faults.{file_fault}
 use Rattle.mt_cli.specs.Reading.{AreRead}
-use Rattle.mt_cli.specs.Sources.{GaveWaves, sources_of}
+use Rattle.mt_cli.specs.Sources.{GaveWaves}
 use Rattle.mt_cli.specs.Bouncing.{CanBounce, IsMixRefusal, programme, session_file, SessionFails, BounceFails, HasBounced}
 use Rattle.mt_cli.proofs.SameSources.{riff_same, file_same, mixable_same}
 use Rattle.mt_cli.proofs.Writing.{IsUnionOf}

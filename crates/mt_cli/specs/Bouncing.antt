@@ -18,7 +18,8 @@ use Rattle.mt_cli.specs.declared.fault.CliFault.{CliFault}
 use Rattle.mt_cli.specs.declared.fault.CliFault.TheVariants.{Memory, Mix, Write}
 use Rattle.mt_cli.specs.Reading.{GaveLogs, AreRead}
 use Rattle.mt_cli.specs.Joining.{UnionFails}
-use Rattle.mt_cli.specs.Sources.{sources_of, GaveWaves, HasSourceCause}
+use Rattle.mt_render.specs.Sources.{sources_of}
+use Rattle.mt_cli.specs.Sources.{GaveWaves, HasSourceCause}
 
 -- the programme of a session over recordings
 abbrev pub programme : Content → List (List ℕ) → Layout → Programme

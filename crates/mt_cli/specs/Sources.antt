@@ -1,10 +1,7 @@
 -- Reading recordings from readers, and why one is refused.
 use Rattle.std.specs.Prelude.{◌≡◌, ◌≢◌, ℕ, true, List, [], ◌∷◌, ◌+◌, Option, Some, map, Vec, ◌⊎◌}
-use Rattle.sha2.specs.Sha256.{sha256}
-use Rattle.mt_op.specs.declared.digest.Digest.{Digest}
 use Rattle.mt_opcodec.specs.Latch.{Latched}
 use Rattle.mt_bwfread.specs.Wave.{IsWave, fault_of}
-use Rattle.mt_render.specs.Sources.{Sources}
 use Rattle.mt_cli.specs.declared.fault.CliFault.{CliFault}
 use Rattle.mt_cli.specs.declared.fault.CliFault.TheVariants.{Memory, Read, Source}
 use Rattle.mt_cli.specs.Reading.{Gave, IsRead}
@@ -12,13 +9,6 @@ use Rattle.mt_cli.specs.Reading.{Gave, IsRead}
 -- the bytes of each recording that is kept
 abbrev pub bytes_in : {Z : Type 0} → List (Vec ℕ Z) → List (List ℕ)
 bytes_in texts = map (λ t. t.items) texts
-
--- recordings under their digests; of several under one digest the first is found
-abbrev pub under_digest : List ℕ → Digest × List ℕ
-under_digest text = (record { 0 = sha256 text }, text)
-
-abbrev pub sources_of : List (List ℕ) → Sources
-sources_of texts = map under_digest texts
 
 module _ {R : Type 0} (remaining : R → Option (List ℕ)) where
   -- each reader gave the wave file at its place

@@ -3,9 +3,9 @@
 ghost use Rattle.std.specs.Prelude.{◌≡◌, ◌+◌, ◌<◌, ◌^◌, length, IfOk, IfErr, OnOk};
 ghost use Rattle.mt_bwfread.specs.Wave.{IsWave};
 ghost use Rattle.mt_op.specs.declared.digest.Digest.{Digest as DigestOf};
-ghost use Rattle.mt_render.specs.Sources.{found};
+ghost use Rattle.mt_render.specs.Sources.{found, sources_of};
 ghost use Rattle.mt_cli.specs.Reading.{Gave, IsRead, AreRead};
-ghost use Rattle.mt_cli.specs.Sources.{GaveWaves, IsSourceCause, HasSourceCause, sources_of, bytes_in};
+ghost use Rattle.mt_cli.specs.Sources.{GaveWaves, IsSourceCause, HasSourceCause, bytes_in};
 
 use crate::fault::CliFault;
 use mt_bwfread::Wave;
@@ -65,11 +65,13 @@ pub(crate) fn catalogue_of<'a, A: Allocator + Clone>(
     ensures ok { IfOk result (λ c. (d : DigestOf) → found c d ≡ found (sources_of (bytes_in texts.now)) d) }
     ensures err { IfErr result (λ fault. fault ≡ CliFault.Memory) }
 {
-    let mut catalogue = Catalogue::new(alloc);
+    let mut files = Vec::new(alloc.clone()?);
     for text in texts {
-        if catalogue.add(text).is_err() {
-            return Err(CliFault::Memory);
-        }
+        files.push(text.as_slice())?;
     }
-    Ok(catalogue)
+    let mut catalogue = Catalogue::new(alloc.clone()?);
+    match catalogue.add_all(alloc, &files) {
+        Ok(()) => Ok(catalogue),
+        Err(_) => Err(CliFault::Memory),
+    }
 }

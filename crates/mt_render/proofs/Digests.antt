@@ -9,12 +9,12 @@ use Rattle.std.proofs.lemmas.Bool.{cases_Bool, false≢true}
 use Rattle.mt_op.specs.declared.digest.Digest.{Digest}
 use Rattle.mt_render.specs.Sources.{digest_cmp}
 
-equal_of : (o : Ordering) → is_eq o ≡ true → o ≡ Equal
+pub equal_of : (o : Ordering) → is_eq o ≡ true → o ≡ Equal
 equal_of Less h = absurd (false≢true h)
 equal_of Equal h = refl
 equal_of Greater h = absurd (false≢true h)
 
-same_digest : (d e : Digest) → d.0 ≡ e.0 → d ≡ e
+pub same_digest : (d e : Digest) → d.0 ≡ e.0 → d ≡ e
 same_digest d e bytes = λ i. record { 0 = bytes i }
 
 pub digests_apart : (d e : Digest) → e ≢ d → is_eq (digest_cmp d e) ≡ false

@@ -6,3 +6,4 @@ pub mod Adding
 pub mod Searching
 pub mod Tracks
 pub mod Blocks
+pub mod Gathered

@@ -1,10 +1,15 @@
 -- The recordings that are at hand.
-use Rattle.std.specs.Prelude.{ℕ, List, [], Option, unwrap_or}
+use Rattle.std.specs.Prelude.{◌≡◌, ℕ, List, [], ◌++◌, map, take, slice_get, Option, Some, unwrap_or}
+use Rattle.std.specs.List.{AllByRecursion}
 use Rattle.std.specs.Ordering.{nat_cmp, is_eq}
 use Rattle.std.specs.Map.{lookup}
 use Rattle.std.specs.Cmp.Lexicographic.{slice_cmp}
 use Rattle.std.specs.declared.cmp.Ordering.{Ordering}
+use Rattle.sha2.specs.Sha256.{sha256}
 use Rattle.mt_op.specs.declared.digest.Digest.{Digest}
+use Rattle.mt_bwfread.specs.Wave.{IsWave, fault_of}
+use Rattle.mt_render.specs.declared.fault.SourceFault.{SourceFault}
+use Rattle.mt_render.specs.declared.fault.SourceFault.TheVariants.{Memory, Wave}
 
 -- a map from digests to the bytes of wave files: its entries
 abbrev pub Sources : Type 0
@@ -21,3 +26,19 @@ found sources d = lookup (λ e. is_eq (digest_cmp d e)) sources
 -- the bytes under a digest that is there
 abbrev pub source_of : Sources → Digest → List ℕ
 source_of sources d = unwrap_or (found sources d) []
+
+-- recordings under their digests; of several under one digest the first is found
+abbrev pub under_digest : List ℕ → Digest × List ℕ
+under_digest file = (record { 0 = sha256 file }, file)
+
+abbrev pub sources_of : List (List ℕ) → Sources
+sources_of files = map under_digest files
+
+-- what is there once files have been put behind it, one after another
+abbrev pub HasAdded : Sources → List (List ℕ) → Sources → Type 0
+HasAdded old files new = (d : Digest) → found new d ≡ found (old ++ sources_of files) d
+
+-- what refuses one of several files: memory, or the first that is no wave file, by the first of its faults
+abbrev pub IsFileFault : List (List ℕ) → SourceFault → Type 0
+IsFileFault files Memory = Unit {0}
+IsFileFault files (Wave fault) = (index : ℕ) × ((bytes : List ℕ) × (AllByRecursion IsWave (take index files) × (slice_get files index ≡ Some bytes) × (fault_of bytes ≡ Some fault)))

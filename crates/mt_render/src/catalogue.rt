@@ -1,13 +1,16 @@
 //! The recordings that are at hand.
 
-ghost use Rattle.std.specs.Prelude.{◌≡◌, ◌≢◌, Some, None, IfOk, OnOk, OnErr, IfErr, unwrap_or};
+ghost use Rattle.std.specs.Prelude.{◌≡◌, ◌≢◌, ℕ, Some, None, IfOk, OnOk, OnErr, IfErr, map, take, unwrap_or};
+ghost use Rattle.std.specs.List.{AllByRecursion};
 ghost use Rattle.sha2.specs.Sha256.{sha256};
 ghost use Rattle.mt_op.specs.declared.digest.Digest.{Digest as DigestOf};
 ghost use Rattle.mt_bwfread.specs.Wave.{IsWave};
 ghost use Rattle.mt_render.specs.Faults.{IsSourceFault};
+ghost use Rattle.mt_render.specs.declared.fault.SourceFault.TheVariants as source;
 
 use crate::fault::SourceFault;
 use mt_bwfread::Wave;
+use mt_digests::digests_of;
 use mt_op::Digest;
 use std::alloc::{Allocator, Global};
 use std::collections::BTreeMap;
@@ -29,7 +32,7 @@ impl<'a, A: Allocator> Model for Catalogue<'a, A> {
 
 impl<'a, A: Allocator> Catalogue<'a, A> {
     ghost use Rattle.std.specs.Option.{option_copied};
-    ghost use Rattle.mt_render.specs.Sources.{found};
+    ghost use Rattle.mt_render.specs.Sources.{found, HasAdded, IsFileFault};
 
     /// No recording. Takes no memory.
     pub fn new(alloc: A) -> Catalogue<'a, A>
@@ -57,10 +60,67 @@ impl<'a, A: Allocator> Catalogue<'a, A> {
             Err(fault) => return Err(SourceFault::Wave(fault)),
         };
         let digest = Digest::of(bytes);
+        self.keep(digest, wave)?;
+        Ok(digest)
+    }
+
+    // Puts a wave file under a digest, unless one is there.
+    fn keep(&mut self, digest: Digest, wave: Wave<'a>) -> Result<(), SourceFault>
+    where
+        A: Clone,
+        ensures first { OnOk result (found self.new digest ≡ Some (unwrap_or (found self.old digest) wave.entry)) }
+        ensures others { OnOk result ((e : DigestOf) → e ≢ digest → found self.new e ≡ found self.old e) }
+        ensures fault { IfErr result (λ fault. fault ≡ source.Memory) }
+        ensures refused { OnErr result ((e : DigestOf) → found self.new e ≡ found self.old e) }
+    {
         if !self.waves.contains_key(&digest) {
             self.waves.insert(digest, wave)?;
         }
-        Ok(digest)
+        Ok(())
+    }
+
+    // Puts a wave file under its digest, which is at hand.
+    fn add_under(&mut self, digest: Digest, bytes: &'a [u8]) -> Result<(), SourceFault>
+    where
+        A: Clone,
+        ensures wave { OnOk result (IsWave bytes.now) }
+        ensures first { OnOk result (found self.new digest ≡ Some (unwrap_or (found self.old digest) bytes.now)) }
+        ensures others { OnOk result ((e : DigestOf) → e ≢ digest → found self.new e ≡ found self.old e) }
+        ensures fault { IfErr result (IsSourceFault bytes.now) }
+        ensures refused { OnErr result ((e : DigestOf) → found self.new e ≡ found self.old e) }
+    {
+        match Wave::read(bytes) {
+            Ok(wave) => {
+                self.keep(digest, wave)?;
+                Ok(())
+            }
+            Err(fault) => Err(SourceFault::Wave(fault)),
+        }
+    }
+
+    /// Puts wave files under their digests, from left to right, as `add` does with one after another: of several of one digest the
+    /// first is kept. The digests are worked out together, four in about twice the time of one.
+    ///
+    /// Refused as the first file that `Wave::read` refuses (26 to 32), and as `Memory` (0); then as many of the files as there were
+    /// before it, or before memory ran out, are kept, from the first on.
+    pub fn add_all(&mut self, alloc: A, files: &[&'a [u8]]) -> Result<(), SourceFault>
+    where
+        A: Clone,
+        ensures ok { OnOk result (HasAdded self.old (map (λ file. file.now) files.now) self.new) }
+        ensures waves { OnOk result (AllByRecursion IsWave (map (λ file. file.now) files.now)) }
+        ensures fault { IfErr result (IsFileFault (map (λ file. file.now) files.now)) }
+        ensures refused { OnErr result ((count : ℕ) × HasAdded self.old (take count (map (λ file. file.now) files.now)) self.new) }
+    {
+        let Ok(digests) = digests_of(alloc, files) else {
+            return Err(SourceFault::Memory);
+        };
+        for index in 0..files.len() {
+            match self.add_under(Digest(digests[index]), files[index]) {
+                Ok(()) => {}
+                Err(fault) => return Err(fault),
+            }
+        }
+        Ok(())
     }
 
     /// The wave file under a digest. Takes no memory.
