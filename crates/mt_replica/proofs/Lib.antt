@@ -8,3 +8,4 @@ pub mod Bridging
 pub mod Keeping
 pub mod Taking
 pub mod NextOne
+pub mod EqualEditors

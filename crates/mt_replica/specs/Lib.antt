@@ -6,3 +6,4 @@ pub mod Kept
 pub mod State
 pub mod Codes
 pub mod Laws
+pub mod Equal

@@ -2,8 +2,11 @@
 
 ghost use Rattle.std.specs.Prelude.{◌≡◌, ◌≢◌, ◌↔◌, IsErrOf, IfOk, IfErr, OnOk, Ok, None, Some, option_map};
 ghost use Rattle.std.specs.Option.{option_copied};
+ghost use Rattle.std.specs.Prelude.{nat_eq};
+ghost use Rattle.std.specs.Cmp.Lexicographic.{pointwise};
 ghost use Rattle.mt_op.specs.Operation.{Operation};
 ghost use Rattle.mt_replica.specs.Changes.{edit_of};
+ghost use Rattle.mt_replica.specs.Equal.{log_word};
 
 use crate::change::Change;
 use crate::fault::EditorFault;
@@ -40,6 +43,18 @@ impl<A: Allocator> Model for Draft<A> {
     ghost invariant = { λ d. IfSome d.state (λ (s : Named). s.name ≡ d.name) };
 }
 
+impl<A: Allocator> Draft<A> {
+    /// Its log; `None` where it has failed.
+    pub fn log(&self) -> Option<&Log<A>>
+        ensures { option_copied result ≡ self.now.log }
+    {
+        match &self.state {
+            Some(state) => Some(state.log()),
+            None => None,
+        }
+    }
+}
+
 impl<A: Allocator + Clone> Draft<A> {
     ghost use Rattle.mt_replica.specs.Kept.{Kept, session_in, kept_with, failed, EditGives, after_edit, TakeGives, after_take};
     ghost use Rattle.mt_replica.specs.State.{IsMadeOf, IsNewTo};
@@ -63,16 +78,6 @@ impl<A: Allocator + Clone> Draft<A> {
     {
         let _ = &self.state;
         self.name
-    }
-
-    /// Its log; `None` where it has failed.
-    pub fn log(&self) -> Option<&Log<A>>
-        ensures { option_copied result ≡ self.now.log }
-    {
-        match &self.state {
-            Some(state) => Some(state.log()),
-            None => None,
-        }
     }
 
     // The session of its log; none where it has failed.
@@ -180,4 +185,39 @@ impl<A: Allocator + Clone> Draft<A> {
             None => self.add(op),
         }
     }
+}
+
+// Whether there is no log in either place, or equal ones.
+fn same_logs<A: Allocator>(a: Option<&Log<A>>, b: Option<&Log<A>>) -> bool
+    ensures { result ≡ pointwise nat_eq (log_word (option_copied a.entry)) (log_word (option_copied b.entry)) }
+{
+    match (a, b) {
+        (None, None) => true,
+        (Some(a), Some(b)) => a == b,
+        _ => false,
+    }
+}
+
+// By their names and logs.
+impl<A: Allocator> PartialEq for Draft<A> {
+    ghost use Rattle.std.specs.Prelude.{nat_eq};
+    ghost use Rattle.std.specs.Cmp.{on_per, partial_equiv_from_equiv};
+    ghost use Rattle.std.specs.Cmp.Lexicographic.{pointwise, nat_list_eq_equiv};
+    ghost use Rattle.mt_replica.specs.Equal.{kept_word};
+
+    ghost eq = { λ a b. pointwise nat_eq (kept_word a) (kept_word b) };
+
+    ghost laws = { on_per kept_word (partial_equiv_from_equiv nat_list_eq_equiv) };
+
+    fn eq(&self, other: &Self) -> bool {
+        self.name == other.name && same_logs(self.log(), other.log())
+    }
+}
+
+impl<A: Allocator> Eq for Draft<A> {
+    ghost use Rattle.std.specs.Cmp.{on_equiv};
+    ghost use Rattle.std.specs.Cmp.Lexicographic.{nat_list_eq_equiv};
+    ghost use Rattle.mt_replica.specs.Equal.{kept_word};
+
+    ghost laws = { on_equiv kept_word nat_list_eq_equiv };
 }

@@ -16,7 +16,8 @@ use mt_stamp::Replica;
 use std::alloc::{Allocator, Global};
 use std::marker::Model;
 
-/// An editor: a name, a log and the session of the log's operations. Once a growth was refused in `take` or `edit` it has failed:
+/// An editor: a name, a log and the session of the log's operations. Editors are equal where their names and logs are, and with
+/// these their sessions. Once a growth was refused in `take` or `edit` it has failed:
 /// it has neither log nor session any more, and every call that can be refused answers `Failed` (20).
 #[derive(Drop)]
 pub struct Editor<A: Allocator = Global> {
@@ -36,6 +37,16 @@ impl<A: Allocator> Model for Editor<A> {
     ghost view = { λ e. e.draft };
 
     ghost invariant = { λ e. e.session ≡ session_in e.draft };
+}
+
+impl<A: Allocator> Editor<A> {
+    /// Its log: all operations that it has taken, those that are held too; `None` where it has failed.
+    pub fn log(&self) -> Option<&Log<A>>
+        ensures { option_copied result ≡ self.now.log }
+    {
+        let _ = &self.session;
+        self.draft.log()
+    }
 }
 
 impl<A: Allocator + Clone> Editor<A> {
@@ -65,14 +76,6 @@ impl<A: Allocator + Clone> Editor<A> {
     {
         let _ = &self.session;
         self.draft.name()
-    }
-
-    /// Its log: all operations that it has taken, those that are held too; `None` where it has failed.
-    pub fn log(&self) -> Option<&Log<A>>
-        ensures { option_copied result ≡ self.now.log }
-    {
-        let _ = &self.session;
-        self.draft.log()
     }
 
     /// The session of the operations in its log; `None` where it has failed.
@@ -156,6 +159,30 @@ impl<A: Allocator + Clone> Editor<A> {
             Err(fault) => Err(fault),
         }
     }
+}
+
+// By their names and logs: each has the session of its log.
+impl<A: Allocator> PartialEq for Editor<A> {
+    ghost use Rattle.std.specs.Prelude.{nat_eq};
+    ghost use Rattle.std.specs.Cmp.{on_per, partial_equiv_from_equiv};
+    ghost use Rattle.std.specs.Cmp.Lexicographic.{pointwise, nat_list_eq_equiv};
+    ghost use Rattle.mt_replica.specs.Equal.{kept_word};
+
+    ghost eq = { λ a b. pointwise nat_eq (kept_word a) (kept_word b) };
+
+    ghost laws = { on_per kept_word (partial_equiv_from_equiv nat_list_eq_equiv) };
+
+    fn eq(&self, other: &Self) -> bool {
+        self.draft == other.draft
+    }
+}
+
+impl<A: Allocator> Eq for Editor<A> {
+    ghost use Rattle.std.specs.Cmp.{on_equiv};
+    ghost use Rattle.std.specs.Cmp.Lexicographic.{nat_list_eq_equiv};
+    ghost use Rattle.mt_replica.specs.Equal.{kept_word};
+
+    ghost laws = { on_equiv kept_word nat_list_eq_equiv };
 }
 
 // Works the session out anew, or lets the draft fail where a growth is refused.

@@ -52,6 +52,16 @@ impl<A: Allocator> Model for State<A> {
     ghost invariant = { λ s. IsState (record { name = s.name; log = s.log }) s.items s.clock s.seq };
 }
 
+impl<A: Allocator> State<A> {
+    /// The log.
+    pub fn log(&self) -> &Log<A>
+        ensures { result.now ≡ self.now.log }
+    {
+        let _ = &self.items;
+        &self.log
+    }
+}
+
 impl<A: Allocator + Clone> State<A> {
     /// The state of a log. Refused as `Memory` (0) where a growth was refused.
     pub fn of(alloc: &A, name: Replica, log: Log<A>) -> Result<Self, EditorFault>
@@ -68,14 +78,6 @@ impl<A: Allocator + Clone> State<A> {
             clock,
             seq,
         })
-    }
-
-    /// The log.
-    pub fn log(&self) -> &Log<A>
-        ensures { result.now ≡ self.now.log }
-    {
-        let _ = &self.items;
-        &self.log
     }
 
     // The stamp of the next operation.
