@@ -2,6 +2,7 @@
 //! turn, and the command line.
 mod commands;
 mod fakes;
+mod headline;
 mod infos;
 mod merges;
 mod refused_growth;

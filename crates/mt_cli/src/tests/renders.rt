@@ -12,7 +12,7 @@ use mt_testalloc::Refusing;
 use std::alloc::{Allocator, Global};
 use std::test::Fail;
 
-const RECORDING: &[u8] =
+pub const RECORDING: &[u8] =
     b"RIFF\xff\xff\0\0WAVEfmt \x10\0\0\0\x01\0\x01\0\x80\xbb\0\0\0\0\0\0\x03\0\x18\0data\x09\0\0\0\x01\0\0\x02\0\0\x03\0\0";
 
 // The log of a track with one clip of the recording.

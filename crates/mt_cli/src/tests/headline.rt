@@ -1,0 +1,186 @@
+//! Editors that have taken the same operations, in whatever order and however often, show one session, print one text and render
+//! one file.
+
+use super::renders::RECORDING;
+use super::{A, B};
+use mt_cuewrite::{Head, bounce};
+use mt_op::{Digest, Op};
+use mt_opcodec::{Latch, Log};
+use mt_render::{Catalogue, Format, Mix};
+use mt_replica::Editor;
+use mt_script::run;
+use mt_sessionview::{Session, write_text};
+use mt_stamp::Replica;
+use std::alloc::Global;
+use std::test::Fail;
+
+// Puts the text and the file of a session into an output, and tells whether both were written.
+fn put_programme(alloc: Global, session: &Session, output: &mut Latch<Vec<u8>>) -> bool {
+    let Ok(head) = Head::new("", "", "", "2000-01-01", "00:00:00", 0) else {
+        return false;
+    };
+    let Ok(format) = Format::new(48000, 24, 1) else {
+        return false;
+    };
+    let mut sources = Catalogue::new(alloc);
+    if sources.add(RECORDING).is_err() {
+        return false;
+    }
+    let Ok(mix) = Mix::new(alloc, session, &sources, format) else {
+        return false;
+    };
+    write_text(alloc, session, output).is_ok()
+        && bounce(alloc, &mix, session.markers.items(), &head, output).is_ok()
+}
+
+// The digest of what an editor gives out: its session's text, and then its file.
+fn given_out(alloc: Global, editor: &Editor) -> Option<Digest> {
+    let session = editor.session()?;
+    let mut output = Latch::new(Vec::new(alloc));
+    if put_programme(alloc, session, &mut output) {
+        Some(Digest::of(&output.into_inner()))
+    } else {
+        None
+    }
+}
+
+// Whether two editors show one session and give out the same bytes.
+fn agree(alloc: Global, left: &Editor, right: &Editor) -> bool {
+    let bytes = given_out(alloc, left);
+    bytes.is_some()
+        && bytes == given_out(alloc, right)
+        && left.session() == right.session()
+        && left == right
+}
+
+// An editor of the empty log.
+fn newcomer(alloc: Global, name: Replica) -> Option<Editor> {
+    Editor::from_log(alloc, name, Log::new(alloc)).ok()
+}
+
+// Takes all operations in the order of this number, each twice. The numbers below the product of 1 to the count of operations
+// stand for all their orders.
+fn take_all(editor: &mut Editor, mut ops: Vec<Op>, number: usize) -> bool {
+    let mut rest = number;
+    let mut taken = true;
+    for _ in 0..ops.len() {
+        let len = ops.len();
+        if len == 0 {
+            return false;
+        }
+        let op = ops.remove(rest % len);
+        rest /= len;
+        let Ok(copy) = op.try_clone() else {
+            return false;
+        };
+        taken &= editor.take(op).is_ok();
+        taken &= editor.take(copy).is_ok();
+    }
+    taken
+}
+
+// The log of an editor that went on with a log by a script.
+fn went_on(alloc: Global, name: Replica, log: Log, script: &[u8]) -> Option<Log> {
+    let mut editor = Editor::from_log(alloc, name, log).ok()?;
+    if run(alloc, &mut editor, script).is_err() {
+        return None;
+    }
+    editor.log()?.try_clone().ok()
+}
+
+// The union of the logs of two editors: A begins with a script, B goes on with a copy by another, and A by a third.
+fn union_of_two(alloc: Global, scripts: [&[u8]; 3]) -> Option<Log> {
+    let first = went_on(alloc, A, Log::new(alloc), scripts[0])?;
+    let copy = first.try_clone().ok()?;
+    let second = went_on(alloc, B, copy, scripts[1])?;
+    let third = went_on(alloc, A, first, scripts[2])?;
+    Log::merge(alloc, &second, &third).ok()
+}
+
+// Copies of a log's operations.
+fn ops_of(alloc: Global, log: &Log) -> Option<Vec<Op>> {
+    let mut ops = Vec::new(alloc);
+    for index in 0..log.len() {
+        let copy = log.op_at(index)?.try_clone().ok()?;
+        if ops.push(copy).is_err() {
+            return None;
+        }
+    }
+    Some(ops)
+}
+
+// Whether a newcomer who takes the operations of a log in the order of this number, each twice, agrees with an editor of that log.
+fn agrees_in_order(alloc: Global, whole: &Editor, number: usize) -> Option<bool> {
+    let ops = ops_of(alloc, whole.log()?)?;
+    let mut other = newcomer(alloc, B)?;
+    if !take_all(&mut other, ops, number) {
+        return None;
+    }
+    Some(agree(alloc, whole, &other))
+}
+
+// How many operations the union of two editors' logs has, and whether a newcomer agrees with an editor of it in each of these orders,
+// whose numbers are so far apart.
+fn agreements(
+    alloc: Global,
+    scripts: [&[u8]; 3],
+    orders: usize,
+    step: usize,
+) -> Option<(usize, bool)> {
+    let log = union_of_two(alloc, scripts)?;
+    let count = log.len();
+    let whole = Editor::from_log(alloc, B, log).ok()?;
+    let mut all = true;
+    for order in 0..orders {
+        all &= agrees_in_order(alloc, &whole, order.wrapping_mul(step))?;
+    }
+    Some((count, all))
+}
+
+// four_places
+#[test]
+fn agree_on_four_places(rt: HostRuntime) -> Result<(), Fail> {
+    let scripts: [&[u8]; 3] = [
+        b"add-track head a\n",
+        b"add-track 1.1.00000000-0000-0000-0000-00000000000a y\nadd-track head z\n",
+        b"add-track 1.1.00000000-0000-0000-0000-00000000000a x\n",
+    ];
+    assert_eq!(rt; agreements(rt.alloc(), scripts, 24, 1), Some((4, true)));
+    Ok(())
+}
+
+// moved_tracks
+#[test]
+fn agree_on_moved_tracks(rt: HostRuntime) -> Result<(), Fail> {
+    let scripts: [&[u8]; 3] = [
+        b"add-track head p\nadd-track $1 q\nadd-track $2 r\n",
+        b"move-track 1.1.00000000-0000-0000-0000-00000000000a 3.3.00000000-0000-0000-0000-00000000000a\n",
+        b"move-track 1.1.00000000-0000-0000-0000-00000000000a 2.2.00000000-0000-0000-0000-00000000000a\n",
+    ];
+    assert_eq!(rt; agreements(rt.alloc(), scripts, 120, 1), Some((5, true)));
+    Ok(())
+}
+
+// removed_and_restored
+#[test]
+fn agree_on_a_removed_and_restored_marker(rt: HostRuntime) -> Result<(), Fail> {
+    let scripts: [&[u8]; 3] = [
+        b"add-marker 1 News\n",
+        b"restore 1.1.00000000-0000-0000-0000-00000000000a\n",
+        b"remove 1.1.00000000-0000-0000-0000-00000000000a\n",
+    ];
+    assert_eq!(rt; agreements(rt.alloc(), scripts, 6, 1), Some((3, true)));
+    Ok(())
+}
+
+// moved_and_removed_clip, over three_sample_file's recording
+#[test]
+fn agree_on_a_moved_and_removed_clip(rt: HostRuntime) -> Result<(), Fail> {
+    let scripts: [&[u8]; 3] = [
+        b"add-track head Voice\nadd-clip cc0a0e0651f6e9e304442665437ab61ac3b5302b51bb4a161b144bf9985dfb79 $1 0 0 3\ngain $2 1/2\ngain $1 1/1\n",
+        b"move-clip 2.2.00000000-0000-0000-0000-00000000000a 1.1.00000000-0000-0000-0000-00000000000a 70\n",
+        b"remove 2.2.00000000-0000-0000-0000-00000000000a\nrestore 2.2.00000000-0000-0000-0000-00000000000a\n",
+    ];
+    assert_eq!(rt; agreements(rt.alloc(), scripts, 200, 25), Some((7, true)));
+    Ok(())
+}
