@@ -6,3 +6,7 @@ pub mod Adding
 pub mod Searching
 pub mod Tracks
 pub mod Blocks
+pub mod Quotients
+pub mod Gaining
+pub mod Rising
+pub mod Summing
