@@ -9,3 +9,4 @@ pub mod Samples
 pub mod Labelling
 pub mod Pointing
 pub mod Filling
+pub mod Sizes

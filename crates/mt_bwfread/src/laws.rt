@@ -1,8 +1,9 @@
 //! Laws of the definitions. Each function does nothing: its contract is the law.
 
-ghost use Rattle.std.specs.Prelude.{◌≡◌, ◌<◌, ◌^◌, IsTrue, ℕ, List, [], false, take, Some, None, negsuc};
+ghost use Rattle.std.specs.Prelude.{◌≡◌, ◌<◌, ◌≤◌, ◌^◌, IsTrue, drop, unsigned_abs, ℕ, List, [], false, take, Some, None, negsuc};
 ghost use Rattle.mt_bwfread.specs.Riff.{Chunk, Splits, AreChunks, has_chunk, chunks_of, rest_of};
-ghost use Rattle.mt_bwfread.specs.Wave.{IsWave, body_of, chunks_in, is_width, fault_of, rate_of, channels_of, bits_of, frames_of, sample_of};
+ghost use Rattle.mt_bwfread.specs.Wave.{IsWave, body_of, chunks_in, is_width, fault_of, rate_of, channels_of, bits_of, frames_of, sample_of, scaled};
+ghost use Rattle.mt_bwfread.specs.Fill.{sample_or_silence};
 ghost use Rattle.mt_bwfread.specs.Extension.{bext_of};
 ghost use Rattle.mt_bwfread.specs.Cues.{cues_of};
 ghost use Rattle.mt_bwfread.specs.Example.{smallest};
@@ -41,6 +42,22 @@ pub fn is_wave(wave: &Wave<'_>)
     ensures frames { frames_of wave.now < 2 ^ 32 }
 {
     let _ = &wave.text;
+}
+
+// The sample that stands anywhere in bytes passes 32 bits nowhere.
+#[inline]
+fn scaled_small(bytes: &[u8])
+    ensures { (bits at : ℕ) → unsigned_abs (scaled bits (drop at bytes.now)) ≤ 2 ^ 31 }
+{
+    let _ = bytes;
+}
+
+/// No sample of a wave file passes 2^31 in size, whatever the frame and the channel.
+#[inline]
+pub fn small_samples(wave: &Wave<'_>)
+    ensures { (frame channel : ℕ) → unsigned_abs (sample_or_silence wave.now frame channel) ≤ 2 ^ 31 }
+{
+    scaled_small(wave.samples);
 }
 
 /// What the definitions say of the smallest wave file and of its fronts.

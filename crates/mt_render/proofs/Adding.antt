@@ -1,5 +1,5 @@
 -- One part more.
-use Rattle.std.proofs.Common.{◌≡◌, ℕ, ◌+◌, ◌*◌, ◌^◌, ◌<◌, ◌≤◌, List, [], ◌∷◌, ◌++◌, length, take, get_or, ℤ, pos, negsuc, ◌+ℤ◌, ◌*ℤ◌, to_z, of_z, FitsSigned, sym, ◌∙◌, ap, arith}
+use Rattle.std.proofs.Common.{◌≡◌, ℕ, ◌+◌, ◌*◌, ◌^◌, ◌<◌, ◌≤◌, List, [], ◌∷◌, ◌++◌, length, take, ℤ, pos, negsuc, ◌+ℤ◌, ◌*ℤ◌, to_z, of_z, FitsSigned, sym, ◌∙◌, ap, arith}
 use Rattle.std.specs.Prelude.{if◌then◌else◌, unsigned_abs}
 use Rattle.std.proofs.lemmas.List.{take_more}
 use Rattle.std.specs.Int.{w64, w128}
@@ -37,23 +37,16 @@ pub part_gives : (s : Segment) (clip : Clip) (gain : Ratio) (p : Part) (text : L
 part_gives s clip gain p text f c start end at offset wave scaled = rw (start, end, at, offset, wave) (ap (λ z. if is_in s f then z else pos 0) (scaled (heard text clip f c)))
 
 -- one segment more
-pub lane_step : (sources : Sources) (gain : Ratio) (clips : List Clip) (segs : List Segment) (i f c : ℕ) (old before after : ℤ) (s : Segment) (clip : Clip) → i < length segs → s ≡ segment_at segs i
-    → clip ≡ clip_at clips s.which → before ≡ old +ℤ lane_sum (clip_value sources gain clips f c) (take i segs) f
+pub lane_step : (sources : Sources) (gain : Ratio) (clips : List Clip) (segs : List Segment) (i f c : ℕ) (before after : ℤ) (s : Segment) (clip : Clip) → i < length segs → s ≡ segment_at segs i
+    → clip ≡ clip_at clips s.which → before ≡ lane_sum (clip_value sources gain clips f c) (take i segs) f
     → after ≡ before +ℤ (if is_in s f then contribution clip.gain gain (heard (source_of sources clip.source) clip f c) else pos 0)
-    → after ≡ old +ℤ lane_sum (clip_value sources gain clips f c) (take (i + 1) segs) f
-lane_step sources gain clips segs i f c old before after s clip within is clip_is had gained =
+    → after ≡ lane_sum (clip_value sources gain clips f c) (take (i + 1) segs) f
+lane_step sources gain clips segs i f c before after s clip within is clip_is had gained =
     let value = clip_value sources gain clips f c in
     let more : take (i + 1) segs ≡ take i segs ++ s ∷ [] = take_more segs i _ within ∙ ap (λ x. take i segs ++ x ∷ []) (sym is) in
     let here : after ≡ before +ℤ (if is_in s f then value s.which else pos 0) = rw clip_is at gained in
     here ∙ ap (λ z. z +ℤ (if is_in s f then value s.which else pos 0)) had
-    ∙ grouped old (lane_sum value (take i segs) f) (if is_in s f then value s.which else pos 0)
-    ∙ ap (λ z. old +ℤ z) (sym (lane_push value (take i segs) s f) ∙ ap (λ l. lane_sum value l f) (sym more))
-
--- one part more in a sum
-pub sum_step : (ps : List Part) (i f c : ℕ) (p : Part) (before : ℤ) → i < length ps → p ≡ get_or ps i p → before ≡ all_give f c (take i ps) → before +ℤ gives f c p ≡ all_give f c (take (i + 1) ps)
-sum_step ps i f c p before within is had =
-    let more : take (i + 1) ps ≡ take i ps ++ p ∷ [] = take_more ps i p within ∙ ap (λ x. take i ps ++ x ∷ []) (sym is) in
-    ap (λ z. z +ℤ gives f c p) had ∙ sym (all_give_push f c (take i ps) p) ∙ ap (all_give f c) (sym more)
+    ∙ sym (lane_push value (take i segs) s f) ∙ ap (λ l. lane_sum value l f) (sym more)
 
 abs_by : (z a b : ℤ) → up z + (down a + down b) ≡ down z + (up a + up b) → unsigned_abs z ≤ unsigned_abs a + unsigned_abs b
 abs_by (pos n) (pos a) (pos b) h = omega arith

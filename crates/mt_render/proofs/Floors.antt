@@ -18,7 +18,7 @@ pub floored_is : (z : ℤ) (n : ℕ) → 0 < n → IsFloor z n (floored z n)
 floored_is (pos a) n h = record { least = omega arith; most = omega arith }
 floored_is (negsuc a) n h = record { least = omega arith; most = omega arith }
 
-below_next : (u v n : ℕ) → u * n < v * n + n → u ≤ v
+pub below_next : (u v n : ℕ) → u * n < v * n + n → u ≤ v
 below_next u v n h =
     elim (cases_lt v u) [
       | inl gt ↦ let k : (v + 1) * n ≤ u * n = mul-le-mul_right n (omega arith) in absurd (omega arith)

@@ -7,3 +7,7 @@ pub mod Searching
 pub mod Tracks
 pub mod Blocks
 pub mod Gathered
+pub mod Quotients
+pub mod Gaining
+pub mod Rising
+pub mod Summing

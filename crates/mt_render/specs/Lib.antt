@@ -8,3 +8,4 @@ pub mod Divides
 pub mod Parts
 pub mod Search
 pub mod Kept
+pub mod Sums

@@ -1,7 +1,9 @@
 -- What the parts of a mix give: what the code keeps, and no definition of the subject.
-use Rattle.std.specs.Prelude.{ℕ, ◌+◌, ◌-◌, min, ◌&&◌, nat_le, nat_lt, if◌then◌else◌, List, [], ◌∷◌, ℤ, pos, ◌+ℤ◌, ◌*ℤ◌}
+use Rattle.std.specs.Prelude.{◌≡◌, ℕ, ◌+◌, ◌-◌, ◌<◌, ◌≤◌, min, ◌&&◌, nat_le, nat_lt, if◌then◌else◌, List, [], ◌∷◌, slice_get, Some, ℤ, pos, ◌+ℤ◌, ◌*ℤ◌}
 use Rattle.mt_bwfread.specs.Wave.{channels_of}
 use Rattle.mt_bwfread.specs.Fill.{sample_or_silence}
+use Rattle.mt_overlap.specs.declared.span.Segment.{Segment}
+use Rattle.mt_overlap.specs.Overlap.{segment_at}
 use Rattle.mt_render.specs.declared.part.Part.{Part}
 use Rattle.mt_render.specs.Mix.{rounded}
 
@@ -11,7 +13,25 @@ gives f c p =
     if nat_le p.start f && nat_lt f p.end then rounded (sample_or_silence p.wave.now (p.offset + (f - p.at)) (min c (channels_of p.wave.now - 1)) *ℤ pos p.scale.num) p.scale.den
     else pos 0
 
--- the sum over all parts: of each track at most one sounds at a frame
+-- the sum over the parts of a track: at most one sounds at a frame
 abbrev pub all_give : ℕ → ℕ → List Part → ℤ
 all_give f c [] = pos 0
 all_give f c (p ∷ ps) = gives f c p +ℤ all_give f c ps
+
+-- the sum over the tracks
+abbrev pub lanes_give : ℕ → ℕ → List (List Part) → ℤ
+lanes_give f c [] = pos 0
+lanes_give f c (l ∷ ls) = all_give f c l +ℤ lanes_give f c ls
+
+-- the part p has the index k
+abbrev pub IsAt : List Part → ℕ → Part → Type 0
+IsAt ps k p = slice_get ps k ≡ Some p
+
+-- none is empty, and each begins where those before it end, or later
+pub record AreRising (ps : List Part) : Type 0 where
+  pub some : (k : ℕ) (p : Part) → IsAt ps k p → p.start < p.end
+  pub rise : (j k : ℕ) (p q : Part) → j < k → IsAt ps j p → IsAt ps k q → p.end ≤ q.start
+
+-- each part has the frames of the segment of its index
+abbrev pub AreParts : List Segment → List Part → Type 0
+AreParts segs ps = (k : ℕ) (p : Part) → IsAt ps k p → (p.start ≡ (segment_at segs k).start) × (p.end ≡ (segment_at segs k).end)

@@ -1,139 +1,126 @@
-//! The parts of a track: one for each segment of its clips.
+//! What is heard of a track.
 
-ghost use Rattle.std.specs.Prelude.{◌≡◌, ℕ, ◌<◌, ◌≤◌, false, if◌then◌else◌, length, ℤ, pos, ◌+ℤ◌, ◌*ℤ◌, OnOk, IfOk, IfErr};
-ghost use Rattle.mt_overlap.specs.Overlap.{segment_at};
-ghost use Rattle.mt_render.specs.Lanes.{clip_at, span_of, AreSpans, is_in, clip_value};
-ghost use Rattle.mt_render.specs.Mix.{rounded, contribution, heard, sounding, clip_sample, track_sample};
-ghost use Rattle.mt_render.specs.Parts.{all_give};
-ghost use Rattle.mt_render.specs.Refusals.{is_missing};
-ghost use Rattle.mt_render.specs.Sources.{source_of};
+ghost use Rattle.std.specs.Prelude.{◌≡◌, ℕ, ◌+◌, ◌*◌, ◌<◌, ◌≤◌, ◌^◌, length, unsigned_abs};
+ghost use Rattle.mt_render.specs.Parts.{IsAt, all_give, AreRising};
+ghost use Rattle.mt_render.specs.declared.part.Part.{Part as PartOf};
+ghost use Rattle.mt_render.specs.Sums.{HaveGained};
 
-use crate::catalogue::Catalogue;
-use crate::fault::MixFault;
 use crate::part::Part;
-use crate::scale::Scale;
-use mt_bwfread::Wave;
-use mt_op::Gain;
-use mt_overlap::{Segment, Span, segments};
-use mt_sessionview::{ClipView, TrackView};
+use mt_bwfread::laws::small_samples;
 use std::alloc::Allocator;
+use std::marker::Model;
 
-// The clip of an index.
-fn clip_at(clips: &[ClipView], index: usize) -> ClipView
-    requires { index < length clips.now }
-    ensures { result ≡ clip_at clips.now index }
-{
-    clips[index]
+/// The parts of a track that is heard: they rise, and no two hold one frame.
+#[derive(Drop)]
+pub(crate) struct Lane<'c, 'a, A: Allocator> {
+    pub(crate) parts: Vec<Part<'c, 'a>, A>,
 }
 
-// The segment of an index.
-fn segment_at(segments: &[Segment], index: usize) -> Segment
-    requires { index < length segments.now }
-    ensures { result ≡ segment_at segments.now index }
-{
-    segments[index]
+impl<'c, 'a, A: Allocator> Model for Lane<'c, 'a, A> {
+    ghost use Rattle.std.specs.Prelude.{List};
+    ghost use Rattle.mt_render.specs.declared.part.Part.{Part as PartOf};
+    ghost use Rattle.mt_render.specs.Parts.{AreRising};
+
+    ghost Value = { List PartOf };
+
+    ghost view = { λ l. l.parts.items };
+
+    ghost invariant = { λ l. AreRising l.parts.items };
 }
 
-// What a clip covers: nothing where it is muted.
-fn span_of(clip: &ClipView) -> Span
-    ensures { result ≡ span_of clip.now }
+// The first part that ends behind a frame, by halving.
+fn first_behind(parts: &[Part], frame: u64) -> usize
+    requires rising { AreRising parts.now }
+    ensures within { result ≤ length parts.now }
+    ensures before { (k : ℕ) (p : PartOf) → k < result → IsAt parts.now k p → p.end ≤ frame }
+    ensures behind { (k : ℕ) (p : PartOf) → result ≤ k → IsAt parts.now k p → frame < p.end }
 {
-    Span {
-        place: clip.place,
-        start: clip.at,
-        len: if clip.mute { 0 } else { clip.len },
+    let mut low = 0;
+    let mut high = parts.len();
+    while low < high {
+        let middle = low + (high - low) / 2;
+        if parts[middle].end <= frame {
+            low = middle + 1;
+        } else {
+            high = middle;
+        }
+    }
+    low
+}
+
+// The greatest gain, rounded up: nothing that is given passes 2^31 times this.
+fn reach_of(parts: &[Part]) -> u64
+    requires rising { AreRising parts.now }
+    ensures enough { (f c : ℕ) → unsigned_abs (all_give f c parts.now) ≤ 2 ^ 31 * result }
+    ensures small { result ≤ 2 ^ 32 }
+{
+    let mut reach: u64 = 0;
+    for part in parts {
+        small_samples(part.wave);
+        reach = reach.max(part.scale.reach());
+    }
+    reach
+}
+
+// Adds what the parts contribute to the sums of the frames from `first` on.
+fn add_parts(parts: &[Part], first: u64, channel: u16, sums: &mut [i64], samples: &mut [i32])
+    requires rising { AreRising parts.now }
+    requires long { length sums.old ≤ length samples.old }
+    requires near { first < 2 ^ 33 }
+    requires short { length sums.old ≤ 1024 }
+    ensures { HaveGained sums.old sums.new (λ k. all_give (first + k) channel parts.now) }
+{
+    let limit = first + sums.len() as u64;
+    for index in first_behind(parts, first)..parts.len() {
+        let part = &parts[index];
+        if part.start >= limit {
+            return;
+        }
+        part.add(first, channel, sums, samples);
     }
 }
 
-// What the clips of a track cover.
-fn spans_of<A: Allocator>(alloc: A, clips: &[ClipView]) -> Result<Vec<Span, A>, MixFault>
-    ensures ok { IfOk result (λ spans. AreSpans clips.now spans.items) }
-    ensures err { IfErr result (λ fault. fault ≡ MixFault.Memory) }
+// What the part that holds a frame contributes to it.
+fn give(parts: &[Part], frame: u64, channel: u16) -> i64
+    requires rising { AreRising parts.now }
+    requires near { frame < 2 ^ 33 }
+    ensures { result ≡ all_give frame channel parts.now }
 {
-    let mut spans = Vec::new(alloc);
-    for index in 0..clips.len() {
-        let clip = clip_at(clips, index);
-        spans.push(span_of(&clip))?;
-    }
-    Ok(spans)
-}
-
-// The part of a clip in a segment.
-fn part_of<'c, 'a>(wave: &'c Wave<'a>, clip: ClipView, gain: Gain, segment: Segment) -> Part<'c, 'a>
-    requires begun { clip.at ≤ segment.start }
-    ensures start { result.start ≡ segment.start }
-    ensures end { result.end ≡ segment.end }
-    ensures at { result.at ≡ clip.at }
-    ensures offset { result.offset ≡ clip.offset }
-    ensures wave { result.wave.now ≡ wave.now }
-    ensures scaled { (x : ℤ) → rounded (x *ℤ pos result.scale.num) result.scale.den ≡ contribution clip.gain gain x }
-{
-    Part {
-        start: segment.start,
-        end: segment.end,
-        at: clip.at,
-        offset: clip.offset,
-        scale: Scale::new(clip.gain, gain),
-        wave,
+    let index = first_behind(parts, frame);
+    if index < parts.len() {
+        parts[index].give(frame, channel)
+    } else {
+        0
     }
 }
 
-// Adds the part of a clip in a segment.
-fn add_part<'c, 'a, A: Allocator>(
-    catalogue: &'c Catalogue<'a, A>,
-    clip: ClipView,
-    gain: Gain,
-    segment: Segment,
-    parts: &mut Vec<Part<'c, 'a>, A>,
-) -> Result<(), MixFault>
-    requires there { is_missing catalogue.now clip.source ≡ false }
-    requires begun { clip.at ≤ segment.start }
-    ensures ok { OnOk result ((f c : ℕ) → all_give f c parts.new.items ≡ all_give f c parts.old.items
-        +ℤ (if is_in segment f then contribution clip.gain gain (heard (source_of catalogue.now clip.source) clip f c) else pos 0)) }
-    ensures err { IfErr result (λ fault. fault ≡ MixFault.Memory) }
-{
-    let Some(wave) = catalogue.find(&clip.source) else {
-        return Err(MixFault::MissingSource(clip.source));
-    };
-    parts.push(part_of(wave, clip, gain, segment))?;
-    Ok(())
-}
+impl<'c, 'a, A: Allocator> Lane<'c, 'a, A> {
+    ghost use Rattle.mt_render.specs.Parts.{all_give};
+    ghost use Rattle.mt_render.specs.Sums.{HaveGained};
 
-// Adds the parts of a track that is not muted.
-fn add_track<'c, 'a, A: Allocator + Clone>(
-    alloc: &A,
-    catalogue: &'c Catalogue<'a, A>,
-    track: &TrackView<A>,
-    parts: &mut Vec<Part<'c, 'a>, A>,
-) -> Result<(), MixFault>
-    requires there { (i : ℕ) → i < length track.now.clips → (clip_at track.now.clips i).mute ≡ false → is_missing catalogue.now (clip_at track.now.clips i).source ≡ false }
-    ensures ok { OnOk result ((f c : ℕ) → all_give f c parts.new.items ≡ all_give f c parts.old.items +ℤ clip_sample catalogue.now track.now.gain f c (sounding track.now.clips f)) }
-    ensures err { IfErr result (λ fault. fault ≡ MixFault.Memory) }
-{
-    let clips = track.clips.items();
-    let spans = spans_of(alloc.clone()?, clips)?;
-    let segments = segments(alloc.clone()?, &spans)?;
-    for index in 0..segments.len() {
-        let segment = segment_at(&segments, index);
-        let clip = clip_at(clips, segment.which);
-        add_part(catalogue, clip, track.gain, segment, parts)?;
+    /// What the track contributes to a frame on a channel.
+    pub(crate) fn give(&self, frame: u64, channel: u16) -> i64
+        requires near { frame < 2 ^ 33 }
+        ensures { result ≡ all_give frame channel self.now }
+    {
+        give(self.parts.as_slice(), frame, channel)
     }
-    Ok(())
-}
 
-/// Adds the parts of a track: none of one that is muted.
-pub(crate) fn add_audible<'c, 'a, A: Allocator + Clone>(
-    alloc: &A,
-    catalogue: &'c Catalogue<'a, A>,
-    track: &TrackView<A>,
-    parts: &mut Vec<Part<'c, 'a>, A>,
-) -> Result<(), MixFault>
-    requires there { track.now.mute ≡ false → (i : ℕ) → i < length track.now.clips → (clip_at track.now.clips i).mute ≡ false → is_missing catalogue.now (clip_at track.now.clips i).source ≡ false }
-    ensures ok { OnOk result ((f c : ℕ) → all_give f c parts.new.items ≡ all_give f c parts.old.items +ℤ track_sample catalogue.now f c track.now) }
-    ensures err { IfErr result (λ fault. fault ≡ MixFault.Memory) }
-{
-    if track.mute {
-        return Ok(());
+    /// Adds what the track contributes to the sums of the frames from `first` on. The samples are room to work in.
+    pub(crate) fn add(&self, first: u64, channel: u16, sums: &mut [i64], samples: &mut [i32])
+        requires long { length sums.old ≤ length samples.old }
+        requires near { first < 2 ^ 33 }
+        requires short { length sums.old ≤ 1024 }
+        ensures { HaveGained sums.old sums.new (λ k. all_give (first + k) channel self.now) }
+    {
+        add_parts(self.parts.as_slice(), first, channel, sums, samples);
     }
-    add_track(alloc, catalogue, track, parts)
+
+    /// The greatest gain, rounded up: no contribution passes 2^31 times this.
+    pub(crate) fn reach(&self) -> u64
+        ensures enough { (f c : ℕ) → unsigned_abs (all_give f c self.now) ≤ 2 ^ 31 * result }
+        ensures small { result ≤ 2 ^ 32 }
+    {
+        reach_of(self.parts.as_slice())
+    }
 }

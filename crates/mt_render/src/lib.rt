@@ -16,10 +16,12 @@
 //! halves up; the sum over the tracks is rounded to the bits that are put out, and cut to their range. `specs/Mix.antt` says it in a
 //! line a step.
 //!
-//! What a block costs today: for each sample a look at every segment of every track. Loops that go segment by segment will take the
-//! place of this body under the same contract.
+//! What a block costs: for each track one search for the first segment that reaches into it, and for each sample of a segment a reading, a
+//! product and a sum, in loops that look at nothing else. A mix whose gains are so great that a sum may pass 64 bits is filled sample by
+//! sample in 128, to the same numbers.
 #![tactic(auto)]
 
+mod block;
 mod catalogue;
 mod fault;
 mod format;
@@ -28,9 +30,11 @@ mod mix;
 mod part;
 mod scale;
 mod search;
+mod step;
 mod sum;
 #[cfg(test)]
 mod tests;
+mod track;
 
 pub use catalogue::Catalogue;
 pub use fault::{FormatFault, MixFault, SourceFault};

@@ -1,19 +1,28 @@
 //! The mix of a session.
 
-ghost use Rattle.std.specs.Prelude.{◌≡◌, ℕ, ◌+◌, ◌/◌, ◌%◌, ◌<◌, ◌≤◌, ◌^◌, length, slice_index_or, pos, IfOk, IfErr};
+ghost use Rattle.std.specs.Prelude.{◌≡◌, ◌↔◌, ℕ, ◌+◌, ◌*◌, ◌/◌, IsTrue, ◌%◌, ◌<◌, ◌≤◌, ◌^◌, length, slice_index_or, pos, IfOk, IfErr};
 ghost use Rattle.mt_render.specs.Mix.{length_of, mixed_sample};
-ghost use Rattle.mt_render.specs.Refusals.{IsMixable, IsMixFault};
+ghost use Rattle.mt_render.specs.Refusals.{IsMixable, IsMixFault, greatest_size};
 
+use crate::block::{fill_narrow, fill_wide};
 use crate::catalogue::Catalogue;
 use crate::fault::MixFault;
 use crate::format::Format;
-use crate::lane::add_audible;
-use crate::part::Part;
+use crate::lane::Lane;
 use crate::search::{IsOfRate, IsThere, least, length};
-use crate::sum::{put_out, sum_of};
+use crate::sum::are_narrow;
+use crate::track::add_audible;
 use mt_sessionview::Session;
 use std::alloc::{Allocator, Global};
 use std::marker::Model;
+
+// Whether the samples of so many frames are over 4,000,000,000 bytes.
+fn is_too_long(length: u64, format: Format) -> bool
+    requires { length < 2 ^ 33 }
+    ensures { IsTrue result ↔ (greatest_size < length * (format.channels * (format.bits / 8))) }
+{
+    length * u64::from(format.channels() * (format.bits() / 8)) > 4000000000
+}
 
 /// The mix of a session over the recordings of a catalogue, in a format.
 #[derive(Drop)]
@@ -21,7 +30,8 @@ pub struct Mix<'c, 'a, A: Allocator = Global> {
     session: &'c Session<A>,
     catalogue: &'c Catalogue<'a, A>,
     format: Format,
-    parts: Vec<Part<'c, 'a>, A>,
+    lanes: Vec<Lane<'c, 'a, A>, A>,
+    narrow: bool,
     length: u64,
 }
 
@@ -62,18 +72,20 @@ impl<'c, 'a, A: Allocator> Mix<'c, 'a, A> {
             return Err(MixFault::RateDiffers(digest));
         }
         let length = length(tracks);
-        if length * u64::from(format.channels() * (format.bits() / 8)) > 4000000000 {
+        if is_too_long(length, format) {
             return Err(MixFault::TooLong);
         }
-        let mut parts = Vec::new(alloc.clone()?);
+        let mut lanes = Vec::new(alloc.clone()?);
         for track in tracks {
-            add_audible(&alloc, catalogue, track, &mut parts)?;
+            add_audible(&alloc, catalogue, track, &mut lanes)?;
         }
+        let narrow = are_narrow(lanes.as_slice());
         Ok(Mix {
             session,
             catalogue,
             format,
-            parts,
+            lanes,
+            narrow,
             length,
         })
     }
@@ -93,14 +105,6 @@ impl<'c, 'a, A: Allocator> Mix<'c, 'a, A> {
         self.length
     }
 
-    // The sample of a frame and a channel.
-    fn sample(&self, frame: u64, channel: u16) -> i32
-        requires near { frame < 2 ^ 33 }
-        ensures { result ≡ mixed_sample self.now frame channel }
-    {
-        put_out(self.format.bits(), sum_of(&self.parts, frame, channel))
-    }
-
     /// Fills whole frames from `first` on, the channels side by side. The slice has a whole number of frames, which end at the
     /// programme's length at most. Takes no memory.
     pub fn block(&self, first: u64, samples: &mut [i32])
@@ -108,10 +112,12 @@ impl<'c, 'a, A: Allocator> Mix<'c, 'a, A> {
         requires within { first + length samples.old / self.now.layout.channels ≤ length_of self.now.tracks }
         ensures { (k : ℕ) → k < length samples.new → slice_index_or samples.new k (pos 0) ≡ mixed_sample self.now (first + k / self.now.layout.channels) (k % self.now.layout.channels) }
     {
-        let channels = usize::from(self.format.channels());
-        for index in 0..samples.len() {
-            let frame = first + (index / channels) as u64;
-            samples[index] = self.sample(frame, (index % channels) as u16);
+        // Every sum of a narrow mix is below 2^62. One of 64 tracks of full scale at 65535/1 is not: it takes the wide way.
+        let lanes = self.lanes.as_slice();
+        if self.narrow {
+            fill_narrow(lanes, self.format, first, samples);
+        } else {
+            fill_wide(lanes, self.format, first, samples);
         }
     }
 }

@@ -1,6 +1,6 @@
 //! The frames in which one clip sounds.
 
-ghost use Rattle.std.specs.Prelude.{◌≡◌, ℕ, ◌+◌, ◌<◌, ◌≤◌, ◌^◌};
+ghost use Rattle.std.specs.Prelude.{◌≡◌, ℕ, ◌+◌, ◌<◌, ◌≤◌, ◌^◌, length};
 ghost use Rattle.mt_bwfread.specs.Wave.{channels_of};
 ghost use Rattle.mt_bwfread.specs.Fill.{sample_or_silence};
 
@@ -31,6 +31,7 @@ fn heard(wave: &Wave<'_>, frame: u64, channel: u16) -> i32
 
 impl<'c, 'a> Part<'c, 'a> {
     ghost use Rattle.mt_render.specs.Parts.{gives};
+    ghost use Rattle.mt_render.specs.Sums.{HaveGained};
 
     /// What the clip contributes to a frame on a channel: nothing in a frame outside.
     pub(crate) fn give(&self, frame: u64, channel: u16) -> i64
@@ -43,5 +44,26 @@ impl<'c, 'a> Part<'c, 'a> {
         let at = u64::from(self.offset) + (frame - u64::from(self.at));
         let last = self.wave.channels() - 1;
         self.scale.of(heard(self.wave, at, channel.min(last)))
+    }
+
+    /// Adds what the clip contributes to the sums of the frames from `first` on. The samples are room to work in.
+    pub(crate) fn add(&self, first: u64, channel: u16, sums: &mut [i64], samples: &mut [i32])
+        requires long { length sums.old ≤ length samples.old }
+        requires near { first < 2 ^ 33 }
+        requires short { length sums.old ≤ 1024 }
+        ensures { HaveGained sums.old sums.new (λ k. gives (first + k) channel self.now) }
+    {
+        let from = self.start.max(first);
+        let to = self.end.min(first + sums.len() as u64);
+        if from >= to {
+            return;
+        }
+        let skip = (from - first) as usize;
+        let count = (to - from) as usize;
+        let sounding = &mut samples[..count];
+        let at = u64::from(self.offset) + (from - u64::from(self.at));
+        let last = self.wave.channels() - 1;
+        self.wave.fill(at, channel.min(last), sounding);
+        self.scale.add(&mut sums[skip..skip + count], sounding);
     }
 }

@@ -1,9 +1,12 @@
-//! The gain of a clip on its track, reduced.
+//! The gain of a clip on its track, reduced, with what makes it quick to multiply by.
 
-ghost use Rattle.std.specs.Prelude.{◌≡◌, ◌+◌, ◌*◌, ◌<◌, ◌≤◌, ◌^◌, pos, ◌+ℤ◌, ◌*ℤ◌, ℤ};
-ghost use Rattle.mt_render.specs.Divides.{Divides};
+ghost use Rattle.std.specs.Prelude.{◌≡◌, ◌+◌, ◌*◌, ◌/◌, ◌<◌, ◌≤◌, ◌^◌, length, pos, ◌+ℤ◌, ◌*ℤ◌, ℤ};
+ghost use Rattle.mt_bwfread.specs.Fill.{at};
+ghost use Rattle.mt_render.specs.Divides.{Divides, Inverts};
 ghost use Rattle.mt_render.specs.Mix.{rounded, contribution};
+ghost use Rattle.mt_render.specs.Sums.{HaveGained};
 
+use crate::step::{Divided, Multiplied, Same, Shifted, Whole, add_each};
 use mt_op::Gain;
 
 // A number that divides both: the greatest that does.
@@ -23,14 +26,27 @@ fn divisor(a: u32, b: u32) -> u32
     x
 }
 
-/// A product of two gains in lowest terms.
+/// A product of two gains in lowest terms. Half of `den` and `turns` times `den`, added to a product of `num` with any sample, leave
+/// nothing below zero: `lift` is what is added to the product of a sample that begins at zero.
 #[derive(Clone, Copy)]
 pub(crate) struct Scale {
-    num: u32,
-    den: u32,
+    pub(crate) num: u32,
+    pub(crate) den: u32,
+    pub(crate) lift: u64,
+    pub(crate) turns: u64,
+    // `den` is two to the power of this, or this is 0
+    pub(crate) bits: u32,
+    // some 2^64 / `den`, where that is near enough for each sample, or 0
+    pub(crate) inverse: u64,
     ghost num_to: { num ≤ 4294836225 },
     ghost den_from: { 1 ≤ den },
     ghost den_to: { den ≤ 4294836225 },
+    ghost lift_to: { lift < 2 ^ 33 },
+    ghost turns_to: { turns ≤ 2 ^ 63 },
+    ghost lifted: { lift + 2 ^ 31 * num ≡ den / 2 + den * turns },
+    ghost bits_to: { bits < 32 },
+    ghost power: { 0 < bits → 2 ^ bits ≡ den },
+    ghost near: { 0 < inverse → Inverts num den lift inverse },
 }
 
 // A product and half a divisor, which stay below 2^63.
@@ -43,6 +59,68 @@ fn lifted(x: i32, num: u32, half: u32) -> i64
     i64::from(x) * i64::from(num) + i64::from(half)
 }
 
+// How often `den` goes into the size of the product of the least sample, rounded up.
+fn turns_of(num: u32, den: u32) -> u64
+    requires num_to { num ≤ 4294836225 }
+    requires den_from { 1 ≤ den }
+    ensures enough { 2 ^ 31 * num ≤ den * result }
+    ensures least { den * result < 2 ^ 31 * num + den }
+    ensures small { result ≤ 2 ^ 63 }
+{
+    let den = u64::from(den);
+    (u64::from(num) * 2147483648 + (den - 1)) / den
+}
+
+// The power of two that a divisor is, or 0 where it is none or 1.
+fn bits_of(den: u32) -> u32
+    requires { 1 ≤ den }
+    ensures small { result < 32 }
+    ensures power { 0 < result → 2 ^ result ≡ den }
+{
+    let bits = den.trailing_zeros().min(31);
+    if 1 << bits == den { bits } else { 0 }
+}
+
+// 2^64 / `den`, rounded up, where a product with it is exact enough for each sample, or 0.
+fn inverse_of(num: u32, den: u32, lift: u64) -> u64
+    requires num_to { num ≤ 4294836225 }
+    requires lift_to { lift < 2 ^ 33 }
+    requires den_from { 2 ≤ den }
+    ensures { 0 < result → Inverts num den lift result }
+{
+    let greatest = u128::from(num) * 4294967295 + u128::from(lift);
+    if greatest * u128::from(den) < 18446744073709551616 {
+        18446744073709551615 / u64::from(den) + 1
+    } else {
+        0
+    }
+}
+
+// The scale of a fraction in lowest terms.
+fn scale_of(num: u32, den: u32) -> Scale
+    requires num_to { num ≤ 4294836225 }
+    requires den_from { 1 ≤ den }
+    requires den_to { den ≤ 4294836225 }
+    ensures num { result.num ≡ num }
+    ensures den { result.den ≡ den }
+{
+    let turns = turns_of(num, den);
+    let lift = u64::from(den / 2) + u64::from(den) * turns - u64::from(num) * 2147483648;
+    let inverse = if den == 1 {
+        0
+    } else {
+        inverse_of(num, den, lift)
+    };
+    Scale {
+        num,
+        den,
+        lift,
+        turns,
+        bits: bits_of(den),
+        inverse,
+    }
+}
+
 impl Scale {
     /// The gain of a clip times that of its track.
     pub(crate) fn new(clip: Gain, track: Gain) -> Scale
@@ -51,10 +129,7 @@ impl Scale {
         let num = u32::from(clip.num()) * u32::from(track.num());
         let den = u32::from(clip.den()) * u32::from(track.den());
         let common = divisor(num, den);
-        Scale {
-            num: num / common,
-            den: den / common,
-        }
+        scale_of(num / common, den / common)
     }
 
     /// What a sample contributes. A product of 32 bits by 32 and half a divisor stay below 2^63, so 64 bits are enough.
@@ -63,5 +138,33 @@ impl Scale {
         ensures { result ≡ rounded (x *ℤ pos self.now.num) self.now.den }
     {
         lifted(x, self.num, self.den / 2).div_euclid(i64::from(self.den))
+    }
+
+    /// Adds what each sample contributes to the sum at its place: five loops to the same numbers, none of which looks at more than
+    /// its samples.
+    pub(crate) fn add(&self, sums: &mut [i64], samples: &[i32])
+        requires { length sums.old ≤ length samples.now }
+        ensures { HaveGained sums.old sums.new (λ k. rounded (at samples.now k *ℤ pos self.now.num) self.now.den) }
+    {
+        if self.den == 1 && self.num == 1 {
+            add_each(sums, samples, &Same);
+        } else if self.den == 1 {
+            add_each(sums, samples, &Whole { num: self.num });
+        } else if self.bits > 0 {
+            add_each(sums, samples, &Shifted { scale: *self });
+        } else if self.inverse > 0 {
+            add_each(sums, samples, &Multiplied { scale: *self });
+        } else {
+            add_each(sums, samples, &Divided { scale: *self });
+        }
+    }
+
+    /// The gain, rounded up: no sample contributes more than 2^31 times this.
+    pub(crate) fn reach(&self) -> u64
+        ensures enough { self.now.num ≤ result * self.now.den }
+        ensures small { result ≤ 2 ^ 32 }
+    {
+        let den = u64::from(self.den);
+        (u64::from(self.num) + (den - 1)) / den
     }
 }

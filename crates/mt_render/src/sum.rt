@@ -1,22 +1,57 @@
-//! Samples out of parts.
+//! Samples out of what the tracks give.
 
-ghost use Rattle.std.specs.Prelude.{◌≡◌, ℕ, ◌<◌, ◌^◌, unsigned_abs};
+ghost use Rattle.std.specs.Prelude.{◌≡◌, ℕ, ◌+◌, ◌<◌, ◌≤◌, ◌^◌, IsTrue, length, unsigned_abs};
 ghost use Rattle.mt_render.specs.Mix.{output};
-ghost use Rattle.mt_render.specs.Parts.{all_give};
+ghost use Rattle.mt_render.specs.Parts.{lanes_give};
+ghost use Rattle.mt_render.specs.Sums.{HaveGained, IsNarrow};
 
-use crate::part::Part;
+use crate::lane::Lane;
+use std::alloc::Allocator;
 
-/// What all parts give to a frame on a channel. Each gives less than 2^63 and there are fewer than 2^63, so 128 bits hold the sum.
-pub(crate) fn sum_of(parts: &[Part], frame: u64, channel: u16) -> i128
+/// What all tracks give to a frame on a channel. Each gives less than 2^63 and there are fewer than 2^63, so 128 bits hold the sum.
+pub(crate) fn sum_of<A: Allocator>(lanes: &[Lane<'_, '_, A>], frame: u64, channel: u16) -> i128
     requires near { frame < 2 ^ 33 }
-    ensures value { result ≡ all_give frame channel parts.now }
+    ensures value { result ≡ lanes_give frame channel lanes.now }
     ensures small { unsigned_abs result < 2 ^ 126 }
 {
     let mut sum: i128 = 0;
-    for part in parts {
-        sum += i128::from(part.give(frame, channel));
+    for lane in lanes {
+        sum += i128::from(lane.give(frame, channel));
     }
     sum
+}
+
+/// Adds what all tracks give to the sums of the frames from `first` on, modulo 2^64. The samples are room to work in.
+pub(crate) fn add_lanes<A: Allocator>(
+    lanes: &[Lane<'_, '_, A>],
+    first: u64,
+    channel: u16,
+    sums: &mut [i64],
+    samples: &mut [i32],
+)
+    requires long { length sums.old ≤ length samples.old }
+    requires near { first < 2 ^ 33 }
+    requires short { length sums.old ≤ 1024 }
+    ensures { HaveGained sums.old sums.new (λ k. lanes_give (first + k) channel lanes.now) }
+{
+    for lane in lanes {
+        lane.add(first, channel, sums, samples);
+    }
+}
+
+/// Whether every sum is far below 2^62, so that 64 bits hold it and half of what is cut off too: no track gives more than 2^31 times
+/// its greatest gain, and these gains are together below 2^30.
+pub(crate) fn are_narrow<A: Allocator>(lanes: &[Lane<'_, '_, A>]) -> bool
+    ensures { IsTrue result → (f c : ℕ) → IsNarrow (lanes_give f c lanes.now) }
+{
+    let mut reach = 0;
+    for lane in lanes {
+        reach += lane.reach();
+        if reach >= 1073741824 {
+            return false;
+        }
+    }
+    true
 }
 
 /// The sample of a sum, in 16 or 24 bits: its upper bits, rounded to the nearest, and cut.
@@ -28,5 +63,17 @@ pub(crate) fn put_out(bits: u16, sum: i128) -> i32
         ((sum + 32768) >> 16).clamp(-32768, 32767) as i32
     } else {
         ((sum + 128) >> 8).clamp(-8388608, 8388607) as i32
+    }
+}
+
+/// The same of a sum of 64 bits, which is right where the sum is narrow.
+#[inline]
+pub(crate) fn put_out_narrow(bits: u16, sum: i64) -> i32
+    ensures { IsNarrow sum → result ≡ output bits sum }
+{
+    if bits < 24 {
+        (sum.wrapping_add(32768) >> 16).clamp(-32768, 32767) as i32
+    } else {
+        (sum.wrapping_add(128) >> 8).clamp(-8388608, 8388607) as i32
     }
 }

@@ -1,8 +1,8 @@
--- The parts below the index are summed.
+-- The lanes below the index are summed.
 use Rattle.std.proofs.Common.{◌≡◌, ◌*◌, ◌≤◌, ◌^◌, take}
 use Rattle.std.specs.Prelude.{unsigned_abs}
-use Rattle.mt_render.specs.Parts.{all_give}
+use Rattle.mt_render.specs.Parts.{lanes_give}
 use Rattle.mt_render.proofs.sum.sum_of.Given as goal
 
-abbrev pub invariant-loop-part : goal.invariant-loop-part
-invariant-loop-part l = (l.sum ≡ all_give l.frame l.channel (take l.part-index l.parts)) × (unsigned_abs l.sum ≤ l.part-index * 2 ^ 63)
+abbrev pub invariant-loop-lane : goal.invariant-loop-lane
+invariant-loop-lane g l = (l.sum ≡ lanes_give l.frame l.channel (take l.lane-index l.lanes)) × (unsigned_abs l.sum ≤ l.lane-index * 2 ^ 63)

@@ -11,5 +11,5 @@ returns c x =
     let clip : 1 ≤ a = rw (c.from-3.ensures, c.den.ensures.value) c.den.ensures.valid.den_from in
     let track : 1 ≤ b = rw (c.from-4.ensures, c.den-2.ensures.value) c.den-2.ensures.valid.den_from in
     let some : 1 * 1 ≤ a * b = mul-le 1 1 a b clip track in
-    in_lower_terms (c.from.result * c.from-2.result) (a * b) common.result x common.ensures.some (omega arith) common.ensures.first common.ensures.second
-    ∙ rw (c.from.ensures, c.from-2.ensures, c.from-3.ensures, c.from-4.ensures, c.num.ensures.value, c.num-2.ensures.value, c.den.ensures.value, c.den-2.ensures.value) refl
+    rw (c.scale_of.ensures.num, c.scale_of.ensures.den) (in_lower_terms (c.from.result * c.from-2.result) (a * b) common.result x common.ensures.some (omega arith) common.ensures.first common.ensures.second
+    ∙ rw (c.from.ensures, c.from-2.ensures, c.from-3.ensures, c.from-4.ensures, c.num.ensures.value, c.num-2.ensures.value, c.den.ensures.value, c.den-2.ensures.value) refl)

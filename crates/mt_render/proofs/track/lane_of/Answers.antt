@@ -1,11 +1,13 @@
-use Rattle.std.proofs.Common.{◌≡◌, ◌∙◌, ap, subst, arith, take, ◌+ℤ◌}
+use Rattle.std.proofs.Common.{◌≡◌, ◌∙◌, refl, ap, subst, arith, length, length-append, take}
 use Rattle.std.proofs.lemmas.List.{take_all}
 use Rattle.mt_sessionview.specs.Content.{Track}
 use Rattle.mt_render.specs.Parts.{all_give}
 use Rattle.mt_render.specs.Lanes.{AreSpans, lane_sum, clip_value}
 use Rattle.mt_render.proofs.Lanes.{spans_apart, differ_at, segment_of, lane_is}
+use Rattle.mt_overlap.specs.Overlap.{segment_at, AreSegments}
 use Rattle.mt_render.proofs.Adding.{lane_step}
-use Rattle.mt_render.proofs.lane.add_track.Goals as goal
+use Rattle.mt_render.proofs.Rising.{no_parts, parts_push, parts_rise}
+use Rattle.mt_render.proofs.track.lane_of.Goals as goal
 
 pub segments-requires : goal.segments-requires
 segments-requires g c = record { differ = rw c.deref.ensures.value (spans_apart c.items-clips.result.now c.in_ok-spans.spans.items c.in_ok-spans.ensures.ok (rw c.items-clips.ensures (differ_at c.track.inside.clips c.track.invariant.apart))) }
@@ -26,12 +28,34 @@ add_part-requires-clause-there g c =
     let clips : c.items-clips.result.now ≡ c.args.track.now.clips = c.items-clips.ensures ∙ ap (λ (t : Track). t.clips) c.track.view_is in
     rw (c.clip_at-clip.ensures, c.segment_at-segment.ensures, c.deref-in-loop-index.ensures.value, clips) (c.requires.there _ (rw clips at k.within) (rw clips at k.on))
 
+pub loop-index-init : goal.loop-index-init
+loop-index-init g c =
+    let none = c.new-parts.ensures.items in
+    record { sum = λ f d. rw none refl; count = rw none refl; parts = rw none (no_parts c.in_ok-segments.segments.items) }
+
 pub loop-index-preserved : goal.loop-index-preserved
-loop-index-preserved g c = λ f d.
+loop-index-preserved g c =
     let clips : c.items-clips.result.now ≡ c.args.track.now.clips = c.items-clips.ensures ∙ ap (λ (t : Track). t.clips) c.track.view_is in
     let gain : c.track.inside.gain ≡ c.args.track.now.gain = ap (λ (t : Track). t.gain) c.track.view_is in
-    lane_step c.args.catalogue.now c.args.track.now.gain c.args.track.now.clips c.in_ok-segments.segments.items c.loop-index.index f d (all_give f d c.args.parts.now.items) (all_give f d c.loop-index.parts.items) _
-    c.segment_at-segment.result c.clip_at-clip.result (omega arith) (rw c.deref-in-loop-index.ensures.value at c.segment_at-segment.ensures) (rw clips at c.clip_at-clip.ensures) (c.loop-index.invariant f d) (rw gain at (c.in_ok-add_part.ensures.ok f d))
+    let segs = c.in_ok-segments.segments.items in
+    let segment = c.segment_at-segment.result in
+    let is : segment ≡ segment_at segs c.loop-index.index = rw c.deref-in-loop-index.ensures.value at c.segment_at-segment.ensures in
+    let pushed = c.in_ok-add_part.ensures.pushed in
+    let before = c.loop-index.invariant in
+    record {
+      sum = λ f d.
+          lane_step c.args.catalogue.now c.args.track.now.gain c.args.track.now.clips segs c.loop-index.index f d (all_give f d c.loop-index.parts.items) _
+          segment c.clip_at-clip.result (omega arith) is (rw clips at c.clip_at-clip.ensures) (before.sum f d) (rw gain at (c.in_ok-add_part.ensures.ok f d));
+      count = ap length pushed.1 ∙ simp length-append (omega (arith, before.count));
+      parts = parts_push segs c.loop-index.parts.items _ c.loop-index.index segment pushed.0 before.parts before.count is pushed.2 pushed.3 pushed.1;
+    }
+
+pub invariant_of-result : goal.invariant_of-result
+invariant_of-result g c =
+    let segs = c.in_ok-segments.segments.items in
+    let before = c.loop-index.invariant in
+    let known : AreSegments c.in_ok-spans.spans.items segs = rw c.deref.ensures.value at c.in_ok-segments.ensures.ok in
+    parts_rise segs c.loop-index.parts.items known.tidy (omega (arith, before.count)) before.parts
 
 pub returns-clause-ok : goal.returns-clause-ok
 returns-clause-ok g c = λ f d.
@@ -39,7 +63,7 @@ returns-clause-ok g c = λ f d.
     let segs = c.in_ok-segments.segments.items in
     let whole : take c.loop-index.index segs ≡ segs = take_all c.loop-index.index segs (omega arith) in
     let are : AreSpans c.args.track.now.clips c.in_ok-spans.spans.items = subst (λ l. AreSpans l c.in_ok-spans.spans.items) clips c.in_ok-spans.ensures.ok in
-    c.loop-index.invariant f d ∙ ap (λ z. all_give f d c.args.parts.now.items +ℤ z)
-    (ap (λ l. lane_sum (clip_value c.args.catalogue.now c.args.track.now.gain c.args.track.now.clips f d) l f) whole
+    c.loop-index.invariant.sum f d
+    ∙ ap (λ l. lane_sum (clip_value c.args.catalogue.now c.args.track.now.gain c.args.track.now.clips f d) l f) whole
     ∙ lane_is c.args.catalogue.now c.args.track.now.gain c.args.track.now.clips c.in_ok-spans.spans.items segs f d
-    (rw (ap (λ (t : Track). t.clips) c.track.view_is) at (differ_at c.track.inside.clips c.track.invariant.apart)) are (rw c.deref.ensures.value at c.in_ok-segments.ensures.ok))
+    (rw (ap (λ (t : Track). t.clips) c.track.view_is) at (differ_at c.track.inside.clips c.track.invariant.apart)) are (rw c.deref.ensures.value at c.in_ok-segments.ensures.ok)

@@ -1,0 +1,59 @@
+-- Quotients of numbers that were lifted above zero.
+use Rattle.std.proofs.Common.{◌≡◌, ℕ, ◌+◌, ◌-◌, ◌*◌, ◌/◌, ◌%◌, ◌^◌, ◌<◌, ◌≤◌, ◌∙◌, arith, ap, ℤ, pos, ◌+ℤ◌, ◌-ℤ◌, ◌*ℤ◌}
+use Rattle.std.specs.Prelude.{neg_ℤ}
+use Rattle.std.proofs.Math.Nat.{mod-lt, mul-le-mul_left, mul-le-mul_right}
+use Rattle.std.proofs.lemmas.Nat.{div-add-mod', div-mul-add}
+use borrow.Author.Differences.{up, down, same_in, same_out, sum_is_lem, product_is, neg_is}
+use Rattle.mt_render.specs.Mix.{floored, rounded}
+use Rattle.mt_render.specs.Divides.{Inverts}
+use Rattle.mt_render.proofs.Floors.{floored_is, one_floor, below_next, by_division}
+
+-- a product with a number that begins at zero
+pub lift_is : (x : ℤ) (f num lift half turns : ℕ) → pos f ≡ x +ℤ pos (2 ^ 31) → lift + 2 ^ 31 * num ≡ half + turns → pos (f * num + lift) ≡ (x *ℤ pos num +ℤ pos half) +ℤ pos turns
+lift_is x f num lift half turns is even =
+    let e : f + down x ≡ up x + 2 ^ 31 = omega (arith, same_out (pos f) (x +ℤ pos (2 ^ 31)) is, sum_is_lem x (pos (2 ^ 31))) in
+    let m : (f + down x) * num ≡ (up x + 2 ^ 31) * num = ap (λ n. n * num) e in
+    same_in (pos (f * num + lift)) ((x *ℤ pos num +ℤ pos half) +ℤ pos turns)
+    (omega (arith, sum_is_lem (x *ℤ pos num +ℤ pos half) (pos turns), sum_is_lem (x *ℤ pos num) (pos half), product_is x (pos num), m, even))
+
+-- what is lifted by whole divisors has a quotient that is greater by as many
+lower_is : (z : ℤ) (u den turns q : ℕ) → 0 < den → pos u ≡ z +ℤ pos (den * turns) → q ≡ u / den → pos q -ℤ pos turns ≡ floored z den
+lower_is z u den turns q some is quotient =
+    let c = pos q -ℤ pos turns in
+    let e : u + down z ≡ up z + den * turns = omega (arith, same_out (pos u) (z +ℤ pos (den * turns)) is, sum_is_lem z (pos (den * turns))) in
+    let d : up c + turns ≡ q + down c = omega (arith, sum_is_lem (pos q) (neg_ℤ (pos turns)), (neg_is (pos turns)).0, (neg_is (pos turns)).1) in
+    let m : (up c + turns) * den ≡ (q + down c) * den = ap (λ n. n * den) d in
+    let whole : q * den + u % den ≡ u = rw quotient (div-add-mod' u den) in
+    let rest = mod-lt u some in
+    one_floor z den c (floored z den) (record { least = omega arith; most = omega arith }) (floored_is z den some)
+
+pub lowered_is : (x : ℤ) (num den turns u q : ℕ) → 0 < den → pos u ≡ (x *ℤ pos num +ℤ pos (den / 2)) +ℤ pos (den * turns) → q ≡ u / den → pos q -ℤ pos turns ≡ rounded (x *ℤ pos num) den
+lowered_is x num den turns u q some is quotient = lower_is (x *ℤ pos num +ℤ pos (den / 2)) u den turns q some is quotient ∙ by_division (x *ℤ pos num) den some
+
+pub quotient_small : (u den half : ℕ) → u < 2 * half → 2 ≤ den → u / den < half
+quotient_small u den half below some =
+    let q = u / den in
+    let whole = div-add-mod' u den in
+    let more : q * 2 ≤ q * den = mul-le-mul_left q some in
+    omega arith
+
+-- the upper part of a product with nearly top / den
+product_quotient : (u den inverse top : ℕ) → 0 < den → top ≤ inverse * den → inverse * den < top + den → u * den < top → u * inverse / top ≡ u / den
+product_quotient u den inverse top some above below small =
+    let q = u / den in
+    let whole : q * den + u % den ≡ u = div-add-mod' u den in
+    let rest : u % den < den = mod-lt u some in
+    let a : u * top ≤ u * (inverse * den) = mul-le-mul_left u above in
+    let b : u * (inverse * den) ≤ u * (top + den) = mul-le-mul_left u (omega arith) in
+    let c : (q * den) * top ≤ u * top = mul-le-mul_right top (omega arith) in
+    let d : (u + 1) * top ≤ (q * den + den) * top = mul-le-mul_right top (omega arith) in
+    let low : q * top ≤ u * inverse = below_next (q * top) (u * inverse) den (omega arith) in
+    let high : u * inverse + 1 ≤ (q + 1) * top = below_next (u * inverse + 1) ((q + 1) * top) den (omega arith) in
+    let r = u * inverse - q * top in
+    let is : u * inverse ≡ q * top + r = omega arith in
+    rw is (div-mul-add q top r (omega arith))
+
+pub inverse_is : (num den lift inverse u : ℕ) → 0 < den → Inverts num den lift inverse → u ≤ 4294967295 * num + lift → u * inverse / 2 ^ 64 ≡ u / den
+inverse_is num den lift inverse u some near low =
+    let room : u * den ≤ (4294967295 * num + lift) * den = mul-le-mul_right den low in
+    product_quotient u den inverse (2 ^ 64) some near.above near.below (omega (arith, near.small))

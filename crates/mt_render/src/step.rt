@@ -1,0 +1,139 @@
+//! From samples to what they add to sums: several ways to the same numbers.
+
+ghost use Rattle.std.specs.Prelude.{◌≡◌, ℕ, ◌+◌, ◌*◌, ◌/◌, ◌<◌, ◌≤◌, ◌^◌, length, pos, ◌+ℤ◌, ◌-ℤ◌, ◌*ℤ◌, ℤ};
+ghost use Rattle.mt_bwfread.specs.Fill.{at};
+ghost use Rattle.mt_render.specs.Mix.{rounded};
+ghost use Rattle.mt_render.specs.Sums.{HaveGained};
+
+use crate::scale::Scale;
+
+/// A way from a sample to what it adds to a sum.
+pub(crate) trait Step {
+    ghost gives: { Self → ℤ → ℤ };
+
+    fn of(&self, x: i32) -> i64
+        ensures { result ≡ gives self.now x };
+}
+
+/// The sample itself.
+#[derive(Drop)]
+pub(crate) struct Same;
+
+impl Step for Same {
+    ghost gives = { λ _ x. x };
+
+    #[inline]
+    fn of(&self, x: i32) -> i64 {
+        i64::from(x)
+    }
+}
+
+/// The sample times a whole number.
+#[derive(Drop)]
+pub(crate) struct Whole {
+    pub(crate) num: u32,
+    ghost num_to: { num ≤ 4294836225 },
+}
+
+impl Step for Whole {
+    ghost gives = { λ s x. x *ℤ pos s.num };
+
+    #[inline]
+    fn of(&self, x: i32) -> i64 {
+        i64::from(x) * i64::from(self.num)
+    }
+}
+
+// A product with half a divisor and `turns` divisors added, which is not below zero.
+#[inline]
+fn lifted(x: i32, scale: &Scale) -> u64
+    ensures value { pos result ≡ (x *ℤ pos scale.now.num +ℤ pos (scale.now.den / 2)) +ℤ pos (scale.now.den * scale.now.turns) }
+    ensures small { result ≤ 4294967295 * scale.now.num + scale.now.lift }
+{
+    let from_zero = (i64::from(x) + 2147483648) as u32;
+    u64::from(from_zero) * u64::from(scale.num) + scale.lift
+}
+
+// A quotient without the turns that were added.
+#[inline]
+fn lowered(quotient: u64, turns: u64) -> i64
+    requires quotient_to { quotient < 2 ^ 63 }
+    requires turns_to { turns < 2 ^ 63 }
+    ensures { result ≡ pos quotient -ℤ pos turns }
+{
+    quotient as i64 - turns as i64
+}
+
+/// The sample times a fraction over a power of two.
+#[derive(Drop)]
+pub(crate) struct Shifted {
+    pub(crate) scale: Scale,
+    ghost some: { 0 < scale.bits },
+    ghost den_from: { 2 ≤ scale.den },
+}
+
+impl Step for Shifted {
+    ghost gives = { λ s x. rounded (x *ℤ pos s.scale.num) s.scale.den };
+
+    #[inline]
+    fn of(&self, x: i32) -> i64 {
+        lowered(lifted(x, &self.scale) >> self.scale.bits, self.scale.turns)
+    }
+}
+
+// The upper half of a product.
+#[inline]
+fn upper(a: u64, b: u64) -> u64
+    ensures { result ≡ a * b / 2 ^ 64 }
+{
+    ((u128::from(a) * u128::from(b)) >> 64) as u64
+}
+
+/// The sample times a fraction, its divisor taken as a product.
+#[derive(Drop)]
+pub(crate) struct Multiplied {
+    pub(crate) scale: Scale,
+    ghost some: { 0 < scale.inverse },
+    ghost den_from: { 2 ≤ scale.den },
+}
+
+impl Step for Multiplied {
+    ghost gives = { λ s x. rounded (x *ℤ pos s.scale.num) s.scale.den };
+
+    #[inline]
+    fn of(&self, x: i32) -> i64 {
+        lowered(
+            upper(lifted(x, &self.scale), self.scale.inverse),
+            self.scale.turns,
+        )
+    }
+}
+
+/// The sample times any fraction.
+#[derive(Drop)]
+pub(crate) struct Divided {
+    pub(crate) scale: Scale,
+    ghost den_from: { 2 ≤ scale.den },
+}
+
+impl Step for Divided {
+    ghost gives = { λ s x. rounded (x *ℤ pos s.scale.num) s.scale.den };
+
+    #[inline]
+    fn of(&self, x: i32) -> i64 {
+        lowered(
+            lifted(x, &self.scale) / u64::from(self.scale.den),
+            self.scale.turns,
+        )
+    }
+}
+
+/// Adds what each sample gives to the sum at its place, modulo 2^64.
+pub(crate) fn add_each<S: Step>(sums: &mut [i64], samples: &[i32], step: &S)
+    requires { length sums.old ≤ length samples.now }
+    ensures { HaveGained sums.old sums.new (λ k. S.gives step.now (at samples.now k)) }
+{
+    for index in 0..sums.len() {
+        sums[index] = sums[index].wrapping_add(step.of(samples[index]));
+    }
+}

@@ -1,0 +1,143 @@
+//! The lane of a track: a part for each segment of its clips.
+
+ghost use Rattle.std.specs.Prelude.{◌≡◌, ℕ, ◌<◌, ◌≤◌, false, if◌then◌else◌, length, [], ◌∷◌, ◌++◌, ℤ, pos, ◌+ℤ◌, ◌*ℤ◌, OnOk, IfOk, IfErr};
+ghost use Rattle.mt_overlap.specs.Overlap.{segment_at};
+ghost use Rattle.mt_render.specs.Lanes.{clip_at, span_of, AreSpans, is_in, clip_value};
+ghost use Rattle.mt_render.specs.Mix.{rounded, contribution, heard, sounding, clip_sample, track_sample};
+ghost use Rattle.mt_render.specs.Parts.{all_give, lanes_give};
+ghost use Rattle.mt_render.specs.declared.part.Part.{Part as PartOf};
+ghost use Rattle.mt_render.specs.Refusals.{is_missing};
+ghost use Rattle.mt_render.specs.Sources.{source_of};
+
+use crate::catalogue::Catalogue;
+use crate::fault::MixFault;
+use crate::lane::Lane;
+use crate::part::Part;
+use crate::scale::Scale;
+use mt_bwfread::Wave;
+use mt_op::Gain;
+use mt_overlap::{Segment, Span, segments};
+use mt_sessionview::{ClipView, TrackView};
+use std::alloc::Allocator;
+
+// The clip of an index.
+fn clip_at(clips: &[ClipView], index: usize) -> ClipView
+    requires { index < length clips.now }
+    ensures { result ≡ clip_at clips.now index }
+{
+    clips[index]
+}
+
+// The segment of an index.
+fn segment_at(segments: &[Segment], index: usize) -> Segment
+    requires { index < length segments.now }
+    ensures { result ≡ segment_at segments.now index }
+{
+    segments[index]
+}
+
+// What a clip covers: nothing where it is muted.
+fn span_of(clip: &ClipView) -> Span
+    ensures { result ≡ span_of clip.now }
+{
+    Span {
+        place: clip.place,
+        start: clip.at,
+        len: if clip.mute { 0 } else { clip.len },
+    }
+}
+
+// What the clips of a track cover.
+fn spans_of<A: Allocator>(alloc: A, clips: &[ClipView]) -> Result<Vec<Span, A>, MixFault>
+    ensures ok { IfOk result (λ spans. AreSpans clips.now spans.items) }
+    ensures err { IfErr result (λ fault. fault ≡ MixFault.Memory) }
+{
+    let mut spans = Vec::new(alloc);
+    for index in 0..clips.len() {
+        let clip = clip_at(clips, index);
+        spans.push(span_of(&clip))?;
+    }
+    Ok(spans)
+}
+
+// The part of a clip in a segment.
+fn part_of<'c, 'a>(wave: &'c Wave<'a>, clip: ClipView, gain: Gain, segment: Segment) -> Part<'c, 'a>
+    requires begun { clip.at ≤ segment.start }
+    ensures start { result.start ≡ segment.start }
+    ensures end { result.end ≡ segment.end }
+    ensures at { result.at ≡ clip.at }
+    ensures offset { result.offset ≡ clip.offset }
+    ensures wave { result.wave.now ≡ wave.now }
+    ensures scaled { (x : ℤ) → rounded (x *ℤ pos result.scale.num) result.scale.den ≡ contribution clip.gain gain x }
+{
+    Part {
+        start: segment.start,
+        end: segment.end,
+        at: clip.at,
+        offset: clip.offset,
+        scale: Scale::new(clip.gain, gain),
+        wave,
+    }
+}
+
+// Adds the part of a clip in a segment.
+fn add_part<'c, 'a, A: Allocator>(
+    catalogue: &'c Catalogue<'a, A>,
+    clip: ClipView,
+    gain: Gain,
+    segment: Segment,
+    parts: &mut Vec<Part<'c, 'a>, A>,
+) -> Result<(), MixFault>
+    requires there { is_missing catalogue.now clip.source ≡ false }
+    requires begun { clip.at ≤ segment.start }
+    ensures ok { OnOk result ((f c : ℕ) → all_give f c parts.new.items ≡ all_give f c parts.old.items
+        +ℤ (if is_in segment f then contribution clip.gain gain (heard (source_of catalogue.now clip.source) clip f c) else pos 0)) }
+    ensures pushed { OnOk result ((p : PartOf) × (parts.new.items ≡ parts.old.items ++ p ∷ []) × (p.start ≡ segment.start) × (p.end ≡ segment.end)) }
+    ensures err { IfErr result (λ fault. fault ≡ MixFault.Memory) }
+{
+    let Some(wave) = catalogue.find(&clip.source) else {
+        return Err(MixFault::MissingSource(clip.source));
+    };
+    parts.push(part_of(wave, clip, gain, segment))?;
+    Ok(())
+}
+
+// The lane of a track that is not muted.
+fn lane_of<'c, 'a, A: Allocator + Clone>(
+    alloc: &A,
+    catalogue: &'c Catalogue<'a, A>,
+    track: &TrackView<A>,
+) -> Result<Lane<'c, 'a, A>, MixFault>
+    requires there { (i : ℕ) → i < length track.now.clips → (clip_at track.now.clips i).mute ≡ false → is_missing catalogue.now (clip_at track.now.clips i).source ≡ false }
+    ensures ok { IfOk result (λ lane. (f c : ℕ) → all_give f c lane ≡ clip_sample catalogue.now track.now.gain f c (sounding track.now.clips f)) }
+    ensures err { IfErr result (λ fault. fault ≡ MixFault.Memory) }
+{
+    let clips = track.clips.items();
+    let spans = spans_of(alloc.clone()?, clips)?;
+    let segments = segments(alloc.clone()?, &spans)?;
+    let mut parts = Vec::new(alloc.clone()?);
+    for index in 0..segments.len() {
+        let segment = segment_at(&segments, index);
+        let clip = clip_at(clips, segment.which);
+        add_part(catalogue, clip, track.gain, segment, &mut parts)?;
+    }
+    Ok(Lane { parts })
+}
+
+/// Adds the lane of a track: none of one that is muted.
+pub(crate) fn add_audible<'c, 'a, A: Allocator + Clone>(
+    alloc: &A,
+    catalogue: &'c Catalogue<'a, A>,
+    track: &TrackView<A>,
+    lanes: &mut Vec<Lane<'c, 'a, A>, A>,
+) -> Result<(), MixFault>
+    requires there { track.now.mute ≡ false → (i : ℕ) → i < length track.now.clips → (clip_at track.now.clips i).mute ≡ false → is_missing catalogue.now (clip_at track.now.clips i).source ≡ false }
+    ensures ok { OnOk result ((f c : ℕ) → lanes_give f c lanes.new.items ≡ lanes_give f c lanes.old.items +ℤ track_sample catalogue.now f c track.now) }
+    ensures err { IfErr result (λ fault. fault ≡ MixFault.Memory) }
+{
+    if track.mute {
+        return Ok(());
+    }
+    lanes.push(lane_of(alloc, catalogue, track)?)?;
+    Ok(())
+}
