@@ -9,3 +9,4 @@ pub mod Texts
 pub mod ReadExtras
 pub mod ReadReplicas
 pub mod Pieces
+pub mod Cutting

@@ -135,10 +135,14 @@ abbrev pub fits_with : List Operation → Operation → Bool
 fits_with [] o = true
 fits_with (p ∷ front) o = nat_le (length (ops_text ((p ∷ front) ++ o ∷ []))) longest_body
 
+-- what stands in a message that nothing follows
+abbrev pub last_pack : List Operation → List (List Operation)
+last_pack [] = []
+last_pack (p ∷ front) = (p ∷ front) ∷ []
+
 -- Cut from the left, each message taking as many as fit, after what stands in the message so far.
 abbrev pub packs_after : List Operation → List Operation → List (List Operation)
-packs_after [] [] = []
-packs_after (p ∷ front) [] = (p ∷ front) ∷ []
+packs_after front [] = last_pack front
 packs_after front (o ∷ list) =
     if fits_with front o then packs_after (front ++ o ∷ []) list
     else front ∷ packs_after (o ∷ []) list

@@ -27,7 +27,7 @@ pub enum Message<A: Allocator = Global> {
 }
 
 /// The longest body of a frame, in bytes.
-const LONGEST_BODY: usize = 8_388_608;
+pub(crate) const LONGEST_BODY: usize = 8_388_608;
 
 impl<A: Allocator + Clone> Message<A> {
     /// Reads the body of a frame. Refused as `BadMessage` (38) where it is the text of no message or longer than 8,388,608 bytes,
