@@ -2,7 +2,7 @@
 use Rattle.std.specs.IoError.{error_kind}
 use Rattle.std.specs.declared.io.Error.{Error}
 use Rattle.std.specs.declared.io.ErrorKind.TheVariants.{InvalidData}
-use Rattle.std.specs.Prelude.{◌≡◌, ◌≢◌, ℕ, ◌≤◌, List, ◌++◌, length, ◌==◌, Option, Some, None, Result, Ok, Err}
+use Rattle.std.specs.Prelude.{◌≡◌, ◌≢◌, ℕ, ◌≤◌, Bool, true, false, List, [], ◌∷◌, ◌++◌, length, ◌==◌, Option, Some, None, option_map, Result, Ok, Err}
 use Rattle.std.specs.Int.{w32, to_be_bytes}
 use Rattle.tokio_util.specs.declared.codec.length_delimited.LengthDelimitedCodec.{LengthDelimitedCodec}
 use Rattle.tokio_util.specs.declared.codec.length_delimited.DecodeState.{DecodeState}
@@ -41,3 +41,20 @@ TakesBody old (Err Memory) new = Unit {0}
 abbrev pub IsTooLong : Error → FrameFault → Type 0
 IsTooLong e TooLong = error_kind e ≡ InvalidData
 IsTooLong e Memory = error_kind e ≢ InvalidData
+
+-- the body of a frame that nothing follows
+abbrev pub sole : Front → Option (List ℕ)
+sole (whole body []) = Some body
+sole (whole body (b ∷ rest)) = None
+sole cut_short = None
+sole too_long = None
+
+abbrev pub is_too_long : Front → Bool
+is_too_long too_long = true
+is_too_long cut_short = false
+is_too_long (whole body rest) = false
+
+abbrev pub TakesSole : {X : Type 0} → (X → List ℕ) → List ℕ → Result (Option X) FrameFault → Type 0
+TakesSole view bytes (Ok body) = (option_map view body ≡ sole (front_of bytes)) × (is_too_long (front_of bytes) ≡ false)
+TakesSole view bytes (Err TooLong) = is_too_long (front_of bytes) ≡ true
+TakesSole view bytes (Err Memory) = ⊥
