@@ -33,13 +33,13 @@ use Rattle.mt_opcodec.proofs.Operations.{op_takes, op_again}
 abbrev done : {A : Type 0} → A → Result A LogFault
 done x = Ok x
 
-bind_ok : {A B : Type 0} (r : Result A LogFault) (f : A → Result B LogFault) (y : B) → (r >>= f) ≡ Ok y → (x : A) × (r ≡ Ok x) × (f x ≡ Ok y)
+pub bind_ok : {A B : Type 0} (r : Result A LogFault) (f : A → Result B LogFault) (y : B) → (r >>= f) ≡ Ok y → (x : A) × (r ≡ Ok x) × (f x ≡ Ok y)
 bind_ok (Ok x) f y e = (x, refl, e)
 bind_ok (Err d) f y e = absurd cc
 
 -- ---- each dot after the one before
 
-abbrev Chain : Option Dot → List Operation → Type 0
+abbrev pub Chain : Option Dot → List Operation → Type 0
 Chain last [] = Unit {0}
 Chain last (o ∷ ops) = IsTrue (is_after last (op_dot o)) × Chain (Some (op_dot o)) ops
 
@@ -63,14 +63,14 @@ chain_above dot (o ∷ ops) h =
     let others : below_all dot_cmp dot (map entry_of ops) ≡ true = below_rest dot (op_dot o) ops here (chain_above (op_dot o) ops h.1) in
     rw (here, others) refl
 
-chain_rises : (last : Option Dot) (ops : List Operation) → Chain last ops → IsTrue (dots_rise ops)
+pub chain_rises : (last : Option Dot) (ops : List Operation) → Chain last ops → IsTrue (dots_rise ops)
 chain_rises last [] h = refl
 chain_rises last (o ∷ ops) h =
     let first : below_all dot_cmp (op_dot o) (map entry_of ops) ≡ true = chain_above (op_dot o) ops h.1 in
     let others : dots_rise ops ≡ true = chain_rises (Some (op_dot o)) ops h.1 in
     rw (first, others) refl
 
-rises_chain : (last : Option Dot) (ops : List Operation) → IsTrue (dots_rise ops) → ((o : Operation) (rest : List Operation) → ops ≡ o ∷ rest → IsTrue (is_after last (op_dot o))) → Chain last ops
+pub rises_chain : (last : Option Dot) (ops : List Operation) → IsTrue (dots_rise ops) → ((o : Operation) (rest : List Operation) → ops ≡ o ∷ rest → IsTrue (is_after last (op_dot o))) → Chain last ops
 rises_chain last [] rise first = tt
 rises_chain last (o ∷ ops) rise first = (first o ops refl, rises_chain (Some (op_dot o)) ops (and_second _ _ rise) (next ops (and_first _ _ rise)))
   where
@@ -91,13 +91,13 @@ record_ok index last (Ok y) x e = step (is_after last (op_dot y.0)) refl
 record_ok index last (Err cause) x e = absurd cc
 
 -- what a list of records is
-record AreRead (last : Option Dot) (count : ℕ) (bytes : List ℕ) (ops : List Operation) : Type 0 where
-  text : bytes ≡ flat_map op_text ops
-  counted : length ops ≡ count
-  chain : Chain last ops
-  valid : AllByRecursion IsOperation ops
+pub record AreRead (last : Option Dot) (count : ℕ) (bytes : List ℕ) (ops : List Operation) : Type 0 where
+  pub text : bytes ≡ flat_map op_text ops
+  pub counted : length ops ≡ count
+  pub chain : Chain last ops
+  pub valid : AllByRecursion IsOperation ops
 
-records_take : (count index : ℕ) (last : Option Dot) (bytes : List ℕ) (ops : List Operation) → IsBytes bytes → records_at count index last bytes ≡ Ok ops → AreRead last count bytes ops
+pub records_take : (count index : ℕ) (last : Option Dot) (bytes : List ℕ) (ops : List Operation) → IsBytes bytes → records_at count index last bytes ≡ Ok ops → AreRead last count bytes ops
 unfolding records_at
 records_take zero index last [] ops fits e =
     let is : [] ≡ ops = cc in
@@ -118,7 +118,7 @@ records_take (suc count) index last bytes ops fits e =
       valid = (taken.1, rest.valid);
     })
 
-records_again : (ops : List Operation) (index : ℕ) (last : Option Dot) → AllByRecursion IsOperation ops → Chain last ops → records_at (length ops) index last (flat_map op_text ops) ≡ Ok ops
+pub records_again : (ops : List Operation) (index : ℕ) (last : Option Dot) → AllByRecursion IsOperation ops → Chain last ops → records_at (length ops) index last (flat_map op_text ops) ≡ Ok ops
 unfolding records_at
 records_again [] index last valid chain = refl
 records_again (o ∷ ops) index last valid chain =

@@ -38,5 +38,6 @@ mod tests;
 pub use fault::{LogFault, ReadFault};
 pub use latch::{Latch, LatchFault};
 pub use log::Log;
+pub use log_reader::read_ops;
 pub use op_reader::read_op;
 pub use op_writer::write_op;

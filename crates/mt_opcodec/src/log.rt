@@ -55,6 +55,14 @@ impl<A: Allocator> Log<A> {
         }
     }
 
+    /// The log of operations whose dots rise. Takes no memory.
+    pub fn of_ops(ops: Vec<Op<A>, A>) -> Self
+        requires rising { AreLogged ops.items }
+        ensures { result ≡ log_of ops.items }
+    {
+        Log { ops }
+    }
+
     /// Reads the text of a log. Refused, in this order: `BadMagic` (11) where the first four bytes are missing
     /// or not `RMTS`, `BadVersion` (12) where the fifth is missing or not 1, `Damaged` (13) where there are fewer
     /// than 45 bytes or the digest does not agree; then record by record, counted from 0, `BadRecord` (14) where

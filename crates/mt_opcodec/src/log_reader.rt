@@ -57,8 +57,11 @@ fn record_of<A: Allocator>(
     }
 }
 
-// This many operations, and nothing after them.
-fn records_of<A: Allocator + Clone>(
+/// Reads this many operations, by rising dot, and nothing after them. Refused record by record, counted from 0: `BadRecord` (14)
+/// where it is no operation, `OutOfOrder` (15) where its dot is not greater than the one before; last `Trailing` (16) where
+/// bytes stand after them. `Memory` (0) is answered where a growth was refused. Memory is taken record by record, never for
+/// the count.
+pub fn read_ops<A: Allocator + Clone>(
     alloc: A,
     count: u64,
     bytes: &[u8],
@@ -127,7 +130,7 @@ pub(crate) fn counted_ops<A: Allocator + Clone>(
     let count = u64::from_be_bytes([
         head[5], head[6], head[7], head[8], head[9], head[10], head[11], head[12],
     ]);
-    records_of(alloc, count, records)
+    read_ops(alloc, count, records)
 }
 
 // The operations of a log's text.

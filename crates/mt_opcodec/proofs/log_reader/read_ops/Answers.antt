@@ -3,7 +3,7 @@ use Rattle.mt_stamp.specs.declared.name.Dot.{Dot}
 use Rattle.mt_op.specs.Operation.{Operation}
 use Rattle.mt_opcodec.specs.LogReading.{records_at}
 use Rattle.mt_opcodec.proofs.Records.{with_front, goes_on, ends, at_end, before_end}
-use Rattle.mt_opcodec.proofs.log_reader.records_of.Goals as goal
+use Rattle.mt_opcodec.proofs.log_reader.read_ops.Goals as goal
 
 pub returns-in-Err : goal.returns-in-Err
 returns-in-Err g c = ends c.in-Err.fault c.loop-index.ops.items c.args.count c.loop-index.index c.loop-index.last c.loop-index.rest.now (records_at c.args.count 0 None c.args.bytes.now) c.loop-index-test.true c.in-Err.ensures c.loop-index.invariant

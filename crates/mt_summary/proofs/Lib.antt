@@ -1,0 +1,12 @@
+pub mod Walking
+pub mod Searching
+pub mod Order
+pub mod Rising
+pub mod Missing
+pub mod Covering
+pub mod Unique
+pub mod Texts
+pub mod ReadExtras
+pub mod ReadReplicas
+pub mod Pieces
+pub mod Cutting

@@ -1,0 +1,6 @@
+pub mod Faults
+pub mod Summary
+pub mod Messages
+pub mod Reading
+pub mod Laws
+pub mod Walking

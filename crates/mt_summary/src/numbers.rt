@@ -1,0 +1,111 @@
+//! What a summary says of one replica.
+
+ghost use Rattle.std.specs.Prelude.{◌≡◌, ℕ, ◌==◌, [], IfOk, IfErr};
+ghost use Rattle.mt_summary.specs.Summary.{with_number, numbers_of, has_number, covers_dot, AreNumbers, ExtrasRise};
+ghost use Rattle.std.specs.List.{list_any};
+
+use crate::fault::MessageFault;
+use mt_stamp::{Dot, Replica};
+use std::alloc::{Allocator, Global};
+use std::marker::Model;
+
+/// Which numbers of one replica's operations are there: those from 1 to `run`, and the extras, which rise. Seen as the record of
+/// the three.
+#[derive(Drop)]
+pub struct Numbers<A: Allocator = Global> {
+    replica: Replica,
+    run: u64,
+    extras: Vec<u64, A>,
+}
+
+impl<A: Allocator> Model for Numbers<A> {
+    ghost use Rattle.mt_summary.specs.Summary.{Numbers};
+
+    ghost Value = { Numbers };
+
+    ghost view = { λ n. record { replica = n.replica; run = n.run; extras = n.extras.items } };
+}
+
+impl<A: Allocator> Numbers<A> {
+    // The numbers of a replica.
+    pub(crate) fn new(replica: Replica, run: u64, extras: Vec<u64, A>) -> Self
+        ensures { result ≡ record { replica = replica; run = run; extras = extras.items } }
+    {
+        Numbers {
+            replica,
+            run,
+            extras,
+        }
+    }
+
+    // The numbers of a replica that has this one.
+    pub(crate) fn of(alloc: A, dot: Dot) -> Result<Self, MessageFault>
+        ensures ok { IfOk result (λ numbers. numbers ≡ numbers_of dot) }
+        ensures err { IfErr result (λ fault. fault ≡ MessageFault.Memory) }
+    {
+        Numbers::new(dot.replica, 0, Vec::new(alloc)).with(dot.seq)
+    }
+
+    // One number more, greater than all before.
+    pub(crate) fn with(self, seq: u64) -> Result<Self, MessageFault>
+        ensures ok { IfOk result (λ numbers. numbers ≡ with_number self seq) }
+        ensures err { IfErr result (λ fault. fault ≡ MessageFault.Memory) }
+    {
+        let Numbers {
+            replica,
+            run,
+            mut extras,
+        } = self;
+        if run.checked_add(1) == Some(seq) {
+            Ok(Numbers::new(replica, seq, extras))
+        } else {
+            extras.push(seq)?;
+            Ok(Numbers::new(replica, run, extras))
+        }
+    }
+
+    /// The replica.
+    pub fn replica(&self) -> Replica
+        ensures { result ≡ self.now.replica }
+    {
+        self.replica
+    }
+
+    /// The length of the run: the numbers from 1 to it are there, and the next one is not.
+    pub fn run(&self) -> u64
+        ensures { result ≡ self.now.run }
+    {
+        self.run
+    }
+
+    /// The numbers past the run, rising.
+    pub fn extras(&self) -> &[u64]
+        ensures { result.now ≡ self.now.extras }
+    {
+        &self.extras
+    }
+
+    // Whether a number is there.
+    pub(crate) fn has(&self, seq: u64) -> bool
+        requires rising { AreNumbers self.now }
+        ensures { result ≡ has_number self.now seq }
+    {
+        (0 < seq && seq <= self.run) || contains(&self.extras, seq)
+    }
+
+    // Whether a dot is that of a number of this replica.
+    pub(crate) fn covers(&self, dot: Dot) -> bool
+        requires rising { AreNumbers self.now }
+        ensures { result ≡ covers_dot self.now dot }
+    {
+        self.replica == dot.replica && self.has(dot.seq)
+    }
+}
+
+// Whether a number is among extras.
+fn contains(extras: &[u64], seq: u64) -> bool
+    requires rising { (last : ℕ) × ExtrasRise last extras.now }
+    ensures { result ≡ list_any (λ extra. extra == seq) extras.now }
+{
+    extras.binary_search(&seq).is_ok()
+}

@@ -1,0 +1,123 @@
+//! Summaries.
+
+ghost use Rattle.std.specs.Prelude.{◌≡◌, ◌++◌, [], IfOk, IfErr, OnOk, None};
+ghost use Rattle.mt_summary.specs.Summary.{summary_of, covers, IsSummary, summary_after};
+ghost use Rattle.mt_summary.specs.Walking.{Continues};
+
+use crate::fault::MessageFault;
+use crate::numbers::Numbers;
+use mt_op::Op;
+use mt_opcodec::Log;
+use mt_stamp::Dot;
+use std::alloc::{Allocator, Global};
+use std::marker::Model;
+
+/// Which operations a log has, by their dots: of each replica, by rising replica, the longest run of numbers from 1 on, and the
+/// others. Seen as the list of what it says of each replica.
+#[derive(Drop)]
+pub struct Summary<A: Allocator = Global> {
+    all: Vec<Numbers<A>, A>,
+}
+
+impl<A: Allocator> Model for Summary<A> {
+    ghost use Rattle.mt_summary.specs.Summary.{Summary, IsSummary};
+
+    ghost Value = { Summary };
+
+    ghost view = { λ s. s.all.items };
+
+    ghost invariant = { λ s. IsSummary s.all.items };
+}
+
+impl<A: Allocator> Summary<A> {
+    // The summary that says this.
+    pub(crate) fn new(all: Vec<Numbers<A>, A>) -> Self
+        requires { IsSummary all.items }
+        ensures { result ≡ all.items }
+    {
+        Summary { all }
+    }
+
+    /// What it says of each replica, by rising replica.
+    pub fn replicas(&self) -> &[Numbers<A>]
+        ensures value { result.now ≡ self.now }
+        ensures rising { IsSummary self.now }
+    {
+        &self.all
+    }
+
+    /// Whether it covers a dot: whether the operation of that name is among those that it tells of.
+    pub fn covers(&self, dot: &Dot) -> bool
+        ensures { result ≡ covers self.now dot.now }
+    {
+        for numbers in self.replicas() {
+            if numbers.covers(*dot) {
+                return true;
+            }
+        }
+        false
+    }
+}
+
+impl<A: Allocator + Clone> Summary<A> {
+    /// The summary of a log, in one walk of it. Refused only as `Memory` (0).
+    #[tactic(auto, unfolding(crate::specs::Summary::summary_of))]
+    pub fn of<B: Allocator>(alloc: A, log: &Log<B>) -> Result<Self, MessageFault>
+        ensures ok { IfOk result (λ summary. summary ≡ summary_of log.now) }
+        ensures err { IfErr result (λ fault. fault ≡ MessageFault.Memory) }
+    {
+        let all = summary_of_ops(alloc, log.ops())?;
+        Ok(Summary::new(all))
+    }
+}
+
+// What is said of operations by rising dot.
+fn summary_of_ops<A: Allocator + Clone, B: Allocator>(
+    alloc: A,
+    ops: &[Op<B>],
+) -> Result<Vec<Numbers<A>, A>, MessageFault>
+    ensures ok { IfOk result (λ all. all.items ≡ summary_after None ops.now) }
+    ensures err { IfErr result (λ fault. fault ≡ MessageFault.Memory) }
+{
+    let mut all = Vec::new(alloc.clone()?);
+    let mut last = None;
+    for op in ops {
+        last = Some(next(&alloc, &mut all, last, op.dot())?);
+    }
+    put_last(&mut all, last)?;
+    Ok(all)
+}
+
+// Puts the numbers of the last replica at the end, where there is one.
+fn put_last<A: Allocator>(
+    all: &mut Vec<Numbers<A>, A>,
+    last: Option<Numbers<A>>,
+) -> Result<(), MessageFault>
+    ensures ok { OnOk result (all.new.items ≡ all.old.items ++ summary_after last []) }
+    ensures err { IfErr result (λ fault. fault ≡ MessageFault.Memory) }
+{
+    if let Some(numbers) = last {
+        all.push(numbers)?;
+    }
+    Ok(())
+}
+
+// The numbers of the dot's replica with this dot; those of the replica before it are done.
+fn next<A: Allocator + Clone>(
+    alloc: &A,
+    all: &mut Vec<Numbers<A>, A>,
+    last: Option<Numbers<A>>,
+    dot: Dot,
+) -> Result<Numbers<A>, MessageFault>
+    ensures ok { IfOk result (λ numbers. Continues last dot numbers all.old.items all.new.items) }
+    ensures err { IfErr result (λ fault. fault ≡ MessageFault.Memory) }
+{
+    match last {
+        Some(numbers) if numbers.replica() == dot.replica => numbers.with(dot.seq),
+        Some(numbers) => {
+            all.push(numbers)?;
+            Numbers::of(alloc.clone()?, dot)
+        }
+        None => Numbers::of(alloc.clone()?, dot),
+    }
+}
