@@ -11,3 +11,4 @@ pub mod Quotients
 pub mod Gaining
 pub mod Rising
 pub mod Summing
+pub mod Sounding

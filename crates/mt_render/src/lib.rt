@@ -14,7 +14,7 @@
 //! At each frame, on each track that is not muted, the clip that was placed last sounds alone of those that cover the frame and are not
 //! muted. Its sample at 32-bit scale, times the gains of the clip and of the track, is rounded to the nearest whole number,
 //! halves up; the sum over the tracks is rounded to the bits that are put out, and cut to their range. `specs/Mix.antt` says it in a
-//! line a step.
+//! line a step, and `laws` which clip it is.
 //!
 //! What a block costs: for each track one search for the first segment that reaches into it, and for each sample of a segment a reading, a
 //! product and a sum, in loops that look at nothing else. A mix whose gains are so great that a sum may pass 64 bits is filled sample by
@@ -22,10 +22,13 @@
 #![tactic(auto)]
 
 mod block;
+#[cfg(test)]
+mod block_tests;
 mod catalogue;
 mod fault;
 mod format;
 mod lane;
+pub mod laws;
 mod mix;
 mod part;
 mod scale;

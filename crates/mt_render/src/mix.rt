@@ -112,12 +112,22 @@ impl<'c, 'a, A: Allocator> Mix<'c, 'a, A> {
         requires within { first + length samples.old / self.now.layout.channels ≤ length_of self.now.tracks }
         ensures { (k : ℕ) → k < length samples.new → slice_index_or samples.new k (pos 0) ≡ mixed_sample self.now (first + k / self.now.layout.channels) (k % self.now.layout.channels) }
     {
-        // Every sum of a narrow mix is below 2^62. One of 64 tracks of full scale at 65535/1 is not: it takes the wide way.
+        // Every sum of a narrow mix is below 2^62. A clip at 65535/1 on a track at 65535/1 alone nearly reaches 2^63: it takes the wide way.
         let lanes = self.lanes.as_slice();
         if self.narrow {
             fill_narrow(lanes, self.format, first, samples);
         } else {
             fill_wide(lanes, self.format, first, samples);
         }
+    }
+
+    // The same by the plain way, whatever the gains: a second reading, for the tests.
+    #[cfg(test)]
+    pub(crate) fn block_plain(&self, first: u64, samples: &mut [i32])
+        requires whole { length samples.old % self.now.layout.channels ≡ 0 }
+        requires within { first + length samples.old / self.now.layout.channels ≤ length_of self.now.tracks }
+        ensures { (k : ℕ) → k < length samples.new → slice_index_or samples.new k (pos 0) ≡ mixed_sample self.now (first + k / self.now.layout.channels) (k % self.now.layout.channels) }
+    {
+        fill_wide(self.lanes.as_slice(), self.format, first, samples);
     }
 }

@@ -10,12 +10,18 @@ use mt_testalloc::Refusing;
 use std::alloc::{Allocator, Global};
 use std::test::Fail;
 
-const A: Replica = Replica(10);
+pub(crate) const A: Replica = Replica(10);
 
-const B: Replica = Replica(11);
+pub(crate) const B: Replica = Replica(11);
 
 // A wave file of PCM with this content of its `data`.
-fn wave(alloc: Global, rate: u8, channels: u8, bits: u8, samples: &[u8]) -> Result<Vec<u8>, Fail> {
+pub(crate) fn wave(
+    alloc: Global,
+    rate: u8,
+    channels: u8,
+    bits: u8,
+    samples: &[u8],
+) -> Result<Vec<u8>, Fail> {
     let align = channels.wrapping_mul(bits / 8);
     let mut text = b"RIFF\xff\xff\0\0WAVEfmt \x10\0\0\0\x01\0".to_vec(alloc)?;
     for byte in [channels, 0, 0, rate, 0, 0, 0, 0, 0, 0, align, 0, bits, 0] {
@@ -31,19 +37,19 @@ fn wave(alloc: Global, rate: u8, channels: u8, bits: u8, samples: &[u8]) -> Resu
 }
 
 // A log that begins with a track, the operation (1, A, 1).
-fn log_of_a_track(alloc: Global) -> Result<Log, Fail> {
+pub(crate) fn log_of_a_track(alloc: Global) -> Result<Log, Fail> {
     let mut log = Log::new(alloc);
     add_track(&mut log, alloc, Stamp::new(1, A, 1)?)?;
     Ok(log)
 }
 
-fn add_track(log: &mut Log, alloc: Global, stamp: Stamp) -> Result<(), Fail> {
+pub(crate) fn add_track(log: &mut Log, alloc: Global, stamp: Stamp) -> Result<(), Fail> {
     let title = Title::new(alloc, "Voice")?;
     let _new = log.add(Op::new(stamp, Body::AddTrack { after: None, title })?)?;
     Ok(())
 }
 
-fn add_clip(
+pub(crate) fn add_clip(
     log: &mut Log,
     stamp: Stamp,
     track: Stamp,
@@ -61,7 +67,7 @@ fn add_clip(
     Ok(())
 }
 
-fn change(log: &mut Log, stamp: Stamp, body: Body) -> Result<(), Fail> {
+pub(crate) fn change(log: &mut Log, stamp: Stamp, body: Body) -> Result<(), Fail> {
     let _new = log.add(Op::new(stamp, body)?)?;
     Ok(())
 }
