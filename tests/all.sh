@@ -10,6 +10,7 @@ if command -v python3 >/dev/null 2>&1; then
   python3 tests/real_waves.py "$PWD/crates/radio/out/radio"
   python3 tests/rendered_waves.py "$PWD/crates/radio/out/radio"
   python3 tests/story.py "$PWD/crates/radio/out/radio"
+  python3 tests/meetings.py "$PWD/crates/radio/out/radio"
 else
   echo "skipped the comparisons with the model, with other programs' wave files and with the README: no python3"
 fi

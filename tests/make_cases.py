@@ -18,4 +18,5 @@ import cases_of_waves
 import cases_of_renders
 import cases_of_command_lines
 import cases_of_edits
+import cases_of_exchanges
 import cases_of_refusals

@@ -51,3 +51,14 @@ impl<F: Files> Part<F> {
         named
     }
 }
+
+/// Writes these bytes into a file.
+pub(crate) fn put_file<F: Files + AllocGlobal>(
+    rt: &F,
+    out: &str,
+    bytes: &[u8],
+) -> Result<(), CliFault> {
+    let mut part = Part::create(rt.alloc(), rt, out)?;
+    let written = part.output().put(bytes).map_err(|_| CliFault::Write);
+    part.finish(rt, out, written)
+}

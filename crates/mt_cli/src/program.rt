@@ -2,20 +2,21 @@
 
 ghost use Rattle.std.specs.Prelude.{◌≡◌, ◌≤◌};
 
-use crate::commands::{edit, explain, info, merge, render, view};
+use crate::commands::{edit, explain, have, info, lack, meet, merge, render, serve, take, view};
 use crate::fault::CliFault;
 use crate::stop::Stop;
 use clap::Command;
 use mt_opcodec::Latch;
 use std::alloc::{AllocError, Global};
 use std::io::{Read, Write};
+use std::net::Net;
 use std::rt::Files;
 
 /// Runs the words after the program's name over standard input, output and error, and answers the exit
 /// status: 0 where it is done, 1 where it is refused, and standard error has then the line `radio: fault N`,
 /// 2 where the words do not parse, and standard error has then the parser's text. Help and the version go
 /// to the output with status 0. A failure of `errors` is not told.
-pub fn command<F: Files + AllocGlobal, R: Read, W: Write, E: Write>(
+pub fn command<F: Files + Net + AllocGlobal, R: Read, W: Write, E: Write>(
     rt: &F,
     words: &[String],
     input: &mut Latch<R>,
@@ -49,7 +50,7 @@ fn refused<E: Write>(number: u8, errors: &mut Latch<E>) -> u8
     1
 }
 
-fn run<F: Files + AllocGlobal, R: Read, W: Write>(
+fn run<F: Files + Net + AllocGlobal, R: Read, W: Write>(
     rt: &F,
     words: &[String],
     input: &mut Latch<R>,
@@ -64,6 +65,11 @@ fn run<F: Files + AllocGlobal, R: Read, W: Write>(
         Some(("merge", words)) => merge::run(rt, words),
         Some(("edit", words)) => edit::run(rt, words, output),
         Some(("render", words)) => render::run(rt, words),
+        Some(("have", words)) => have::run(rt, words),
+        Some(("lack", words)) => lack::run(rt, words),
+        Some(("take", words)) => take::run(rt, words),
+        Some(("serve", words)) => serve::run(rt, words),
+        Some(("meet", words)) => meet::run(rt, words),
         Some(("info", words)) => info::run(rt, words, output),
         Some(("explain", words)) => explain::run(rt.alloc(), words, output),
         _ => Err(Stop::Told {
@@ -86,6 +92,11 @@ fn radio<'a>(alloc: Global) -> Result<Command<'a>, AllocError> {
         .subcommand(merge::words(alloc)?)?
         .subcommand(edit::words(alloc)?)?
         .subcommand(render::words(alloc)?)?
+        .subcommand(have::words(alloc)?)?
+        .subcommand(lack::words(alloc)?)?
+        .subcommand(take::words(alloc)?)?
+        .subcommand(serve::words(alloc)?)?
+        .subcommand(meet::words(alloc)?)?
         .subcommand(info::words(alloc)?)?
         .subcommand(explain::words(alloc)?)
 }

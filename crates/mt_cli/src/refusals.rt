@@ -261,13 +261,31 @@ pub const OF_RENDERING: [Refusal; 4] = [
     },
 ];
 
-/// The refusals of reading and writing, of scripts, and of the parts of operations.
-pub const OF_FILES_AND_PARTS: [Refusal; 8] = [
+/// The refusals of reading and writing, of exchange, of scripts, and of the parts of operations.
+pub const OF_FILES_AND_PARTS: [Refusal; 13] = [
     Refusal {
         number: 37,
         name: "Write",
         meaning: "the output failed, or cannot be made or get its name; or there is an OUT.part already",
         advice: "See that there is room and that the folder may be written. An OUT.part that no program is writing any more may be deleted.",
+    },
+    Refusal {
+        number: 38,
+        name: "BadMessage",
+        meaning: "what another editor sent is no message, or not of the kind that was asked for",
+        advice: "Name the files in the order that `radio help` tells. A file that was cut or damaged on the way has to be sent again.",
+    },
+    Refusal {
+        number: 39,
+        name: "OutOfTurn",
+        meaning: "another editor sent a message when it was not its turn, or went on after the end",
+        advice: "See that one editor serves and the other meets, and that nothing else is at that address.",
+    },
+    Refusal {
+        number: 40,
+        name: "FrameTooLong",
+        meaning: "a message is longer than 8,388,608 bytes",
+        advice: "See that the file is one that `radio have` or `radio lack` wrote, or that the address is that of an editor who serves.",
     },
     Refusal {
         number: 41,
@@ -300,10 +318,22 @@ pub const OF_FILES_AND_PARTS: [Refusal; 8] = [
         advice: "See that each named file is there, is no folder, and may be read.",
     },
     Refusal {
+        number: 46,
+        name: "Net",
+        meaning: "an address cannot be bound, or nobody answers there",
+        advice: "See that the address is HOST:PORT, that the one who serves began first, and that no other program has the port.",
+    },
+    Refusal {
         number: 47,
         name: "BadFormat",
         meaning: "the format of a programme is not one that is written",
         advice: "Take a rate from 1 to 384000, 16 or 24 bits, and 1 or 2 channels.",
+    },
+    Refusal {
+        number: 49,
+        name: "Ended",
+        meaning: "what another editor sent ends before the end of the exchange",
+        advice: "Nothing was taken into a file: have it sent again, or meet again.",
     },
     Refusal {
         number: 50,

@@ -7,6 +7,7 @@ use mt_render::FormatFault;
 use mt_replica::EditorFault;
 use mt_script::ScriptFault;
 use mt_stamp::StampFault;
+use mt_sync::{MessageFault, SyncFault};
 use std::alloc::{AllocError, Global};
 
 /// What stops a command.
@@ -19,6 +20,11 @@ pub(crate) enum Stop {
 }
 
 impl Stop {
+    /// A socket that cannot be bound, that nobody answers at, or that fails before the conversation: `Net`.
+    pub(crate) fn net() -> Stop {
+        Stop::Refused(46)
+    }
+
     /// What the parser tells in place of a match.
     pub(crate) fn told(alloc: Global, error: clap::Error) -> Stop {
         if error.kind() == ErrorKind::OutOfMemory {
@@ -72,6 +78,18 @@ impl From<EditorFault> for Stop {
 
 impl From<ScriptFault> for Stop {
     fn from(fault: ScriptFault) -> Stop {
+        Stop::Refused(fault.number())
+    }
+}
+
+impl From<MessageFault> for Stop {
+    fn from(fault: MessageFault) -> Stop {
+        Stop::Refused(fault.number())
+    }
+}
+
+impl From<SyncFault> for Stop {
+    fn from(fault: SyncFault) -> Stop {
         Stop::Refused(fault.number())
     }
 }

@@ -92,6 +92,14 @@ impl Unread {
         self.buffer.extend_from_slice(piece)
     }
 
+    /// Drops all bytes. Takes no memory.
+    pub fn clear(&mut self)
+        ensures { self.new ≡ [] }
+    {
+        self.codec = LengthDelimitedCodec::new();
+        self.buffer.clear();
+    }
+
     /// Takes the first frame where it is whole; `None` where it is not, and nothing changes. Refused as `TooLong` as soon as its four bytes
     /// of length are there and over 8,388,608, and as `Memory` where a growth was refused.
     pub fn next(&mut self) -> Result<Option<Body>, FrameFault>

@@ -1,18 +1,19 @@
 //! `radio edit`.
 
+use super::{editor_of, word};
 use crate::fault::CliFault;
 use crate::files::open;
 use crate::merge::put_log;
 use crate::part::Part;
-use crate::read::{read_all, read_log};
+use crate::read::read_all;
 use crate::stop::Stop;
-use clap::{Arg, ArgMatches, Command};
+use clap::{ArgMatches, Command};
 use mt_opcodec::Latch;
 use mt_replica::Editor;
 use mt_script::run as run_script;
 use mt_stamp::Replica;
 use std::alloc::{AllocError, Global};
-use std::io::{Read, Write};
+use std::io::Write;
 use std::rt::Files;
 
 pub(crate) fn words<'a>(alloc: Global) -> Result<Command<'a>, AllocError> {
@@ -29,16 +30,6 @@ pub(crate) fn words<'a>(alloc: Global) -> Result<Command<'a>, AllocError> {
         .arg(word(alloc, "LOG", "The log to begin with"))?
         .arg(word(alloc, "SCRIPT", "The changes, a line each"))?
         .arg(word(alloc, "OUT", "The log to write, which may be LOG"))
-}
-
-fn word<'a>(alloc: Global, name: &'a str, help: &'a str) -> Arg<'a> {
-    Arg::new(alloc, name).required(true).help(help)
-}
-
-// An editor of the log that an input holds.
-fn editor_of<R: Read>(alloc: Global, name: Replica, input: &mut Latch<R>) -> Result<Editor, Stop> {
-    let log = read_log(alloc, 0, input)?;
-    Ok(Editor::from_log(alloc, name, log)?)
 }
 
 // Writes the editor's log into the part, and how many operations were made to the output.

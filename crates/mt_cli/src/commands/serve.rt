@@ -1,0 +1,37 @@
+//! `radio serve`.
+
+use super::{NOBODY, converse_over, editor_of, put_editor, word};
+use crate::files::open;
+use crate::stop::Stop;
+use clap::{ArgMatches, Command};
+use mt_sync::Side;
+use std::alloc::{AllocError, Global};
+use std::net::{Net, OpenListener, TcpListener};
+use std::rt::Files;
+
+pub(crate) fn words<'a>(alloc: Global) -> Result<Command<'a>, AllocError> {
+    Command::new(alloc, "serve")
+        .about("Waits for one editor who meets it, swaps operations, and writes the new log")
+        .after_help(
+            "Example: radio serve 127.0.0.1:7000 desk.log desk.log\n\nExit status: 0 done, 1 refused (`radio explain` tells why), 2 the command line does not parse.",
+        )
+        .arg(word(alloc, "ADDR", "The address to wait at, as 127.0.0.1:7000"))?
+        .arg(word(alloc, "LOG", "The log to begin with"))?
+        .arg(word(alloc, "OUT", "The log to write, which may be LOG"))
+}
+
+pub(crate) fn run<F: Files + Net + AllocGlobal>(rt: &F, words: &ArgMatches<'_>) -> Result<(), Stop> {
+    let alloc = rt.alloc();
+    let mut log = open(rt, 0, words.get_str("LOG").unwrap_or(""))?;
+    let mut editor = editor_of(alloc, NOBODY, &mut log)?;
+    let listener = match TcpListener::bind(rt, words.get_str("ADDR").unwrap_or("")) {
+        Ok(listener) => listener,
+        Err(_) => return Err(Stop::net()),
+    };
+    let stream = match listener.accept() {
+        Ok((stream, _)) => stream,
+        Err(_) => return Err(Stop::net()),
+    };
+    converse_over(alloc, &mut editor, Side::Answerer, stream)?;
+    put_editor(rt, words.get_str("OUT").unwrap_or(""), &editor)
+}

@@ -1,0 +1,141 @@
+-- The loop over the frames of what is unread.
+use Rattle.std.proofs.Common.{◌≡◌, ℕ, ◌<◌, ◌+◌, Bool, true, false, List, [], ◌∷◌, ◌++◌, length, eqb, drop, Result, Ok, Err, refl, sym, ap, ◌∙◌, subst, append_assoc, append-nil, arith, Option, Some, None}
+use Rattle.std.specs.Prelude.{IsTrue}
+use Rattle.mt_opcodec.specs.LogValue.{LogMap}
+use Rattle.mt_frames.specs.Frames.{Front, cut_short, too_long, whole, front_of}
+use Rattle.mt_frames.specs.declared.FrameFault.{FrameFault}
+use Rattle.mt_frames.specs.declared.FrameFault.TheVariants as frame
+use Rattle.mt_frames.specs.declared.Body.{Body}
+use Rattle.mt_frames.specs.Unread as unread
+use Rattle.std.proofs.lemmas.List.{length-drop}
+use Rattle.std.proofs.lemmas.Bool.{ne_eqb}
+use Rattle.mt_frames.specs.Frames.{body_len}
+use Rattle.mt_frames.proofs.Fronts.{whole_of}
+use Rattle.mt_sync.specs.declared.fault.TalkFault.{TalkFault}
+use Rattle.mt_sync.specs.declared.fault.TalkFault.TheVariants.{Memory, Conflict, Failed, BadMessage, OutOfTurn, FrameTooLong}
+use Rattle.mt_sync.specs.Conversation.{Turn, greets, takes, ended, stopped, End, Told, stop, goes_on, front_in, body_in, byte_in, told}
+use Rattle.mt_sync.specs.Feeding.{IsOpen, IsGoing, Waits, end_at, TakesBody, Hears, IsFaultOf, over_at, Fed}
+use Rattle.mt_sync.proofs.Cuts.{after, with_reply, told-append}
+use Rattle.mt_sync.proofs.Fronting.{told_stopped, after_stop, told_ended, told_short, told_long, told_whole, told_again}
+
+-- what is still to be told, after these replies
+abbrev pub still : Turn → List ℕ → Option LogMap → List ℕ → Told
+still turn bytes set out = with_reply out (told (end_at turn [] set) bytes)
+
+pub begins : (turn : Turn) (rest : List ℕ) (set : Option LogMap) (piece all out : List ℕ) → IsOpen turn → Waits turn rest → all ≡ rest ++ piece → out ≡ [] → still turn all set out ≡ told (end_at turn rest set) piece
+begins (greets side) rest set piece all out reads waits is none = rw (is, none) (told_again (greets side) rest set piece tt waits)
+begins (takes owed) rest set piece all out reads waits is none = rw (is, none) (told_again (takes owed) rest set piece tt waits)
+begins ended rest set piece all out reads waits is none = absurd reads
+begins (stopped fault) rest set piece all out reads waits is none = absurd reads
+
+-- one more body was read
+pub moves_on : (turn : Turn) (bytes body rest : List ℕ) (set : Option LogMap) (out : List ℕ) (next : Turn) (new : Option LogMap) (more : List ℕ) (total : Told) → IsOpen turn → front_of bytes ≡ whole body rest → TakesBody (body_in turn set body) (Ok tt) next new out more → still turn bytes set out ≡ total → still next rest new more ≡ total
+moves_on turn bytes body rest set out next new more total reads front taken so_far =
+    let reply = taken.1.0 in
+    let one : told (end_at turn [] set) bytes ≡ after (end_at next [] new, reply) rest =
+    told_whole turn set bytes body rest reads front ∙ ap (λ (t : Told). after t rest) taken.1.1 in
+    let group = append_assoc out reply (told (end_at next [] new) rest).1 in
+    ap (λ (o : List ℕ). with_reply o (told (end_at next [] new) rest)) taken.1.2
+    ∙ ap (λ (o : List ℕ). ((told (end_at next [] new) rest).0, o)) group
+    ∙ ap (with_reply out) (sym one) ∙ so_far
+
+is_going : (turn : Turn) → IsOpen turn → IsGoing turn
+is_going (greets side) h = tt
+is_going (takes owed) h = tt
+is_going ended h = tt
+is_going (stopped fault) h = absurd h
+
+pub waits_short : (turn : Turn) (rest : List ℕ) → IsOpen turn → front_of rest ≡ cut_short → Waits turn rest
+waits_short (greets side) rest h short = short
+waits_short (takes owed) rest h short = short
+waits_short ended rest h short = absurd h
+waits_short (stopped fault) rest h short = absurd h
+
+-- no frame is whole
+pub pauses : (turn : Turn) (bytes rest : List ℕ) (set : Option LogMap) (out : List ℕ) (total : Told) → IsOpen turn → front_of bytes ≡ cut_short → rest ≡ bytes → still turn bytes set out ≡ total → Hears total (Ok tt) turn rest set out
+pauses turn bytes rest set out total reads front same so_far = (
+  is_going turn reads,
+  waits_short turn rest reads (ap front_of same ∙ front),
+  sym so_far ∙ ap (with_reply out) (told_short turn [] set bytes reads front) ∙ ap (λ (o : List ℕ). (end_at turn bytes set, o)) (append-nil out) ∙ ap (λ (l : List ℕ). (end_at turn l set, out)) (sym same),
+)
+
+pub refuses : (turn : Turn) (bytes : List ℕ) (set : Option LogMap) (out : List ℕ) (total : Told) (given : FrameFault) (fault : TalkFault) (next : Turn) (rest : List ℕ) → IsOpen turn → unread.TakesBody bytes (Err given) rest → IsFaultOf given fault → still turn bytes set out ≡ total → Hears total (Err fault) next rest set out
+refuses turn bytes set out total frame.Memory fault next rest reads h is so_far = subst (λ (f : TalkFault). Hears total (Err f) next rest set out) (sym is) tt
+refuses turn bytes set out total frame.TooLong fault next rest reads h is so_far =
+    subst (λ (f : TalkFault). Hears total (Err f) next rest set out) (sym is)
+    (ap (λ (t : Told). t.0) (sym so_far ∙ ap (with_reply out) (told_long turn set bytes reads h.0)))
+
+-- the end of an end that reading a body stopped
+stops_by : (turn : Turn) (bytes body rest : List ℕ) (set : Option LogMap) (out : List ℕ) (total : Told) (fault : TalkFault) (new : Option LogMap) → IsOpen turn → front_of bytes ≡ whole body rest → (body_in turn set body).0 ≡ (stop fault new).0 → still turn bytes set out ≡ total → total.0 ≡ (stop fault new).0
+stops_by turn bytes body rest set out total fault new reads front is so_far =
+    ap (λ (t : Told). t.0) (sym so_far ∙ ap (with_reply out) (told_whole turn set bytes body rest reads front))
+    ∙ ap (λ (e : End). (told e rest).0) is ∙ ap (λ (t : Told). t.0) (told_stopped fault [] new rest)
+
+pub stops : (fault : TalkFault) (turn : Turn) (bytes body rest : List ℕ) (set : Option LogMap) (out : List ℕ) (total : Told) (next : Turn) (new : Option LogMap) (more : List ℕ) → IsOpen turn → front_of bytes ≡ whole body rest → TakesBody (body_in turn set body) (Err fault) next new out more → still turn bytes set out ≡ total → Hears total (Err fault) next rest new more
+stops Memory turn bytes body rest set out total next new more reads front taken so_far = tt
+stops (Conflict dot) turn bytes body rest set out total next new more reads front taken so_far = stops_by turn bytes body rest set out total (Conflict dot) new reads front taken so_far
+stops Failed turn bytes body rest set out total next new more reads front taken so_far = stops_by turn bytes body rest set out total Failed new reads front taken so_far
+stops BadMessage turn bytes body rest set out total next new more reads front taken so_far = stops_by turn bytes body rest set out total BadMessage new reads front taken so_far
+stops OutOfTurn turn bytes body rest set out total next new more reads front taken so_far = stops_by turn bytes body rest set out total OutOfTurn new reads front taken so_far
+stops FrameTooLong turn bytes body rest set out total next new more reads front taken so_far = stops_by turn bytes body rest set out total FrameTooLong new reads front taken so_far
+
+-- the turn is over, with bytes left or without
+pub ends : (next : Turn) (rest : List ℕ) (new : Option LogMap) (more : List ℕ) (total : Told) (last : Bool) (r : Result (Unit {0}) TalkFault) → IsGoing next → (IsOpen next → ⊥) → last ≡ eqb (length rest) 0 → r ≡ over_at last → still next rest new more ≡ total → Hears total r next rest new more
+ends (greets side) rest new more total last r going over is ends_so so_far = absurd (over tt)
+ends (takes owed) rest new more total last r going over is ends_so so_far = absurd (over tt)
+ends (stopped fault) rest new more total last r going over is ends_so so_far = absurd going
+ends ended [] new more total last r going over is ends_so so_far =
+    subst (λ (x : Result (Unit {0}) TalkFault). Hears total x ended [] new more) (sym (ends_so ∙ ap over_at is))
+    (tt, refl, sym so_far ∙ ap (λ (o : List ℕ). (end_at ended [] new, o)) (append-nil more))
+ends ended (b ∷ rest) new more total last r going over is ends_so so_far =
+    let false_is : eqb (length (b ∷ rest)) 0 ≡ false = ne_eqb (length (b ∷ rest)) 0 (λ e. omega (arith, e)) in
+    subst (λ (x : Result (Unit {0}) TalkFault). Hears total x ended (b ∷ rest) new more) (sym (ends_so ∙ ap over_at (is ∙ false_is)))
+    (ap (λ (t : Told). t.0) (sym so_far ∙ ap (with_reply more) (told_ended [] new b rest)))
+
+-- what is unread grows less
+pub shorter : (bytes : List ℕ) (body rest : List ℕ) → front_of bytes ≡ whole body rest → length rest < length bytes
+shorter bytes body rest h =
+    let w = whole_of bytes body rest h in
+    omega (arith, w.long, w.all, ap length w.rest_is, length-drop (body_len bytes) (drop 4 bytes), length-drop 4 bytes)
+
+-- what an ended talk hears
+pub hears_none : (turn : Turn) (rest : List ℕ) (set : Option LogMap) (piece : List ℕ) → piece ≡ [] → told (end_at turn rest set) piece ≡ (end_at turn rest set, [])
+hears_none turn rest set piece is = ap (told (end_at turn rest set)) is
+
+-- the body that is read, as a slice
+pub body_read : (turn : Turn) (set : Option LogMap) (r : Result (Unit {0}) TalkFault) (next : Turn) (new : Option LogMap) (out more body slice : List ℕ) → slice ≡ body → TakesBody (body_in turn set slice) r next new out more → TakesBody (body_in turn set body) r next new out more
+body_read turn set r next new out more body slice is h = subst (λ (b : List ℕ). TakesBody (body_in turn set b) r next new out more) is h
+
+pub some_taken : (bytes rest : List ℕ) (o : Option Body) (body : Body) → o ≡ Some body → unread.TakesBody bytes (Ok o) rest → (front_of bytes ≡ whole body.bytes.items rest) × (body.is_last ≡ eqb (length rest) 0)
+some_taken bytes rest o body is h = subst (λ (x : Option Body). unread.TakesBody bytes (Ok x) rest) is h
+
+pub none_taken : (bytes rest : List ℕ) (o : Option Body) → o ≡ None → unread.TakesBody bytes (Ok o) rest → (front_of bytes ≡ cut_short) × (rest ≡ bytes)
+none_taken bytes rest o is h = subst (λ (x : Option Body). unread.TakesBody bytes (Ok x) rest) is h
+
+pub is_over : (turn : Turn) (test : Bool) → (IsTrue test → IsOpen turn) × (IsOpen turn → IsTrue test) → test ≡ false → IsOpen turn → ⊥
+is_over turn test tells off h = let on : test ≡ true = tells.1 h in absurd cc
+
+pub is_not_over : (turn : Turn) (test : Bool) → (IsTrue test → IsOpen turn) × (IsOpen turn → IsTrue test) → test ≡ true → IsOpen turn
+is_not_over turn test tells is = tells.0 is
+
+-- what a talk keeps of a fault
+pub stopped_at : (t : Told) (fault : TalkFault) (turn : Turn) (rest : List ℕ) (set : Option LogMap) (out : List ℕ) → Hears t (Err fault) turn rest set out → Fed {X = List ℕ} (λ l. l) t (Err fault) (end_at (stopped fault) [] set)
+stopped_at t Memory turn rest set out h = refl
+stopped_at t (Conflict dot) turn rest set out h = (h, refl)
+stopped_at t Failed turn rest set out h = (h, refl)
+stopped_at t BadMessage turn rest set out h = (h, refl)
+stopped_at t OutOfTurn turn rest set out h = (h, refl)
+stopped_at t FrameTooLong turn rest set out h = (h, refl)
+
+-- a turn that is over hears nothing more
+pub hears_nothing : (turn : Turn) (rest : List ℕ) (set : Option LogMap) (piece out : List ℕ) (r : Result (Unit {0}) TalkFault) → IsGoing turn → (IsOpen turn → ⊥) → Waits turn rest → out ≡ [] → r ≡ over_at (eqb (length piece) 0) → Hears (told (end_at turn rest set) piece) r turn rest set out
+hears_nothing (greets side) rest set piece out r going over waits none is = absurd (over tt)
+hears_nothing (takes owed) rest set piece out r going over waits none is = absurd (over tt)
+hears_nothing (stopped fault) rest set piece out r going over waits none is = absurd going
+hears_nothing ended rest set [] out r going over waits none is =
+    subst (λ (x : Result (Unit {0}) TalkFault). Hears (end_at ended rest set, []) x ended rest set out) (sym is)
+    (tt, waits, ap (λ (o : List ℕ). (end_at ended rest set, o)) (sym none))
+hears_nothing ended rest set (b ∷ piece) out r going over waits none is =
+    let false_is : eqb (length (b ∷ piece)) 0 ≡ false = ne_eqb (length (b ∷ piece)) 0 (λ e. omega (arith, e)) in
+    subst (λ (x : Result (Unit {0}) TalkFault). Hears (told (end_at ended rest set) (b ∷ piece)) x ended rest set out) (sym (is ∙ ap over_at false_is))
+    (ap (λ (t : Told). t.0) (told_ended rest set b piece))

@@ -1,0 +1,6 @@
+pub mod Cuts
+pub mod Fronting
+pub mod Hearing
+pub mod Pieces
+pub mod Joined
+pub mod Beginning

@@ -1,0 +1,65 @@
+use Rattle.std.proofs.Common.{refl, ◌∙◌, sym, ap, subst, Result, Ok, Err, arith, Option, Some, None, ◌≡◌, List, ℕ}
+use Rattle.mt_sync.specs.Conversation.{told, Told}
+use Rattle.mt_sync.specs.Feeding.{turn_of, end_at, Hears, TakesBody}
+use Rattle.mt_sync.proofs.Hearing.{begins, moves_on, pauses, refuses, stops, ends, shorter, body_read, some_taken, none_taken, is_over, is_not_over}
+use Rattle.mt_sync.proofs.talk.hear_frames.Goals as goal
+
+pub loop-body-init : goal.loop-body-init
+loop-body-init g c = (c.requires.reads, refl, begins (turn_of c.args.turn.now) c.args.unread.now c.args.editor.now.log c.args.piece.now c.push.new.self c.args.out.now.items c.requires.reads c.requires.waits c.in_ok-push.ensures.ok c.requires.empty)
+
+pub returns-in-Ok-2 : goal.returns-in-Ok-2
+returns-in-Ok-2 g c = record {
+  told =
+      let total = told (end_at (turn_of c.args.turn.now) c.args.unread.now c.args.editor.now.log) c.args.piece.now in
+      let front = some_taken c.loop-body.unread c.next.new.self c.in-Ok-Some.field-0 c.in-Ok-Some.body c.in-Ok-Some.field-0-is c.in-Ok-Some.ensures in
+      let read = body_read (turn_of c.loop-body.turn) c.loop-body.editor.log (Ok tt) (turn_of c.take_body.new.turn) c.take_body.new.editor.log c.loop-body.out.items c.take_body.new.out.items c.in-Ok-Some.body.bytes.items c.as_slice.result.now c.as_slice.ensures c.in-Ok.ensures.told in
+      ends (turn_of c.take_body.new.turn) c.next.new.self c.take_body.new.editor.log c.take_body.new.out.items total c.in-Ok-Some.body.is_last c.end_of_turn.result
+      read.0 (is_over (turn_of c.take_body.new.turn) c.is_open.result c.is_open.ensures c.if-is_open.false) front.1 c.end_of_turn.ensures
+      (moves_on (turn_of c.loop-body.turn) c.loop-body.unread c.in-Ok-Some.body.bytes.items c.next.new.self c.loop-body.editor.log c.loop-body.out.items (turn_of c.take_body.new.turn) c.take_body.new.editor.log c.take_body.new.out.items total
+      c.loop-body.invariant.0 front.0 read c.loop-body.invariant.2);
+  name = c.in-Ok.ensures.name ∙ c.loop-body.invariant.1;
+}
+
+pub returns-in-Err-take_body : goal.returns-in-Err-take_body
+returns-in-Err-take_body g c = record {
+  told =
+      let total = told (end_at (turn_of c.args.turn.now) c.args.unread.now c.args.editor.now.log) c.args.piece.now in
+      let front = some_taken c.loop-body.unread c.next.new.self c.in-Ok-Some.field-0 c.in-Ok-Some.body c.in-Ok-Some.field-0-is c.in-Ok-Some.ensures in
+      let read = body_read (turn_of c.loop-body.turn) c.loop-body.editor.log (Err c.in-Err-take_body.fault) (turn_of c.take_body.new.turn) c.take_body.new.editor.log c.loop-body.out.items c.take_body.new.out.items c.in-Ok-Some.body.bytes.items c.as_slice.result.now c.as_slice.ensures c.in-Err-take_body.ensures.told in
+      stops c.in-Err-take_body.fault (turn_of c.loop-body.turn) c.loop-body.unread c.in-Ok-Some.body.bytes.items c.next.new.self c.loop-body.editor.log c.loop-body.out.items total (turn_of c.take_body.new.turn) c.take_body.new.editor.log c.take_body.new.out.items
+      c.loop-body.invariant.0 front.0 read c.loop-body.invariant.2;
+  name = c.in-Err-take_body.ensures.name ∙ c.loop-body.invariant.1;
+}
+
+pub loop-body-smaller : goal.loop-body-smaller
+loop-body-smaller g c =
+    let front = some_taken c.loop-body.unread c.next.new.self c.in-Ok-Some.field-0 c.in-Ok-Some.body c.in-Ok-Some.field-0-is c.in-Ok-Some.ensures in
+    shorter c.loop-body.unread c.in-Ok-Some.body.bytes.items c.next.new.self front.0
+
+pub loop-body-preserved : goal.loop-body-preserved
+loop-body-preserved g c =
+    let total = told (end_at (turn_of c.args.turn.now) c.args.unread.now c.args.editor.now.log) c.args.piece.now in
+    let front = some_taken c.loop-body.unread c.next.new.self c.in-Ok-Some.field-0 c.in-Ok-Some.body c.in-Ok-Some.field-0-is c.in-Ok-Some.ensures in
+    let read = body_read (turn_of c.loop-body.turn) c.loop-body.editor.log (Ok tt) (turn_of c.take_body.new.turn) c.take_body.new.editor.log c.loop-body.out.items c.take_body.new.out.items c.in-Ok-Some.body.bytes.items c.as_slice.result.now c.as_slice.ensures c.in-Ok.ensures.told in (
+      is_not_over (turn_of c.take_body.new.turn) c.is_open.result c.is_open.ensures c.if-is_open.true,
+      c.in-Ok.ensures.name ∙ c.loop-body.invariant.1,
+      moves_on (turn_of c.loop-body.turn) c.loop-body.unread c.in-Ok-Some.body.bytes.items c.next.new.self c.loop-body.editor.log c.loop-body.out.items (turn_of c.take_body.new.turn) c.take_body.new.editor.log c.take_body.new.out.items total
+          c.loop-body.invariant.0 front.0 read c.loop-body.invariant.2,
+    )
+
+pub returns-in-Ok-None : goal.returns-in-Ok-None
+returns-in-Ok-None g c = record {
+  told =
+      let front = none_taken c.loop-body.unread c.next.new.self c.in-Ok-None.field-0 c.in-Ok-None.field-0-is c.in-Ok-None.ensures in
+      pauses (turn_of c.loop-body.turn) c.loop-body.unread c.next.new.self c.loop-body.editor.log c.loop-body.out.items (told (end_at (turn_of c.args.turn.now) c.args.unread.now c.args.editor.now.log) c.args.piece.now)
+      c.loop-body.invariant.0 front.0 front.1 c.loop-body.invariant.2;
+  name = c.loop-body.invariant.1;
+}
+
+pub returns-in-Err : goal.returns-in-Err
+returns-in-Err g c = record {
+  told =
+      refuses (turn_of c.loop-body.turn) c.loop-body.unread c.loop-body.editor.log c.loop-body.out.items (told (end_at (turn_of c.args.turn.now) c.args.unread.now c.args.editor.now.log) c.args.piece.now)
+      c.in-Err.fault c.fault_of.result (turn_of c.loop-body.turn) c.next.new.self c.loop-body.invariant.0 c.in-Err.ensures c.fault_of.ensures c.loop-body.invariant.2;
+  name = c.loop-body.invariant.1;
+}

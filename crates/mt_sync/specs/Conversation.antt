@@ -1,0 +1,121 @@
+-- One end of a conversation (profile): what it waits for, and what each byte does to it.
+use Rattle.std.specs.Prelude.{ℕ, ◌+◌, Bool, true, false, List, [], ◌∷◌, ◌++◌, length, Option, Some, None, nat_le, if◌then◌else◌, is_some, not, nat_eq, ◌^◌, nat_lt, ◌&&◌}
+use Rattle.std.specs.Cmp.Lexicographic.{pointwise}
+use Rattle.std.specs.FinMap as map
+use Rattle.mt_stamp.specs.declared.name.Dot.{Dot}
+use Rattle.mt_op.specs.Operation.{Operation}
+use Rattle.mt_op.specs.Dots.{op_dot}
+use Rattle.mt_opcodec.specs.OpText.{op_text}
+use Rattle.mt_opcodec.specs.LogValue.{LogMap}
+use Rattle.mt_frames.specs.Frames.{longest_body, frame_text, Front, cut_short, too_long, whole, front_of}
+use Rattle.mt_summary.specs.Summary.{Summary, summary_of, lacking}
+use Rattle.mt_summary.specs.Messages.{Message, have, ops, bye, have_text, bye_text, message_at, ops_frames}
+use Rattle.mt_sync.specs.declared.fault.TalkFault.{TalkFault}
+use Rattle.mt_sync.specs.declared.fault.TalkFault.TheVariants.{Failed, FrameTooLong, BadMessage, OutOfTurn, Conflict}
+use Rattle.mt_sync.specs.declared.fault.Side.{Side}
+use Rattle.mt_sync.specs.declared.fault.Side.TheVariants.{Caller, Answerer}
+
+-- What an end waits for: the other's Have, or operations and Bye. The caller keeps the Have that it answers at the end.
+pub data Turn : Type 0 where
+  greets : Side → Turn
+  takes : Option Summary → Turn
+  ended : Turn
+  stopped : TalkFault → Turn
+
+-- An end: its turn, the bytes that are in no whole frame yet, and the set of its editor's log, of which there is none where the editor
+-- has failed.
+pub record End : Type 0 where
+  pub turn : Turn
+  pub rest : List ℕ
+  pub set : Option LogMap
+
+-- what becomes of an end, and what it sends
+abbrev pub Told : Type 0
+Told = End × List ℕ
+
+abbrev pub stop : TalkFault → Option LogMap → Told
+stop fault set = (record { turn = stopped fault; rest = []; set = set }, [])
+
+abbrev pub goes_on : Turn → Option LogMap → List ℕ → Told
+goes_on turn set reply = (record { turn = turn; rest = []; set = set }, reply)
+
+-- what a set holds that a summary does not cover, and then Bye
+abbrev pub answer : LogMap → Summary → List ℕ
+answer set summary = ops_frames (lacking set summary) ++ frame_text bye_text
+
+-- a Have has to fit a frame
+abbrev pub can_say : Summary → Bool
+can_say summary = nat_le (length (have_text summary)) longest_body
+
+-- another operation stands under the dot of this one (operations are told apart by their texts)
+abbrev pub clashes : Option Operation → Operation → Bool
+clashes None o = false
+clashes (Some p) o = not (pointwise nat_eq (op_text p) (op_text o))
+
+abbrev pub with_op : LogMap → Operation → LogMap
+with_op set o = if is_some (map.get set (op_dot o)) then set else map.insert set (op_dot o) o
+
+-- Operations join a set one by one, up to the first whose dot names another one there.
+abbrev pub joined : LogMap → List Operation → LogMap × Option Dot
+joined set [] = (set, None)
+joined set (o ∷ list) = if clashes (map.get set (op_dot o)) o then (set, Some (op_dot o)) else joined (with_op set o) list
+
+abbrev pub taken : Turn → LogMap → Option Dot → Told
+taken turn set None = goes_on turn (Some set) []
+taken turn set (Some dot) = stop (Conflict dot) (Some set)
+
+-- what operations do
+abbrev pub takes_ops : Turn → Option LogMap → List Operation → Told
+takes_ops turn None list = stop Failed None
+takes_ops turn (Some set) list = taken turn (joined set list).0 (joined set list).1
+
+-- the answerer's first reply: its Have, what the caller lacks, and Bye
+abbrev pub greets_back : Option LogMap → Summary → Told
+greets_back None summary = stop Failed None
+greets_back (Some set) summary =
+    if can_say (summary_of set) then goes_on (takes None) (Some set) (frame_text (have_text (summary_of set)) ++ answer set summary)
+    else stop FrameTooLong (Some set)
+
+-- the caller's reply to Bye: what the answerer lacks, and Bye
+abbrev pub answers_back : Option LogMap → Summary → Told
+answers_back None summary = stop Failed None
+answers_back (Some set) summary = goes_on ended (Some set) (answer set summary)
+
+-- what a message does, by turns
+abbrev pub hears : Turn → Message → Option LogMap → Told
+hears (greets Caller) (have summary) set = goes_on (takes (Some summary)) set []
+hears (greets Answerer) (have summary) set = greets_back set summary
+hears (takes owed) (ops list) set = takes_ops (takes owed) set list
+hears (takes (Some summary)) bye set = answers_back set summary
+hears (takes None) bye set = goes_on ended set []
+hears turn message set = stop OutOfTurn set
+
+abbrev pub heard : Turn → Option Message → Option LogMap → Told
+heard turn None set = stop BadMessage set
+heard turn (Some message) set = hears turn message set
+
+-- what the body of a frame does
+unfoldable pub body_in : Turn → Option LogMap → List ℕ → Told
+body_in turn set body = heard turn (message_at body) set
+
+-- ---- bytes
+
+abbrev pub front_in : Turn → Option LogMap → List ℕ → Front → Told
+front_in turn set bytes cut_short = (record { turn = turn; rest = bytes; set = set }, [])
+front_in turn set bytes too_long = stop FrameTooLong set
+front_in turn set bytes (whole body rest) = body_in turn set body
+
+-- One more byte: a frame is read once its last byte is there. A byte after the end is out of turn, and after a stop
+-- bytes are not looked at.
+unfoldable pub byte_in : End → ℕ → Told
+byte_in end byte = by end.turn
+  where
+    by : Turn → Told
+    by (stopped fault) = (end, [])
+    by ended = stop OutOfTurn end.set
+    by turn = front_in turn end.set (end.rest ++ byte ∷ []) (front_of (end.rest ++ byte ∷ []))
+
+-- bytes one after another
+abbrev pub told : End → List ℕ → Told
+told end [] = (end, [])
+told end (byte ∷ bytes) = ((told (byte_in end byte).0 bytes).0, (byte_in end byte).1 ++ (told (byte_in end byte).0 bytes).1)

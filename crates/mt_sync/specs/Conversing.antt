@@ -1,0 +1,109 @@
+-- What a conversation over a reader and a writer reads, writes and answers.
+use Rattle.std.specs.Prelude.{◌≡◌, ℕ, List, [], ◌++◌, take, Option, Some, None, Result, true, false, ◌⊎◌, Ok, Err}
+use Rattle.std.specs.Io.KnownBytes.{Appends, Consumes}
+use Rattle.mt_opcodec.specs.LogValue.{LogMap}
+use Rattle.mt_opcodec.specs.Latch.{AppendsFront}
+use Rattle.mt_sync.specs.declared.fault.TalkFault.{TalkFault}
+use Rattle.mt_sync.specs.declared.fault.TalkFault.TheVariants.{Memory, Conflict, Failed, BadMessage, OutOfTurn, FrameTooLong}
+use Rattle.mt_sync.specs.declared.fault.SyncFault.{SyncFault}
+use Rattle.mt_sync.specs.declared.fault.SyncFault.TheVariants as fault
+use Rattle.mt_frames.specs.Frames.{frame_text, front_of}
+use Rattle.mt_frames.specs.Unread.{sole, is_too_long}
+use Rattle.mt_summary.specs.Summary.{Summary, summary_of}
+use Rattle.mt_summary.specs.Messages.{Message, have, ops, bye, have_text, message_at}
+use Rattle.mt_summary.specs.declared.fault.MessageFault.{MessageFault}
+use Rattle.mt_summary.specs.declared.fault.MessageFault.TheVariants as message
+use Rattle.mt_sync.specs.declared.fault.Side.{Side}
+use Rattle.mt_sync.specs.declared.fault.Side.TheVariants.{Caller, Answerer}
+use Rattle.mt_sync.specs.Feeding.{Talking, IsOpen, end_at}
+use Rattle.mt_sync.specs.Conversation.{can_say, answer, Turn, greets, takes, ended, stopped, End, Told, told}
+
+-- an end stopped by this fault, or memory ran out
+abbrev pub StopsBy : End → Option LogMap → TalkFault → Type 0
+StopsBy end set Memory = Unit {0}
+StopsBy end set (Conflict dot) = (end.turn ≡ stopped (Conflict dot)) × (end.set ≡ set)
+StopsBy end set Failed = (end.turn ≡ stopped Failed) × (end.set ≡ set)
+StopsBy end set BadMessage = (end.turn ≡ stopped BadMessage) × (end.set ≡ set)
+StopsBy end set OutOfTurn = (end.turn ≡ stopped OutOfTurn) × (end.set ≡ set)
+StopsBy end set FrameTooLong = (end.turn ≡ stopped FrameTooLong) × (end.set ≡ set)
+
+-- what an answer says of what was told
+abbrev pub Outcome : Told → Option (List ℕ) → Option (List ℕ) → Option LogMap → Result (Unit {0}) SyncFault → Type 0
+Outcome t written written' set (Ok _) = (t.0.turn ≡ ended) × (t.0.set ≡ set) × Appends written written' t.1
+Outcome t written written' set (Err (fault.Talk by)) = StopsBy t.0 set by
+Outcome t written written' set (Err fault.Ended) = (t.0.turn ≡ ended → ⊥) × (t.0.set ≡ set)
+Outcome t written written' set (Err fault.Read) = t.0.set ≡ set
+Outcome t written written' set (Err fault.Write) = t.0.set ≡ set
+
+-- the bytes that were read, what was written of what they call for, and what the answer says of them
+pub record Converses (start : End) (read read' written written' : Option (List ℕ)) (result : Result (Unit {0}) SyncFault) (set : Option LogMap) : Type 0 where
+  pub bytes : List ℕ
+  pub consumed : Consumes read read' bytes
+  pub front : AppendsFront written written' (told start bytes).1
+  pub outcome : Outcome (told start bytes) written written' set result
+
+-- ---- a whole conversation
+
+-- a caller's Have was written
+abbrev pub Begins : Option LogMap → Option (List ℕ) → Option (List ℕ) → Type 0
+Begins log written mid = (set : LogMap) × ((log ≡ Some set) × ((can_say (summary_of set) ≡ true) × Appends written mid (frame_text (have_text (summary_of set)))))
+
+-- why a caller did not come to read
+abbrev pub NotBegun : Option LogMap → Option (List ℕ) → Option (List ℕ) → Result (Unit {0}) SyncFault → Type 0
+NotBegun log written written' (Err (fault.Talk Memory)) = written' ≡ written
+NotBegun log written written' (Err (fault.Talk Failed)) = (log ≡ None) × (written' ≡ written)
+NotBegun log written written' (Err (fault.Talk FrameTooLong)) = (set : LogMap) × ((log ≡ Some set) × ((can_say (summary_of set) ≡ false) × (written' ≡ written)))
+NotBegun log written written' (Err fault.Write) = (set : LogMap) × ((log ≡ Some set) × AppendsFront written written' (frame_text (have_text (summary_of set))))
+NotBegun log written written' (Err (fault.Talk (Conflict dot))) = ⊥
+NotBegun log written written' (Err (fault.Talk BadMessage)) = ⊥
+NotBegun log written written' (Err (fault.Talk OutOfTurn)) = ⊥
+NotBegun log written written' (Err fault.Read) = ⊥
+NotBegun log written written' (Err fault.Ended) = ⊥
+NotBegun log written written' (Ok _) = ⊥
+
+-- what the beginning of a caller answers
+abbrev pub BeginsWith : {X : Type 0} → (X → Talking) → Option LogMap → Option (List ℕ) → Option (List ℕ) → Result X SyncFault → Type 0
+BeginsWith view log written written' (Ok x) = (view x ≡ record { turn = greets Caller; rest = [] }) × Begins log written written'
+BeginsWith view log written written' (Err by) = NotBegun log written written' (Err by)
+
+-- A caller writes its Have first; then, and as an answerer at once, the conversation goes on.
+abbrev pub ConversesAs : Side → Option LogMap → Option (List ℕ) → Option (List ℕ) → Option (List ℕ) → Option (List ℕ) → Result (Unit {0}) SyncFault → Option LogMap → Type 0
+ConversesAs Answerer log read read' written written' result new = Converses (end_at (greets Answerer) [] log) read read' written written' result new
+ConversesAs Caller log read read' written written' result new =
+    ((read' ≡ read) × ((new ≡ log) × NotBegun log written written' result))
+    ⊎ ((mid : Option (List ℕ)) × (Begins log written mid × Converses (end_at (greets Caller) [] log) read read' mid written' result new))
+
+-- ---- operations out of bytes
+
+-- what taking operations out of bytes answers and leaves
+abbrev pub TakesAll : Told → Result (Unit {0}) SyncFault → Option LogMap → Type 0
+TakesAll t (Ok _) new = (t.0.turn ≡ ended) × (t.0.set ≡ new)
+TakesAll t (Err (fault.Talk by)) new = StopsBy t.0 new by
+TakesAll t (Err fault.Ended) new = IsOpen t.0.turn × (t.0.set ≡ new)
+TakesAll t (Err fault.Read) new = ⊥
+TakesAll t (Err fault.Write) new = ⊥
+
+-- the one Have that bytes are
+abbrev pub asked_in : Option Message → Option Summary
+asked_in (Some (have summary)) = Some summary
+asked_in (Some (ops list)) = None
+asked_in (Some bye) = None
+asked_in None = None
+
+abbrev pub asked_of : Option (List ℕ) → Option Summary
+asked_of (Some body) = asked_in (message_at body)
+asked_of None = None
+
+-- what a summary in bytes lacks
+abbrev pub Lacks : {X : Type 0} → (X → List ℕ) → LogMap → List ℕ → Result X MessageFault → Type 0
+Lacks view set bytes (Ok out) = (summary : Summary) × ((asked_of (sole (front_of bytes)) ≡ Some summary) × (view out ≡ answer set summary))
+Lacks view set bytes (Err message.Memory) = Unit {0}
+Lacks view set bytes (Err message.FrameTooLong) = is_too_long (front_of bytes) ≡ true
+Lacks view set bytes (Err message.BadMessage) = (is_too_long (front_of bytes) ≡ false) × (asked_of (sole (front_of bytes)) ≡ None)
+
+-- the frame of the own Have
+abbrev pub HasBytes : {X : Type 0} → (X → List ℕ) → LogMap → Result X MessageFault → Type 0
+HasBytes view set (Ok out) = (can_say (summary_of set) ≡ true) × (view out ≡ frame_text (have_text (summary_of set)))
+HasBytes view set (Err message.Memory) = Unit {0}
+HasBytes view set (Err message.FrameTooLong) = can_say (summary_of set) ≡ false
+HasBytes view set (Err message.BadMessage) = ⊥

@@ -1,0 +1,150 @@
+-- What a talk is seen as, and what feeding it answers.
+use Rattle.std.specs.Prelude.{◌≡◌, ℕ, Bool, true, false, List, [], ◌++◌, Option, Some, None, Result, Ok, Err}
+use Rattle.mt_opcodec.specs.LogValue.{LogMap}
+use Rattle.mt_frames.specs.declared.FrameFault.{FrameFault}
+use Rattle.mt_frames.specs.declared.FrameFault.TheVariants as frame
+use Rattle.mt_frames.specs.Frames.{frame_text, cut_short, front_of}
+use Rattle.mt_sync.specs.declared.fault.TalkFault.{TalkFault}
+use Rattle.mt_sync.specs.declared.fault.TalkFault.TheVariants.{Memory, Conflict, Failed, BadMessage, OutOfTurn, FrameTooLong}
+use Rattle.mt_sync.specs.declared.turn.Turn.{Turn as Kept}
+use Rattle.mt_sync.specs.declared.turn.Turn.TheVariants as kept
+use Rattle.mt_summary.specs.Summary.{summary_of}
+use Rattle.mt_summary.specs.Messages.{have_text}
+use Rattle.mt_sync.specs.declared.fault.Side.TheVariants.{Caller}
+use Rattle.mt_sync.specs.Conversation.{can_say, Turn, greets, takes, ended, stopped, End, Told, stop, told, body_in}
+
+abbrev pub turn_of : {A : Type 0} → Kept A → Turn
+turn_of (kept.Greets side) = greets side
+turn_of (kept.Takes owed) = takes owed
+turn_of kept.Ended = ended
+turn_of (kept.Stopped fault) = stopped fault
+
+-- it reads frames
+abbrev pub IsOpen : Turn → Type 0
+IsOpen (greets side) = Unit {0}
+IsOpen (takes owed) = Unit {0}
+IsOpen ended = ⊥
+IsOpen (stopped fault) = ⊥
+
+-- it has met no fault
+abbrev pub IsGoing : Turn → Type 0
+IsGoing (greets side) = Unit {0}
+IsGoing (takes owed) = Unit {0}
+IsGoing ended = Unit {0}
+IsGoing (stopped fault) = ⊥
+
+abbrev pub HasStopped : Turn → Type 0
+HasStopped (greets side) = ⊥
+HasStopped (takes owed) = ⊥
+HasStopped ended = ⊥
+HasStopped (stopped fault) = Unit {0}
+
+abbrev pub IsFaultOf : FrameFault → TalkFault → Type 0
+IsFaultOf frame.Memory fault = fault ≡ Memory
+IsFaultOf frame.TooLong fault = fault ≡ FrameTooLong
+
+-- no byte may follow the end
+abbrev pub over_at : Bool → Result (Unit {0}) TalkFault
+over_at true = Ok tt
+over_at false = Err OutOfTurn
+
+-- no whole frame waits, and none at all once the turn is over
+abbrev pub Waits : Turn → List ℕ → Type 0
+Waits (greets side) rest = front_of rest ≡ cut_short
+Waits (takes owed) rest = front_of rest ≡ cut_short
+Waits ended rest = rest ≡ []
+Waits (stopped fault) rest = rest ≡ []
+
+pub record Talking : Type 0 where
+  pub turn : Turn
+  pub rest : List ℕ
+
+abbrev pub end_at : Turn → List ℕ → Option LogMap → End
+end_at turn rest set = record { turn = turn; rest = rest; set = set }
+
+abbrev pub end_of : Talking → Option LogMap → End
+end_of talk set = end_at talk.turn talk.rest set
+
+-- what reading a body answers and leaves
+abbrev pub TakesBody : Told → Result (Unit {0}) TalkFault → Turn → Option LogMap → List ℕ → List ℕ → Type 0
+TakesBody t (Ok _) turn set old new = IsGoing turn × ((reply : List ℕ) × (t ≡ (end_at turn [] set, reply)) × (new ≡ old ++ reply))
+TakesBody t (Err Memory) turn set old new = Unit {0}
+TakesBody t (Err (Conflict dot)) turn set old new = t.0 ≡ (stop (Conflict dot) set).0
+TakesBody t (Err Failed) turn set old new = t.0 ≡ (stop Failed set).0
+TakesBody t (Err BadMessage) turn set old new = t.0 ≡ (stop BadMessage set).0
+TakesBody t (Err OutOfTurn) turn set old new = t.0 ≡ (stop OutOfTurn set).0
+TakesBody t (Err FrameTooLong) turn set old new = t.0 ≡ (stop FrameTooLong set).0
+
+-- what hearing a piece answers and leaves: all of it was told, or it stopped by this fault
+abbrev pub Hears : Told → Result (Unit {0}) TalkFault → Turn → List ℕ → Option LogMap → List ℕ → Type 0
+Hears t (Ok _) turn rest set out = IsGoing turn × Waits turn rest × (t ≡ (end_at turn rest set, out))
+Hears t (Err Memory) turn rest set out = Unit {0}
+Hears t (Err (Conflict dot)) turn rest set out = t.0 ≡ (stop (Conflict dot) set).0
+Hears t (Err Failed) turn rest set out = t.0 ≡ (stop Failed set).0
+Hears t (Err BadMessage) turn rest set out = t.0 ≡ (stop BadMessage set).0
+Hears t (Err OutOfTurn) turn rest set out = t.0 ≡ (stop OutOfTurn set).0
+Hears t (Err FrameTooLong) turn rest set out = t.0 ≡ (stop FrameTooLong set).0
+
+-- what feeding a piece answers and leaves, where the talk had met no fault
+abbrev pub Fed : {X : Type 0} → (X → List ℕ) → Told → Result X TalkFault → End → Type 0
+Fed view t (Ok reply) new = IsGoing new.turn × (t ≡ (new, view reply))
+Fed view t (Err Memory) new = new.turn ≡ stopped Memory
+Fed view t (Err (Conflict dot)) new = (t.0 ≡ new) × (new.turn ≡ stopped (Conflict dot))
+Fed view t (Err Failed) new = (t.0 ≡ new) × (new.turn ≡ stopped Failed)
+Fed view t (Err BadMessage) new = (t.0 ≡ new) × (new.turn ≡ stopped BadMessage)
+Fed view t (Err OutOfTurn) new = (t.0 ≡ new) × (new.turn ≡ stopped OutOfTurn)
+Fed view t (Err FrameTooLong) new = (t.0 ≡ new) × (new.turn ≡ stopped FrameTooLong)
+
+-- after a fault every piece is out of turn, and nothing changes
+abbrev pub FeedsAt : {X : Type 0} → (X → List ℕ) → Turn → End → List ℕ → Result X TalkFault → End → Type 0
+FeedsAt view (stopped fault) old piece result new = (result ≡ Err OutOfTurn) × (new ≡ old)
+FeedsAt view (greets side) old piece result new = Fed view (told old piece) result new
+FeedsAt view (takes owed) old piece result new = Fed view (told old piece) result new
+FeedsAt view ended old piece result new = Fed view (told old piece) result new
+
+abbrev pub Feeds : {X : Type 0} → (X → List ℕ) → End → List ℕ → Result X TalkFault → End → Type 0
+Feeds view old piece result new = FeedsAt view old.turn old piece result new
+
+-- what a reply answers and appends
+abbrev pub Replies : Told → Result (Unit {0}) TalkFault → Option LogMap → List ℕ → List ℕ → Type 0
+Replies t (Ok _) set old new = IsGoing t.0.turn × (t.0.rest ≡ []) × (t.0.set ≡ set) × (new ≡ old ++ t.1)
+Replies t (Err Memory) set old new = Unit {0}
+Replies t (Err (Conflict dot)) set old new = t.0 ≡ (stop (Conflict dot) set).0
+Replies t (Err Failed) set old new = t.0 ≡ (stop Failed set).0
+Replies t (Err BadMessage) set old new = t.0 ≡ (stop BadMessage set).0
+Replies t (Err OutOfTurn) set old new = t.0 ≡ (stop OutOfTurn set).0
+Replies t (Err FrameTooLong) set old new = t.0 ≡ (stop FrameTooLong set).0
+
+-- what saying the own Have answers and appends
+abbrev pub Says : Bool → Result (Unit {0}) TalkFault → List ℕ → List ℕ → List ℕ → Type 0
+Says says (Ok _) text old new = (says ≡ true) × (new ≡ old ++ text)
+Says says (Err Memory) text old new = Unit {0}
+Says says (Err FrameTooLong) text old new = says ≡ false
+Says says (Err (Conflict dot)) text old new = ⊥
+Says says (Err Failed) text old new = ⊥
+Says says (Err BadMessage) text old new = ⊥
+Says says (Err OutOfTurn) text old new = ⊥
+
+-- the same as `Hears`, of replies that are given
+abbrev pub HearsAll : {X : Type 0} → (X → List ℕ) → Told → Result X TalkFault → Turn → List ℕ → Option LogMap → Type 0
+HearsAll view t (Ok out) turn rest set = IsGoing turn × Waits turn rest × (t ≡ (end_at turn rest set, view out))
+HearsAll view t (Err Memory) turn rest set = Unit {0}
+HearsAll view t (Err (Conflict dot)) turn rest set = t.0 ≡ (stop (Conflict dot) set).0
+HearsAll view t (Err Failed) turn rest set = t.0 ≡ (stop Failed set).0
+HearsAll view t (Err BadMessage) turn rest set = t.0 ≡ (stop BadMessage set).0
+HearsAll view t (Err OutOfTurn) turn rest set = t.0 ≡ (stop OutOfTurn set).0
+HearsAll view t (Err FrameTooLong) turn rest set = t.0 ≡ (stop FrameTooLong set).0
+
+-- what a call answers of the set of its editor: a talk that waits for a Have, and the frame of its own
+abbrev pub CallsFrom : {X : Type 0} → (X → Talking) → (X → List ℕ) → LogMap → Result X TalkFault → Type 0
+CallsFrom talk bytes set (Ok x) = (talk x ≡ record { turn = greets Caller; rest = [] }) × (can_say (summary_of set) ≡ true) × (bytes x ≡ frame_text (have_text (summary_of set)))
+CallsFrom talk bytes set (Err Memory) = Unit {0}
+CallsFrom talk bytes set (Err FrameTooLong) = can_say (summary_of set) ≡ false
+CallsFrom talk bytes set (Err (Conflict dot)) = ⊥
+CallsFrom talk bytes set (Err Failed) = ⊥
+CallsFrom talk bytes set (Err BadMessage) = ⊥
+CallsFrom talk bytes set (Err OutOfTurn) = ⊥
+
+abbrev pub Calls : {X : Type 0} → (X → Talking) → (X → List ℕ) → Option LogMap → Result X TalkFault → Type 0
+Calls talk bytes None result = result ≡ Err Failed
+Calls talk bytes (Some set) result = CallsFrom talk bytes set result

@@ -1,0 +1,96 @@
+//! A conversation over a reader and a writer.
+
+ghost use Rattle.std.specs.Prelude.{◌≡◌, []};
+ghost use Rattle.mt_sync.specs.Feeding.{end_of, IsGoing};
+ghost use Rattle.mt_sync.specs.Conversing.{Converses, ConversesAs, BeginsWith};
+
+use crate::fault::{Side, SyncFault};
+use crate::talk::Talk;
+use mt_opcodec::Latch;
+use mt_replica::Editor;
+use std::alloc::{Allocator, Global};
+use std::io::{Read, Write};
+
+/// How many bytes are read at once.
+const PIECE: usize = 65_536;
+
+/// Reads and answers until the other end's Bye: a whole conversation, as the caller, who writes its summary first, or as the answerer.
+/// Nothing is read past the piece with that Bye, of at most 65,536 bytes, after which no byte may follow.
+///
+/// Refused as the caller's `Talk::call` and each `Talk::feed` are; as `Read` (45) and `Write` (37) where the reader or the
+/// writer has failed; as `Ended` (49) where the input ends before the talk does. After a refusal the writer holds a front of the bytes
+/// that the conversation calls for, and the editor its own operations and those that came before.
+pub fn converse<A: Allocator + Clone, R: Read, W: Write>(
+    alloc: A,
+    frames: Global,
+    editor: &mut Editor<A>,
+    side: Side,
+    reader: &mut Latch<R>,
+    writer: &mut Latch<W>,
+) -> Result<(), SyncFault>
+    ensures converses { ConversesAs side editor.old.log (R.remaining reader.old.inner) (R.remaining reader.new.inner) (W.contents writer.old.inner) (W.contents writer.new.inner) result editor.new.log }
+    ensures name { editor.new.name ≡ editor.old.name }
+{
+    match side {
+        Side::Caller => match begin(alloc, frames, editor, writer) {
+            Ok(mut talk) => hold_on(&mut talk, editor, reader, writer),
+            Err(fault) => Err(fault),
+        },
+        Side::Answerer => {
+            let mut talk = Talk::answer(alloc, frames);
+            hold_on(&mut talk, editor, reader, writer)
+        }
+    }
+}
+
+// Begins as the caller: writes the frame of its summary.
+fn begin<A: Allocator + Clone, W: Write>(
+    alloc: A,
+    frames: Global,
+    editor: &Editor<A>,
+    writer: &mut Latch<W>,
+) -> Result<Talk<A>, SyncFault>
+    ensures { BeginsWith (λ talk. talk) editor.now.log (W.contents writer.old.inner) (W.contents writer.new.inner) result }
+{
+    let (talk, bytes) = match Talk::call(alloc, frames, editor) {
+        Ok(begun) => begun,
+        Err(fault) => return Err(SyncFault::Talk(fault)),
+    };
+    match writer.put(bytes.as_slice()) {
+        Ok(()) => Ok(talk),
+        Err(_) => Err(SyncFault::Write),
+    }
+}
+
+// Reads and answers until the talk has ended.
+fn hold_on<A: Allocator + Clone, R: Read, W: Write>(
+    talk: &mut Talk<A>,
+    editor: &mut Editor<A>,
+    reader: &mut Latch<R>,
+    writer: &mut Latch<W>,
+) -> Result<(), SyncFault>
+    requires { IsGoing talk.old.turn }
+    ensures converses { Converses (end_of talk.old editor.old.log) (R.remaining reader.old.inner) (R.remaining reader.new.inner) (W.contents writer.old.inner) (W.contents writer.new.inner) result editor.new.log }
+    ensures name { editor.new.name ≡ editor.old.name }
+{
+    let mut piece = [0; PIECE];
+    loop {
+        if talk.ended() {
+            return Ok(());
+        }
+        let count = match reader.get(&mut piece) {
+            Ok(count) => count,
+            Err(_) => return Err(SyncFault::Read),
+        };
+        if count == 0 {
+            return Err(SyncFault::Ended);
+        }
+        match talk.feed(editor, &piece[..count]) {
+            Ok(reply) => match writer.put(reply.as_slice()) {
+                Ok(()) => {}
+                Err(_) => return Err(SyncFault::Write),
+            },
+            Err(fault) => return Err(SyncFault::Talk(fault)),
+        }
+    }
+}

@@ -1,0 +1,87 @@
+//! Swapping by bytes that are carried by hand: a Have, what it lacks, and the taking of that.
+
+ghost use Rattle.std.specs.Prelude.{◌≡◌, [], None};
+ghost use Rattle.mt_sync.specs.Conversation.{takes, told};
+ghost use Rattle.mt_sync.specs.Feeding.{end_at};
+ghost use Rattle.mt_sync.specs.Conversing.{HasBytes, Lacks, TakesAll};
+
+use crate::fault::{SyncFault, TalkFault};
+use crate::replying::{put_answer, put_have};
+use crate::talk::Talk;
+use crate::turn::Turn;
+use mt_frames::{FrameFault, sole_body};
+use mt_opcodec::Log;
+use mt_replica::Editor;
+use mt_summary::{Message, MessageFault};
+use std::alloc::{Allocator, Global};
+
+/// One frame: the Have of the log's summary. Refused as `FrameTooLong` (40) where it does not fit a frame, and as `Memory` (0)
+/// where a growth was refused.
+pub fn have_bytes<A: Allocator + Clone, B: Allocator>(
+    alloc: A,
+    log: &Log<B>,
+) -> Result<Vec<u8, A>, MessageFault>
+    ensures { HasBytes (λ out. out.items) log.now result }
+{
+    let mut out = Vec::new(alloc.clone()?);
+    match put_have(&alloc, log, &mut out) {
+        Ok(()) => Ok(out),
+        Err(TalkFault::FrameTooLong) => Err(MessageFault::FrameTooLong),
+        Err(_) => Err(MessageFault::Memory),
+    }
+}
+
+/// The operations of a log that the summary in `have` does not cover, as frames of Ops, and Bye. Refused as `FrameTooLong` (40) where the
+/// length at the front of `have` is over 8,388,608; else as `BadMessage` (38) where `have` is not exactly one frame with a
+/// Have; and as `Memory` (0) where a growth was refused.
+pub fn lack_bytes<A: Allocator + Clone>(
+    alloc: A,
+    log: &Log<A>,
+    have: &[u8],
+) -> Result<Vec<u8, A>, MessageFault>
+    ensures { Lacks (λ out. out.items) log.now have.now result }
+{
+    let body = match sole_body(have) {
+        Ok(Some(body)) => body,
+        Ok(None) => return Err(MessageFault::BadMessage),
+        Err(FrameFault::TooLong) => return Err(MessageFault::FrameTooLong),
+        Err(FrameFault::Memory) => return Err(MessageFault::Memory),
+    };
+    match Message::read(alloc.clone()?, body) {
+        Ok(Message::Have(summary)) => {
+            let mut out = Vec::new(alloc.clone()?);
+            match put_answer(&alloc, log, &summary, &mut out) {
+                Ok(()) => Ok(out),
+                Err(_) => Err(MessageFault::Memory),
+            }
+        }
+        Ok(Message::Ops(_) | Message::Bye) => Err(MessageFault::BadMessage),
+        Err(MessageFault::BadMessage) => Err(MessageFault::BadMessage),
+        Err(_) => Err(MessageFault::Memory),
+    }
+}
+
+/// Takes the operations of frames of Ops up to Bye, frame by frame. Refused as an answerer's `Talk::feed` is, which waits for
+/// operations: 40, 38, 39 (so too for a byte after Bye), 20, 17 or 0; and as `Ended` (49) where the bytes end before Bye. After a
+/// refusal the editor holds its own operations and those before the fault. `frames` is where the bytes are kept while they are read.
+pub fn take_ops<A: Allocator + Clone>(
+    alloc: A,
+    frames: Global,
+    editor: &mut Editor<A>,
+    bytes: &[u8],
+) -> Result<(), SyncFault>
+    ensures takes { TakesAll (told (end_at (takes None) [] editor.old.log) bytes.now) result editor.new.log }
+    ensures name { editor.new.name ≡ editor.old.name }
+{
+    let mut talk = Talk::waiting(alloc, frames, Turn::Takes(None));
+    match talk.feed(editor, bytes) {
+        Ok(_) => {
+            if talk.ended() {
+                Ok(())
+            } else {
+                Err(SyncFault::Ended)
+            }
+        }
+        Err(fault) => Err(SyncFault::Talk(fault)),
+    }
+}

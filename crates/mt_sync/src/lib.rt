@@ -1,0 +1,17 @@
+//! Conversations in which two editors swap exactly the operations that the other lacks.
+#![tactic(auto)]
+
+mod conversing;
+mod fault;
+mod frames_of;
+mod joining;
+pub mod laws;
+mod replying;
+mod talk;
+mod turn;
+
+pub use conversing::converse;
+pub use fault::{Side, SyncFault, TalkFault};
+pub use frames_of::{have_bytes, lack_bytes, take_ops};
+pub use mt_summary::{Message, MessageFault, Numbers, Summary, lacking};
+pub use talk::Talk;

@@ -1,0 +1,87 @@
+//! What an end replies.
+
+ghost use Rattle.std.specs.Prelude.{◌≡◌, ◌++◌, OnOk, IfErr};
+ghost use Rattle.mt_frames.specs.Frames.{frame_text};
+ghost use Rattle.mt_summary.specs.Summary.{summary_of};
+ghost use Rattle.mt_summary.specs.Messages.{have_text};
+ghost use Rattle.mt_sync.specs.Conversation.{answer, greets_back, answers_back, can_say};
+ghost use Rattle.mt_sync.specs.Feeding.{Replies, Says};
+
+use crate::fault::TalkFault;
+use mt_frames::put_frame;
+use mt_opcodec::Log;
+use mt_replica::Editor;
+use mt_summary::{Message, MessageFault, Summary, lacking, put_ops_frames};
+use std::alloc::Allocator;
+
+// Appends the frame of the log's Have.
+pub(crate) fn put_have<A: Allocator + Clone, B: Allocator>(
+    alloc: &A,
+    log: &Log<B>,
+    out: &mut Vec<u8, A>,
+) -> Result<(), TalkFault>
+    ensures { Says (can_say (summary_of log.now)) result (frame_text (have_text (summary_of log.now))) out.old.items out.new.items }
+{
+    let Ok(summary) = Summary::of(alloc.clone()?, log) else {
+        return Err(TalkFault::Memory);
+    };
+    match Message::Have(summary).write(alloc.clone()?) {
+        Ok(body) => {
+            put_frame(out, &body)?;
+            Ok(())
+        }
+        Err(MessageFault::FrameTooLong) => Err(TalkFault::FrameTooLong),
+        Err(_) => Err(TalkFault::Memory),
+    }
+}
+
+// Appends what the summary lacks, and Bye.
+pub(crate) fn put_answer<A: Allocator + Clone, B: Allocator>(
+    alloc: &A,
+    log: &Log<A>,
+    summary: &Summary<B>,
+    out: &mut Vec<u8, A>,
+) -> Result<(), TalkFault>
+    ensures ok { OnOk result (out.new.items ≡ out.old.items ++ answer log.now summary.now) }
+    ensures err { IfErr result (λ fault. fault ≡ TalkFault.Memory) }
+{
+    let Ok(ops) = lacking(alloc.clone()?, log, summary) else {
+        return Err(TalkFault::Memory);
+    };
+    put_ops_frames(out, &ops)?;
+    put_frame(out, &[3])?;
+    Ok(())
+}
+
+// Appends the answerer's first reply.
+pub(crate) fn put_greeting<A: Allocator + Clone, B: Allocator>(
+    alloc: &A,
+    editor: &Editor<A>,
+    summary: &Summary<B>,
+    out: &mut Vec<u8, A>,
+) -> Result<(), TalkFault>
+    ensures { Replies (greets_back editor.now.log summary.now) result editor.now.log out.old.items out.new.items }
+{
+    let Some(log) = editor.log() else {
+        return Err(TalkFault::Failed);
+    };
+    put_have(alloc, log, out)?;
+    put_answer(alloc, log, summary, out)?;
+    Ok(())
+}
+
+// Appends the caller's reply to Bye.
+pub(crate) fn put_farewell<A: Allocator + Clone, B: Allocator>(
+    alloc: &A,
+    editor: &Editor<A>,
+    summary: &Summary<B>,
+    out: &mut Vec<u8, A>,
+) -> Result<(), TalkFault>
+    ensures { Replies (answers_back editor.now.log summary.now) result editor.now.log out.old.items out.new.items }
+{
+    let Some(log) = editor.log() else {
+        return Err(TalkFault::Failed);
+    };
+    put_answer(alloc, log, summary, out)?;
+    Ok(())
+}

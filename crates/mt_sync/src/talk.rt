@@ -1,0 +1,275 @@
+//! One end of a conversation.
+
+ghost use Rattle.std.specs.Prelude.{◌≡◌, [], ◌↔◌, IsTrue, IfOk, Ok, Err};
+ghost use Rattle.mt_frames.specs.Frames.{frame_text};
+ghost use Rattle.mt_summary.specs.Summary.{summary_of};
+ghost use Rattle.mt_summary.specs.Messages.{have_text};
+ghost use Rattle.mt_summary.specs.Reading.{message_of};
+ghost use Rattle.mt_sync.specs.Conversation.{ended, greets, takes, hears, body_in, told};
+ghost use Rattle.mt_sync.specs.Feeding.{turn_of, IsOpen, IsGoing, Waits, end_at, end_of, TakesBody, Hears, Feeds, IsFaultOf, over_at, HearsAll, Calls};
+
+use crate::fault::{Side, TalkFault};
+use crate::joining::join_ops;
+use crate::replying::{put_farewell, put_greeting, put_have};
+use crate::turn::Turn;
+use mt_frames::{FrameFault, Unread};
+use mt_replica::Editor;
+use mt_summary::{Message, MessageFault};
+use std::alloc::{Allocator, Global};
+use std::marker::Model;
+use std::mem;
+
+/// One end of a conversation, which reads the other end's bytes in pieces that are cut anywhere and answers what to send back.
+///
+/// The caller tells its summary. The answerer answers with its own, the operations that the caller lacks, and Bye. The caller takes
+/// those operations and answers Bye with the operations that the answerer lacks, and Bye; then it has ended. The answerer takes
+/// those, and has ended at Bye.
+#[derive(Drop)]
+pub struct Talk<A: Allocator = Global> {
+    turn: Turn<A>,
+    unread: Unread,
+    alloc: A,
+}
+
+impl<A: Allocator> Model for Talk<A> {
+    ghost use Rattle.mt_sync.specs.Feeding.{Talking, turn_of, Waits};
+
+    ghost Value = { Talking };
+
+    ghost view = { λ t. record { turn = turn_of t.turn; rest = t.unread } };
+
+    ghost invariant = { λ t. Waits (turn_of t.turn) t.unread };
+}
+
+impl<A: Allocator + Clone> Talk<A> {
+    // A talk that waits for this and has read nothing.
+    pub(crate) fn waiting(alloc: A, frames: Global, turn: Turn<A>) -> Talk<A>
+        requires open { IsOpen (turn_of turn) }
+        ensures { result ≡ record { turn = turn_of turn; rest = [] } }
+    {
+        Talk {
+            turn,
+            unread: Unread::new(frames),
+            alloc,
+        }
+    }
+
+    /// The caller's end, and the bytes that begin the conversation: the frame of its summary. `frames` is where the bytes of a frame that
+    /// is not whole are kept. Refused, in this order, as `Failed` (20) where the editor has failed and as `FrameTooLong`
+    /// (40) where its summary does not fit a frame; as `Memory` (0) where a growth was refused.
+    pub fn call(
+        alloc: A,
+        frames: Global,
+        editor: &Editor<A>,
+    ) -> Result<(Talk<A>, Vec<u8, A>), TalkFault>
+        ensures { Calls (λ x. x.0) (λ x. x.1.items) editor.now.log result }
+    {
+        let Some(log) = editor.log() else {
+            return Err(TalkFault::Failed);
+        };
+        let mut out = Vec::new(alloc.clone()?);
+        put_have(&alloc, log, &mut out)?;
+        let talk = Talk::waiting(alloc, frames, Turn::Greets(Side::Caller));
+        Ok((talk, out))
+    }
+
+    /// The answerer's end, before it has read anything. Takes no memory.
+    pub fn answer(alloc: A, frames: Global) -> Talk<A>
+        ensures { result ≡ record { turn = greets Side.Answerer; rest = [] } }
+    {
+        Talk::waiting(alloc, frames, Turn::Greets(Side::Answerer))
+    }
+
+    /// Whether the conversation has come to its end: the other end's Bye was read, and answered where that is this end's to do. A
+    /// talk that has met a fault has not ended.
+    pub fn ended(&self) -> bool
+        ensures { IsTrue result ↔ (self.now.turn ≡ ended) }
+    {
+        matches!(self.turn, Turn::Ended)
+    }
+
+    /// Reads a piece of the other end's bytes, and answers the bytes to send back. Operations join the editor's log frame by
+    /// frame.
+    ///
+    /// Refused as `OutOfTurn` (39) after a fault, and after the end for a piece that is not empty. Then frame by frame:
+    /// `FrameTooLong` (40) where its length is over 8,388,608, before the body is looked at; `BadMessage` (38) where the body is no message;
+    /// `OutOfTurn` (39) where nobody waits for that message; `Failed` (20) where the editor has failed and its log is
+    /// needed; `Conflict` (17) where an operation's dot names another one in the log; `FrameTooLong` (40) where the own
+    /// summary does not fit a frame. `Memory` (0) where a growth was refused. After a fault the editor holds its own operations and those before
+    /// the fault, and the talk answers 39 from then on.
+    pub fn feed(&mut self, editor: &mut Editor<A>, piece: &[u8]) -> Result<Vec<u8, A>, TalkFault>
+        ensures told { Feeds (λ out. out.items) (end_of self.old editor.old.log) piece.now result (end_of self.new editor.new.log) }
+        ensures name { editor.new.name ≡ editor.old.name }
+    {
+        if self.turn.has_stopped() {
+            return Err(TalkFault::OutOfTurn);
+        }
+        match hear_all(&self.alloc, &mut self.turn, &mut self.unread, editor, piece) {
+            Ok(out) => Ok(out),
+            Err(fault) => {
+                self.turn = Turn::Stopped(fault);
+                self.unread.clear();
+                Err(fault)
+            }
+        }
+    }
+}
+
+// Hears one piece, and gives the replies.
+fn hear_all<A: Allocator + Clone>(
+    alloc: &A,
+    turn: &mut Turn<A>,
+    unread: &mut Unread,
+    editor: &mut Editor<A>,
+    piece: &[u8],
+) -> Result<Vec<u8, A>, TalkFault>
+    requires going { IsGoing (turn_of turn.old) }
+    requires waits { Waits (turn_of turn.old) unread.old }
+    ensures told { HearsAll (λ out. out.items) (told (end_at (turn_of turn.old) unread.old editor.old.log) piece.now) result (turn_of turn.new) unread.new editor.new.log }
+    ensures name { editor.new.name ≡ editor.old.name }
+{
+    let mut out = Vec::new(alloc.clone()?);
+    match hear(alloc, turn, unread, editor, piece, &mut out) {
+        Ok(()) => Ok(out),
+        Err(fault) => Err(fault),
+    }
+}
+
+// Hears one piece, and appends the replies.
+fn hear<A: Allocator + Clone>(
+    alloc: &A,
+    turn: &mut Turn<A>,
+    unread: &mut Unread,
+    editor: &mut Editor<A>,
+    piece: &[u8],
+    out: &mut Vec<u8, A>,
+) -> Result<(), TalkFault>
+    requires going { IsGoing (turn_of turn.old) }
+    requires waits { Waits (turn_of turn.old) unread.old }
+    requires empty { out.old.items ≡ [] }
+    ensures told { Hears (told (end_at (turn_of turn.old) unread.old editor.old.log) piece.now) result (turn_of turn.new) unread.new editor.new.log out.new.items }
+    ensures name { editor.new.name ≡ editor.old.name }
+{
+    if turn.is_open() {
+        hear_frames(alloc, turn, unread, editor, piece, out)
+    } else {
+        end_of_turn(piece.is_empty())
+    }
+}
+
+// The same, where it reads frames.
+fn hear_frames<A: Allocator + Clone>(
+    alloc: &A,
+    turn: &mut Turn<A>,
+    unread: &mut Unread,
+    editor: &mut Editor<A>,
+    piece: &[u8],
+    out: &mut Vec<u8, A>,
+) -> Result<(), TalkFault>
+    requires reads { IsOpen (turn_of turn.old) }
+    requires waits { Waits (turn_of turn.old) unread.old }
+    requires empty { out.old.items ≡ [] }
+    ensures told { Hears (told (end_at (turn_of turn.old) unread.old editor.old.log) piece.now) result (turn_of turn.new) unread.new editor.new.log out.new.items }
+    ensures name { editor.new.name ≡ editor.old.name }
+{
+    unread.push(piece)?;
+    loop {
+        match unread.next() {
+            Ok(Some(body)) => match take_body(alloc, turn, editor, body.bytes.as_slice(), out) {
+                Ok(()) if turn.is_open() => {}
+                Ok(()) => return end_of_turn(body.is_last),
+                Err(fault) => return Err(fault),
+            },
+            Ok(None) => return Ok(()),
+            Err(fault) => return Err(fault_of(fault)),
+        }
+    }
+}
+
+// No byte may follow the end.
+fn end_of_turn(is_last: bool) -> Result<(), TalkFault>
+    ensures { result ≡ over_at is_last }
+{
+    if is_last {
+        Ok(())
+    } else {
+        Err(TalkFault::OutOfTurn)
+    }
+}
+
+fn fault_of(fault: FrameFault) -> TalkFault
+    ensures { IsFaultOf fault result }
+{
+    match fault {
+        FrameFault::Memory => TalkFault::Memory,
+        FrameFault::TooLong => TalkFault::FrameTooLong,
+    }
+}
+
+// Reads the body of a frame, and appends the reply.
+#[tactic(auto, unfolding(crate::specs::Conversation::body_in))]
+fn take_body<A: Allocator + Clone>(
+    alloc: &A,
+    turn: &mut Turn<A>,
+    editor: &mut Editor<A>,
+    body: &[u8],
+    out: &mut Vec<u8, A>,
+) -> Result<(), TalkFault>
+    requires { IsOpen (turn_of turn.old) }
+    ensures told { TakesBody (body_in (turn_of turn.old) editor.old.log body.now) result (turn_of turn.new) editor.new.log out.old.items out.new.items }
+    ensures name { editor.new.name ≡ editor.old.name }
+{
+    match Message::read(alloc.clone()?, body) {
+        Ok(message) => take_message(alloc, turn, editor, message, out),
+        Err(MessageFault::BadMessage) => Err(TalkFault::BadMessage),
+        Err(_) => Err(TalkFault::Memory),
+    }
+}
+
+// What a message does, by turns.
+fn take_message<A: Allocator + Clone>(
+    alloc: &A,
+    turn: &mut Turn<A>,
+    editor: &mut Editor<A>,
+    message: Message<A>,
+    out: &mut Vec<u8, A>,
+) -> Result<(), TalkFault>
+    requires { IsOpen (turn_of turn.old) }
+    ensures told { TakesBody (hears (turn_of turn.old) (message_of message) editor.old.log) result (turn_of turn.new) editor.new.log out.old.items out.new.items }
+    ensures name { editor.new.name ≡ editor.old.name }
+{
+    match mem::replace(turn, Turn::Ended) {
+        Turn::Greets(Side::Caller) => match message {
+            Message::Have(summary) => {
+                *turn = Turn::Takes(Some(summary));
+                Ok(())
+            }
+            Message::Ops(_) | Message::Bye => Err(TalkFault::OutOfTurn),
+        },
+        Turn::Greets(Side::Answerer) => match message {
+            Message::Have(summary) => {
+                put_greeting(alloc, editor, &summary, out)?;
+                *turn = Turn::Takes(None);
+                Ok(())
+            }
+            Message::Ops(_) | Message::Bye => Err(TalkFault::OutOfTurn),
+        },
+        Turn::Takes(Some(summary)) => match message {
+            Message::Have(_) => Err(TalkFault::OutOfTurn),
+            Message::Ops(list) => {
+                *turn = Turn::Takes(Some(summary));
+                join_ops(alloc, editor, list.into_vec())
+            }
+            Message::Bye => put_farewell(alloc, editor, &summary, out),
+        },
+        Turn::Takes(None) => match message {
+            Message::Have(_) => Err(TalkFault::OutOfTurn),
+            Message::Ops(list) => {
+                *turn = Turn::Takes(None);
+                join_ops(alloc, editor, list.into_vec())
+            }
+            Message::Bye => Ok(()),
+        },
+        Turn::Ended | Turn::Stopped(_) => Err(TalkFault::OutOfTurn),
+    }
+}

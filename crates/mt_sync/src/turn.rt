@@ -1,0 +1,35 @@
+//! What an end waits for.
+
+ghost use Rattle.std.specs.Prelude.{◌↔◌, IsTrue};
+ghost use Rattle.mt_sync.specs.Feeding.{turn_of, IsOpen, HasStopped};
+
+use crate::fault::{Side, TalkFault};
+use mt_summary::Summary;
+use std::alloc::Allocator;
+
+// What an end waits for.
+#[derive(Drop)]
+pub(crate) enum Turn<A: Allocator> {
+    // The other end's Have.
+    Greets(Side),
+    // Operations or Bye. The caller keeps the Have that it answers at the end.
+    Takes(Option<Summary<A>>),
+    Ended,
+    Stopped(TalkFault),
+}
+
+impl<A: Allocator> Turn<A> {
+    // Whether it reads frames.
+    pub(crate) fn is_open(&self) -> bool
+        ensures { IsTrue result ↔ IsOpen (turn_of self.now) }
+    {
+        matches!(self, Turn::Greets(_) | Turn::Takes(_))
+    }
+
+    // Whether it has met a fault.
+    pub(crate) fn has_stopped(&self) -> bool
+        ensures { IsTrue result ↔ HasStopped (turn_of self.now) }
+    {
+        matches!(self, Turn::Stopped(_))
+    }
+}

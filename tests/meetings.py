@@ -1,0 +1,200 @@
+#!/usr/bin/env python3
+"""Two processes that swap operations: python3 tests/meetings.py PROGRAM
+
+`radio serve` and `radio meet` over loopback on logs of several sizes with what they share: both end with the union, byte for byte as
+`radio merge` gives it, and what `have`, `lack` and `take` do by files gives the same. Then peers that cut, that send one byte at a
+time, that send what is no message: a clear status, and the files that were there whole; and a meeting of which one side is killed at
+a random moment, which a second meeting completes.
+"""
+import os
+import random
+import shutil
+import socket
+import subprocess
+import sys
+import tempfile
+import threading
+import time
+
+sys.dont_write_bytecode = True
+sys.path.insert(0, os.path.dirname(os.path.abspath(__file__)))
+from exchange import BYE, LONGEST, frame, have, ops, summary
+from logs import A, B, C, add_marker, log
+
+ONLY_A, ONLY_B = 20, 21
+
+
+def markers(replica, count, size=8):
+    return [add_marker((number, replica, number), number, "m" * size) for number in range(1, count + 1)]
+
+
+def free_port():
+    with socket.socket() as probe:
+        probe.bind(("127.0.0.1", 0))
+        return probe.getsockname()[1]
+
+
+class Desk:
+    """A folder with two logs, and the program at work on them."""
+
+    def __init__(self, program, left, right):
+        self.program = program
+        self.folder = tempfile.mkdtemp()
+        for name, some in (("left", left), ("right", right)):
+            with open(self.path(name), "wb") as file:
+                file.write(log(some))
+
+    def path(self, name):
+        return os.path.join(self.folder, name)
+
+    def bytes_of(self, name):
+        with open(self.path(name), "rb") as file:
+            return file.read()
+
+    def start(self, *words):
+        return subprocess.Popen([self.program, *words], cwd=self.folder, stdout=subprocess.PIPE, stderr=subprocess.PIPE, text=True)
+
+    def run(self, *words):
+        """The refusal's number, or none."""
+        child = self.start(*words)
+        output, errors = child.communicate(timeout=120)
+        assert output == "" or words[0] in ("view", "edit"), output
+        assert child.returncode == (1 if errors else 0), (words, child.returncode, errors)
+        return int(errors.rsplit(" ", 1)[1]) if errors else None
+
+    def serving(self, out="left.new"):
+        """One who serves the left log, and the port at which it waits."""
+        port = free_port()
+        child = self.start("serve", "127.0.0.1:%d" % port, "left", out)
+        for _ in range(500):
+            if listens(port) or child.poll() is not None:
+                return child, port
+            time.sleep(0.01)
+        raise AssertionError("nobody listens at port %d" % port)
+
+    def close(self):
+        shutil.rmtree(self.folder)
+
+
+def listens(port):
+    """Whether a socket waits at this port, asked without calling there."""
+    with open("/proc/net/tcp") as file:
+        return any(line.split()[1].endswith(":%04X" % port) and line.split()[3] == "0A" for line in file.readlines()[1:])
+
+
+def told(child):
+    output, errors = child.communicate(timeout=120)
+    assert output == ""
+    return int(errors.rsplit(" ", 1)[1]) if errors else None
+
+
+def meet(desk):
+    """Both sides' refusals."""
+    child, port = desk.serving()
+    mine = desk.run("meet", "127.0.0.1:%d" % port, "right", "right.new")
+    return told(child), mine
+
+
+def check_meeting(program, left, right):
+    desk = Desk(program, left, right)
+    assert desk.run("merge", "both", "left", "right") is None
+    assert meet(desk) == (None, None)
+    both = desk.bytes_of("both")
+    assert desk.bytes_of("left.new") == both and desk.bytes_of("right.new") == both
+    for mine, other in (("left", "right"), ("right", "left")):
+        assert desk.run("have", mine, "have") is None
+        assert desk.run("lack", other, "have", "ops") is None
+        assert desk.run("take", mine, "ops", mine + ".taken") is None
+        assert desk.bytes_of(mine + ".taken") == both
+    desk.close()
+
+
+def caller(port, pieces, read=True):
+    """A caller that sends these pieces and then hangs up; what it was sent."""
+    heard = b""
+    with socket.create_connection(("127.0.0.1", port)) as line:
+        try:
+            for piece in pieces:
+                line.sendall(piece)
+            if read:
+                line.shutdown(socket.SHUT_WR)
+                while chunk := line.recv(65536):
+                    heard += chunk
+        except (BrokenPipeError, ConnectionResetError):
+            pass
+    return heard
+
+
+def check_peer(program, pieces, wanted, left):
+    """One who serves `left` and is called by a peer that sends these pieces ends with one of these statuses."""
+    desk = Desk(program, left, [])
+    before = desk.bytes_of("left")
+    child, port = desk.serving("left")
+    heard = caller(port, pieces)
+    number = told(child)
+    assert number in wanted, (number, wanted)
+    if number is not None:
+        assert desk.bytes_of("left") == before and not os.path.exists(desk.path("left.part"))
+    return heard, desk
+
+
+def check_killed(program, seed):
+    rng = random.Random(seed)
+    shared = markers(C, 2000)
+    left, right = shared + markers(ONLY_A, 3000), shared + markers(ONLY_B, 3000)
+    desk = Desk(program, left, right)
+    child, port = desk.serving("left")
+    other = desk.start("meet", "127.0.0.1:%d" % port, "right", "right")
+    time.sleep(rng.random() * 0.06)
+    victim = rng.choice([child, other])
+    victim.kill()
+    for one in (child, other):
+        if one is not victim:
+            try:
+                one.communicate(timeout=20)
+            except subprocess.TimeoutExpired:
+                # nobody ever called the one that serves
+                one.kill()
+                one.communicate()
+    for one in (child, other):
+        one.stdout.close()
+        one.stderr.close()
+    for name in ("left.part", "right.part"):
+        if os.path.exists(desk.path(name)):
+            os.remove(desk.path(name))
+    whole = log(left + markers(ONLY_B, 3000))
+    for name, own in (("left", log(left)), ("right", log(right))):
+        assert desk.bytes_of(name) in (own, whole), "a file that was there is cut"
+    assert meet(desk) == (None, None)
+    assert desk.bytes_of("left.new") == whole == desk.bytes_of("right.new")
+    desk.close()
+
+
+def main():
+    program = os.path.abspath(sys.argv[1])
+    sizes = [(0, 0, 0), (0, 1, 0), (1, 1, 1), (0, 0, 1), (500, 1000, 700), (30000, 20000, 50000)]
+    for shared, left, right in sizes:
+        check_meeting(program, markers(C, shared) + markers(ONLY_A, left), markers(C, shared) + markers(ONLY_B, right))
+    # more than one message goes each way
+    check_meeting(program, markers(ONLY_A, 29000, 255), markers(ONLY_B, 29000, 255))
+    ours, theirs = markers(A, 3), markers(B, 2)
+    whole = summary(theirs) + ops(theirs) + BYE
+    reply = summary(ours) + ops(ours) + BYE
+    peers = [
+        ([whole], {None}), ([bytes([byte]) for byte in whole], {None}), ([], {49}), ([whole[:-1]], {49}), ([summary(theirs)], {49}),
+        ([whole + b"\0"], {None, 39}), ([summary(theirs) + BYE + BYE], {None, 39}), ([BYE], {39}), ([ops(theirs)], {39}), ([summary(theirs) * 2], {39}),
+        ([b"\0" * 64], {38}), ([b"GET / HTTP/1.0\r\n\r\n"], {40}), ([have([]) * 100000], {37, 39}), ([frame(b"\1" + b"\xff" * 9)], {38}),
+        ([bytes([0, 128, 0, 1])], {40}), ([summary(theirs) + ops([add_marker((1, A, 1), 5, "other")]) + BYE], {17}),
+    ]
+    for pieces, wanted in peers:
+        heard, desk = check_peer(program, pieces, wanted, ours)
+        if wanted == {None}:
+            assert heard == reply and desk.bytes_of("left") == log(ours + theirs)
+        desk.close()
+    rounds = 50
+    for seed in range(rounds):
+        check_killed(program, seed)
+    print("%d meetings of two processes agree with merging and with files, %d peers are told as they are, %d killed meetings were completed" % (len(sizes) + 1, len(peers), rounds))
+
+
+main()
