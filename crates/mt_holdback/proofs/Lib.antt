@@ -2,4 +2,4 @@ pub mod Readiness
 pub mod Operations
 pub mod Listings
 pub mod Offers
-pub mod Passing
+pub mod Queueing

@@ -77,7 +77,7 @@ module _ {T R : Type 0} (key : T → Moment) (needs : T → List (Moment × R)) 
   at_one_more t u waiting n = let e : 1 + n ≡ suc n = omega arith in ap (λ (m : ℕ). insert (u ∷ waiting) m t) e
 
   -- behind a smaller key, and else in front
-  queued_is : (t u : T) (waiting : List T) → queued key needs fits t (u ∷ waiting) ≡ cond (is_lt (stamp_cmp (key u) (key t))) (u ∷ queued key needs fits t waiting) (t ∷ u ∷ waiting)
+  pub queued_is : (t u : T) (waiting : List T) → queued key needs fits t (u ∷ waiting) ≡ cond (is_lt (stamp_cmp (key u) (key t))) (u ∷ queued key needs fits t waiting) (t ∷ u ∷ waiting)
   queued_is t u waiting = by (is_lt (stamp_cmp (key u) (key t)))
     where
       by : (b : Bool) → insert (u ∷ waiting) (cond b (1 + prefix_len (λ v. is_lt (stamp_cmp (key v) (key t))) waiting) 0) t ≡ cond b (u ∷ queued key needs fits t waiting) (t ∷ u ∷ waiting)
@@ -211,7 +211,7 @@ module _ {T R : Type 0} (key : T → Moment) (needs : T → List (Moment × R)) 
       kept_rise (is_ready key needs fits (offered_with key needs fits kept t)) (queued key needs fits t kept.waiting) (queue_rises t kept.waiting is.rise (all_rest (λ u. stamp_eq (key u) (key t) ≡ false) kept.released kept.waiting (none_known (key t) (offered key needs fits kept) fresh)))
 
   -- an earlier stamp has no greater clock
-  less_clock : (a b : Moment) → stamp_cmp a b ≡ Less → a.clock ≤ b.clock
+  pub less_clock : (a b : Moment) → stamp_cmp a b ≡ Less → a.clock ≤ b.clock
   less_clock a b less = by (nat_cmp a.clock b.clock) (ordering_then (nat_cmp a.replica.0 b.replica.0) (nat_cmp a.seq b.seq)) (ranked a.clock b.clock (nat_cmp a.clock b.clock) refl) less
     where
       by : (o rest : Ordering) → MatchOrdering o (a.clock < b.clock) (a.clock ≡ b.clock) (b.clock < a.clock) → ordering_then o rest ≡ Less → a.clock ≤ b.clock

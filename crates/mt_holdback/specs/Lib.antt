@@ -3,6 +3,7 @@ pub mod Laws
 pub mod HoldBack
 pub mod State
 pub mod Passing
+pub mod Queue
 pub mod Offering
 pub mod Faults
 pub mod Ops

@@ -6,7 +6,8 @@ ghost use Rattle.mt_holdback.specs.HoldBack.{KeysRise, knows, kept_with, newly_r
 ghost use Rattle.mt_holdback.specs.declared.hold_back.Offered.TheVariants.{Held, Ready};
 
 use crate::fault::HoldBackFault;
-use crate::pass::{has_key, take_in};
+use crate::offer::take_in;
+use crate::queue::{Queue, count_of, knows_key};
 use crate::waits::Waits;
 use mt_stamp::Stamp;
 use std::alloc::{Allocator, Global};
@@ -25,19 +26,25 @@ pub enum Offered {
 #[derive(Drop)]
 pub struct HoldBack<T: Waits, A: Allocator = Global> {
     released: Vec<T, A>,
-    waiting: Option<Vec<T, A>>,
+    waiting: Option<Queue<T, A>>,
     failed: bool,
 }
 
 impl<T: Waits, A: Allocator> Model for HoldBack<T, A> {
     ghost use Rattle.mt_holdback.specs.State.{State, items_in};
+    ghost use Rattle.std.specs.Prelude.{◌≡◌, [], MatchOption};
+    ghost use Rattle.std.specs.BTreeMap.{get};
+    ghost use Rattle.std.specs.BTreeSet.{contains};
+    ghost use Rattle.mt_stamp.specs.Moment.{stamp_cmp};
     ghost use Rattle.mt_holdback.specs.HoldBack.{IsHoldBack};
+    ghost use Rattle.mt_holdback.specs.Queue.{items_of, listed, Works};
 
     ghost Value = { State T };
 
-    ghost view = { λ h. record { kept = record { released = h.released.items; waiting = items_in (λ v. v.items) h.waiting }; failed = h.failed } };
+    ghost view = { λ h. record { kept = record { released = h.released.items; waiting = items_in (λ q. items_of q.items.entries) h.waiting }; failed = h.failed } };
 
-    ghost invariant = { λ h. IsHoldBack T.key_of T.needs_of T.fits_role (record { released = h.released.items; waiting = items_in (λ v. v.items) h.waiting }) };
+    ghost invariant = { λ h. IsHoldBack T.key_of T.needs_of T.fits_role (record { released = h.released.items; waiting = items_in (λ q. items_of q.items.entries) h.waiting })
+        × MatchOption h.waiting (h.released.items ≡ []) (λ q. Works T.key_of T.needs_of T.fits_role h.released.items (get stamp_cmp q.places) q.items.entries (listed (λ v. v.items) (get stamp_cmp q.lacking)) (contains stamp_cmp q.woken)) };
 }
 
 impl<T: Waits + Drop, A: Allocator> HoldBack<T, A> {
@@ -54,15 +61,12 @@ impl<T: Waits + Drop, A: Allocator> HoldBack<T, A> {
         }
     }
 
-    /// Whether an item with this key was offered. Looks at one item after another. Never, where the hold-back has failed.
+    /// Whether an item with this key was offered. Never, where the hold-back has failed.
     pub fn knows(&self, key: &Stamp) -> bool
         ensures { result ≡ knows T.key_of T.needs_of T.fits_role self.now.kept key.now }
     {
-        if has_key(&self.released, *key) {
-            return true;
-        }
         match &self.waiting {
-            Some(waiting) => has_key(waiting, *key),
+            Some(queue) => knows_key(queue, key),
             None => false,
         }
     }
@@ -72,7 +76,7 @@ impl<T: Waits + Drop, A: Allocator> HoldBack<T, A> {
         ensures { result ≡ length self.now.kept.waiting }
     {
         match &self.waiting {
-            Some(waiting) => waiting.len() as u64,
+            Some(queue) => count_of(queue),
             None => 0,
         }
     }

@@ -7,15 +7,22 @@
 //! make no ready one wait, that one which is held changes nothing for the others, and that one pass over what waits, by rising
 //! clock, finds all that became ready.
 //!
-//! An offer is that pass: each item that waits is looked at once, and each of its needs is looked for among all that was
-//! released. So n offers cost up to n times what waits times what was released.
+//! An offer looks at that item alone, and at those that waited for what it releases. An item that waits is listed under one stamp
+//! that it lacks, the first of its needs that is not met: as long as that stamp is missing, nothing that arrives looks at the item. Once it
+//! is there the item is looked at from that need on, since a need that was met stays met, and is listed under the next that is
+//! not. What is to be looked at is taken by rising key from a sorted set, not by calls within calls, so a chain of any length is
+//! released by one loop; and as each item needs smaller clocks alone, the keys that are taken rise. So n offers with m needs in all cost
+//! (n + m) log n, in whatever order they come.
 #![tactic(auto)]
 
 mod fault;
 mod hold_back;
 pub mod laws;
+mod offer;
 mod op;
-mod pass;
+#[cfg(test)]
+mod plain;
+mod queue;
 #[cfg(test)]
 mod tests;
 mod waits;

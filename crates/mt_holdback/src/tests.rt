@@ -1,6 +1,7 @@
+use crate::plain::Plain;
 use crate::{HoldBack, HoldBackFault, Offered, Waits};
 use mt_op::{Body, Gain, Op, OpFault, Title};
-use mt_stamp::{Replica, Stamp};
+use mt_stamp::{List, Replica, Stamp};
 use mt_testalloc::Refusing;
 use std::alloc::Allocator;
 use std::test::Fail;
@@ -235,7 +236,7 @@ fn is_failed(left: &Left) -> bool {
 // Each growth is refused in turn, until none is.
 #[test]
 fn fails_at_each_refused_growth(rt: HostRuntime) -> Result<(), Fail> {
-    for at in 0..20 {
+    for at in 0..40 {
         let memory = Refusing::new(rt.alloc(), at);
         let left = early_retitle(&rt.alloc(), &memory)?;
         if !memory.has_refused() {
@@ -253,5 +254,148 @@ fn fails_at_each_refused_growth(rt: HostRuntime) -> Result<(), Fail> {
 fn numbers_its_refusals(rt: HostRuntime) -> Result<(), Fail> {
     assert_eq!(rt; HoldBackFault::Memory.number(), 0);
     assert_eq!(rt; HoldBackFault::Failed.number(), 20);
+    Ok(())
+}
+
+// A Remove of an item, with these tags.
+fn remove<M: Allocator>(
+    memory: M,
+    stamp: Stamp,
+    item: Stamp,
+    tags: &[Stamp],
+) -> Result<Op<M>, Fail> {
+    let mut listed = Vec::new(memory);
+    for tag in tags {
+        listed.push(*tag)?;
+    }
+    let tags = List::new(listed);
+    Ok(Op::new(stamp, Body::Remove { item, tags })?)
+}
+
+// One of seven items: a marker, its Restore, a Remove that needs both, a chain of three tracks, and a SetGain that no order releases.
+fn one_of_seven<M: Allocator + Clone>(memory: &M, which: usize) -> Result<Op<M>, Fail> {
+    let item = Stamp::new(1, A, 1)?;
+    let restored = Stamp::new(2, A, 2)?;
+    let first = Stamp::new(1, B, 1)?;
+    let second = Stamp::new(2, B, 2)?;
+    let op = match which {
+        0 => marker(memory.clone()?, item)?,
+        1 => Op::new(restored, Body::Restore { item })?,
+        2 => remove(
+            memory.clone()?,
+            Stamp::new(3, A, 3)?,
+            item,
+            &[item, restored],
+        )?,
+        3 => track(memory.clone()?, first, None)?,
+        4 => track(memory.clone()?, second, Some(first))?,
+        5 => track(memory.clone()?, Stamp::new(3, B, 3)?, Some(second))?,
+        _ => louder(Stamp::new(4, B, 4)?, item)?,
+    };
+    Ok(op)
+}
+
+// Whether both released the same, in the same order, and as many wait.
+fn agree<M: Allocator>(hold: &HoldBack<Op<M>, M>, plain: &Plain<Op<M>, M>) -> bool {
+    hold.held() == plain.waiting.len() as u64
+        && hold.released().len() == plain.released.len()
+        && hold
+            .released()
+            .iter()
+            .zip(&plain.released)
+            .all(|(item, other)| item.key() == other.key())
+}
+
+// How often both agree while the seven are offered from one on, in steps.
+fn agreements<M: Allocator + Clone>(memory: &M, from: usize, step: usize) -> Result<u64, Fail> {
+    let mut hold = HoldBack::new(memory.clone()?);
+    let mut plain = Plain::new(memory.clone()?)?;
+    let mut agreed = 0u64;
+    for turn in 0..7usize {
+        let which = from.wrapping_add(turn.wrapping_mul(step)) % 7;
+        let _ = offer_new(&mut hold, one_of_seven(memory, which)?)?;
+        plain.offer(one_of_seven(memory, which)?)?;
+        if agree(&hold, &plain) {
+            agreed = agreed.saturating_add(1);
+        }
+    }
+    Ok(agreed)
+}
+
+// The definition's own program releases the same, in 42 orders.
+#[test]
+fn releases_what_the_plain_program_does(rt: HostRuntime) -> Result<(), Fail> {
+    for from in 0..7usize {
+        for step in 1..7usize {
+            assert_eq!(rt; agreements(&rt.alloc(), from, step)?, 7);
+        }
+    }
+    Ok(())
+}
+
+// An item that lacks two needs is held once.
+#[test]
+fn holds_a_remove_until_its_last_tag(rt: HostRuntime) -> Result<(), Fail> {
+    let mut hold = HoldBack::new(rt.alloc());
+    assert_eq!(rt;
+        offer_new(&mut hold, one_of_seven(&rt.alloc(), 2)?),
+        Ok(Offered::Held)
+    );
+    assert_eq!(rt; counts(&hold), (1, 0));
+    assert_eq!(rt;
+        offer_new(&mut hold, one_of_seven(&rt.alloc(), 1)?),
+        Ok(Offered::Held)
+    );
+    assert_eq!(rt; counts(&hold), (2, 0));
+    assert_eq!(rt;
+        offer_new(&mut hold, one_of_seven(&rt.alloc(), 0)?),
+        Ok(Offered::Ready(0))
+    );
+    assert_eq!(rt; counts(&hold), (0, 3));
+    assert!(rt; is_released_at(&hold, 2, Stamp::new(3, A, 3)?));
+    Ok(())
+}
+
+// Offers tracks, each after the one before, from the last to the first: how many of them were held.
+fn offer_chain<M: Allocator + Clone>(
+    memory: &M,
+    hold: &mut HoldBack<Op<M>, M>,
+    length: u64,
+) -> Result<u64, Fail> {
+    let mut held = 0u64;
+    for turn in 0..length {
+        let at = length - turn;
+        let after = if at > 1 {
+            Some(Stamp::new(at - 1, A, at - 1)?)
+        } else {
+            None
+        };
+        let op = track(memory.clone()?, Stamp::new(at, A, at)?, after)?;
+        if let Offered::Held = offer_new(hold, op)? {
+            held = held.saturating_add(1);
+        }
+    }
+    Ok(held)
+}
+
+// Whether what was released is by rising key.
+fn is_rising<M: Allocator>(hold: &HoldBack<Op<M>, M>) -> bool {
+    let later = hold.released().iter().skip(1);
+    hold.released()
+        .iter()
+        .zip(later)
+        .all(|(item, next)| item.key() < next.key())
+}
+
+#[test]
+fn releases_a_long_chain_at_once(rt: HostRuntime) -> Result<(), Fail> {
+    let mut hold = HoldBack::new(rt.alloc());
+    let held = offer_chain(&rt.alloc(), &mut hold, 10_000)?;
+    let after = counts(&hold);
+    let rises = is_rising(&hold);
+    drop(hold);
+    assert_eq!(rt; held, 9_999);
+    assert_eq!(rt; after, (0, 10_000));
+    assert!(rt; rises);
     Ok(())
 }

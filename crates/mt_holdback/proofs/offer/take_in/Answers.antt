@@ -1,0 +1,28 @@
+use Rattle.std.proofs.Common.{[], refl, ap, ◌∙◌}
+use Rattle.mt_holdback.specs.HoldBack.{queued}
+use Rattle.mt_holdback.specs.State.{items_in}
+use Rattle.mt_holdback.specs.Queue.{items_of}
+use Rattle.mt_holdback.proofs.Offers.{newly_ready_rises, taken_in, rule_of, ready_of}
+use Rattle.mt_holdback.proofs.offer.take_in.Goals as goal
+
+pub returns-clause-kept : goal.returns-clause-kept
+returns-clause-kept g c =
+    taken_in g.T.Waits.key_of g.T.Waits.needs_of g.T.Waits.fits_role (record { released = c.args.released.now.items; waiting = items_in (λ q. items_of q.items.entries) c.args.waiting }) c.args.item
+    (items_of c.put_in.new.queue.items.entries) [] c.settle.new.released.items (items_of c.settle.new.queue.items.entries)
+    c.requires.rule c.requires.unknown c.in_ok-put_in.ensures.older
+    (c.in_ok-put_in.ensures.queued ∙ ap (queued g.T.Waits.key_of g.T.Waits.needs_of g.T.Waits.fits_role c.args.item) c.in_ok-queue.ensures.same)
+    refl c.in_ok-settle.ensures.released c.in_ok-settle.ensures.left
+
+pub returns-clause-rule : goal.returns-clause-rule
+returns-clause-rule g c =
+    rule_of g.T.Waits.key_of g.T.Waits.needs_of g.T.Waits.fits_role (record { released = c.args.released.now.items; waiting = items_in (λ q. items_of q.items.entries) c.args.waiting })
+    (record { released = c.settle.new.released.items; waiting = items_of c.settle.new.queue.items.entries }) c.args.item c.requires.rule c.requires.unknown c.in_ok-put_in.ensures.older (returns-clause-kept g c)
+
+pub returns-clause-rising : goal.returns-clause-rising
+returns-clause-rising g c =
+    newly_ready_rises g.T.Waits.key_of g.T.Waits.needs_of g.T.Waits.fits_role (record { released = c.args.released.now.items; waiting = items_in (λ q. items_of q.items.entries) c.args.waiting }) c.args.item c.requires.rule c.requires.unknown
+
+pub returns-clause-ready : goal.returns-clause-ready
+returns-clause-ready g c =
+    ready_of g.T.Waits.key_of g.T.Waits.needs_of g.T.Waits.fits_role (record { released = c.args.released.now.items; waiting = items_in (λ q. items_of q.items.entries) c.args.waiting })
+    (record { released = c.settle.new.released.items; waiting = items_of c.settle.new.queue.items.entries }) c.args.item c.requires.rule c.in_ok-put_in.ensures.older (returns-clause-kept g c)

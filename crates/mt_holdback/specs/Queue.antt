@@ -1,0 +1,82 @@
+-- What an offer's steps keep: what waits, each item known to lack a need or noted to be looked at. Working predicates, and no definition of the subject.
+use Rattle.std.specs.Prelude.{◌≡◌, ℕ, ◌<◌, Bool, true, false, List, [], ◌∷◌, ◌++◌, length, take, slice_get, is_some, Option, None, Some, ◌⊎◌}
+use Rattle.std.specs.List.{AllByRecursion, list_all, list_any}
+use Rattle.std.specs.List.Sorted.{IsStrictlySortedBy}
+use Rattle.std.specs.Map.{keys_of}
+use Rattle.mt_stamp.specs.Moment.{Moment, stamp_cmp, stamp_eq}
+use Rattle.mt_holdback.specs.Waiting.{NamesOlder, meets}
+use Rattle.mt_holdback.specs.Laws.{is_met_by, passed}
+use Rattle.mt_holdback.specs.Passing.{left}
+use Rattle.mt_holdback.specs.declared.queue.Waiter.{Waiter}
+
+-- the items of entries, in their order
+abbrev pub items_of : {T : Type 0} → List (Moment × Waiter T) → List T
+items_of [] = []
+items_of (e ∷ es) = e.1.item ∷ items_of es
+
+-- whether a key is in a list, where there is one
+abbrev pub is_in : {V : Type 0} → (V → List Moment) → Option V → Moment → Bool
+is_in keys None key = false
+is_in keys (Some v) key = list_any (stamp_eq key) (keys v)
+
+-- whether a key is in the list under a stamp
+abbrev pub listed : {V : Type 0} → (V → List Moment) → (Moment → Option V) → Moment → Moment → Bool
+listed keys lists stamp key = is_in keys (lists stamp) key
+
+module _ {T R : Type 0} (key : T → Moment) (needs : T → List (Moment × R)) (fits : R → T → Bool) where
+  -- whether one of these meets a need
+  abbrev pub is_met_in : List T → Moment × R → Bool
+  is_met_in released need = list_any (meets key needs fits need) released
+
+  abbrev pub fits_there : Option T → R → Bool
+  fits_there None role = false
+  fits_there (Some t) role = fits role t
+
+  -- whether what stands at a place fits a role
+  abbrev pub fits_at : List T → Option ℕ → R → Bool
+  fits_at released None role = false
+  fits_at released (Some i) role = fits_there (slice_get released i) role
+
+  -- each of these is found at its place by its key
+  pub record Finds (released : List T) (place : Moment → Option ℕ) : Type 0 where
+    pub known : (q : Moment) → is_some (place q) ≡ list_any (λ t. stamp_eq (key t) q) released
+    pub meet : (need : Moment × R) → is_met_in released need ≡ fits_at released (place need.0) need.1
+    pub within : (q : Moment) (i : ℕ) → place q ≡ Some i → i < length released
+
+  -- an item's need at a place names this stamp, and is met by none
+  pub record LacksAt (released : List T) (t : T) (i : ℕ) (stamp : Moment) : Type 0 where
+    pub role : R
+    pub at : slice_get (needs t) i ≡ Some (stamp, role)
+    pub unmet : is_met_in released (stamp, role) ≡ false
+
+  -- the needs of an item before a place are met
+  abbrev pub MetTo : List T → T → ℕ → Type 0
+  MetTo released t i = list_all (is_met_in released) (take i (needs t)) ≡ true
+
+  -- the need at which an item stands is met by none, and the item is listed under it
+  pub record Lacks (released : List T) (lists : Moment → Moment → Bool) (e : Moment × Waiter T) : Type 0 where
+    pub stamp : Moment
+    pub lacks : LacksAt released e.1.item e.1.met stamp
+    pub under : lists stamp e.0 ≡ true
+
+  -- one that waits: the needs before the one at which it stands are met, and it is to be looked at or lacks that one
+  pub record Stands (released : List T) (lists : Moment → Moment → Bool) (woken : Moment → Bool) (e : Moment × Waiter T) : Type 0 where
+    pub own : e.0 ≡ key e.1.item
+    pub older : NamesOlder (key e.1.item) (needs e.1.item)
+    pub fresh : list_any (λ t. stamp_eq (key t) e.0) released ≡ false
+    pub met : MetTo released e.1.item e.1.met
+    pub waits : (woken e.0 ≡ true) ⊎ Lacks released lists e
+
+  pub record Works (released : List T) (place : Moment → Option ℕ) (entries : List (Moment × Waiter T)) (lists : Moment → Moment → Bool) (woken : Moment → Bool) : Type 0 where
+    pub finds : Finds released place
+    pub sorted : IsStrictlySortedBy stamp_cmp (keys_of entries)
+    pub each : AllByRecursion (Stands released lists woken) entries
+
+  -- an item that is ready was taken out of those that wait: a pass goes on as if it had come to that item
+  pub record Takes (released : List T) (t : T) (before after : List T) : Type 0 where
+    pub passed : passed key needs fits released before ≡ passed key needs fits (released ++ t ∷ []) after
+    pub left : left key needs fits released before ≡ left key needs fits (released ++ t ∷ []) after
+
+  -- a pass over these takes none
+  abbrev pub NoneIsMet : List T → List T → Type 0
+  NoneIsMet released waiting = AllByRecursion (λ t. is_met_by key needs fits released t ≡ false) waiting

@@ -1,0 +1,77 @@
+//! One item more.
+
+ghost use Rattle.std.specs.Prelude.{◌≡◌, false, [], ltb, length, IfOk, OnOk, MatchOption};
+ghost use Rattle.std.specs.BTreeMap.{get};
+ghost use Rattle.std.specs.BTreeSet.{contains};
+ghost use Rattle.mt_stamp.specs.Moment.{stamp_cmp};
+ghost use Rattle.mt_holdback.specs.Waiting.{NamesOlder, is_ready};
+ghost use Rattle.mt_holdback.specs.HoldBack.{KeysRise, knows, queued, newly_ready, kept_with, offered_with, IsHoldBack};
+ghost use Rattle.mt_holdback.specs.State.{items_in};
+ghost use Rattle.mt_holdback.specs.Queue.{items_of, listed, Works};
+
+use crate::fault::HoldBackFault;
+use crate::queue::{Queue, Waiter, settle};
+use crate::waits::Waits;
+use std::alloc::Allocator;
+use std::collections::{BTreeMap, BTreeSet};
+
+// What waits, which is made at the first item.
+fn queue_of<T: Waits + Drop, A: Allocator + Clone>(
+    alloc: &A,
+    released: &[T],
+    waiting: Option<Queue<T, A>>,
+) -> Result<Queue<T, A>, HoldBackFault>
+    requires { MatchOption waiting (released.now ≡ []) (λ q. Works T.key_of T.needs_of T.fits_role released.now (get stamp_cmp q.places) q.items.entries (listed (λ v. v.items) (get stamp_cmp q.lacking)) (contains stamp_cmp q.woken)) }
+    ensures works { IfOk result (λ q. Works T.key_of T.needs_of T.fits_role released.now (get stamp_cmp q.places) q.items.entries (listed (λ v. v.items) (get stamp_cmp q.lacking)) (contains stamp_cmp q.woken)) }
+    ensures same { IfOk result (λ q. items_of q.items.entries ≡ items_in (λ q. items_of q.items.entries) waiting) }
+{
+    match waiting {
+        Some(queue) => Ok(queue),
+        None => Ok(Queue {
+            places: BTreeMap::new(alloc.clone()?),
+            items: BTreeMap::new(alloc.clone()?),
+            lacking: BTreeMap::new(alloc.clone()?),
+            woken: BTreeSet::new(alloc.clone()?),
+        }),
+    }
+}
+
+// What waits, with one item more that is to be looked at.
+fn put_in<T: Waits + Drop, A: Allocator + Clone>(
+    released: &[T],
+    queue: &mut Queue<T, A>,
+    item: T,
+) -> Result<(), HoldBackFault>
+    requires works { Works T.key_of T.needs_of T.fits_role released.now (get stamp_cmp queue.old.places) queue.old.items.entries (listed (λ v. v.items) (get stamp_cmp queue.old.lacking)) (contains stamp_cmp queue.old.woken) }
+    requires unknown { knows T.key_of T.needs_of T.fits_role (record { released = released.now; waiting = items_of queue.old.items.entries }) (T.key_of item) ≡ false }
+    ensures older { NamesOlder (T.key_of item) (T.needs_of item) }
+    ensures works { OnOk result (Works T.key_of T.needs_of T.fits_role released.now (get stamp_cmp queue.new.places) queue.new.items.entries (listed (λ v. v.items) (get stamp_cmp queue.new.lacking)) (contains stamp_cmp queue.new.woken)) }
+    ensures queued { OnOk result (items_of queue.new.items.entries ≡ queued T.key_of T.needs_of T.fits_role item (items_of queue.old.items.entries)) }
+{
+    let key = item.key();
+    queue.woken.insert(key)?;
+    queue.items.insert(key, Waiter { item, met: 0 })?;
+    Ok(())
+}
+
+// Releases what one item more makes ready, and gives back what waits from then on.
+pub(crate) fn take_in<T: Waits + Drop, A: Allocator + Clone>(
+    released: &mut Vec<T, A>,
+    waiting: Option<Queue<T, A>>,
+    item: T,
+) -> Result<Queue<T, A>, HoldBackFault>
+    requires rule { IsHoldBack T.key_of T.needs_of T.fits_role (record { released = released.old.items; waiting = items_in (λ q. items_of q.items.entries) waiting }) }
+    requires works { MatchOption waiting (released.old.items ≡ []) (λ q. Works T.key_of T.needs_of T.fits_role released.old.items (get stamp_cmp q.places) q.items.entries (listed (λ v. v.items) (get stamp_cmp q.lacking)) (contains stamp_cmp q.woken)) }
+    requires unknown { knows T.key_of T.needs_of T.fits_role (record { released = released.old.items; waiting = items_in (λ q. items_of q.items.entries) waiting }) (T.key_of item) ≡ false }
+    ensures kept { IfOk result (λ q. record { released = released.new.items; waiting = items_of q.items.entries } ≡ kept_with T.key_of T.needs_of T.fits_role (record { released = released.old.items; waiting = items_in (λ q. items_of q.items.entries) waiting }) item) }
+    ensures rule { IfOk result (λ q. IsHoldBack T.key_of T.needs_of T.fits_role (record { released = released.new.items; waiting = items_of q.items.entries })) }
+    ensures works { IfOk result (λ q. Works T.key_of T.needs_of T.fits_role released.new.items (get stamp_cmp q.places) q.items.entries (listed (λ v. v.items) (get stamp_cmp q.lacking)) (contains stamp_cmp q.woken)) }
+    ensures rising { OnOk result (KeysRise T.key_of T.needs_of T.fits_role (newly_ready T.key_of T.needs_of T.fits_role (record { released = released.old.items; waiting = items_in (λ q. items_of q.items.entries) waiting }) item)) }
+    ensures ready { OnOk result (ltb (length released.old.items) (length released.new.items) ≡ is_ready T.key_of T.needs_of T.fits_role (offered_with T.key_of T.needs_of T.fits_role (record { released = released.old.items; waiting = items_in (λ q. items_of q.items.entries) waiting }) item) item) }
+{
+    let alloc = released.allocator().clone()?;
+    let mut queue = queue_of(&alloc, released, waiting)?;
+    put_in(released, &mut queue, item)?;
+    settle(&alloc, released, &mut queue)?;
+    Ok(queue)
+}

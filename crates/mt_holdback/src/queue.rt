@@ -1,0 +1,253 @@
+//! What waits, each item under one stamp that it lacks.
+
+ghost use Rattle.std.specs.Prelude.{◌≡◌, ◌+◌, ◌<◌, ◌++◌, ◌||◌, is_some, ◌∷◌, [], false, true, length, IfOk, OnOk, IfSome, IfNone, MatchOption, IsTrue, None, cond};
+ghost use Rattle.std.specs.Ordering.{is_eq, is_gt};
+ghost use Rattle.std.specs.List.{AllByRecursion, list_any};
+ghost use Rattle.std.specs.BTreeMap.{get};
+ghost use Rattle.std.specs.BTreeSet.{contains};
+ghost use Rattle.mt_stamp.specs.Moment.{Moment, stamp_cmp, stamp_eq};
+ghost use Rattle.mt_holdback.specs.Laws.{is_met_by, passed};
+ghost use Rattle.mt_holdback.specs.Passing.{left};
+ghost use Rattle.mt_holdback.specs.Queue.{items_of, listed, is_met_in, Finds, MetTo, LacksAt, Works, Takes, NoneIsMet};
+
+use crate::fault::HoldBackFault;
+use crate::waits::Waits;
+use mt_stamp::Stamp;
+use std::alloc::Allocator;
+use std::collections::{BTreeMap, BTreeSet};
+
+// An item that waits. The needs before this place were found met, and once met they stay so.
+#[derive(Drop)]
+pub(crate) struct Waiter<T> {
+    pub(crate) item: T,
+    pub(crate) met: usize,
+}
+
+// What waits, by key, and how it is woken.
+#[derive(Drop)]
+pub(crate) struct Queue<T, A: Allocator> {
+    // where each item that was released stands
+    pub(crate) places: BTreeMap<Stamp, usize, A>,
+    pub(crate) items: BTreeMap<Stamp, Waiter<T>, A>,
+    // the keys of the items that wait under a stamp that they lack
+    pub(crate) lacking: BTreeMap<Stamp, Vec<Stamp, A>, A>,
+    // the keys of the items that are to be looked at
+    pub(crate) woken: BTreeSet<Stamp, A>,
+}
+
+// A need that no item meets: its place among the needs, and the stamp that it names.
+#[derive(Clone, Copy)]
+struct Lack {
+    place: usize,
+    stamp: Stamp,
+}
+
+// How many items wait.
+pub(crate) fn count_of<T: Waits, A: Allocator>(queue: &Queue<T, A>) -> u64
+    ensures { result ≡ length queue.now.items.entries }
+{
+    queue.items.len() as u64
+}
+
+// Whether an item with this key was released, or waits.
+pub(crate) fn knows_key<T, A: Allocator>(queue: &Queue<T, A>, key: &Stamp) -> bool
+    ensures { result ≡ (is_some (get stamp_cmp queue.now.places key.now) || is_some (get stamp_cmp queue.now.items key.now)) }
+{
+    queue.places.contains_key(key) || queue.items.contains_key(key)
+}
+
+// Whether an item of this stamp and role was released.
+fn has<T: Waits, A: Allocator>(
+    released: &[T],
+    places: &BTreeMap<Stamp, usize, A>,
+    stamp: Stamp,
+    role: &T::Role,
+) -> bool
+    requires { Finds T.key_of T.needs_of T.fits_role released.now (get stamp_cmp places.now) }
+    ensures { result ≡ is_met_in T.key_of T.needs_of T.fits_role released.now (stamp, role.now) }
+{
+    match places.get(&stamp) {
+        Some(place) => match released.get(*place) {
+            Some(item) => item.fits(role),
+            None => false,
+        },
+        None => false,
+    }
+}
+
+// The stamp of the need at a place, where no item that was released meets it.
+fn lacks_at<T: Waits, A: Allocator>(
+    released: &[T],
+    places: &BTreeMap<Stamp, usize, A>,
+    item: &T,
+    i: usize,
+) -> Option<Stamp>
+    requires { Finds T.key_of T.needs_of T.fits_role released.now (get stamp_cmp places.now) }
+    ensures { MatchOption result (MetTo T.key_of T.needs_of T.fits_role released.now item.now i → MetTo T.key_of T.needs_of T.fits_role released.now item.now (i + 1)) (LacksAt T.key_of T.needs_of T.fits_role released.now item.now i) }
+{
+    let (stamp, role) = item.need(i)?;
+    if has(released, places, stamp, &role) {
+        return None;
+    }
+    Some(stamp)
+}
+
+// The first need from a place on that is not met.
+fn first_lack<T: Waits, A: Allocator>(
+    released: &[T],
+    places: &BTreeMap<Stamp, usize, A>,
+    item: &T,
+    from: usize,
+) -> Option<Lack>
+    requires finds { Finds T.key_of T.needs_of T.fits_role released.now (get stamp_cmp places.now) }
+    requires met { MetTo T.key_of T.needs_of T.fits_role released.now item.now from }
+    ensures { MatchOption result (is_met_by T.key_of T.needs_of T.fits_role released.now item.now ≡ true) (λ lack. MetTo T.key_of T.needs_of T.fits_role released.now item.now lack.place × LacksAt T.key_of T.needs_of T.fits_role released.now item.now lack.place lack.stamp) }
+{
+    for i in from..item.need_count() {
+        if let Some(stamp) = lacks_at(released, places, item, i) {
+            return Some(Lack { place: i, stamp });
+        }
+    }
+    None
+}
+
+// Takes out the keys that are listed under a stamp.
+fn keys_under<A: Allocator + Clone>(
+    alloc: &A,
+    lacking: &mut BTreeMap<Stamp, Vec<Stamp, A>, A>,
+    stamp: Stamp,
+) -> Result<Vec<Stamp, A>, HoldBackFault>
+    ensures keys { IfOk result (λ keys. (q : Moment) → listed (λ v. v.items) (get stamp_cmp lacking.old) stamp q ≡ true → list_any (stamp_eq q) keys.items ≡ true) }
+    ensures others { OnOk result ((s : Moment) → get stamp_cmp lacking.new s ≡ cond (is_eq (stamp_cmp stamp s)) None (get stamp_cmp lacking.old s)) }
+{
+    match lacking.remove(&stamp) {
+        Some(keys) => Ok(keys),
+        None => Ok(Vec::new(alloc.clone()?)),
+    }
+}
+
+// Lists a key under a stamp.
+fn put_under<A: Allocator + Clone>(
+    alloc: &A,
+    lacking: &mut BTreeMap<Stamp, Vec<Stamp, A>, A>,
+    stamp: Stamp,
+    key: Stamp,
+) -> Result<(), HoldBackFault>
+    ensures stay { OnOk result ((s q : Moment) → listed (λ v. v.items) (get stamp_cmp lacking.old) s q ≡ true → listed (λ v. v.items) (get stamp_cmp lacking.new) s q ≡ true) }
+    ensures there { OnOk result (listed (λ v. v.items) (get stamp_cmp lacking.new) stamp key ≡ true) }
+{
+    let mut keys = keys_under(alloc, lacking, stamp)?;
+    keys.push(key)?;
+    lacking.insert(stamp, keys)?;
+    Ok(())
+}
+
+// Notes keys that are to be looked at.
+fn note_all<A: Allocator + Clone>(
+    woken: &mut BTreeSet<Stamp, A>,
+    keys: Vec<Stamp, A>,
+) -> Result<(), HoldBackFault>
+    ensures woken { OnOk result ((q : Moment) → list_any (stamp_eq q) keys.items ≡ true → contains stamp_cmp woken.new q ≡ true) }
+    ensures stay { OnOk result ((q : Moment) → contains stamp_cmp woken.old q ≡ true → contains stamp_cmp woken.new q ≡ true) }
+{
+    for key in keys {
+        woken.insert(key)?;
+    }
+    Ok(())
+}
+
+// Notes that all that is listed under a stamp is to be looked at, and lists it there no more.
+fn wake<A: Allocator + Clone>(
+    alloc: &A,
+    lacking: &mut BTreeMap<Stamp, Vec<Stamp, A>, A>,
+    woken: &mut BTreeSet<Stamp, A>,
+    stamp: Stamp,
+) -> Result<(), HoldBackFault>
+    ensures others { OnOk result ((s q : Moment) → stamp_eq s stamp ≡ false → listed (λ v. v.items) (get stamp_cmp lacking.old) s q ≡ true → listed (λ v. v.items) (get stamp_cmp lacking.new) s q ≡ true) }
+    ensures woken { OnOk result ((q : Moment) → listed (λ v. v.items) (get stamp_cmp lacking.old) stamp q ≡ true → contains stamp_cmp woken.new q ≡ true) }
+    ensures stay { OnOk result ((q : Moment) → contains stamp_cmp woken.old q ≡ true → contains stamp_cmp woken.new q ≡ true) }
+{
+    let keys = keys_under(alloc, lacking, stamp)?;
+    note_all(woken, keys)
+}
+
+// Takes out the least of the keys that are to be looked at.
+fn next_woken<A: Allocator>(woken: &mut BTreeSet<Stamp, A>) -> Option<Stamp>
+    ensures least { IfSome result (λ key. (q : Moment) → IsTrue (contains stamp_cmp woken.old q) → is_gt (stamp_cmp key q) ≡ false) }
+    ensures removed { IfSome result (λ key. (q : Moment) → contains stamp_cmp woken.new q ≡ cond (is_eq (stamp_cmp key q)) false (contains stamp_cmp woken.old q)) }
+    ensures fewer { IfSome result (λ _. length woken.new.keys < length woken.old.keys) }
+    ensures unchanged { IfNone result (woken.new.keys ≡ woken.old.keys) }
+    ensures empty { IfNone result (length woken.old.keys ≡ 0) }
+{
+    woken.pop_first()
+}
+
+// The next item that is ready, of those that are to be looked at, by rising key. The others are listed under what they lack.
+fn next_ready<T: Waits + Drop, A: Allocator + Clone>(
+    alloc: &A,
+    released: &[T],
+    queue: &mut Queue<T, A>,
+) -> Result<Option<T>, HoldBackFault>
+    requires { Works T.key_of T.needs_of T.fits_role released.now (get stamp_cmp queue.old.places) queue.old.items.entries (listed (λ v. v.items) (get stamp_cmp queue.old.lacking)) (contains stamp_cmp queue.old.woken) }
+    ensures works { OnOk result (Works T.key_of T.needs_of T.fits_role released.now (get stamp_cmp queue.new.places) queue.new.items.entries (listed (λ v. v.items) (get stamp_cmp queue.new.lacking)) (contains stamp_cmp queue.new.woken)) }
+    ensures same { IfOk result (λ next. IfNone next (items_of queue.new.items.entries ≡ items_of queue.old.items.entries)) }
+    ensures none { IfOk result (λ next. IfNone next (NoneIsMet T.key_of T.needs_of T.fits_role released.now (items_of queue.new.items.entries))) }
+    ensures takes { IfOk result (λ next. IfSome next (λ t. Takes T.key_of T.needs_of T.fits_role released.now t (items_of queue.old.items.entries) (items_of queue.new.items.entries))) }
+    ensures fresh { IfOk result (λ next. IfSome next (λ t. list_any (λ u. stamp_eq (T.key_of u) (T.key_of t)) released.now ≡ false)) }
+    ensures others { IfOk result (λ next. IfSome next (λ t. AllByRecursion (λ e. stamp_eq e.0 (T.key_of t) ≡ false) queue.new.items.entries)) }
+    ensures shorter { IfOk result (λ next. IfSome next (λ t. length queue.new.items.entries < length queue.old.items.entries)) }
+{
+    while let Some(key) = next_woken(&mut queue.woken) {
+        let Some(waiter) = queue.items.remove(&key) else {
+            continue;
+        };
+        let Waiter { item, met } = waiter;
+        match first_lack(released, &queue.places, &item, met) {
+            None => return Ok(Some(item)),
+            Some(lack) => {
+                put_under(alloc, &mut queue.lacking, lack.stamp, key)?;
+                let met = lack.place;
+                queue.items.insert(key, Waiter { item, met })?;
+            }
+        }
+    }
+    Ok(None)
+}
+
+// Releases an item, and wakes what waited for it.
+fn release<T: Waits + Drop, A: Allocator + Clone>(
+    alloc: &A,
+    released: &mut Vec<T, A>,
+    queue: &mut Queue<T, A>,
+    item: T,
+) -> Result<(), HoldBackFault>
+    requires works { Works T.key_of T.needs_of T.fits_role released.old.items (get stamp_cmp queue.old.places) queue.old.items.entries (listed (λ v. v.items) (get stamp_cmp queue.old.lacking)) (contains stamp_cmp queue.old.woken) }
+    requires fresh { list_any (λ u. stamp_eq (T.key_of u) (T.key_of item)) released.old.items ≡ false }
+    requires others { AllByRecursion (λ e. stamp_eq e.0 (T.key_of item) ≡ false) queue.old.items.entries }
+    ensures works { OnOk result (Works T.key_of T.needs_of T.fits_role released.new.items (get stamp_cmp queue.new.places) queue.new.items.entries (listed (λ v. v.items) (get stamp_cmp queue.new.lacking)) (contains stamp_cmp queue.new.woken)) }
+    ensures released { OnOk result (released.new.items ≡ released.old.items ++ item ∷ []) }
+    ensures same { OnOk result (queue.new.items.entries ≡ queue.old.items.entries) }
+{
+    let key = item.key();
+    queue.places.insert(key, released.len())?;
+    wake(alloc, &mut queue.lacking, &mut queue.woken, key)?;
+    released.push(item)?;
+    Ok(())
+}
+
+// Looks at what is to be looked at, and releases what is ready, until nothing is to be looked at.
+pub(crate) fn settle<T: Waits + Drop, A: Allocator + Clone>(
+    alloc: &A,
+    released: &mut Vec<T, A>,
+    queue: &mut Queue<T, A>,
+) -> Result<(), HoldBackFault>
+    requires { Works T.key_of T.needs_of T.fits_role released.old.items (get stamp_cmp queue.old.places) queue.old.items.entries (listed (λ v. v.items) (get stamp_cmp queue.old.lacking)) (contains stamp_cmp queue.old.woken) }
+    ensures works { OnOk result (Works T.key_of T.needs_of T.fits_role released.new.items (get stamp_cmp queue.new.places) queue.new.items.entries (listed (λ v. v.items) (get stamp_cmp queue.new.lacking)) (contains stamp_cmp queue.new.woken)) }
+    ensures released { OnOk result (released.new.items ≡ passed T.key_of T.needs_of T.fits_role released.old.items (items_of queue.old.items.entries)) }
+    ensures left { OnOk result (items_of queue.new.items.entries ≡ left T.key_of T.needs_of T.fits_role released.old.items (items_of queue.old.items.entries)) }
+{
+    while let Some(item) = next_ready(alloc, released, queue)? {
+        release(alloc, released, queue, item)?;
+    }
+    Ok(())
+}
