@@ -1,26 +1,26 @@
 -- What a codec cuts from its buffer is what stands at the front of the unread bytes.
-use Rattle.std.proofs.Common.{eqb, pos, ◌≡◌, ◌≢◌, ℕ, ◌+◌, ◌-◌, ◌^◌, ◌<◌, ◌≤◌, List, [], ◌∷◌, ◌++◌, length, get_or, take, drop, Option, Some, None, Result, Ok, Err, IfOk, refl, sym, ap, ◌∙◌, subst, inl, inr, arith}
+use Rattle.std.proofs.Common.{eqb, pos, ◌≡◌, ℕ, ◌<◌, ◌≤◌, List, [], ◌∷◌, ◌++◌, length, get_or, take, drop, Option, Some, None, Result, Ok, Err, IfOk, refl, sym, ap, ◌∙◌, subst, inl, inr, arith}
 use Rattle.std.specs.Prelude.{IfNone}
 use Rattle.std.specs.Int.{w32, to_be_bytes, from_be_bytes}
 use Rattle.std.specs.Int.Digits.{number_from_digits}
 use Rattle.std.specs.IoError.{error_kind, kind_at}
 use Rattle.std.specs.declared.io.Error.{Error}
-use Rattle.std.specs.declared.io.ErrorKind.TheVariants.{InvalidData, OutOfMemory, Other}
+use Rattle.std.specs.declared.io.ErrorKind.TheVariants.{InvalidData, Other}
 use Rattle.std.proofs.lemmas.Bool.{cases_lt}
 use Rattle.std.proofs.lemmas.Bool.Decides.{nat_tests}
-use Rattle.std.proofs.lemmas.List.{take_at, drop_at, take-append-drop, length-append, length-take, length-drop, get_or-take, get_or_past}
+use Rattle.std.proofs.lemmas.List.{take_at, drop_at, take-append-drop, length-append, length-take, get_or-take, get_or_past}
 use Rattle.std.proofs.lemmas.Nat.{be_bytes_4, from_be_bytes-to_be_bytes_4}
 use Rattle.bytes.specs.Filled.{Filled}
 use Rattle.tokio_util.specs.declared.codec.length_delimited.LengthDelimitedCodec.{LengthDelimitedCodec}
 use Rattle.tokio_util.specs.declared.codec.length_delimited.DecodeState.{DecodeState}
 use Rattle.tokio_util.specs.declared.codec.length_delimited.DecodeState.TheVariants.{Head, Data}
-use Rattle.tokio_util.specs.Codec.Next.{decoded, partial, at_end, Decodes, Resumes}
+use Rattle.tokio_util.specs.Codec.Next.{at_end, Decodes}
 use Rattle.tokio_util.specs.Codec.LengthField.{Layout, default_layout, field_value, add_adjustment}
 use Rattle.tokio_util.specs.Codec.LengthDelimited.{codec_layout, with_state, Cut, frame, too_big, overflows, unfinished, cut_payload, cut_adjusted, cut_frame, cut_in, cut, IsSettled, Answers, AnswersAtEnd, AnswersLast, gives_frames}
 use Rattle.tokio_util.specs.Codec.LengthDelimitedLaws.{cut_payload_whole, cut_payload_short, cut_frame_short, cut_frame_big, cut_frame_head}
 use Rattle.tokio_util.proofs.CodecLemmas.Next.{Resumes_now}
 use Rattle.tokio_util.proofs.CodecLemmas.LengthDelimited.{answers_at_end}
-use Rattle.mt_frames.specs.Frames.{longest_body, body_len, frame_text, Front, cut_short, too_long, whole, front_of}
+use Rattle.mt_frames.specs.Frames.{longest_body, body_len, Front, cut_short, too_long, whole, front_of}
 use Rattle.mt_frames.specs.declared.Body.{Body}
 use Rattle.mt_frames.specs.declared.FrameFault.{FrameFault}
 use Rattle.mt_frames.specs.declared.FrameFault.TheVariants.{Memory, TooLong}

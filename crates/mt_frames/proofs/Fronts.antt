@@ -1,11 +1,10 @@
 -- Fronts of beginnings: what stands at the front of bytes is decided at its last byte, and not before.
-use Rattle.std.proofs.Common.{◌≡◌, ℕ, zero, suc, ◌+◌, ◌-◌, ◌<◌, ◌≤◌, ◌⊎◌, List, [], ◌∷◌, ◌++◌, length, take, drop, refl, sym, ap, ap₂, ◌∙◌, subst, inl, inr, arith, append_assoc, append-nil}
-use Rattle.std.specs.Int.{w32, from_be_bytes, to_be_bytes}
+use Rattle.std.proofs.Common.{◌≡◌, ℕ, zero, suc, ◌+◌, ◌<◌, ◌≤◌, ◌⊎◌, List, [], ◌∷◌, ◌++◌, length, take, drop, refl, sym, ap, ap₂, ◌∙◌, subst, inl, inr, arith, append-nil}
+use Rattle.std.specs.Int.{w32, from_be_bytes}
 use Rattle.std.proofs.lemmas.Bool.{cases_lt}
-use Rattle.std.proofs.lemmas.List.{take_at, drop_at, take-append-drop, length-append, length-take, length-drop, take-take, take-append-le, drop-drop, drop-take}
-use Rattle.std.proofs.lemmas.Nat.{from_be_bytes-to_be_bytes_4}
-use Rattle.mt_frames.specs.Frames.{longest_body, body_len, frame_text, Front, cut_short, too_long, whole, front_of}
-use Rattle.mt_frames.proofs.Cutting.{front_headless, front_too_long, front_bodiless, front_whole, IsBytes, head_back}
+use Rattle.std.proofs.lemmas.List.{take_at, drop_at, length-append, length-take, length-drop, take-take, take-append-le, drop-drop, drop-take}
+use Rattle.mt_frames.specs.Frames.{longest_body, body_len, Front, cut_short, too_long, whole, front_of}
+use Rattle.mt_frames.proofs.Cutting.{front_headless, front_too_long, front_bodiless, front_whole}
 
 -- ---- the cases of a front
 

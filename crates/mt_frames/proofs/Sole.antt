@@ -1,7 +1,7 @@
 -- A frame that bytes follow is not alone.
-use Rattle.std.proofs.Common.{◌≡◌, ℕ, ◌<◌, ◌-◌, List, [], ◌∷◌, length, take, drop, Option, None, refl, arith}
+use Rattle.std.proofs.Common.{◌≡◌, ℕ, ◌<◌, List, [], ◌∷◌, length, take, drop, None, refl, arith}
 use Rattle.std.proofs.lemmas.List.{length-drop}
-use Rattle.mt_frames.specs.Frames.{Front, whole}
+use Rattle.mt_frames.specs.Frames.{whole}
 use Rattle.mt_frames.specs.Unread.{sole}
 
 more : (body rest : List ℕ) → 0 < length rest → sole (whole body rest) ≡ None

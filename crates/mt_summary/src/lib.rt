@@ -9,6 +9,8 @@ mod numbers;
 mod packs;
 mod reader;
 mod summary;
+#[cfg(test)]
+mod tests;
 mod writer;
 
 pub use fault::MessageFault;
