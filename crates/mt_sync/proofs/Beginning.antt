@@ -1,19 +1,16 @@
 -- How a caller begins.
-use Rattle.std.proofs.Common.{◌≡◌, ◌≢◌, ℕ, true, false, List, [], Option, Some, None, Result, Ok, Err, refl, sym, ap, ◌∙◌, subst, inl, inr}
+use Rattle.std.proofs.Common.{◌≡◌, ℕ, List, [], Option, Some, None, Result, Ok, Err, refl, sym, ◌∙◌, subst, inl, inr}
 use Rattle.std.specs.Io.KnownBytes.{Appends}
 use Rattle.mt_opcodec.specs.LogValue.{LogMap}
 use Rattle.mt_opcodec.specs.Latch.{AppendsFront}
-use Rattle.mt_frames.specs.Frames.{frame_text}
-use Rattle.mt_summary.specs.Summary.{summary_of}
-use Rattle.mt_summary.specs.Messages.{have_text}
 use Rattle.mt_sync.specs.declared.fault.TalkFault.{TalkFault}
 use Rattle.mt_sync.specs.declared.fault.TalkFault.TheVariants.{Memory, Conflict, Failed, BadMessage, OutOfTurn, FrameTooLong}
 use Rattle.mt_sync.specs.declared.fault.SyncFault.{SyncFault}
 use Rattle.mt_sync.specs.declared.fault.SyncFault.TheVariants as fault
 use Rattle.mt_sync.specs.declared.fault.Side.{Side}
-use Rattle.mt_sync.specs.declared.fault.Side.TheVariants.{Caller, Answerer}
-use Rattle.mt_sync.specs.Conversation.{greets, can_say}
-use Rattle.mt_sync.specs.Feeding.{Talking, end_at, end_of, CallsFrom, Calls}
+use Rattle.mt_sync.specs.declared.fault.Side.TheVariants.{Caller}
+use Rattle.mt_sync.specs.Conversation.{greets}
+use Rattle.mt_sync.specs.Feeding.{Talking, end_of, CallsFrom, Calls}
 use Rattle.mt_sync.specs.Conversing.{Converses, Begins, NotBegun, ConversesAs}
 
 err_same : {X : Type 0} (a b : TalkFault) → ◌≡◌ {A = Result X TalkFault} (Err a) (Err b) → a ≡ b

@@ -2,7 +2,7 @@
 use Rattle.std.proofs.Common.{◌≡◌, ℕ, List, [], ◌∷◌, ◌++◌, refl, sym, ap, ◌∙◌, append_assoc}
 use Rattle.std.specs.List.{flat_map}
 use Rattle.mt_sync.specs.Conversation.{End, Told, byte_in, told}
-use Rattle.mt_sync.specs.Laws.{told_pieces, CutsDoNotMatter}
+use Rattle.mt_sync.specs.Laws.{CutsDoNotMatter}
 
 -- what more bytes do after what was told
 abbrev pub after : Told → List ℕ → Told

@@ -1,12 +1,12 @@
 -- What bytes do by what stands at their front.
-use Rattle.std.proofs.Common.{◌≡◌, ℕ, List, [], ◌∷◌, ◌++◌, Option, Some, None, refl, sym, ap, ◌∙◌, subst, append_assoc, append-nil}
+use Rattle.std.proofs.Common.{◌≡◌, ℕ, List, [], ◌∷◌, ◌++◌, Option, refl, sym, ap, ◌∙◌, append_assoc, append-nil}
 use Rattle.mt_opcodec.specs.LogValue.{LogMap}
 use Rattle.mt_frames.specs.Frames.{Front, cut_short, too_long, whole, front_of}
 use Rattle.mt_frames.proofs.Fronts.{short-beginning, long_decided, whole_decided, IsDecided}
 use Rattle.mt_sync.specs.declared.fault.TalkFault.{TalkFault}
-use Rattle.mt_sync.specs.declared.fault.TalkFault.TheVariants.{Memory, Conflict, Failed, BadMessage, OutOfTurn, FrameTooLong}
-use Rattle.mt_sync.specs.Conversation.{Turn, greets, takes, ended, stopped, End, Told, stop, goes_on, front_in, body_in, byte_in, told}
-use Rattle.mt_sync.specs.Feeding.{IsOpen, IsGoing, Waits, end_at}
+use Rattle.mt_sync.specs.declared.fault.TalkFault.TheVariants.{OutOfTurn, FrameTooLong}
+use Rattle.mt_sync.specs.Conversation.{Turn, greets, takes, ended, stopped, End, Told, stop, front_in, body_in, byte_in, told}
+use Rattle.mt_sync.specs.Feeding.{IsOpen, end_at}
 use Rattle.mt_sync.proofs.Cuts.{after, told-append}
 
 -- ---- one byte

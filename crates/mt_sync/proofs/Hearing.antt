@@ -1,8 +1,8 @@
 -- The loop over the frames of what is unread.
-use Rattle.std.proofs.Common.{◌≡◌, ℕ, ◌<◌, ◌+◌, Bool, true, false, List, [], ◌∷◌, ◌++◌, length, eqb, drop, Result, Ok, Err, refl, sym, ap, ◌∙◌, subst, append_assoc, append-nil, arith, Option, Some, None}
+use Rattle.std.proofs.Common.{◌≡◌, ℕ, ◌<◌, Bool, true, false, List, [], ◌∷◌, ◌++◌, length, eqb, drop, Result, Ok, Err, refl, sym, ap, ◌∙◌, subst, append_assoc, append-nil, arith, Option, Some, None}
 use Rattle.std.specs.Prelude.{IsTrue}
 use Rattle.mt_opcodec.specs.LogValue.{LogMap}
-use Rattle.mt_frames.specs.Frames.{Front, cut_short, too_long, whole, front_of}
+use Rattle.mt_frames.specs.Frames.{cut_short, whole, front_of}
 use Rattle.mt_frames.specs.declared.FrameFault.{FrameFault}
 use Rattle.mt_frames.specs.declared.FrameFault.TheVariants as frame
 use Rattle.mt_frames.specs.declared.Body.{Body}
@@ -13,10 +13,10 @@ use Rattle.mt_frames.specs.Frames.{body_len}
 use Rattle.mt_frames.proofs.Fronts.{whole_of}
 use Rattle.mt_sync.specs.declared.fault.TalkFault.{TalkFault}
 use Rattle.mt_sync.specs.declared.fault.TalkFault.TheVariants.{Memory, Conflict, Failed, BadMessage, OutOfTurn, FrameTooLong}
-use Rattle.mt_sync.specs.Conversation.{Turn, greets, takes, ended, stopped, End, Told, stop, goes_on, front_in, body_in, byte_in, told}
+use Rattle.mt_sync.specs.Conversation.{Turn, greets, takes, ended, stopped, End, Told, stop, body_in, told}
 use Rattle.mt_sync.specs.Feeding.{IsOpen, IsGoing, Waits, end_at, TakesBody, Hears, IsFaultOf, over_at, Fed}
-use Rattle.mt_sync.proofs.Cuts.{after, with_reply, told-append}
-use Rattle.mt_sync.proofs.Fronting.{told_stopped, after_stop, told_ended, told_short, told_long, told_whole, told_again}
+use Rattle.mt_sync.proofs.Cuts.{after, with_reply}
+use Rattle.mt_sync.proofs.Fronting.{told_stopped, told_ended, told_short, told_long, told_whole, told_again}
 
 -- what is still to be told, after these replies
 abbrev pub still : Turn → List ℕ → Option LogMap → List ℕ → Told

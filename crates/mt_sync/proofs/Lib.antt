@@ -4,3 +4,4 @@ pub mod Hearing
 pub mod Pieces
 pub mod Joined
 pub mod Beginning
+pub mod Whole

@@ -1,11 +1,9 @@
 -- A conversation that goes on piece by piece.
-use Rattle.std.proofs.Common.{◌≡◌, ℕ, ◌+◌, Bool, true, false, List, [], ◌∷◌, ◌++◌, length, take, ap₂, Option, Result, Ok, Err, refl, sym, ap, ◌∙◌, subst, arith, append-nil}
-use Rattle.std.specs.Prelude.{IsTrue}
+use Rattle.std.proofs.Common.{◌≡◌, ℕ, ◌+◌, List, [], ◌++◌, length, take, ap₂, Option, Result, Ok, Err, refl, sym, ap, ◌∙◌, subst, append-nil}
 use Rattle.std.specs.Io.KnownBytes.{Appends, Consumes, Keeps}
 use Rattle.std.proofs.KnownBytes.{Appends-nil, Appends-trans, Consumes-nil, Consumes-trans, Consumes-kept}
 use Rattle.std.proofs.lemmas.List.{take_at, drop_at}
 use Rattle.std.proofs.Math.Seq.{take-add}
-use Rattle.mt_opcodec.specs.LogValue.{LogMap}
 use Rattle.mt_opcodec.specs.Latch.{AppendsFront}
 use Rattle.mt_sync.specs.declared.fault.TalkFault.{TalkFault}
 use Rattle.mt_sync.specs.declared.fault.TalkFault.TheVariants.{Memory, Conflict, Failed, BadMessage, OutOfTurn, FrameTooLong}

@@ -1,5 +1,5 @@
 -- One end of a conversation (profile): what it waits for, and what each byte does to it.
-use Rattle.std.specs.Prelude.{ℕ, ◌+◌, Bool, true, false, List, [], ◌∷◌, ◌++◌, length, Option, Some, None, nat_le, if◌then◌else◌, is_some, not, nat_eq, ◌^◌, nat_lt, ◌&&◌}
+use Rattle.std.specs.Prelude.{ℕ, Bool, false, List, [], ◌∷◌, ◌++◌, length, Option, Some, None, nat_le, if◌then◌else◌, is_some, not, nat_eq}
 use Rattle.std.specs.Cmp.Lexicographic.{pointwise}
 use Rattle.std.specs.FinMap as map
 use Rattle.mt_stamp.specs.declared.name.Dot.{Dot}

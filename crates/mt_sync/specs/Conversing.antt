@@ -1,5 +1,5 @@
 -- What a conversation over a reader and a writer reads, writes and answers.
-use Rattle.std.specs.Prelude.{◌≡◌, ℕ, List, [], ◌++◌, take, Option, Some, None, Result, true, false, ◌⊎◌, Ok, Err}
+use Rattle.std.specs.Prelude.{◌≡◌, ℕ, List, [], Option, Some, None, Result, true, false, ◌⊎◌, Ok, Err}
 use Rattle.std.specs.Io.KnownBytes.{Appends, Consumes}
 use Rattle.mt_opcodec.specs.LogValue.{LogMap}
 use Rattle.mt_opcodec.specs.Latch.{AppendsFront}
@@ -16,7 +16,7 @@ use Rattle.mt_summary.specs.declared.fault.MessageFault.TheVariants as message
 use Rattle.mt_sync.specs.declared.fault.Side.{Side}
 use Rattle.mt_sync.specs.declared.fault.Side.TheVariants.{Caller, Answerer}
 use Rattle.mt_sync.specs.Feeding.{Talking, IsOpen, end_at}
-use Rattle.mt_sync.specs.Conversation.{can_say, answer, Turn, greets, takes, ended, stopped, End, Told, told}
+use Rattle.mt_sync.specs.Conversation.{can_say, answer, greets, ended, stopped, End, Told, told}
 
 -- an end stopped by this fault, or memory ran out
 abbrev pub StopsBy : End → Option LogMap → TalkFault → Type 0

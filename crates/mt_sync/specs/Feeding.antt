@@ -11,7 +11,7 @@ use Rattle.mt_sync.specs.declared.turn.Turn.TheVariants as kept
 use Rattle.mt_summary.specs.Summary.{summary_of}
 use Rattle.mt_summary.specs.Messages.{have_text}
 use Rattle.mt_sync.specs.declared.fault.Side.TheVariants.{Caller}
-use Rattle.mt_sync.specs.Conversation.{can_say, Turn, greets, takes, ended, stopped, End, Told, stop, told, body_in}
+use Rattle.mt_sync.specs.Conversation.{can_say, Turn, greets, takes, ended, stopped, End, Told, stop, told}
 
 abbrev pub turn_of : {A : Type 0} → Kept A → Turn
 turn_of (kept.Greets side) = greets side

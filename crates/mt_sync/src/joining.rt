@@ -1,6 +1,8 @@
 //! Operations that join the log of an editor.
 
-ghost use Rattle.std.specs.Prelude.{◌≡◌, IfOk, IfErr, OnOk, Some};
+ghost use Rattle.std.specs.Prelude.{◌≡◌, IfOk, IfErr, IfSome, OnOk, Some};
+ghost use Rattle.mt_opcodec.specs.LogValue.{AreLogged, operations};
+ghost use Rattle.mt_opcodec.specs.Union.{Agree, union};
 ghost use Rattle.mt_sync.specs.Conversation.{joined};
 ghost use Rattle.mt_sync.specs.Joining.{JoinsOne, Joins, JoinsIn};
 
@@ -25,11 +27,14 @@ fn join_op<A: Allocator>(log: &mut Log<A>, op: Op<A>) -> Result<(), TalkFault>
 }
 
 // The operations join the log one by one, up to the first whose dot names another one there.
-fn join_all<A: Allocator>(log: &mut Log<A>, ops: Vec<Op<A>, A>) -> Result<(), TalkFault>
-    ensures { Joins (joined log.old ops.items) result log.new }
+fn join_all<A: Allocator + Clone>(log: &mut Log<A>, ops: &[Op<A>]) -> Result<(), TalkFault>
+    ensures { Joins (joined log.old ops.now) result log.new }
 {
     for op in ops {
-        match join_op(log, op) {
+        let Ok(copy) = op.try_clone() else {
+            return Err(TalkFault::Memory);
+        };
+        match join_op(log, copy) {
             Ok(()) => {}
             Err(fault) => return Err(fault),
         }
@@ -66,25 +71,63 @@ fn replace<A: Allocator + Clone>(
     }
 }
 
-// The operations join the editor's log, up to the first whose dot names another one there. Its session is worked out once.
-pub(crate) fn join_ops<A: Allocator + Clone>(
+// The union of two logs, where no dot names one operation in the one and another in the other.
+fn union_of<A: Allocator + Clone>(
+    alloc: &A,
+    log: &Log<A>,
+    more: &Log<A>,
+) -> Result<Option<Log<A>>, TalkFault>
+    ensures ok { IfOk result (λ both. IfSome both (λ all. Agree log.now more.now × (all ≡ union log.now more.now))) }
+    ensures err { IfErr result (λ fault. fault ≡ TalkFault.Memory) }
+{
+    match Log::merge(alloc.clone()?, log, more) {
+        Ok(all) => Ok(Some(all)),
+        Err(LogFault::Conflict(_)) => Ok(None),
+        Err(_) => Err(TalkFault::Memory),
+    }
+}
+
+// The operations of a log join the editor's log one by one, up to the first whose dot names another one there.
+fn join_up_to<A: Allocator + Clone>(
     alloc: &A,
     editor: &mut Editor<A>,
-    ops: Vec<Op<A>, A>,
+    more: &Log<A>,
 ) -> Result<(), TalkFault>
-    ensures joins { JoinsIn editor.old.log ops.items result editor.new.log }
+    ensures joins { JoinsIn editor.old.log (operations more.now) result editor.new.log }
     ensures name { editor.new.name ≡ editor.old.name }
 {
     let mut log = match editor.log() {
         Some(log) => copy_of(log)?,
         None => return Err(TalkFault::Failed),
     };
-    match join_all(&mut log, ops) {
+    match join_all(&mut log, more.ops()) {
         Ok(()) => replace(alloc, editor, log),
         Err(TalkFault::Conflict(dot)) => {
             replace(alloc, editor, log)?;
             Err(TalkFault::Conflict(dot))
         }
         Err(_) => Err(TalkFault::Memory),
+    }
+}
+
+// The operations of a message, which rise by dot, join the editor's log, up to the first whose dot names another one there. Where there
+// is none, which is so among editors with names of their own, both logs are walked at once. The session is worked out once.
+pub(crate) fn join_ops<A: Allocator + Clone>(
+    alloc: &A,
+    editor: &mut Editor<A>,
+    ops: Vec<Op<A>, A>,
+) -> Result<(), TalkFault>
+    requires rising { AreLogged ops.items }
+    ensures joins { JoinsIn editor.old.log ops.items result editor.new.log }
+    ensures name { editor.new.name ≡ editor.old.name }
+{
+    let more = Log::of_ops(ops);
+    let both = match editor.log() {
+        Some(log) => union_of(alloc, log, &more)?,
+        None => return Err(TalkFault::Failed),
+    };
+    match both {
+        Some(all) => replace(alloc, editor, all),
+        None => join_up_to(alloc, editor, &more),
     }
 }

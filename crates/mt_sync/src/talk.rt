@@ -1,9 +1,9 @@
 //! One end of a conversation.
 
-ghost use Rattle.std.specs.Prelude.{◌≡◌, [], ◌↔◌, IsTrue, IfOk, Ok, Err};
+ghost use Rattle.std.specs.Prelude.{◌≡◌, ◌<◌, ℕ, [], ◌↔◌, IsTrue, IfOk, Ok, Err, slice_index};
 ghost use Rattle.mt_frames.specs.Frames.{frame_text};
 ghost use Rattle.mt_summary.specs.Summary.{summary_of};
-ghost use Rattle.mt_summary.specs.Messages.{have_text};
+ghost use Rattle.mt_summary.specs.Messages.{have_text, IsMessage};
 ghost use Rattle.mt_summary.specs.Reading.{message_of};
 ghost use Rattle.mt_sync.specs.Conversation.{ended, greets, takes, hears, body_in, told};
 ghost use Rattle.mt_sync.specs.Feeding.{turn_of, IsOpen, IsGoing, Waits, end_at, end_of, TakesBody, Hears, Feeds, IsFaultOf, over_at, HearsAll, Calls};
@@ -14,6 +14,7 @@ use crate::replying::{put_farewell, put_greeting, put_have};
 use crate::turn::Turn;
 use mt_frames::{FrameFault, Unread};
 use mt_replica::Editor;
+use mt_summary::laws::texts;
 use mt_summary::{Message, MessageFault};
 use std::alloc::{Allocator, Global};
 use std::marker::Model;
@@ -219,12 +220,20 @@ fn take_body<A: Allocator + Clone>(
     ensures told { TakesBody (body_in (turn_of turn.old) editor.old.log body.now) result (turn_of turn.new) editor.new.log out.old.items out.new.items }
     ensures name { editor.new.name ≡ editor.old.name }
 {
+    // what is read is a message
+    are_bytes(body);
+    texts();
     match Message::read(alloc.clone()?, body) {
         Ok(message) => take_message(alloc, turn, editor, message, out),
         Err(MessageFault::BadMessage) => Err(TalkFault::BadMessage),
         Err(_) => Err(TalkFault::Memory),
     }
 }
+
+// What a slice of bytes holds.
+fn are_bytes(bytes: &[u8])
+    ensures { (i : ℕ) → slice_index bytes.now i < 256 }
+{}
 
 // What a message does, by turns.
 fn take_message<A: Allocator + Clone>(
@@ -234,7 +243,8 @@ fn take_message<A: Allocator + Clone>(
     message: Message<A>,
     out: &mut Vec<u8, A>,
 ) -> Result<(), TalkFault>
-    requires { IsOpen (turn_of turn.old) }
+    requires open { IsOpen (turn_of turn.old) }
+    requires sound { IsMessage (message_of message) }
     ensures told { TakesBody (hears (turn_of turn.old) (message_of message) editor.old.log) result (turn_of turn.new) editor.new.log out.old.items out.new.items }
     ensures name { editor.new.name ≡ editor.old.name }
 {

@@ -1,4 +1,4 @@
-use Rattle.mt_sync.proofs.Beginning.{caller_refused, caller_goes}
+use Rattle.mt_sync.proofs.Beginning.{caller_refused}
 use Rattle.mt_sync.proofs.conversing.converse.Goals as goal
 
 pub returns-in-Err-clause-converses : goal.returns-in-Err-clause-converses

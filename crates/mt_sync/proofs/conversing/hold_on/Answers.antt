@@ -1,10 +1,7 @@
-use Rattle.std.proofs.Common.{refl, ◌∙◌, ap, sym, subst, take, ◌≡◌, [], List, ℕ, Ok, Err, eqb, true, Vec, Global}
-use Rattle.std.proofs.lemmas.Bool.{eqb-true}
-use Rattle.std.specs.Io.KnownBytes.{Appends, Consumes}
+use Rattle.std.proofs.Common.{refl, ◌∙◌, ap, sym, subst, take, [], ℕ, Ok}
+use Rattle.std.specs.Io.KnownBytes.{Appends}
 use Rattle.mt_opcodec.specs.Latch.{AppendsFront}
-use Rattle.mt_sync.specs.Conversation.{told}
-use Rattle.mt_sync.specs.Feeding.{end_of, IsGoing}
-use Rattle.mt_sync.specs.Conversing.{Converses}
+use Rattle.mt_sync.specs.Feeding.{end_of}
 use Rattle.mt_sync.proofs.Pieces.{starts, fed_going, goes_on, is_done, is_unread, is_unfinished, is_unwritten, is_stopped, read_of, feed_stopped}
 use Rattle.mt_sync.proofs.conversing.hold_on.Goals as goal
 

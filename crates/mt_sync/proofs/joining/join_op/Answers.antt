@@ -1,4 +1,4 @@
-use Rattle.std.proofs.Common.{Bool, true, false, ◌≡◌, Result, Ok, Err, subst, ◌∙◌, ap, sym}
+use Rattle.std.proofs.Common.{Bool, Ok, Err, subst}
 use Rattle.mt_opcodec.specs.LogValue.{Adds}
 use Rattle.mt_opcodec.specs.declared.fault.LogFault.{LogFault}
 use Rattle.mt_sync.proofs.Joined.{is_there, is_other}

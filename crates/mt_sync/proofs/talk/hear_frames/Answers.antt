@@ -1,6 +1,6 @@
-use Rattle.std.proofs.Common.{refl, ◌∙◌, sym, ap, subst, Result, Ok, Err, arith, Option, Some, None, ◌≡◌, List, ℕ}
-use Rattle.mt_sync.specs.Conversation.{told, Told}
-use Rattle.mt_sync.specs.Feeding.{turn_of, end_at, Hears, TakesBody}
+use Rattle.std.proofs.Common.{refl, ◌∙◌, Ok, Err}
+use Rattle.mt_sync.specs.Conversation.{told}
+use Rattle.mt_sync.specs.Feeding.{turn_of, end_at}
 use Rattle.mt_sync.proofs.Hearing.{begins, moves_on, pauses, refuses, stops, ends, shorter, body_read, some_taken, none_taken, is_over, is_not_over}
 use Rattle.mt_sync.proofs.talk.hear_frames.Goals as goal
 
