@@ -152,7 +152,7 @@ def check_killed(program, seed):
     for one in (child, other):
         if one is not victim:
             try:
-                one.communicate(timeout=20)
+                one.communicate(timeout=2)
             except subprocess.TimeoutExpired:
                 # nobody ever called the one that serves
                 one.kill()
