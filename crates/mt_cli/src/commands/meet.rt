@@ -15,12 +15,19 @@ pub(crate) fn words<'a>(alloc: Global) -> Result<Command<'a>, AllocError> {
         .after_help(
             "Example: radio meet 127.0.0.1:7000 home.log home.log\n\nExit status: 0 done, 1 refused (`radio explain` tells why), 2 the command line does not parse.",
         )
-        .arg(word(alloc, "ADDR", "The address of the editor who serves, as 127.0.0.1:7000"))?
+        .arg(word(
+            alloc,
+            "ADDR",
+            "The address of the editor who serves, as 127.0.0.1:7000",
+        ))?
         .arg(word(alloc, "LOG", "The log to begin with"))?
         .arg(word(alloc, "OUT", "The log to write, which may be LOG"))
 }
 
-pub(crate) fn run<F: Files + Net + AllocGlobal>(rt: &F, words: &ArgMatches<'_>) -> Result<(), Stop> {
+pub(crate) fn run<F: Files + Net + AllocGlobal>(
+    rt: &F,
+    words: &ArgMatches<'_>,
+) -> Result<(), Stop> {
     let alloc = rt.alloc();
     let mut log = open(rt, 0, words.get_str("LOG").unwrap_or(""))?;
     let mut editor = editor_of(alloc, NOBODY, &mut log)?;

@@ -20,7 +20,10 @@ pub(crate) fn words<'a>(alloc: Global) -> Result<Command<'a>, AllocError> {
         .arg(word(alloc, "OUT", "The log to write, which may be LOG"))
 }
 
-pub(crate) fn run<F: Files + Net + AllocGlobal>(rt: &F, words: &ArgMatches<'_>) -> Result<(), Stop> {
+pub(crate) fn run<F: Files + Net + AllocGlobal>(
+    rt: &F,
+    words: &ArgMatches<'_>,
+) -> Result<(), Stop> {
     let alloc = rt.alloc();
     let mut log = open(rt, 0, words.get_str("LOG").unwrap_or(""))?;
     let mut editor = editor_of(alloc, NOBODY, &mut log)?;

@@ -16,11 +16,7 @@ pub(crate) fn words<'a>(alloc: Global) -> Result<Command<'a>, AllocError> {
             "Example: radio take home.log for-home.ops home.log\n\nExit status: 0 done, 1 refused (`radio explain` tells why), 2 the command line does not parse.",
         )
         .arg(word(alloc, "LOG", "The log to begin with"))?
-        .arg(word(
-            alloc,
-            "OPS",
-            "The operations, as `radio lack` wrote them",
-        ))?
+        .arg(word(alloc, "OPS", "The operations, as `radio lack` wrote them"))?
         .arg(word(alloc, "OUT", "The log to write, which may be LOG"))
 }
 
