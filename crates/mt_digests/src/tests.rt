@@ -1,26 +1,24 @@
 use crate::digests_of;
 use mt_testalloc::Refusing;
 use sha2::{Digest, Sha256};
-use std::alloc::{AllocError, Allocator};
+use std::alloc::{AllocError, Allocator, Global};
 use std::test::Fail;
 
 // Bytes of a message of this length, other ones for another length.
 fn message<M: Allocator>(memory: M, len: usize) -> Result<Vec<u8, M>, AllocError> {
     let mut bytes = Vec::new(memory);
-    for i in 0..len {
-        bytes.push(((i * 7 + len) % 256) as u8)?;
+    let mut byte = 17u8;
+    for _ in 0..len {
+        byte = byte.wrapping_mul(5).wrapping_add(7);
+        bytes.push(byte)?;
     }
     Ok(bytes)
 }
 
-// Whether messages of these lengths have the digests that they have one by one.
-fn agrees<M: Allocator + Clone>(memory: &M, lengths: &[usize]) -> Result<bool, AllocError> {
-    let mut messages = Vec::new(memory.clone()?);
-    for len in lengths {
-        messages.push(message(memory.clone()?, *len)?)?;
-    }
+// Whether messages have the digests that they have one by one.
+fn agree<M: Allocator + Clone>(memory: &M, messages: &[Vec<u8, M>]) -> Result<bool, AllocError> {
     let mut slices = Vec::new(memory.clone()?);
-    for message in messages.as_slice() {
+    for message in messages {
         slices.push(message.as_slice())?;
     }
     let digests = digests_of(memory.clone()?, &slices)?;
@@ -29,6 +27,15 @@ fn agrees<M: Allocator + Clone>(memory: &M, lengths: &[usize]) -> Result<bool, A
         same &= digests[i].as_slice() == Sha256::digest(&messages[i]).as_slice();
     }
     Ok(same)
+}
+
+// The same of messages of these lengths.
+fn agrees<M: Allocator + Clone>(memory: &M, lengths: &[usize]) -> Result<bool, AllocError> {
+    let mut messages = Vec::new(memory.clone()?);
+    for len in lengths {
+        messages.push(message(memory.clone()?, *len)?)?;
+    }
+    agree(memory, &messages)
 }
 
 // The vector of FIPS 180-2, appendix B.1.
@@ -68,15 +75,16 @@ fn hashes_messages_that_end_one_after_another(rt: HostRuntime) -> Result<(), Fai
     Ok(())
 }
 
+// Whether the growth of this number is refused.
+fn is_refused(alloc: Global, growth: u64) -> bool {
+    let memory = Refusing::new(alloc, growth);
+    digests_of(&memory, &[b"abc", b"", b"d"]).is_err()
+}
+
 #[test]
 fn refuses_each_growth(rt: HostRuntime) -> Result<(), Fail> {
-    let mut refused = 0;
-    for growth in 0..3 {
-        let memory = Refusing::new(rt.alloc(), growth);
-        if digests_of(&memory, &[b"abc", b"", b"d"]).is_err() {
-            refused += 1;
-        }
-    }
-    assert_eq!(rt; refused, 2);
+    assert!(rt; is_refused(rt.alloc(), 0));
+    assert!(rt; is_refused(rt.alloc(), 1));
+    assert!(rt; !is_refused(rt.alloc(), 2));
     Ok(())
 }
