@@ -15,7 +15,7 @@ fault("output_to_a_closed_pipe", 37, ["view", "log"], files={"log": ONE}, output
 # command lines
 STATUS = "\nExit status: 0 done, 1 refused (`radio explain` tells why), 2 the command line does not parse.\n"
 USAGE = "Usage: radio <COMMAND>\n\nFor more information, try '--help'.\n"
-case("no_argument", [], status=2, stderr="error: 'radio' requires a subcommand but one was not provided\n  [subcommands: view, merge, edit, render, have, lack, take, serve, meet, info, explain, help]\n\n" + USAGE)
+case("no_argument", [], status=2, stderr="error: 'radio' requires a subcommand but one was not provided\n  [subcommands: view, log, merge, edit, render, have, lack, take, serve, meet, info, explain, help]\n\n" + USAGE)
 case("frob", ["frob"], status=2, stderr="error: unrecognized subcommand 'frob'\n\n" + USAGE)
 case("unknown_option", ["view", "--frob"], status=2, stderr="error: unexpected argument '--frob' found\n\n  tip: to pass '--frob' as a value, use '-- --frob'\n\nUsage: radio view [LOG]...\n\nFor more information, try '--help'.\n")
 case("word_of_no_text", ["view", b"\xff\xfe"], status=2, stderr="error: invalid UTF-8 was detected in one or more arguments\n\n" + USAGE)
@@ -27,6 +27,7 @@ Usage: radio <COMMAND>
 
 Commands:
   view     Prints the session of the union of the logs
+  log      Prints the operations of the union of the logs, a line each by rising stamp
   merge    Writes the union of the logs as one log
   edit     Makes the changes of a script, all or none, and writes the new log
   render   Writes the session of a log as a broadcast wave file, its markers as cue points

@@ -50,6 +50,9 @@ renders("a_marker_at_the_end", ONE_CLIP + [add_marker((3, A, 3), 3, "News")], [T
 renders("markers_in_their_order", ONE_CLIP + [add_marker((3, A, 3), 2, "Two"), add_marker((4, A, 4), 0, ""), add_marker((5, A, 5), 4294967295, "Late"), add_marker((6, A, 6), 2, "Köln")],
         [THREE], rendered([1, 2, 3], [(0, ""), (2, "Two"), (2, "Köln")]))
 renders("a_title_of_255_bytes", ONE_CLIP + [add_marker((3, A, 3), 0, "x" * 255)], [THREE], rendered([1, 2, 3], [(0, "x" * 255)]))
+SCRIPTS = ["Новости в девять", "九時のニュース", "الأخبار", "Ειδήσεις: ½ ώρα", "𝄞"]
+renders("titles_in_several_scripts", ONE_CLIP + [add_marker((3 + k, A, 3 + k), k // 2, title) for k, title in enumerate(SCRIPTS)], [THREE],
+        rendered([1, 2, 3], [(k // 2, title) for k, title in enumerate(SCRIPTS)]))
 renders("a_marker_of_no_programme", [add_marker((3, A, 3), 0, "News")], [], rendered([]))
 renders("four_samples", clip(wave([1, 2, 3, 4]), length=4), [wave([1, 2, 3, 4])], rendered([1, 2, 3, 4]))
 

@@ -20,3 +20,4 @@ import cases_of_command_lines
 import cases_of_edits
 import cases_of_exchanges
 import cases_of_refusals
+import cases_of_listings

@@ -198,4 +198,5 @@ def main():
     print("%d meetings of two processes agree with merging and with files, %d peers are told as they are, %d killed meetings were completed" % (len(sizes) + 1, len(peers), rounds))
 
 
-main()
+if __name__ == "__main__":
+    main()

@@ -1,11 +1,11 @@
 #!/usr/bin/env python3
-"""Compares `radio view` and `radio merge` with a model of the session in Python: tests/model.py PROGRAM [--sets N] [--seed N]
+"""Compares `radio view`, `radio log` and `radio merge` with a model of the session in Python: tests/model.py PROGRAM [--sets N] [--seed N]
 
 The model is written from docs/formats.md alone, in the plainest way: what is ready by a fixed point, a field's value by a
 maximum, the order of tracks by sorting whole paths. The sets are drawn at random: a few replicas whose numbers may have gaps,
 names of operations that are there, that are not, that have another clock or do not fit the role. Each set is handed to the
 program as one log, or as several that share operations, and merging these has to give the one log of the set. Stops at the
-first set of which the two tell different texts."""
+first set of which the two tell different texts, of the session or of the operations."""
 import argparse
 import os
 import random
@@ -123,6 +123,34 @@ def session_text(ops):
     return text + "held %d\n" % (len(ops) - len(ready))
 
 
+WORDS = {"set_gain": "gain", "set_mute": "mute"}
+
+
+def log_text(ops):
+    """A line for each operation, by rising stamp: its stamp, whether it is ready, and the words of a script."""
+    ready = {op.own for op in ready_of(ops)}
+
+    def word(name, value):
+        if name == "after" and value is None:
+            return "head"
+        if name == "tags":
+            return " ".join(["tags"] + [logs.stamp_text(*tag) for tag in value])
+        if name == "flag":
+            return "on" if value else "off"
+        if isinstance(value, tuple):
+            return logs.stamp_text(*value)
+        return value.hex() if isinstance(value, bytes) else str(value)
+
+    text = ""
+    for op in sorted(ops, key=lambda op: op.own):
+        words = [word(name, value) for name, value in op.fields.items() if name not in ("num", "den")]
+        if op.kind == "set_gain":
+            words.append("%d/%d" % (op.num, op.den))
+        status = "ready" if op.own in ready else "held"
+        text += " ".join([logs.stamp_text(*op.own), status, WORDS.get(op.kind, op.kind.replace("_", "-"))] + words) + "\n"
+    return text + "operations %d\n" % len(ops)
+
+
 NAMED = {
     "move_track": "Track", "add_clip": "Track", "move_clip": "Clip", "trim_clip": "Clip", "set_gain": "Mixable", "set_mute": "Mixable",
     "remove": "Item", "restore": "Item", "move_marker": "Marker", "retitle": "Titled"}
@@ -233,11 +261,12 @@ def main():
             draw = random.Random(seed)
             ops = drawn(draw)
             files = files_of(draw, ops, folder)
-            told = subprocess.run([program, "view"] + files, capture_output=True)
-            wanted = session_text(ops)
-            if told.stdout.decode() != wanted or told.stderr or told.returncode != 0:
-                print("seed %d: the program says\n%s%s\nand the model\n%s" % (seed, told.stdout.decode(), told.stderr.decode(), wanted))
-                return 1
+            for command, text in (("log", log_text), ("view", session_text)):
+                told = subprocess.run([program, command] + files, capture_output=True)
+                wanted = text(ops)
+                if told.stdout.decode() != wanted or told.stderr or told.returncode != 0:
+                    print("seed %d: %s says\n%s%s\nand the model\n%s" % (seed, command, told.stdout.decode(), told.stderr.decode(), wanted))
+                    return 1
             if not merges(program, files, logs.log([op.text() for op in ops]), os.path.join(folder, "both")):
                 print("seed %d: %d logs are not merged into the one log of the set" % (seed, len(files)))
                 return 1

@@ -2,9 +2,14 @@
 """Compares what other readers say of files that `radio render` writes with what `radio info` says of them, and their samples
 with those of the recording: python3 tests/rendered_waves.py PROGRAM
 
-python3's own module `wave` always reads them; soxi, ffprobe and sndfile-info where they are installed.
+python3's own module `wave` always reads them; soxi, ffprobe, sndfile-info, mediainfo, and sox and ffmpeg for the samples, where they are
+installed. What `radio info` tells of a file's `bext` chunk has to be the head that the file was rendered with.
+
+Known to be told otherwise by others: python's `wave` and soxi show neither the `bext` chunk nor cue points; ffprobe shows no cue points;
+mediainfo counts no frames of a file that has none, so files without a frame are read by python's `wave` alone.
 """
 import hashlib
+import json
 import os
 import shutil
 import subprocess
@@ -15,7 +20,8 @@ import wave
 sys.dont_write_bytecode = True
 sys.path.insert(0, os.path.dirname(os.path.abspath(__file__)))
 from logs import A, add_clip, add_marker, add_track, log
-from real_waves import READERS
+from real_waves import READERS, output
+from real_waves import radio as info
 from waves import data, fmt, riff
 
 
@@ -31,8 +37,39 @@ def of_module(path):
         return {"rate": file.getframerate(), "channels": file.getnchannels(), "bits": 8 * file.getsampwidth(), "frames": file.getnframes()}, file.readframes(file.getnframes())
 
 
-def compare(program, folder, rate, bits, channels, frames, markers):
-    sound = bytes(index * 37 % 256 for index in range(frames * channels * bits // 8))
+def mediainfo(path):
+    tracks = {track["@type"]: track for track in json.loads(output("mediainfo", "--Output=JSON", path))["media"]["track"]}
+    names = {"rate": "SamplingRate", "channels": "Channels", "bits": "BitDepth", "frames": "SamplingCount"}
+    return {fact: int(tracks["Audio"][name]) for fact, name in names.items()}
+
+
+def sox_samples(path, bits):
+    words = ["sox", path, "-t", "raw", "-e", "signed-integer", "-b", str(bits), "-L", "-"]
+    return subprocess.run(words, check=True, stdout=subprocess.PIPE).stdout
+
+
+def ffmpeg_samples(path, bits):
+    words = ["ffmpeg", "-loglevel", "error", "-i", path, "-f", "s%dle" % bits, "-c:a", "pcm_s%dle" % bits, "-"]
+    return subprocess.run(words, check=True, stdout=subprocess.PIPE).stdout
+
+
+TELLERS = READERS + [("mediainfo", mediainfo)]
+PLAYERS = [("sox", sox_samples), ("ffmpeg", ffmpeg_samples)]
+
+
+def sound_of(kind, size, bits):
+    """The bytes of samples: silence, full scale up and down in turn, or all kinds."""
+    if kind == "silence":
+        return bytes(size)
+    if kind == "full scale":
+        width = bits // 8
+        both = b"\xff" * (width - 1) + b"\x7f" + bytes(width - 1) + b"\x80"
+        return (both * (size // len(both) + 1))[:size]
+    return bytes(index * 37 % 256 for index in range(size))
+
+
+def compare(program, folder, rate, bits, channels, frames, markers, kind="any"):
+    sound = sound_of(kind, frames * channels * bits // 8, bits)
     recording = riff(fmt(channels, rate, bits), data(sound))
     track, clip = (1, A, 1), (2, A, 2)
     ops = [add_track(track, None, "Voice")]
@@ -50,10 +87,38 @@ def compare(program, folder, rate, bits, channels, frames, markers):
     assert facts == read == {"rate": rate, "channels": channels, "bits": bits, "frames": frames}, (facts, read)
     assert samples == sound, "other samples than the recording's"
     assert cues == ["cue %d at %d label %s" % (name, at, title) for name, (at, title) in enumerate(markers, 1)], cues
-    for name, reader in READERS:
+    for name, reader in TELLERS:
         if shutil.which(name) and frames:
             other = reader(paths["out.wav"])
             assert all(other[fact] == facts[fact] for fact in facts), (name, other, facts)
+    for name, player in PLAYERS:
+        if shutil.which(name) and frames:
+            assert player(paths["out.wav"], bits) == sound, "%s plays other samples than the recording's" % name
+
+
+def compare_head(program, folder, texts):
+    """Renders nothing under a head, and reads the head again."""
+    paths = {name: os.path.join(folder, name) for name in ("log", "out.wav")}
+    with open(paths["log"], "wb") as file:
+        file.write(log([]))
+    words = [word for field, text in texts.items() for word in ("--" + field, text)]
+    subprocess.run([program, "render", paths["out.wav"], paths["log"]] + words, check=True)
+    wanted = {"description": "", "originator": "", "reference": "", "date": "2000-01-01", "time": "00:00:00", "time-reference": "0"}
+    wanted.update(texts)
+    told = info(program, paths["out.wav"])
+    for field, text in wanted.items():
+        assert str(told[field]) == text, (field, told[field], text)
+    for name, reader in READERS:
+        if name == "ffprobe" and shutil.which(name):
+            other = reader(paths["out.wav"])
+            assert all(str(other[field]).strip() == text.strip() for field, text in wanted.items() if field in other and text), (name, other, wanted)
+
+
+HEADS = [
+    {},
+    {"description": "News at nine", "originator": "Davonelume", "reference": "DE-1234", "date": "2026-11-24", "time": "09:00:00", "time-reference": "1555200000"},
+    {"description": "d" * 256, "originator": "o" * 32, "reference": "r" * 32, "date": "9999-99-99", "time": "99:99:99", "time-reference": str(2**64 - 1)},
+]
 
 
 def main():
@@ -67,8 +132,19 @@ def main():
                         markers = [(0, "Start"), (frames - 1, "End")] if frames > 1 else []
                         compare(program, folder, rate, bits, channels, frames, markers)
                         count += 1
-    readers = ["wave"] + [name for name, _ in READERS if shutil.which(name)]
-    print("%d rendered files are read alike by radio and by %s" % (count, ", ".join(readers)))
+        for kind in ("silence", "full scale"):
+            for bits in (16, 24):
+                compare(program, folder, 48000, bits, 2, 4800, [], kind)
+                count += 1
+        compare(program, folder, 48000, 16, 1, 65536, [(at, "m%d" % at) for at in range(65536)])
+        count += 1
+        for head in HEADS:
+            compare_head(program, folder, head)
+    there = ["wave"] + [name for name, _ in TELLERS + PLAYERS if shutil.which(name)]
+    print("%d rendered files are read alike by radio and by %s, and %d heads are read again" % (count, ", ".join(there), len(HEADS)))
+    absent = [name for name, _ in TELLERS + PLAYERS if not shutil.which(name)]
+    if absent:
+        print("skipped what needs %s: not installed" % ", ".join(absent))
 
 
 main()

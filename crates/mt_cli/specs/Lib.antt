@@ -2,6 +2,7 @@ pub mod Faults
 pub mod Reading
 pub mod Joining
 pub mod Viewing
+pub mod Listing
 pub mod Writing
 pub mod Buffering
 pub mod Info

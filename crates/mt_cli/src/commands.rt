@@ -20,6 +20,7 @@ pub(crate) mod explain;
 pub(crate) mod have;
 pub(crate) mod info;
 pub(crate) mod lack;
+pub(crate) mod log;
 pub(crate) mod meet;
 pub(crate) mod merge;
 pub(crate) mod render;

@@ -6,6 +6,7 @@ mod commands;
 mod fault;
 mod files;
 mod info;
+mod list;
 mod merge;
 mod part;
 mod program;
@@ -14,6 +15,7 @@ mod refusals;
 mod render;
 mod sources;
 mod stop;
+mod tell;
 #[cfg(test)]
 mod tests;
 mod union;
@@ -21,6 +23,7 @@ mod view;
 
 pub use fault::CliFault;
 pub use info::write_info;
+pub use list::{list_log, list_logs};
 pub use merge::merge_logs;
 pub use program::command;
 pub use refusals::{Refusal, find_refusal};

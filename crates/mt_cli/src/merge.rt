@@ -8,7 +8,7 @@ ghost use Rattle.mt_cli.specs.Reading.{text_of, AreRead, GaveLogs};
 ghost use Rattle.mt_cli.specs.Writing.{WriteFails, InputsFail};
 
 use crate::fault::CliFault;
-use crate::union::union_of;
+use crate::tell::{Telling, tell_logs};
 use mt_opcodec::{Latch, Log};
 use std::alloc::Allocator;
 use std::io::{Read, Write};
@@ -30,6 +30,25 @@ pub(crate) fn put_log<A: Allocator + Clone, W: Write>(
     }
 }
 
+// The text of a log itself.
+#[derive(Drop)]
+struct Logs;
+
+impl Telling for Logs {
+    ghost use Rattle.mt_cli.specs.Reading.{text_of};
+
+    ghost told = { text_of };
+
+    fn tell<A: Allocator + Clone, W: Write>(
+        &self,
+        _alloc: A,
+        log: &Log<A>,
+        output: &mut Latch<W>,
+    ) -> Result<(), CliFault> {
+        put_log(log, output)
+    }
+}
+
 /// Writes the log of the union of the inputs' logs, and nothing else; of no input, the log of no operation.
 ///
 /// Refused, in this order: `Read` with the index of an input whose latch has failed, or `Log` with the index of
@@ -46,8 +65,5 @@ pub fn merge_logs<A: Allocator + Clone, R: Read, W: Write>(
     ensures ok { OnOk result ((logs : List LogMap) × (GaveLogs R.remaining inputs.old logs × AllAgree logs × Appends (W.contents output.old.inner) (W.contents output.new.inner) (text_of (union_all logs)))) }
     ensures err { IfErr result (InputsFail text_of W.contents R.remaining inputs.old inputs.new output.old output.new) }
 {
-    match union_of(alloc, inputs) {
-        Ok(all) => put_log(&all, output),
-        Err(fault) => Err(fault),
-    }
+    tell_logs(&Logs, alloc, inputs, output)
 }

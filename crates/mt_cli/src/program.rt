@@ -2,7 +2,9 @@
 
 ghost use Rattle.std.specs.Prelude.{◌≡◌, ◌≤◌};
 
-use crate::commands::{edit, explain, have, info, lack, meet, merge, render, serve, take, view};
+use crate::commands::{
+    edit, explain, have, info, lack, log, meet, merge, render, serve, take, view,
+};
 use crate::fault::CliFault;
 use crate::stop::Stop;
 use clap::Command;
@@ -62,6 +64,7 @@ fn run<F: Files + Net + AllocGlobal, R: Read, W: Write>(
     };
     match matches.subcommand() {
         Some(("view", words)) => view::run(rt, words, input, output),
+        Some(("log", words)) => log::run(rt, words, input, output),
         Some(("merge", words)) => merge::run(rt, words),
         Some(("edit", words)) => edit::run(rt, words, output),
         Some(("render", words)) => render::run(rt, words),
@@ -89,6 +92,7 @@ fn radio<'a>(alloc: Global) -> Result<Command<'a>, AllocError> {
         .no_binary_name(true)
         .subcommand_required(true)
         .subcommand(view::words(alloc)?)?
+        .subcommand(log::words(alloc)?)?
         .subcommand(merge::words(alloc)?)?
         .subcommand(edit::words(alloc)?)?
         .subcommand(render::words(alloc)?)?

@@ -9,29 +9,35 @@ ghost use Rattle.mt_cli.specs.Viewing.{log_view, view_text};
 ghost use Rattle.mt_cli.specs.Writing.{WriteFails, InputsFail, InputFails};
 
 use crate::fault::CliFault;
-use crate::read::read_log;
-use crate::union::union_of;
+use crate::tell::{Telling, tell_log, tell_logs};
 use mt_opcodec::{Latch, Log};
 use mt_sessionview::{SessionFault, from_scratch, write_text};
 use std::alloc::Allocator;
 use std::io::{Read, Write};
 
-// Writes the text of a log's session.
-fn show<A: Allocator + Clone, W: Write>(
-    alloc: A,
-    log: &Log<A>,
-    output: &mut Latch<W>,
-) -> Result<(), CliFault>
-    ensures ok { OnOk result (Appends (W.contents output.old.inner) (W.contents output.new.inner) (log_view log.now)) }
-    ensures err { IfErr result (WriteFails log_view W.contents log.now output.old output.new) }
-{
-    let Ok(session) = from_scratch(alloc.clone()?, log) else {
-        return Err(CliFault::Memory);
-    };
-    match write_text(alloc, &session, output) {
-        Ok(()) => Ok(()),
-        Err(SessionFault::Memory) => Err(CliFault::Memory),
-        Err(SessionFault::Write) => Err(CliFault::Write),
+// The text of a log's session.
+#[derive(Drop)]
+struct Sessions;
+
+impl Telling for Sessions {
+    ghost use Rattle.mt_cli.specs.Viewing.{log_view};
+
+    ghost told = { log_view };
+
+    fn tell<A: Allocator + Clone, W: Write>(
+        &self,
+        alloc: A,
+        log: &Log<A>,
+        output: &mut Latch<W>,
+    ) -> Result<(), CliFault> {
+        let Ok(session) = from_scratch(alloc.clone()?, log) else {
+            return Err(CliFault::Memory);
+        };
+        match write_text(alloc, &session, output) {
+            Ok(()) => Ok(()),
+            Err(SessionFault::Memory) => Err(CliFault::Memory),
+            Err(SessionFault::Write) => Err(CliFault::Write),
+        }
     }
 }
 
@@ -51,10 +57,7 @@ pub fn view_logs<A: Allocator + Clone, R: Read, W: Write>(
     ensures read { OnOk result (AreRead R.remaining inputs.new) }
     ensures err { IfErr result (InputsFail log_view W.contents R.remaining inputs.old inputs.new output.old output.new) }
 {
-    match union_of(alloc.clone()?, inputs) {
-        Ok(all) => show(alloc, &all, output),
-        Err(fault) => Err(fault),
-    }
+    tell_logs(&Sessions, alloc, inputs, output)
 }
 
 /// The same for one input.
@@ -67,8 +70,5 @@ pub fn view_log<A: Allocator + Clone, R: Read, W: Write>(
     ensures read { OnOk result (IsRead R.remaining input.new) }
     ensures err { IfErr result (InputFails log_view W.contents R.remaining input.old input.new output.old output.new) }
 {
-    match read_log(alloc.clone()?, 0, input) {
-        Ok(log) => show(alloc, &log, output),
-        Err(fault) => Err(fault),
-    }
+    tell_log(&Sessions, alloc, input, output)
 }

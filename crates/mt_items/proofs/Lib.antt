@@ -9,3 +9,4 @@ pub mod AnyOrder
 pub mod OnePass
 pub mod Fresh
 pub mod EachNeed
+pub mod OwnTag

@@ -21,9 +21,10 @@ use crate::fault::ItemsFault;
 use crate::history::History;
 use crate::listing::stamps_of;
 use crate::marker::note as note_marker;
+use crate::marks::ItemMarks;
 use crate::place::note as note_place;
 use crate::track::note as note_track;
-use mt_cells::{Presence, Register};
+use mt_cells::Register;
 use mt_op::{Digest, Gain, Need, Op, Role, Title};
 use mt_stamp::Stamp;
 use std::alloc::{Allocator, Global};
@@ -113,7 +114,7 @@ impl<A: Allocator> Items<A> {
     }
 
     // The presence of an item.
-    fn presence(&self, item: Stamp) -> Option<&Presence<A>>
+    fn presence(&self, item: Stamp) -> Option<&ItemMarks<A>>
         ensures { MatchOption result (HoldsTags item self.now unmarked) (λ p. HoldsTags item self.now p.now) }
     {
         match self.tracks.get(&item) {
@@ -250,7 +251,7 @@ impl<A: Allocator> Items<A> {
     {
         let _ = &self.noted;
         match self.presence(item) {
-            Some(presence) => Ok(presence.live_tags()?),
+            Some(presence) => Ok(presence.live_tags(&self.alloc)?),
             None => Ok(Vec::new(self.alloc.clone()?)),
         }
     }

@@ -31,6 +31,7 @@ mod items;
 pub mod laws;
 mod listing;
 mod marker;
+mod marks;
 mod place;
 mod ready;
 #[cfg(test)]

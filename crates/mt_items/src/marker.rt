@@ -5,9 +5,10 @@ ghost use Rattle.mt_op.specs.Needs.{adds_marker};
 ghost use Rattle.mt_items.specs.Keeping.{Makes, Keeps, KeepsAll};
 ghost use Rattle.mt_items.specs.Cells.{HoldsMarker, HoldsMarkers};
 
-use crate::cells::{MarkerCells, first_presence, mark, subject};
+use crate::cells::{MarkerCells, mark, subject};
 use crate::fault::ItemsFault;
 use crate::fields::{write, written_position, written_title};
+use crate::marks::ItemMarks;
 use mt_cells::Register;
 use mt_op::{Body, Op};
 use mt_stamp::Stamp;
@@ -15,7 +16,7 @@ use std::alloc::Allocator;
 use std::collections::BTreeMap;
 
 // The cells of the marker that an operation adds, where it adds one.
-fn added<A: Allocator + Clone>(alloc: &A, op: &Op<A>) -> Result<Option<MarkerCells<A>>, ItemsFault>
+fn added<A: Allocator + Clone>(op: &Op<A>) -> Result<Option<MarkerCells<A>>, ItemsFault>
     ensures ok { IfOk result (λ cells. MatchOption cells (adds_marker op.now.act ≡ false) (Makes HoldsMarker op.now)) }
     ensures adds { IfOk result (λ cells. is_some cells ≡ adds_marker op.now.act) }
     ensures err { IfErr result (λ fault. fault ≡ ItemsFault.Memory) }
@@ -31,19 +32,23 @@ fn added<A: Allocator + Clone>(alloc: &A, op: &Op<A>) -> Result<Option<MarkerCel
     Ok(Some(MarkerCells {
         position: Register::new(own, *at),
         title: Register::new(own, title),
-        presence: first_presence(alloc, own)?,
+        presence: ItemMarks::new(own),
     }))
 }
 
 // Notes an operation on a marker.
-fn change<A: Allocator + Clone>(cells: &mut MarkerCells<A>, op: &Op<A>) -> Result<(), ItemsFault>
+fn change<A: Allocator + Clone>(
+    alloc: &A,
+    cells: &mut MarkerCells<A>,
+    op: &Op<A>,
+) -> Result<(), ItemsFault>
     ensures ok { OnOk result (Keeps HoldsMarker op.now cells.old cells.new) }
     ensures err { IfErr result (λ fault. fault ≡ ItemsFault.Memory) }
 {
     let stamp = op.stamp();
     write(&mut cells.position, stamp, written_position(op))?;
     write(&mut cells.title, stamp, written_title(op)?)?;
-    mark(&mut cells.presence, op)
+    mark(alloc, &mut cells.presence, op)
 }
 
 // Notes an operation among the markers.
@@ -55,12 +60,12 @@ pub(crate) fn note<A: Allocator + Clone>(
     ensures ok { OnOk result (KeepsAll HoldsMarkers op.now markers.old markers.new) }
     ensures err { IfErr result (λ fault. fault ≡ ItemsFault.Memory) }
 {
-    if let Some(cells) = added(alloc, op)? {
+    if let Some(cells) = added(op)? {
         markers.insert(op.stamp(), cells)?;
         return Ok(());
     }
     if let Some(cells) = markers.get_mut(&subject(op)) {
-        change(cells, op)?;
+        change(alloc, cells, op)?;
     }
     Ok(())
 }

@@ -24,7 +24,7 @@ texts_same (x ∷ a) (y ∷ b) valid_a valid_b e =
     λ i. apart.0 i ∷ rest i
 
 -- their texts tell whether operations are the same
-texts_decide : (a b : List Operation) → AllByRecursion IsOperation a → AllByRecursion IsOperation b → Decides (pointwise nat_eq (op_texts a) (op_texts b)) (a ≡ b)
+pub texts_decide : (a b : List Operation) → AllByRecursion IsOperation a → AllByRecursion IsOperation b → Decides (pointwise nat_eq (op_texts a) (op_texts b)) (a ≡ b)
 texts_decide a b valid_a valid_b = (
   λ h. texts_same a b valid_a valid_b (bytes_same (op_texts a) (op_texts b) h),
   λ e. subst (λ (c : List Operation). pointwise nat_eq (op_texts a) (op_texts c) ≡ true) e (bytes_itself (op_texts a)),

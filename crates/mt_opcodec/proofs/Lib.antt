@@ -18,3 +18,17 @@ pub mod Union
 pub mod Merging
 pub mod EqualLogs
 mod Agreements
+pub mod Narrowing
+pub mod Runs
+pub mod Ends
+pub mod RunEdits
+pub mod Adding
+pub mod MovedOps
+pub mod Appending
+pub mod JoinedRuns
+pub mod JoinedRun
+pub mod JoinedClash
+pub mod RunLists
+pub mod Others
+pub mod RunLogs
+pub mod Refs

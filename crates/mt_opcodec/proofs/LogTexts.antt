@@ -1,6 +1,6 @@
 -- A log that is read is spelled so, and a log that is spelled so is read.
 use Rattle.std.proofs.Common.{◌≡◌, ℕ, zero, suc, ◌+◌, ◌-◌, ◌^◌, ◌<◌, ◌≤◌, Bool, true, false, not, cond, eqb, ltb, List, [], ◌∷◌, ◌++◌, map, Option, Some, None, Result, Ok, Err, length, take, drop, refl, sym, ap, subst, ◌∙◌, arith, append_assoc}
-use Rattle.std.specs.Prelude.{IsTrue}
+use Rattle.std.specs.Prelude.{IsTrue, IfOk}
 use Rattle.std.specs.List.{flat_map, starts_with, AllByRecursion}
 use Rattle.std.specs.Int.{w64, from_be_bytes, to_be_bytes}
 use Rattle.std.specs.Ordering.{is_lt}
@@ -25,7 +25,7 @@ use Rattle.mt_opcodec.specs.declared.fault.LogFault.TheVariants.{BadMagic, BadVe
 use Rattle.mt_opcodec.specs.OpText.{op_text}
 use Rattle.mt_opcodec.specs.OpReading.{op_at}
 use Rattle.mt_opcodec.specs.LogText.{magic, version, log_head, log_body, log_text}
-use Rattle.mt_opcodec.specs.LogReading.{◌>>=◌, is_after, record_of, records_at, head_len, digest_len, body_of, is_sealed, sealed_at, counted_at, log_at, LogFails}
+use Rattle.mt_opcodec.specs.LogReading.{◌>>=◌, is_after, record_of, records_at, head_len, digest_len, body_of, is_sealed, sealed_at, counted_at, log_at, LogFails, LogGives}
 use Rattle.mt_opcodec.specs.LogValue.{AreLogged}
 use Rattle.mt_opcodec.proofs.Fields.{IsBytes, IsBytes-take, IsBytes-drop, wide64}
 use Rattle.mt_opcodec.proofs.Operations.{op_takes, op_again}
@@ -79,7 +79,7 @@ rises_chain last (o ∷ ops) rise first = (first o ops refl, rises_chain (Some (
 
 -- ---- records
 
-record_ok : (index : ℕ) (last : Option Dot) (r : Result (Operation × List ℕ) ReadFault) (x : Operation × List ℕ) → record_of index last r ≡ Ok x → (r ≡ Ok x) × IsTrue (is_after last (op_dot x.0))
+pub record_ok : (index : ℕ) (last : Option Dot) (r : Result (Operation × List ℕ) ReadFault) (x : Operation × List ℕ) → record_of index last r ≡ Ok x → (r ≡ Ok x) × IsTrue (is_after last (op_dot x.0))
 record_ok index last (Ok y) x e = step (is_after last (op_dot y.0)) refl
   where
     step : (b : Bool) → is_after last (op_dot y.0) ≡ b → ◌≡◌ {A = Result (Operation × List ℕ) ReadFault} (Ok y) (Ok x) × IsTrue (is_after last (op_dot x.0))
@@ -228,3 +228,11 @@ log_text-apart a b a-logged b-logged a-short b-short same =
 -- what a fault is, where the bytes are a log's text
 pub log_only_err : (fault : LogFault) (bytes : List ℕ) → LogFails fault (log_at bytes) → (ops : List Operation) → AreLogged ops → length ops < 2 ^ 64 → bytes ≡ log_text ops → LogFails fault (done ops)
 log_only_err fault bytes h ops logged short text = subst (λ (r : Result (List Operation) LogFault). LogFails fault r) (ap log_at text ∙ log_again ops logged short) h
+
+-- the same, of what a function returned
+pub read_found : {X : Type 0} (view : X → List Operation) (bytes : List ℕ) → IsBytes bytes → (r : Result X LogFault) → LogGives view r (log_at bytes) → IfOk r (λ x. bytes ≡ log_text (view x))
+read_found view bytes fits (Ok x) h = (log_takes bytes (view x) fits h).1
+read_found view bytes fits (Err e) h = tt
+
+pub read_only : {X : Type 0} (view : X → List Operation) (bytes : List ℕ) (r : Result X LogFault) → LogGives view r (log_at bytes) → (ops : List Operation) → AreLogged ops → length ops < 2 ^ 64 → bytes ≡ log_text ops → LogGives view r (done ops)
+read_only view bytes r h ops logged short text = subst (LogGives view r) (ap log_at text ∙ log_again ops logged short) h

@@ -22,7 +22,7 @@ use Rattle.mt_op.proofs.Needs.{and_first, and_second}
 use Rattle.mt_opcodec.specs.LogValue.{LogMap, log_of, AreLogged}
 use Rattle.mt_opcodec.specs.Union.{Agree, union, IsFirstClash}
 use Rattle.mt_opcodec.specs.Merging.{ComesNext}
-use Rattle.mt_opcodec.specs.declared.merge.Next.TheVariants as next
+use Rattle.mt_opcodec.specs.declared.joining.Next.TheVariants as next
 use Rattle.mt_opcodec.proofs.Logs.{get-log_of, get-at, get-gap, log_of-insert, log_of-nil, AreLogged-insert}
 use Rattle.mt_opcodec.proofs.Union.{same_log, get-union}
 
@@ -173,7 +173,7 @@ insert_at_end (suc i) [] o at = absurd (none-some o at)
 insert_at_end (suc i) (x ∷ ops) o at = ap (λ (l : List Operation). x ∷ l) (insert_at_end i ops o at)
 
 -- where what is found stands
-find_place : (ops : List Operation) (dot : Dot) (p : Operation) → find dot_cmp dot (map entry_of ops) ≡ Some p → (k : ℕ) × ((slice_get ops k ≡ Some p) × (op_dot p ≡ dot))
+pub find_place : (ops : List Operation) (dot : Dot) (p : Operation) → find dot_cmp dot (map entry_of ops) ≡ Some p → (k : ℕ) × ((slice_get ops k ≡ Some p) × (op_dot p ≡ dot))
 find_place [] dot p e = absurd (none-some p e)
 find_place (x ∷ ops) dot p e = step (is_eq (dot_cmp dot (op_dot x))) refl (find_place ops dot p)
   where
@@ -242,7 +242,7 @@ gap_at_end ops o before = record {
   greater_after = λ k p le at. let within = slice_get_within ops k p at in absurd (omega arith);
 }
 
-push_is_insert : (ops : List Operation) (o : Operation) → insert ops (length ops) o ≡ ops ++ (o ∷ [])
+pub push_is_insert : (ops : List Operation) (o : Operation) → insert ops (length ops) o ≡ ops ++ (o ∷ [])
 push_is_insert [] o = refl
 push_is_insert (x ∷ ops) o = ap (λ (l : List Operation). x ∷ l) (push_is_insert ops o)
 

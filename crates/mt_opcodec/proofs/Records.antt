@@ -14,6 +14,10 @@ use Rattle.mt_opcodec.specs.LogReading.{◌>>=◌, record_of, records_at, LogFai
 abbrev pub with_front : List Operation → Result (List Operation) LogFault → Result (List Operation) LogFault
 with_front front r = r >>= λ ops. Ok (front ++ ops)
 
+pub with_front-nil : (r : Result (List Operation) LogFault) → with_front [] r ≡ r
+with_front-nil (Ok ops) = refl
+with_front-nil (Err e) = refl
+
 regroup : (front : List Operation) (o : Operation) (r : Result (List Operation) LogFault) → with_front front (r >>= λ ops. Ok (o ∷ ops)) ≡ with_front (front ++ o ∷ []) r
 regroup front o (Ok ops) = ap (λ (l : List Operation). Ok l) (sym (append_assoc front (o ∷ []) ops))
 regroup front o (Err e) = refl

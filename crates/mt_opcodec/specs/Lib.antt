@@ -8,3 +8,5 @@ pub mod Merging
 pub mod Laws
 pub mod Faults
 pub mod Latch
+pub mod Runs
+pub mod Clashing

@@ -23,15 +23,21 @@
 //! dot, and the 32 bytes of the SHA-256 of all that stands before it.
 #![tactic(auto)]
 
+mod clash;
+mod copy;
 mod fault;
 mod field_reader;
+mod find;
+mod join;
+mod joining;
 mod latch;
 pub mod laws;
 mod log;
 mod log_reader;
-mod merge;
 mod op_reader;
 mod op_writer;
+mod run;
+mod run_list;
 #[cfg(test)]
 mod tests;
 
@@ -41,3 +47,4 @@ pub use log::Log;
 pub use log_reader::read_ops;
 pub use op_reader::read_op;
 pub use op_writer::write_op;
+pub use run::Run;

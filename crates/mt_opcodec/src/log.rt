@@ -1,30 +1,40 @@
 //! Logs.
 
-ghost use Rattle.std.specs.Prelude.{◌≡◌, ℕ, List, length, slice_get, IsTrue, IfOk, IfErr, OnOk, Ok, true, ◌↔◌, ◌<◌, ◌^◌, []};
+ghost use Rattle.std.specs.Prelude.{◌≡◌, ◌≢◌, ◌↔◌, ◌++◌, ◌∷◌, [], Ok, true, None, IfOk, IfErr, IfSome, OnOk, IsTrue, slice_get, length, List, ◌<◌, ◌^◌, map as list_map};
 ghost use Rattle.std.specs.Option.{option_copied};
 ghost use Rattle.std.specs.FinMap as map;
-ghost use Rattle.mt_opcodec.specs.LogText.{log_body};
+ghost use Rattle.mt_op.specs.Dots.{op_dot, IsGapFor};
+ghost use Rattle.mt_opcodec.specs.LogValue.{Adds, AreLogged, log_of, operations};
+ghost use Rattle.mt_opcodec.specs.LogText.{log_body, log_text, op_texts};
+ghost use Rattle.mt_opcodec.specs.Runs.{AreRuns, run_ops};
 
+use crate::clash::first_other;
 use crate::fault::LogFault;
-use crate::log_reader::logged_ops;
-use crate::merge::{copied_ops, merged_ops};
+use crate::find::find_run;
+use crate::join::joined_runs;
+use crate::log_reader::log_of_text;
 use crate::op_writer::put_op;
+use crate::run::Run;
+use crate::run_list::{add_to_runs, copied_runs, count_of, equal_runs, op_of_runs, refs_of_runs};
+use mt_op::Op;
 use mt_op::laws::equal_ops;
-use mt_op::{Op, find_op};
 use mt_stamp::Dot;
 use sha2::{Digest, Sha256};
 use std::alloc::{AllocError, Allocator, Global};
+use std::collections::VecDeque;
 use std::marker::Model;
 
 /// A log: operations by rising dot, no two of them with one dot. Seen as the finite map from dot to operation. Logs are equal
-/// where they have the same operations.
+/// where they have the same operations. Kept as one run of operations for each replica.
 #[derive(Drop)]
 pub struct Log<A: Allocator = Global> {
-    ops: Vec<Op<A>, A>,
+    runs: Vec<Run<A>, A>,
+    count: usize,
 }
 
 impl<A: Allocator> Model for Log<A> {
-    ghost use Rattle.mt_opcodec.specs.LogValue.{LogMap, AreLogged, log_of};
+    ghost use Rattle.mt_opcodec.specs.LogValue.{LogMap, log_of};
+    ghost use Rattle.mt_opcodec.specs.Runs.{IsRunLog, run_ops};
     ghost use Rattle.mt_stamp.specs.Codes.{dot_code};
     ghost use Rattle.mt_op.specs.Codes.{operation_code};
     ghost use Rattle.std.specs.FinMap as map;
@@ -33,35 +43,115 @@ impl<A: Allocator> Model for Log<A> {
 
     ghost coded = { map.code dot_code operation_code };
 
-    ghost view = { λ l. log_of l.ops.items };
+    ghost view = { λ l. log_of (run_ops l.runs.items) };
 
-    ghost invariant = { λ l. AreLogged l.ops.items };
+    ghost invariant = { λ l. IsRunLog l.runs.items l.count };
 }
 
 impl<A: Allocator> Log<A> {
     ghost use Rattle.mt_op.specs.Operation.{Operation};
-    ghost use Rattle.mt_op.specs.Dots.{op_dot};
-    ghost use Rattle.mt_opcodec.specs.LogValue.{AreLogged, Adds, operations, log_of};
-    ghost use Rattle.mt_opcodec.specs.LogText.{log_text};
-    ghost use Rattle.mt_opcodec.specs.LogReading.{LogGives, log_at};
-    ghost use Rattle.mt_opcodec.specs.Union.{Agree, union, MergeFails};
+    ghost use Rattle.mt_opcodec.specs.Union.{Agree, union, IsFirstClash, MergeFails};
 
     /// The log of no operation. Takes no memory.
     pub fn new(alloc: A) -> Self
         ensures { result ≡ map.empty }
     {
         Log {
-            ops: Vec::new(alloc),
+            runs: Vec::new(alloc),
+            count: 0,
         }
     }
 
-    /// The log of operations whose dots rise. Takes no memory.
-    pub fn of_ops(ops: Vec<Op<A>, A>) -> Self
-        requires rising { AreLogged ops.items }
-        ensures { result ≡ log_of ops.items }
+    /// The runs of its replicas, by rising replica: one after another they are the operations by rising dot.
+    pub fn runs(&self) -> &[Run<A>]
+        ensures value { run_ops result.now ≡ operations self.now }
+        ensures runs { AreRuns result.now }
+        ensures logged { AreLogged (operations self.now) }
+        ensures whole { log_of (operations self.now) ≡ self.now }
     {
-        Log { ops }
+        let _ = self.count;
+        &self.runs
     }
+
+    /// How many operations there are.
+    pub fn len(&self) -> usize
+        ensures { result ≡ map.len self.now }
+    {
+        let _ = &self.runs;
+        self.count
+    }
+
+    /// Whether there is no operation.
+    pub fn is_empty(&self) -> bool
+        ensures { IsTrue result ↔ (map.len self.now ≡ 0) }
+    {
+        self.len() == 0
+    }
+
+    /// The operation with this dot, or `None` where the log has none.
+    pub fn get(&self, dot: &Dot) -> Option<&Op<A>>
+        ensures { option_copied result ≡ map.get self.now dot.now }
+    {
+        let runs = self.runs();
+        match find_run(runs, dot.replica) {
+            Ok(place) => runs[place].get(dot),
+            Err(_) => None,
+        }
+    }
+
+    /// The operation at place `i`, counted from 0 by rising dot, or `None` where `i` is `len()` or more. Counts the operations
+    /// of each replica before it.
+    pub fn op_at(&self, i: usize) -> Option<&Op<A>>
+        ensures { option_copied result ≡ slice_get (operations self.now) i }
+    {
+        op_of_runs(self.runs(), i)
+    }
+
+    /// References to the operations, by rising dot. Takes memory for them alone.
+    pub fn refs<B: Allocator>(&self, alloc: B) -> Result<Vec<&Op<A>, B>, AllocError>
+        ensures { IfOk result (λ refs. list_map (λ o. o.now) refs.items ≡ operations self.now) }
+    {
+        refs_of_runs(alloc, self.runs())
+    }
+
+    /// The least dot that names one operation in this log and another in the other one, or `None` where they agree. Takes no
+    /// memory. Looks up each operation of the other log in this one.
+    pub fn clash(&self, other: &Self) -> Option<Dot>
+        ensures clash { IfSome result (IsFirstClash self.now other.now) }
+        ensures none { result ≡ None → Agree self.now other.now }
+    {
+        first_other(self, other.runs())
+    }
+
+    // What adding an operation answers where there is no room for a new one.
+    fn found_as(&self, op: &Op<A>) -> Result<bool, LogFault>
+        ensures answer { Adds op.now self.now result }
+        ensures old { result ≢ Ok true }
+    {
+        match self.get(&op.dot()) {
+            Some(there) if equal_ops(there, op) => Ok(false),
+            Some(_) => Err(LogFault::Conflict(op.dot())),
+            None => Err(LogFault::Memory),
+        }
+    }
+
+    // The log of runs. Refused as `Memory` (0) where they have more operations than a number counts.
+    fn of(runs: Vec<Run<A>, A>) -> Result<Self, LogFault>
+        requires runs { AreRuns runs.items }
+        ensures ok { IfOk result (λ log. log ≡ log_of (run_ops runs.items)) }
+        ensures err { IfErr result (λ fault. fault ≡ LogFault.Memory) }
+    {
+        match count_of(&runs) {
+            Some(count) => Ok(Log { runs, count }),
+            None => Err(LogFault::Memory),
+        }
+    }
+}
+
+impl<A: Allocator + Clone> Log<A> {
+    ghost use Rattle.mt_op.specs.Operation.{Operation};
+    ghost use Rattle.mt_opcodec.specs.LogReading.{LogGives, log_at};
+    ghost use Rattle.mt_opcodec.specs.Union.{Agree, union, MergeFails};
 
     /// Reads the text of a log. Refused, in this order: `BadMagic` (11) where the first four bytes are missing
     /// or not `RMTS`, `BadVersion` (12) where the fifth is missing or not 1, `Damaged` (13) where there are fewer
@@ -70,8 +160,6 @@ impl<A: Allocator> Log<A> {
     /// (16) where bytes stand between the last record and the digest. `Memory` (0) is answered where a growth was
     /// refused. Memory is taken record by record, never for the number of them that the text gives.
     pub fn read(alloc: A, bytes: &[u8]) -> Result<Self, LogFault>
-    where
-        A: Clone,
         // What is read is the log text of its operations.
         ensures found { IfOk result (λ log. bytes.now ≡ log_text (operations log)) }
         // The log text of operations is read as them, unless memory ran out.
@@ -79,51 +167,40 @@ impl<A: Allocator> Log<A> {
         // Which fault it is.
         ensures exact { LogGives operations result (log_at bytes.now) }
     {
-        match logged_ops(alloc, bytes) {
-            Ok(ops) => Ok(Log { ops }),
-            Err(fault) => Err(fault),
+        log_of_text(alloc, bytes)
+    }
+
+    /// The log's text: 45 bytes and those of its operations. Refused only as `Memory` (0), where a growth was
+    /// refused.
+    pub fn write(&self) -> Result<Vec<u8, A>, LogFault>
+        ensures ok { IfOk result (λ text. text.items ≡ log_text (operations self.now)) }
+        ensures err { IfErr result (λ fault. fault ≡ LogFault.Memory) }
+    {
+        let mut text = Vec::new(self.allocator().clone()?);
+        put_records(&mut text, self.len(), self.runs())?;
+        let digest = Sha256::digest(text.as_slice());
+        text.extend_from_slice(&digest)?;
+        Ok(text)
+    }
+
+    /// The log of operations whose dots rise, moved into runs. Refused as `Memory` (0) where a growth was refused, and for
+    /// nothing else.
+    pub fn of_ops(alloc: A, ops: Vec<Op<A>, A>) -> Result<Self, LogFault>
+        requires rising { AreLogged ops.items }
+        ensures ok { IfOk result (λ log. log ≡ log_of ops.items) }
+        ensures err { IfErr result (λ fault. fault ≡ LogFault.Memory) }
+    {
+        let mut log = Log::new(alloc);
+        let mut rest = VecDeque::from(ops);
+        loop {
+            match rest.pop_front() {
+                Some(op) => add_last(&mut log, op)?,
+                None => {
+                    let _ = log.runs();
+                    return Ok(log);
+                }
+            }
         }
-    }
-
-    /// The operations by rising dot.
-    pub fn ops(&self) -> &[Op<A>]
-        ensures value { result.now ≡ operations self.now }
-        ensures logged { AreLogged (operations self.now) }
-        ensures whole { log_of (operations self.now) ≡ self.now }
-    {
-        &self.ops
-    }
-
-    /// How many operations there are.
-    pub fn len(&self) -> usize
-        ensures { result ≡ map.len self.now }
-    {
-        self.ops().len()
-    }
-
-    /// Whether there is no operation.
-    pub fn is_empty(&self) -> bool
-        ensures { IsTrue result ↔ (map.len self.now ≡ 0) }
-    {
-        self.ops().is_empty()
-    }
-
-    /// The operation with this dot, or `None` where the log has none.
-    pub fn get(&self, dot: &Dot) -> Option<&Op<A>>
-        ensures { option_copied result ≡ map.get self.now dot.now }
-    {
-        let ops = self.ops();
-        match find_op(ops, *dot) {
-            Ok(place) => Some(&ops[place]),
-            Err(_) => None,
-        }
-    }
-
-    /// The operation at place `i`, counted from 0 by rising dot, or `None` where `i` is `len()` or more.
-    pub fn op_at(&self, i: usize) -> Option<&Op<A>>
-        ensures { option_copied result ≡ slice_get (operations self.now) i }
-    {
-        self.ops().get(i)
     }
 
     /// Adds one operation: `true` where it is new, and `false` where the same one is there. Refused as
@@ -134,60 +211,111 @@ impl<A: Allocator> Log<A> {
         ensures added { result ≡ Ok true → self.new ≡ map.insert self.old (op_dot op) op }
         ensures kept { ¬ (result ≡ Ok true) → self.new ≡ self.old }
     {
-        match find_op(&self.ops, op.dot()) {
-            Ok(place) if equal_ops(&self.ops[place], &op) => Ok(false),
-            Ok(_) => Err(LogFault::Conflict(op.dot())),
-            Err(place) => {
-                self.ops.insert(place, op)?;
-                Ok(true)
+        match self.count.checked_add(1) {
+            None => self.found_as(&op),
+            Some(count) => {
+                let added = add_to_runs(&mut self.runs, op)?;
+                if added {
+                    self.count = count;
+                }
+                Ok(added)
             }
         }
     }
 
-    /// The union of two logs: each operation that either has, once. Refused as `Conflict` (17) with the least dot
-    /// that names one operation in the left log and another in the right one, and as `Memory` (0) where a growth was
-    /// refused. Walks both logs at once: its time is linear in their operations.
+    /// The union of two logs: each operation that either has, once, moved out of them. Refused as `Conflict` (17) with
+    /// the least dot that names one operation in this log and another in the other one, and as `Memory` (0) where a growth
+    /// was refused; both are then dropped. A run of a replica that only one has is moved whole, and one that begins where the
+    /// other ends is put after it; else both are walked at once.
+    pub fn join(self, other: Self) -> Result<Self, LogFault>
+        ensures ok { IfOk result (λ log. Agree self other × (log ≡ union self other)) }
+        ensures err { IfErr result (MergeFails self other) }
+    {
+        let Log { runs: left, .. } = self;
+        let Log { runs: right, .. } = other;
+        match joined_runs(left, right) {
+            Ok(runs) => Ok(Log::of(runs)?),
+            Err(fault) => Err(fault),
+        }
+    }
+
+    /// The union of two logs, as `join` makes it of copies of both, on this allocator. Its time is linear in their operations.
     pub fn merge(alloc: A, left: &Self, right: &Self) -> Result<Self, LogFault>
-    where
-        A: Clone,
         ensures ok { IfOk result (λ log. Agree left.now right.now × (log ≡ union left.now right.now)) }
         ensures err { IfErr result (MergeFails left.now right.now) }
     {
-        let ops = merged_ops(alloc, left.ops(), right.ops())?;
-        Ok(Log { ops })
+        let copy = left.copied(&alloc)?;
+        let other = right.copied(&alloc)?;
+        copy.join(other)
     }
 
     /// An equal log, on a clone of the allocator. Refused as `Memory` (0) where a growth was refused, and for nothing
     /// else.
     pub fn try_clone(&self) -> Result<Self, LogFault>
-    where
-        A: Clone,
         ensures ok { IfOk result (λ log. log ≡ self.now) }
         ensures err { IfErr result (λ fault. fault ≡ LogFault.Memory) }
     {
-        let ops = copied_ops(self.allocator().clone()?, self.ops())?;
-        Ok(Log { ops })
+        self.copied(self.allocator())
+    }
+
+    // An equal log on a clone of this allocator.
+    fn copied(&self, alloc: &A) -> Result<Self, LogFault>
+        ensures ok { IfOk result (λ log. log ≡ self.now) }
+        ensures err { IfErr result (λ fault. fault ≡ LogFault.Memory) }
+    {
+        let runs = copied_runs(alloc, self.runs())?;
+        Log::of(runs)
     }
 
     // The allocator that the log keeps.
     fn allocator(&self) -> &A {
-        self.ops.allocator()
+        self.runs.allocator()
     }
+}
 
-    /// The log's text: 45 bytes and those of its operations. Refused only as `Memory` (0), where a growth was
-    /// refused.
-    pub fn write(&self) -> Result<Vec<u8, A>, LogFault>
-    where
-        A: Clone,
-        ensures ok { IfOk result (λ text. text.items ≡ log_text (operations self.now)) }
-        ensures err { IfErr result (λ fault. fault ≡ LogFault.Memory) }
-    {
-        let mut text = Vec::new(self.allocator().clone()?);
-        put_records(&mut text, self.ops())?;
-        let digest = Sha256::digest(text.as_slice());
-        text.extend_from_slice(&digest)?;
-        Ok(text)
+// Adds an operation whose dot is greater than those of the log. Refused as `Memory` (0) alone.
+pub(crate) fn add_last<A: Allocator + Clone>(log: &mut Log<A>, op: Op<A>) -> Result<(), LogFault>
+    requires last { IsGapFor (operations log.old) (op_dot op) (length (operations log.old)) }
+    ensures ok { OnOk result (operations log.new ≡ operations log.old ++ (op ∷ [])) }
+    ensures err { IfErr result (λ fault. fault ≡ LogFault.Memory) }
+{
+    let _ = op.dot();
+    let _ = log.runs();
+    match log.add(op) {
+        Ok(_) => Ok(()),
+        Err(_) => Err(LogFault::Memory),
     }
+}
+
+// Writes the texts of operations.
+fn put_ops<A: Allocator, B: Allocator>(
+    out: &mut Vec<u8, A>,
+    ops: &[Op<B>],
+) -> Result<(), AllocError>
+    ensures { OnOk result (out.new.items ≡ out.old.items ++ op_texts ops.now) }
+{
+    for op in ops {
+        put_op(out, op)?;
+    }
+    Ok(())
+}
+
+// Writes all that the digest is made of.
+fn put_records<A: Allocator, B: Allocator>(
+    out: &mut Vec<u8, A>,
+    count: usize,
+    runs: &[Run<B>],
+) -> Result<(), AllocError>
+    requires empty { out.old.items ≡ [] }
+    requires counted { count ≡ length (run_ops runs.now) }
+    ensures { OnOk result (out.new.items ≡ log_body (run_ops runs.now)) }
+{
+    out.extend_from_slice(b"RMTS\x01")?;
+    out.extend_from_slice(&(count as u64).to_be_bytes())?;
+    for run in runs {
+        put_ops(out, run.ops())?;
+    }
+    Ok(())
 }
 
 // By their texts, of which each operation has its own.
@@ -195,39 +323,19 @@ impl<A: Allocator> PartialEq for Log<A> {
     ghost use Rattle.std.specs.Prelude.{nat_eq};
     ghost use Rattle.std.specs.Cmp.{on_per, partial_equiv_from_equiv};
     ghost use Rattle.std.specs.Cmp.Lexicographic.{pointwise, nat_list_eq_equiv};
-    ghost use Rattle.mt_opcodec.specs.LogValue.{operations};
-    ghost use Rattle.mt_opcodec.specs.LogText.{op_texts};
 
     ghost eq = { λ a b. pointwise nat_eq (op_texts (operations a)) (op_texts (operations b)) };
 
     ghost laws = { on_per (λ log. op_texts (operations log)) (partial_equiv_from_equiv nat_list_eq_equiv) };
 
     fn eq(&self, other: &Self) -> bool {
-        self.ops() == other.ops()
+        equal_runs(self.runs(), other.runs())
     }
 }
 
 impl<A: Allocator> Eq for Log<A> {
     ghost use Rattle.std.specs.Cmp.{on_equiv};
     ghost use Rattle.std.specs.Cmp.Lexicographic.{nat_list_eq_equiv};
-    ghost use Rattle.mt_opcodec.specs.LogValue.{operations};
-    ghost use Rattle.mt_opcodec.specs.LogText.{op_texts};
 
     ghost laws = { on_equiv (λ log. op_texts (operations log)) nat_list_eq_equiv };
-}
-
-// Writes all that the digest is made of.
-fn put_records<A: Allocator, B: Allocator>(
-    out: &mut Vec<u8, A>,
-    ops: &[Op<B>],
-) -> Result<(), AllocError>
-    requires { out.old.items ≡ [] }
-    ensures { OnOk result (out.new.items ≡ log_body ops.now) }
-{
-    out.extend_from_slice(b"RMTS\x01")?;
-    out.extend_from_slice(&(ops.len() as u64).to_be_bytes())?;
-    for op in ops {
-        put_op(out, op)?;
-    }
-    Ok(())
 }

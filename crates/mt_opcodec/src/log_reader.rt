@@ -7,9 +7,10 @@ ghost use Rattle.mt_opcodec.specs.OpReading.{op_at};
 ghost use Rattle.mt_opcodec.specs.LogText.{log_text};
 ghost use Rattle.mt_opcodec.specs.LogReading.{LogGives, is_after, record_of, fault_of, records_at, sealed_at, counted_at, log_at};
 ghost use Rattle.mt_op.specs.Operation.{Operation};
-ghost use Rattle.mt_opcodec.specs.LogValue.{AreLogged};
+ghost use Rattle.mt_opcodec.specs.LogValue.{operations};
 
 use crate::fault::{LogFault, ReadFault};
+use crate::log::{Log, add_last};
 use crate::op_reader::op_of;
 use mt_op::Op;
 use mt_stamp::Dot;
@@ -117,29 +118,47 @@ fn is_digest_of(body: &[u8], digest: &[u8]) -> bool
     made.as_slice() == digest
 }
 
+// Reads this many operations into a log, as `read_ops` does into a vector.
+fn read_log<A: Allocator + Clone>(alloc: A, count: u64, bytes: &[u8]) -> Result<Log<A>, LogFault>
+    ensures { LogGives operations result (records_at count 0 None bytes.now) }
+{
+    let mut log = Log::new(alloc.clone()?);
+    let mut greatest = None;
+    let mut rest = bytes;
+    for record in 0..count {
+        match record_of(alloc.clone()?, record, greatest, rest) {
+            Ok((op, after)) => {
+                greatest = Some(op.dot());
+                rest = after;
+                add_last(&mut log, op)?;
+            }
+            Err(fault) => return Err(fault),
+        }
+    }
+    if rest.is_empty() {
+        Ok(log)
+    } else {
+        Err(LogFault::Trailing)
+    }
+}
+
 // The operations that a log's head counts.
 #[tactic(auto, unfolding(crate::specs::LogReading::counted_at))]
-pub(crate) fn counted_ops<A: Allocator + Clone>(
-    alloc: A,
-    body: &[u8],
-) -> Result<Vec<Op<A>, A>, LogFault>
+fn counted_log<A: Allocator + Clone>(alloc: A, body: &[u8]) -> Result<Log<A>, LogFault>
     requires { 13 ≤ length body.now }
-    ensures { LogGives (λ ops. ops.items) result (counted_at body.now) }
+    ensures { LogGives operations result (counted_at body.now) }
 {
     let (head, records) = body.split_at(13);
     let count = u64::from_be_bytes([
         head[5], head[6], head[7], head[8], head[9], head[10], head[11], head[12],
     ]);
-    read_ops(alloc, count, records)
+    read_log(alloc, count, records)
 }
 
-// The operations of a log's text.
-pub(crate) fn logged_ops<A: Allocator + Clone>(
-    alloc: A,
-    bytes: &[u8],
-) -> Result<Vec<Op<A>, A>, LogFault>
-    ensures { LogGives (λ ops. ops.items) result (log_at bytes.now) }
+// The log of a text.
+pub(crate) fn log_of_text<A: Allocator + Clone>(alloc: A, bytes: &[u8]) -> Result<Log<A>, LogFault>
+    ensures { LogGives operations result (log_at bytes.now) }
 {
     let body = sealed_body(bytes)?;
-    counted_ops(alloc, body)
+    counted_log(alloc, body)
 }

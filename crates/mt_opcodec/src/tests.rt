@@ -5,6 +5,7 @@ mod logs;
 mod merges;
 mod operations;
 mod refused_growth;
+mod runs;
 mod tags;
 mod tracks_and_clips;
 

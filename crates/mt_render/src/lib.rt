@@ -29,6 +29,8 @@ mod fault;
 mod format;
 mod lane;
 pub mod laws;
+#[cfg(test)]
+mod limit_tests;
 mod mix;
 mod part;
 mod scale;

@@ -104,7 +104,7 @@ fn heard(
 }
 
 // What a programme of two frames on one channel sounds like; none of one of another length.
-fn two_frames(
+pub(crate) fn two_frames(
     alloc: Global,
     log: &Log,
     sources: &[&[u8]],
@@ -118,7 +118,7 @@ fn two_frames(
 }
 
 // The log of one clip of two frames, played at a gain.
-fn one_clip(alloc: Global, source: Digest, num: u16, den: u16) -> Result<Log, Fail> {
+pub(crate) fn one_clip(alloc: Global, source: Digest, num: u16, den: u16) -> Result<Log, Fail> {
     let mut log = log_of_a_track(alloc)?;
     let item = Stamp::new(2, A, 2)?;
     add_clip(&mut log, item, Stamp::new(1, A, 1)?, source, (0, 0, 2))?;
@@ -285,7 +285,7 @@ fn puts_the_left_channel_out_alone(rt: HostRuntime) -> Result<(), Fail> {
 }
 
 // The fault of a mix at 256 frames a second, 16 bits and one channel, over these recordings; none where it is made.
-fn fault(alloc: Global, log: &Log, sources: &[&[u8]]) -> Result<Option<MixFault>, Fail> {
+pub(crate) fn fault(alloc: Global, log: &Log, sources: &[&[u8]]) -> Result<Option<MixFault>, Fail> {
     let session = from_scratch(alloc, log)?;
     let mut catalogue = Catalogue::new(alloc);
     for bytes in sources {

@@ -1,5 +1,5 @@
 -- The greatest of some numbers.
-use Rattle.std.proofs.Common.{◌≡◌, ℕ, zero, suc, ◌+◌, ◌≤◌, Bool, true, false, List, [], ◌∷◌, map, refl, sym, ap, ◌∙◌, inl, inr, cond, arith}
+use Rattle.std.proofs.Common.{◌≡◌, ℕ, zero, suc, ◌+◌, ◌<◌, ◌≤◌, ◌++◌, length, get_or, Bool, true, false, List, [], ◌∷◌, map, refl, sym, ap, ◌∙◌, inl, inr, cond, arith}
 use Rattle.std.specs.Prelude.{max, nat_lt, Some, slice_get, drop}
 use Rattle.std.proofs.lemmas.Option.{same_Some, none-some}
 use Rattle.std.specs.List.{filter, list_any}
@@ -10,6 +10,8 @@ use Rattle.mt_stamp.proofs.Members.{IsMember}
 use Rattle.mt_stamp.proofs.SameItems.{SameItems, same_any, same_filter}
 use Rattle.mt_op.specs.Operation.{Operation}
 use Rattle.mt_op.specs.Needs.{clock_of}
+use Rattle.mt_opcodec.specs.Runs.{RunOf, run_ops}
+use Rattle.mt_opcodec.proofs.RunLists.{ops_left}
 use Rattle.mt_replica.specs.Made.{greatest_of, greatest_clock, greatest_seq, is_by}
 use Rattle.mt_replica.specs.State.{own_seq}
 use Rattle.mt_replica.proofs.Making.{any_member, member_any, mapped_below}
@@ -96,3 +98,18 @@ next_greatest f ops i g k x at is =
   where
     one_more : (j : ℕ) → j + 1 ≡ suc j
     one_more j = omega arith
+
+-- ---- and one run more
+
+-- the greatest of both
+greatest-append : (f : Operation → ℕ) (a b : List Operation) → greatest_of (map f (a ++ b)) ≡ max (greatest_of (map f a)) (greatest_of (map f b))
+greatest-append f [] b = sym (none_max (greatest_of (map f b)))
+greatest-append f (o ∷ a) b = ap (max (f o)) (greatest-append f a b) ∙ max_grouped (f o) (greatest_of (map f a)) (greatest_of (map f b))
+
+pub next_run : (f : Operation → ℕ) (runs : List RunOf) (i g k : ℕ) (r : RunOf) (ops : List Operation) → i < length runs → r ≡ get_or runs i r → ops ≡ r.ops → max g (greatest_of (map f (run_ops (drop i runs)))) ≡ k
+    → max (max g (greatest_of (map f ops))) (greatest_of (map f (run_ops (drop (i + 1) runs)))) ≡ k
+next_run f runs i g k r ops lt is same so_far =
+    sym (max_grouped g (greatest_of (map f ops)) (greatest_of (map f (run_ops (drop (i + 1) runs)))))
+    ∙ ap (max g) (sym (greatest-append f ops (run_ops (drop (i + 1) runs))))
+    ∙ ap (λ (l : List Operation). max g (greatest_of (map f l))) (ap (λ (l : List Operation). l ++ run_ops (drop (i + 1) runs)) same ∙ sym (ops_left runs i r lt is))
+    ∙ so_far

@@ -111,6 +111,15 @@ impl<A: Allocator + Clone> Editor<A> {
         Editor::of_draft(draft)
     }
 
+    /// Lets it fail: it has neither log nor session any more. For whoever works out a new log for it in steps of their own and is
+    /// refused memory.
+    pub fn fail(&mut self)
+        ensures { self.new ≡ failed self.old }
+    {
+        self.draft.fail();
+        self.session = None;
+    }
+
     /// Makes the operation of a change, takes it, and gives a copy. Its clock is 1 above the greatest in the log, held operations
     /// included, and its number 1 above the greatest of this replica there. A Remove lists all live tags of its item, and a track
     /// is put after the current place of the one that is named.

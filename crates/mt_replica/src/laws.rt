@@ -27,6 +27,6 @@ fn holds_operations<A: Allocator>(editor: &Editor<A>)
     ensures { IfSome editor.now.log (λ log. AreLogged (operations log) × (log_of (operations log) ≡ log)) }
 {
     if let Some(log) = editor.log() {
-        let _ = log.ops();
+        let _ = log.runs();
     }
 }

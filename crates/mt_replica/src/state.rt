@@ -69,8 +69,8 @@ impl<A: Allocator + Clone> State<A> {
         ensures err { IfErr result (λ fault. fault ≡ EditorFault.Memory) }
     {
         let items = items_of_log(alloc, &log)?;
-        let clock = greatest_clock(log.ops());
-        let seq = greatest_seq(name, log.ops());
+        let clock = greatest_clock(log.runs());
+        let seq = greatest_seq(name, log.runs());
         Ok(State {
             name,
             log,
@@ -100,7 +100,7 @@ impl<A: Allocator + Clone> State<A> {
         ensures ok { IfOk result (λ body. act_of body ≡ made_act (ready_ops (operations self.now.log)) (edit_of change.now)) }
         ensures err { IfErr result (λ fault. (fault ≡ EditorFault.Memory) ⊎ (body_refused (operations self.now.log) (edit_of change.now) ≡ Some fault)) }
     {
-        let _ = self.log.ops();
+        let _ = self.log.runs();
         if !plays(change) {
             return Err(EditorFault::ZeroLength);
         }
@@ -121,7 +121,7 @@ impl<A: Allocator + Clone> State<A> {
     {
         let body = self.made_body(change)?;
         let stamp = self.next_stamp()?;
-        let _ = self.log.ops();
+        let _ = self.log.runs();
         Ok(Op::new(stamp, body).unwrap())
     }
 
@@ -137,7 +137,7 @@ impl<A: Allocator + Clone> State<A> {
             items,
             ..
         } = self;
-        let _ = log.ops();
+        let _ = log.runs();
         let items = noted(items, op)?;
         add_new(&mut log, copied(op)?)?;
         Ok(State {
@@ -171,7 +171,7 @@ impl<A: Allocator + Clone> State<A> {
         let stamp = op.stamp();
         let before = ready_in(alloc, &log)?;
         add_new(&mut log, op)?;
-        let _ = log.ops();
+        let _ = log.runs();
         let after = ready_in(alloc, &log)?;
         let taken = taken_as(alloc, stamp, &before, &after)?;
         Ok((State::of(alloc, name, log)?, taken))
@@ -202,7 +202,7 @@ fn copied<A: Allocator + Clone>(op: &Op<A>) -> Result<Op<A>, EditorFault>
 }
 
 // Adds an operation under a new dot.
-fn add_new<A: Allocator>(log: &mut Log<A>, op: Op<A>) -> Result<(), EditorFault>
+fn add_new<A: Allocator + Clone>(log: &mut Log<A>, op: Op<A>) -> Result<(), EditorFault>
     requires new { map.get log.old (op_dot op) ≡ None }
     ensures added { OnOk result (log.new ≡ with_op log.old op) }
     ensures err { IfErr result (λ fault. fault ≡ EditorFault.Memory) }

@@ -1,5 +1,5 @@
 use crate::{Change, Editor, EditorFault, Taken};
-use mt_op::{Body, Op, OpFault, Title};
+use mt_op::{Body, Gain, Op, OpFault, Title};
 use mt_opcodec::Log;
 use mt_stamp::{Replica, Stamp};
 use mt_testalloc::Refusing;
@@ -99,6 +99,35 @@ fn takes_an_early_retitle(rt: HostRuntime) -> Result<(), Fail> {
     assert_eq!(rt; marker, Ok(("applied", 2)));
     assert_eq!(rt; all, Some((2, 0, 1)));
     assert!(rt; is_late);
+    Ok(())
+}
+
+// What became of the gain of a marker, and what there is then.
+fn take_gain_of_a_marker<M: Allocator + Clone>(
+    memory: &M,
+    item: Stamp,
+    stamp: Stamp,
+) -> Result<(&'static str, Option<(usize, u64, usize)>), EditorFault> {
+    let mut editor = one_marker(memory, B, item)?;
+    let gain = Gain::UNCHANGED;
+    let Ok(op) = Op::new(stamp, Body::SetGain { item, gain }) else {
+        return Err(EditorFault::Memory);
+    };
+    let (became, _) = match editor.take(op) {
+        Ok(taken) => told(&taken),
+        Err(fault) => return Err(fault),
+    };
+    Ok((became, counts(&editor)))
+}
+
+// A marker has no gain: what sets it waits for good.
+#[test]
+fn holds_the_gain_of_a_marker(rt: HostRuntime) -> Result<(), Fail> {
+    let (item, stamp) = (Stamp::new(1, A, 1)?, Stamp::new(2, B, 1)?);
+    assert_eq!(rt;
+        take_gain_of_a_marker(&rt.alloc(), item, stamp),
+        Ok(("held", Some((2, 1, 1))))
+    );
     Ok(())
 }
 

@@ -8,7 +8,8 @@ use Rattle.mt_op.specs.Ready.{is_met, is_ready}
 use Rattle.mt_op.proofs.Needs.{ready_is_defined}
 use Rattle.mt_sessionview.specs.Session.{ready_ops, held_ops}
 use Rattle.mt_sessionview.specs.SessionLaws.{HeldIsCounted}
-use Rattle.mt_sessionview.proofs.FromReady.{tracks_in, markers_in, tracks_are, markers_are}
+use Rattle.mt_sessionview.specs.Noted.{tracks_in, markers_in}
+use Rattle.mt_sessionview.proofs.FromReady.{tracks_are, markers_are}
 
 -- what does not pass is not found
 unfound : {D : Type 0} (r : D → Bool) (o : D) (xs : List D) (b : Bool) → r o ≡ false → list_any r (cond b (o ∷ xs) xs) ≡ list_any r xs

@@ -1,5 +1,5 @@
 -- Operations whose dots rise, one by one from the last.
-use Rattle.std.proofs.Common.{◌≡◌, ℕ, zero, suc, ◌+◌, ◌≤◌, Bool, true, false, List, [], ◌∷◌, ◌&&◌, Some, length, drop, map, refl, sym, ap, ◌∙◌, subst, arith}
+use Rattle.std.proofs.Common.{◌≡◌, ℕ, zero, suc, ◌+◌, ◌<◌, ◌≤◌, get_or, Bool, true, false, List, [], ◌∷◌, ◌&&◌, Some, length, drop, map, refl, sym, ap, ◌∙◌, subst, arith}
 use Rattle.std.specs.Prelude.{slice_get}
 use Rattle.std.specs.List.{AllByRecursion}
 use Rattle.std.specs.FinMap.Entries.{below_all}
@@ -15,7 +15,15 @@ use Rattle.mt_op.specs.Operation.{Operation}
 use Rattle.mt_op.specs.Dots.{op_dot, entry_of, dots_rise}
 use Rattle.mt_op.specs.Valid.{IsOperation}
 use Rattle.mt_op.proofs.Needs.{and_first, and_second}
-use Rattle.mt_sessionview.proofs.Waiting.{element}
+
+element : {X : Type 0} (xs : List X) (k : ℕ) → k < length xs → (x : X) × (slice_get xs k ≡ Some x)
+element [] k lt = absurd (omega arith)
+element (x ∷ xs) zero lt = (x, refl)
+element (x ∷ xs) (suc k) lt = element xs k (omega arith)
+
+-- what was read is what stands there
+pub at_read : {X : Type 0} (xs : List X) (k : ℕ) (x read : X) → slice_get xs k ≡ Some x → read ≡ get_or xs k read → read ≡ x
+at_read xs k x read at is = is ∙ get_or_from_slice_get xs k x read at
 
 pub both_true : (a b : Bool) → a ≡ true → b ≡ true → (a && b) ≡ true
 both_true true b h k = k

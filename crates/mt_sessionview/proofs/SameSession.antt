@@ -21,24 +21,21 @@ use Rattle.mt_op.specs.Writes.{Write, Written, title_written, gain_written, mute
 use Rattle.mt_op.proofs.LastWrite.{latest_is_greatest}
 use Rattle.mt_op.proofs.Needs.{and_first}
 use Rattle.mt_sessionview.specs.Content.{Clip, Marker, clip_cmp, marker_cmp}
-use Rattle.mt_sessionview.specs.Session.{ready_ops, source_of, place_added}
+use Rattle.mt_sessionview.specs.Session.{ready_ops, source_of, place_added, session_of}
 use Rattle.mt_stamp.specs.Sorting.{sort_by}
 use Rattle.mt_sessionview.specs.SessionLaws.{AnyListing}
-use Rattle.mt_sessionview.proofs.Clips.{clip_cmp_total}
-use Rattle.mt_sessionview.proofs.FromReady.{value_in, is_shown_in, marker_in, markers_in, clip_place_in, clip_in, is_clip_on_in, clips_in, places_in, track_place_in, track_cmp_in, track_in, tracks_in, markers_are, tracks_are}
+use Rattle.mt_sessionview.specs.Noted.{value_in, is_shown_in, marker_in, markers_in, clip_place_in, clip_in, is_clip_on_in, clips_in, places_in, track_place_in, track_cmp_in, track_in, tracks_in}
+use Rattle.mt_sessionview.proofs.FromReady.{markers_are, tracks_are}
 use Rattle.mt_sessionview.proofs.Items.{stamp_eq_same}
-use Rattle.mt_sessionview.proofs.Markers.{tied_second, marker_cmp_total}
+use Rattle.mt_sessionview.proofs.Orders.{tied_second, marker_cmp_total, clip_cmp_total, track_cmp_total}
 use Rattle.mt_stamp.proofs.Members.{IsMember, member_stands, member_kept, member_of_kept}
 use Rattle.mt_stamp.proofs.SameItems.{SameItems, GivenBy, same_filter, same_map, same_filter_map, all_passing, all_map, all_filter_map, all_here, member_gives}
+use Rattle.mt_sessionview.proofs.Lists.{all_members, member_all}
 use Rattle.mt_sessionview.proofs.SamePlaces.{tree_cmp_same}
+use Rattle.mt_sessionview.proofs.Shown.{IsMarkerIn, one_marker, all_markers, IsClipIn, one_clip, all_clips, one_place, IsTrackIn, one_track}
 use Rattle.mt_sessionview.proofs.SameReady.{is_ready_same, ready_same, held_same}
 use Rattle.mt_op.proofs.SameWrites.{one_write, last_write_same, present_same}
 use Rattle.mt_stamp.proofs.Sorting.{sort_same}
-
--- what each member is
-all_among : (P : Operation → Type 0) (xs : List Operation) → ((o : Operation) → IsMember o xs → P o) → AllByRecursion P xs
-all_among P [] each = tt
-all_among P (x ∷ xs) each = (each x (inl refl), all_among P xs (λ o m. each o (inr m)))
 
 -- ready operations, listed twice: those of one stamp are one
 module _ (r u : List Operation) (same : SameItems r u) (all_u : AllByRecursion (λ o. IsMember o r) u) (one : (a b : Operation) → IsMember a r → IsMember b r → a.stamp ≡ b.stamp → a ≡ b) where
@@ -46,7 +43,7 @@ module _ (r u : List Operation) (same : SameItems r u) (all_u : AllByRecursion (
   Among o = IsMember o r
 
   all_r : AllByRecursion Among r
-  all_r = all_among Among r (λ o m. m)
+  all_r = all_members Among r (λ o m. m)
 
   write_same : {X : Type 0} (field : Moment → Act → Option (Write X)) (item : Moment) → last_write field item r ≡ last_write field item u
   write_same field item = last_write_same Among one r u same all_r all_u field item
@@ -66,46 +63,11 @@ module _ (r u : List Operation) (same : SameItems r u) (all_u : AllByRecursion (
     title = unwrap_or (value_same title_written o.stamp i) [];
   }
 
-  abbrev IsMarkerIn : Marker → Type 0
-  IsMarkerIn m = (o : Operation) × IsMember o r × (m ≡ marker_in r o)
-
-  one_marker : (a b : Marker) → IsMarkerIn a → IsMarkerIn b → marker_cmp a b ≡ Equal → a ≡ b
-  one_marker a b of_a of_b tied =
-      let stamps : a.marker ≡ b.marker = stamp_cmp-IsAntisymmetric a.marker b.marker (tied_second (nat_cmp a.at b.at) (stamp_cmp a.marker b.marker) tied) in
-      let op = one of_a.0 of_b.0 of_a.1 of_b.1 (sym (ap (λ (m : Marker). m.marker) of_a.2) ∙ stamps ∙ ap (λ (m : Marker). m.marker) of_b.2) in
-      of_a.2 ∙ ap (marker_in r) op ∙ sym of_b.2
-
-  all_markers : (xs : List Operation) → AllByRecursion Among xs → AllByRecursion IsMarkerIn (map (marker_in r) (filter (is_shown_in r adds_marker) xs))
-  all_markers xs all =
-      all_map (λ o. Among o × (is_shown_in r adds_marker o ≡ true)) IsMarkerIn (marker_in r) (λ o m. (o, m.0, refl)) (filter (is_shown_in r adds_marker) xs) (all_passing Among (is_shown_in r adds_marker) xs all)
-
   pub markers_same : markers_in r ≡ markers_in u
   markers_same =
-      sort_same marker_cmp marker_cmp_total IsMarkerIn one_marker (map (marker_in r) (filter (is_shown_in r adds_marker) r)) (map (marker_in r) (filter (is_shown_in r adds_marker) u)) (all_markers r all_r) (all_markers u all_u)
+      sort_same marker_cmp marker_cmp_total (IsMarkerIn r one) (one_marker r one) (map (marker_in r) (filter (is_shown_in r adds_marker) r)) (map (marker_in r) (filter (is_shown_in r adds_marker) u)) (all_markers r one r all_r) (all_markers r one u all_u)
       (same_map (filter (is_shown_in r adds_marker) r) (filter (is_shown_in r adds_marker) u) (same_filter r u same (is_shown_in r adds_marker)) (marker_in r))
       ∙ (λ i. sort_by marker_cmp (map (λ o. marker_same o i) (filter (λ o. shown_same adds_marker o i) u)))
-
-  -- ---- the last write of a field that an item's own operation writes
-
-  record IsGiven {X : Type 0} (field : Moment → Act → Option (Write X)) (item : Moment) : Type 0 where
-    pub write : Written X
-    pub is : last_write field item r ≡ Some write
-    pub given : GivenBy Among (written_by field item) write
-
-  given_last : {X : Type 0} (field : Moment → Act → Option (Write X)) (o : Operation) (value : X) → IsMember o r → field o.stamp o.act ≡ Some (record { item = o.stamp; value = value }) → IsGiven field o.stamp
-  given_last {X} field o value m is = by (last_write field o.stamp r) refl
-    where
-      own : Written X
-      own = record { writer = o.stamp; value = value }
-
-      writes : written_by field o.stamp o ≡ Some own
-      writes = rw (is, stamp_eq_same o.stamp o.stamp refl) refl
-
-      by : (l : Option (Written X)) → last_write field o.stamp r ≡ l → IsGiven field o.stamp
-      by None none = absurd (member_gives (written_by field o.stamp) r o own m writes ((latest_is_greatest X).1 (filter_map (written_by field o.stamp) r) none))
-      by (Some w) some =
-          let last = (latest_is_greatest X).0 (filter_map (written_by field o.stamp) r) w some in
-          record { write = w; is = some; given = all_here (GivenBy Among (written_by field o.stamp)) (filter_map (written_by field o.stamp) r) (all_filter_map Among (written_by field o.stamp) r all_r) last.place w last.is }
 
   -- ---- clips
 
@@ -127,54 +89,16 @@ module _ (r u : List Operation) (same : SameItems r u) (all_u : AllByRecursion (
   on_same : (track : Moment) (o : Operation) → is_clip_on_in r track o ≡ is_clip_on_in u track o
   on_same track o = λ i. shown_same adds_clip o i && stamp_eq (clip_place_same o.stamp i).value.0 track
 
-  clip_given : (o : Operation) → IsMember o r → adds_clip o.act ≡ true → IsGiven clip_place_written o.stamp
-  clip_given o m adds = by o.act refl adds
-    where
-      by : (act : Act) → o.act ≡ act → adds_clip act ≡ true → IsGiven clip_place_written o.stamp
-      by (AddClip source track at offset len) is added = given_last clip_place_written o (track, at) m (ap (clip_place_written o.stamp) is)
-      by _ is added = cc added
-
-  abbrev IsClipIn : Clip → Type 0
-  IsClipIn c = (o : Operation) × IsMember o r × (adds_clip o.act ≡ true) × (c ≡ clip_in r o)
-
-  placed_by : (o : Operation) (g : IsGiven clip_place_written o.stamp) → (clip_in r o).place ≡ g.write.writer
-  placed_by o g = ap (λ (w : Option (Written (Moment × ℕ))). (unwrap_or w (record { writer = o.stamp; value = (o.stamp, 0) })).writer) g.is
-
-  one_clip : (a b : Clip) → IsClipIn a → IsClipIn b → clip_cmp a b ≡ Equal → a ≡ b
-  one_clip a b of_a of_b tied =
-      let places : a.place ≡ b.place = stamp_cmp-IsAntisymmetric a.place b.place (tied_second (nat_cmp a.at b.at) (stamp_cmp a.place b.place) tied) in
-      let given_a = clip_given of_a.0 of_a.1 of_a.2 in
-      let given_b = clip_given of_b.0 of_b.1 of_b.2 in
-      let writers : given_a.write.writer ≡ given_b.write.writer =
-      sym (ap (λ (c : Clip). c.place) of_a.3 ∙ placed_by of_a.0 given_a) ∙ places ∙ ap (λ (c : Clip). c.place) of_b.3 ∙ placed_by of_b.0 given_b in
-      let stamps = (one_write Among one clip_place_written of_a.0.stamp of_b.0.stamp given_a.write given_b.write given_a.given given_b.given writers).0 in
-      of_a.3 ∙ ap (clip_in r) (one of_a.0 of_b.0 of_a.1 of_b.1 stamps) ∙ sym of_b.3
-
-  all_clips : (track : Moment) (xs : List Operation) → AllByRecursion Among xs → AllByRecursion IsClipIn (map (clip_in r) (filter (is_clip_on_in r track) xs))
-  all_clips track xs all =
-      all_map (λ o. Among o × (is_clip_on_in r track o ≡ true)) IsClipIn (clip_in r) (λ o m. (o, m.0, and_first _ _ (and_first _ _ m.1), refl)) (filter (is_clip_on_in r track) xs) (all_passing Among (is_clip_on_in r track) xs all)
-
   clips_same : (track : Moment) → clips_in r track ≡ clips_in u track
   clips_same track =
-      sort_same clip_cmp clip_cmp_total IsClipIn one_clip (map (clip_in r) (filter (is_clip_on_in r track) r)) (map (clip_in r) (filter (is_clip_on_in r track) u)) (all_clips track r all_r) (all_clips track u all_u)
+      sort_same clip_cmp clip_cmp_total (IsClipIn r one) (one_clip r one) (map (clip_in r) (filter (is_clip_on_in r track) r)) (map (clip_in r) (filter (is_clip_on_in r track) u)) (all_clips r one track r all_r) (all_clips r one track u all_u)
       (same_map (filter (is_clip_on_in r track) r) (filter (is_clip_on_in r track) u) (same_filter r u same (is_clip_on_in r track)) (clip_in r))
       ∙ (λ i. sort_by clip_cmp (map (λ o. clip_same o i) (filter (λ o. on_same track o i) u)))
 
   -- ---- tracks
 
-  own_place : (o : Operation) (p : TreePlace) (w : Option (Write (Option Moment))) → option_map {U = TreePlace} (λ (v : Write (Option Moment)). record { place = o.stamp; after = v.value }) w ≡ Some p → p.place ≡ o.stamp
-  own_place o p None is = absurd (none-some p is)
-  own_place o p (Some v) is = ap (λ (q : TreePlace). q.place) (sym (same_Some _ p is))
-
-  one_place : (s t : TreePlace) → GivenBy Among place_added s → GivenBy Among place_added t → s.place ≡ t.place → s ≡ t
-  one_place s t of_s of_t places =
-      let s_own = own_place of_s.0 s (track_place_written of_s.0.stamp of_s.0.act) of_s.2 in
-      let t_own = own_place of_t.0 t (track_place_written of_t.0.stamp of_t.0.act) of_t.2 in
-      let op = one of_s.0 of_t.0 of_s.1 of_t.1 (sym s_own ∙ places ∙ t_own) in
-      same_Some s t (sym of_s.2 ∙ ap place_added op ∙ of_t.2)
-
-  tree_same : tree_cmp (places_in r) ≡ tree_cmp (places_in u)
-  tree_same = tree_cmp_same (GivenBy Among place_added) one_place (places_in r) (places_in u) (same_filter_map r u same place_added) (all_filter_map Among place_added r all_r) (all_filter_map Among place_added u all_u)
+  pub tree_same : tree_cmp (places_in r) ≡ tree_cmp (places_in u)
+  tree_same = tree_cmp_same (GivenBy Among place_added) (one_place r one) (places_in r) (places_in u) (same_filter_map r u same place_added) (all_filter_map Among place_added r all_r) (all_filter_map Among place_added u all_u)
 
   track_place_same : (track : Moment) → track_place_in r track ≡ track_place_in u track
   track_place_same track = ap (λ (l : Option (Written (Option Moment))). unwrap_or (option_map (λ (w : Written (Option Moment)). w.writer) l) track) (write_same track_place_written track)
@@ -188,53 +112,31 @@ module _ (r u : List Operation) (same : SameItems r u) (all_u : AllByRecursion (
     clips = clips_same o.stamp i;
   }
 
-  track_given : (o : Operation) → IsMember o r → adds_track o.act ≡ true → IsGiven track_place_written o.stamp
-  track_given o m adds = by o.act refl adds
-    where
-      by : (act : Act) → o.act ≡ act → adds_track act ≡ true → IsGiven track_place_written o.stamp
-      by (AddTrack after title) is added = given_last track_place_written o after m (ap (track_place_written o.stamp) is)
-      by _ is added = cc added
-
-  stands_by : (o : Operation) (g : IsGiven track_place_written o.stamp) → track_place_in r o.stamp ≡ g.write.writer
-  stands_by o g = ap (λ (l : Option (Written (Option Moment))). unwrap_or (option_map (λ (w : Written (Option Moment)). w.writer) l) o.stamp) g.is
-
-  abbrev IsTrackIn : Operation → Type 0
-  IsTrackIn o = IsMember o r × (is_shown_in r adds_track o ≡ true)
-
-  one_track : (a b : Operation) → IsTrackIn a → IsTrackIn b → track_cmp_in r a b ≡ Equal → a ≡ b
-  one_track a b of_a of_b tied =
-      let places = (trees_are_ordered (places_in r)).apart (track_place_in r a.stamp) (track_place_in r b.stamp) tied in
-      let given_a = track_given a of_a.0 (and_first _ _ of_a.1) in
-      let given_b = track_given b of_b.0 (and_first _ _ of_b.1) in
-      let writers : given_a.write.writer ≡ given_b.write.writer = sym (stands_by a given_a) ∙ places ∙ stands_by b given_b in
-      one a b of_a.0 of_b.0 (one_write Among one track_place_written a.stamp b.stamp given_a.write given_b.write given_a.given given_b.given writers).0
-
-  track_cmp_total : IsTotalOrder (track_cmp_in r)
-  track_cmp_total = on_total (λ (o : Operation). track_place_in r o.stamp) (trees_are_ordered (places_in r)).total
-
   pub tracks_same : tracks_in r ≡ tracks_in u
   tracks_same =
       ap (map (track_in r))
-      (sort_same (track_cmp_in r) track_cmp_total IsTrackIn one_track (filter (is_shown_in r adds_track) r) (filter (is_shown_in r adds_track) u) (all_passing Among (is_shown_in r adds_track) r all_r) (all_passing Among (is_shown_in r adds_track) u all_u)
+      (sort_same (track_cmp_in r) (track_cmp_total r) (IsTrackIn r one) (one_track r one) (filter (is_shown_in r adds_track) r) (filter (is_shown_in r adds_track) u) (all_passing Among (is_shown_in r adds_track) r all_r) (all_passing Among (is_shown_in r adds_track) u all_u)
       (same_filter r u same (is_shown_in r adds_track)))
       ∙ (λ i. map (λ o. track_same o i) (sort_by (λ a b. tree_same i (track_place_same a.stamp i) (track_place_same b.stamp i)) (filter (λ o. shown_same adds_track o i) u)))
 
-pub any_listing_same : AnyListing
-any_listing_same s t apart moved =
-    let same : SameItems s t = λ f. sym (sum_by-IsPermutation f s t moved) in
-    let P : Operation → Type 0 = λ o. IsMember o s in
-    let there : AllByRecursion P t = recursion_from_All P t (All-permutation P s t moved (All-from_recursion P s (all_among P s (λ o m. m)))) in
+-- listings of the same operations, no two of which have one stamp, show the same
+pub listing_same : (s t : List Operation) → ((a b : Operation) → IsMember a s → IsMember b s → a.stamp ≡ b.stamp → a ≡ b) → SameItems s t → AllByRecursion (λ o. IsMember o s) t → session_of s ≡ session_of t
+listing_same s t one same there =
     let ready = is_ready_same clock_of needs meets s t same in
     let ready_items : SameItems (ready_ops s) (ready_ops t) = ready_same clock_of needs meets s t same in
-    let listed : AllByRecursion (λ o. IsMember o (ready_ops s)) (ready_ops t) = all_among (λ o. IsMember o (ready_ops s)) (ready_ops t) (λ o m. (
+    let listed : AllByRecursion (λ o. IsMember o (ready_ops s)) (ready_ops t) = all_members (λ o. IsMember o (ready_ops s)) (ready_ops t) (λ o m. (
     let kept = member_of_kept (is_ready clock_of needs meets t) t o m in
-    let stands = member_stands t o kept.0 in
-    member_kept (is_ready clock_of needs meets s) s o (all_here P t there stands.place o stands.at) (ap (λ (p : Operation → Bool). p o) ready ∙ kept.1))) in
-    let one : (a b : Operation) → IsMember a (ready_ops s) → IsMember b (ready_ops s) → a.stamp ≡ b.stamp → a ≡ b = λ a b in_a in_b stamps. (
-    let at_a = member_stands s a (member_of_kept (is_ready clock_of needs meets s) s a in_a).0 in
-    let at_b = member_stands s b (member_of_kept (is_ready clock_of needs meets s) s b in_b).0 in
-    apart at_a.place at_b.place a b at_a.at at_b.at stamps) in
-    let tracks = tracks_are s ∙ tracks_same (ready_ops s) (ready_ops t) ready_items listed one ∙ sym (tracks_are t) in
-    let markers = markers_are s ∙ markers_same (ready_ops s) (ready_ops t) ready_items listed one ∙ sym (markers_are t) in
+    member_kept (is_ready clock_of needs meets s) s o (member_all (λ x. IsMember x s) t o there kept.0) (ap (λ (p : Operation → Bool). p o) ready ∙ kept.1))) in
+    let one_ready : (a b : Operation) → IsMember a (ready_ops s) → IsMember b (ready_ops s) → a.stamp ≡ b.stamp → a ≡ b =
+    λ a b in_a in_b stamps. one a b (member_of_kept (is_ready clock_of needs meets s) s a in_a).0 (member_of_kept (is_ready clock_of needs meets s) s b in_b).0 stamps in
+    let tracks = tracks_are s ∙ tracks_same (ready_ops s) (ready_ops t) ready_items listed one_ready ∙ sym (tracks_are t) in
+    let markers = markers_are s ∙ markers_same (ready_ops s) (ready_ops t) ready_items listed one_ready ∙ sym (markers_are t) in
     let count = held_same clock_of needs meets s t same in
     λ i. record { tracks = tracks i; markers = markers i; held = count i }
+
+pub any_listing_same : AnyListing
+any_listing_same s t apart moved =
+    let P : Operation → Type 0 = λ o. IsMember o s in
+    listing_same s t
+    (λ a b in_a in_b stamps. let at_a = member_stands s a in_a in let at_b = member_stands s b in_b in apart at_a.place at_b.place a b at_a.at at_b.at stamps)
+    (λ f. sym (sum_by-IsPermutation f s t moved)) (recursion_from_All P t (All-permutation P s t moved (All-from_recursion P s (all_members P s (λ o m. m)))))

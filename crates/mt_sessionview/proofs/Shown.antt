@@ -1,103 +1,140 @@
--- Items of ready operations, and the values of their fields.
-use Rattle.std.proofs.Common.{◌≡◌, ℕ, zero, suc, ◌+◌, Bool, true, false, cond, List, [], ◌∷◌, ◌++◌, Option, Some, None, length, take, map, refl, sym, ap, ◌∙◌, subst}
-use Rattle.std.specs.Prelude.{slice_get, option_map, unwrap_or, not}
-use Rattle.std.specs.List.{filter, filter_map, cons_option, count_by}
-use Rattle.std.specs.Ordering.{is_lt}
-use Rattle.std.proofs.lemmas.Option.{same_Some, none-some, slice_get_within, get_or_from_slice_get}
-use Rattle.std.proofs.lemmas.List.{take_more, map-append, append-nil}
-use Rattle.std.proofs.lemmas.List.Elements.{filter-append}
-use Rattle.std.proofs.lemmas.List.Sums.{sum_by-cons, length-filter}
-use Rattle.mt_stamp.specs.Moment.{Moment, stamp_cmp}
-use Rattle.mt_op.specs.Operation.{Act, Operation}
-use Rattle.mt_op.specs.Needs.{needs, meets, clock_of}
+-- Items of operations, no two of which have one stamp.
+use Rattle.std.proofs.Common.{◌≡◌, ℕ, Bool, true, false, ◌&&◌, List, [], ◌∷◌, Option, Some, None, map, refl, sym, ap, ◌∙◌, inl, inr}
+use Rattle.std.specs.Prelude.{option_map, unwrap_or}
+use Rattle.std.specs.List.{AllByRecursion, filter, filter_map}
+use Rattle.std.specs.Cmp.{IsTotalOrder}
+use Rattle.std.specs.Ordering.{nat_cmp}
+use Rattle.std.specs.declared.cmp.Ordering.TheVariants.{Equal}
+use Rattle.std.proofs.lemmas.Cmp.{on_total}
+use Rattle.std.proofs.lemmas.Option.{same_Some, none-some}
+use Rattle.std.proofs.lemmas.List.Sorted.{sum_by-IsPermutation, All-permutation}
+use Rattle.std.proofs.lemmas.List.Elements.{recursion_from_All, All-from_recursion}
+use Rattle.mt_stamp.specs.Moment.{Moment, stamp_cmp, stamp_eq}
+use Rattle.mt_stamp.specs.Tree.{TreePlace, tree_cmp}
+use Rattle.mt_stamp.proofs.Order.{stamp_cmp-IsAntisymmetric}
+use Rattle.mt_stamp.proofs.Tree.{trees_are_ordered}
+use Rattle.mt_op.specs.Gain.{unchanged}
+use Rattle.mt_op.specs.Operation.{Act, AddTrack, AddClip, Operation}
+use Rattle.mt_op.specs.Needs.{needs, meets, clock_of, adds_track, adds_clip, adds_marker}
 use Rattle.mt_op.specs.Ready.{is_ready}
-use Rattle.mt_op.specs.Writes.{Write, Written, written_by, later, latest, last_write}
-use Rattle.mt_sessionview.specs.Session.{ready_ops}
+use Rattle.mt_op.specs.Writes.{Write, Written, title_written, gain_written, mute_written, track_place_written, clip_place_written, trim_written, position_written, written_by, last_write}
+use Rattle.mt_op.proofs.LastWrite.{latest_is_greatest}
+use Rattle.mt_op.proofs.Needs.{and_first}
+use Rattle.mt_sessionview.specs.Content.{Clip, Marker, clip_cmp, marker_cmp}
+use Rattle.mt_sessionview.specs.Session.{ready_ops, source_of, place_added}
+use Rattle.mt_stamp.specs.Sorting.{sort_by}
+use Rattle.mt_sessionview.specs.Noted.{value_in, is_shown_in, marker_in, markers_in, clip_place_in, clip_in, is_clip_on_in, clips_in, places_in, track_place_in, track_cmp_in, track_in, tracks_in}
 use Rattle.mt_sessionview.proofs.Items.{stamp_eq_same}
+use Rattle.mt_sessionview.proofs.Orders.{tied_second, marker_cmp_total, clip_cmp_total, track_cmp_total}
+use Rattle.mt_stamp.proofs.Members.{IsMember, member_stands, member_kept, member_of_kept}
+use Rattle.mt_stamp.proofs.SameItems.{SameItems, GivenBy, same_filter, same_map, same_filter_map, all_passing, all_map, all_filter_map, all_here, member_gives}
+use Rattle.mt_sessionview.proofs.Lists.{all_members, member_all}
+use Rattle.mt_op.proofs.SameWrites.{one_write}
+use Rattle.mt_stamp.proofs.Sorting.{sort_same}
 
-later_is_some : {X : Type 0} (w : Written X) (o : Option (Written X)) → later w o ≡ None → ⊥
-later_is_some w None e = absurd cc
-later_is_some w (Some v) e = elim (is_lt (stamp_cmp v.writer w.writer)) as (λ b. cond b (Some w) (Some v) ≡ None → ⊥) [ true ↦ (λ n. cc) | false ↦ (λ n. cc) ] e
+module _ (r : List Operation) (one : (a b : Operation) → IsMember a r → IsMember b r → a.stamp ≡ b.stamp → a ≡ b) where
+  abbrev pub Among : Operation → Type 0
+  Among o = IsMember o r
 
--- where one writes, there is a last writer
-some_latest : {X Z : Type 0} (h : Z → Option (Written X)) (p : Z → Bool) (xs : List Z) (i : ℕ) (x : Z) (v : Written X) → slice_get xs i ≡ Some x → p x ≡ true → h x ≡ Some v → latest (filter_map h (filter p xs)) ≡ None → ⊥
-some_latest h p [] i x v at passes is none = none-some x at
-some_latest {X} {Z} h p (y ∷ xs) zero x v at passes is none =
-    let same : x ≡ y = sym (same_Some y x at) in
-    let P : Z → Type 0 = λ z. p z ≡ true in
-    let Q : Z → Type 0 = λ z. h z ≡ Some v in
-    later_is_some v (latest (filter_map h (filter p xs))) (rw (subst P same passes, subst Q same is) at none)
-some_latest {X} {Z} h p (y ∷ xs) (suc i) x v at passes is none =
-    let rest : latest (filter_map h (filter p xs)) ≡ None → ⊥ = some_latest h p xs i x v at passes is in
-    elim (p y) as (λ b. latest (filter_map h (cond b (y ∷ filter p xs) (filter p xs))) ≡ None → ⊥) [
-      | true ↦ (elim (h y) as (λ o. latest (cons_option o (filter_map h (filter p xs))) ≡ None → ⊥) [ None ↦ rest | Some w ↦ later_is_some w (latest (filter_map h (filter p xs))) ])
-      | false ↦ rest
-    ] none
+  pub all_r : AllByRecursion Among r
+  all_r = all_members Among r (λ o m. m)
 
--- an item's own operation writes its fields first
-pub field_is : {X : Type 0} (field : Moment → Act → Option (Write X)) (ops : List Operation) (place : ℕ) (o : Operation) (value : X) → slice_get ops place ≡ Some o → is_ready clock_of needs meets ops o ≡ true
-    → field o.stamp o.act ≡ Some (record { item = o.stamp; value = value }) → last_write field o.stamp (ready_ops ops) ≡ None → ⊥
-field_is {X} field ops place o value stands passes is =
-    let v : Written X = record { writer = o.stamp; value = value } in
-    let writes : written_by field o.stamp o ≡ Some v = rw (is, stamp_eq_same o.stamp o.stamp refl) refl in
-    some_latest (written_by field o.stamp) (is_ready clock_of needs meets ops) ops place o v stands passes writes
+  -- ---- the last write of a field that an item's own operation writes
 
-pub given_or : {X : Type 0} (o : Option (Written X)) (d e : X) → (o ≡ None → ⊥) → unwrap_or (option_map (λ (w : Written X). w.value) o) d ≡ unwrap_or (option_map (λ (w : Written X). w.value) o) e
-given_or None d e some = absurd (some refl)
-given_or (Some w) d e some = refl
+  pub record IsGiven {X : Type 0} (field : Moment → Act → Option (Write X)) (item : Moment) : Type 0 where
+    pub write : Written X
+    pub is : last_write field item r ≡ Some write
+    pub given : GivenBy Among (written_by field item) write
 
-pub given : {X : Type 0} (o : Option X) (d e : X) → (o ≡ None → ⊥) → unwrap_or o d ≡ unwrap_or o e
-given None d e some = absurd (some refl)
-given (Some x) d e some = refl
-
--- one more item of a list that is filtered twice and mapped
-collected_more : {X Y : Type 0} (f : X → Y) (p q : X → Bool) (xs : List X) (i : ℕ) (x : X) → slice_get xs i ≡ Some x
-    → map f (filter q (filter p (take (i + 1) xs))) ≡ map f (filter q (filter p (take i xs))) ++ map f (filter q (cond (p x) (x ∷ []) []))
-collected_more f p q xs i x at =
-    ap (λ l. map f (filter q (filter p l))) (take_more xs i x (slice_get_within xs i x at) ∙ ap (λ y. take i xs ++ y ∷ []) (get_or_from_slice_get xs i x x at))
-    ∙ ap (λ l. map f (filter q l)) (filter-append p (take i xs) (x ∷ []))
-    ∙ ap (map f) (filter-append q (filter p (take i xs)) (cond (p x) (x ∷ []) []))
-    ∙ map-append f (filter q (filter p (take i xs))) (filter q (cond (p x) (x ∷ []) []))
-
-held_counted : (p : Operation → Bool) (xs : List Operation) → count_by not (map p xs) ≡ count_by (λ o. not (p o)) xs
-held_counted p [] = refl
-held_counted p (x ∷ xs) =
-    let f : Bool → ℕ = λ b. cond (not b) 1 0 in
-    let h : Operation → ℕ = λ o. cond (not (p o)) 1 0 in
-    sum_by-cons f (p x) (map p xs) ∙ ap (λ (n : ℕ). h x + n) (held_counted p xs) ∙ sym (sum_by-cons h x xs)
-
--- the number not ready, by the table
-pub held_is : (p : Operation → Bool) (xs : List Operation) (table : List Bool) → table ≡ map p xs → count_by not table ≡ length (filter (λ o. not (p o)) xs)
-held_is p xs table is = ap (count_by not) is ∙ held_counted p xs ∙ sym (length-filter (λ o. not (p o)) xs)
-
-module _ {X Y : Type 0} (f : X → Y) (p q : X → Bool) where
-  -- what one more item adds
-  added : (x : X) (v : Y) → p x ≡ true → Some v ≡ cond (q x) (Some (f x)) None → map f (filter q (cond (p x) (x ∷ []) [])) ≡ v ∷ []
-  added x v passes is = rw passes (by_test (q x) is)
+  pub given_last : {X : Type 0} (field : Moment → Act → Option (Write X)) (o : Operation) (value : X) → IsMember o r → field o.stamp o.act ≡ Some (record { item = o.stamp; value = value }) → IsGiven field o.stamp
+  given_last {X} field o value m is = by (last_write field o.stamp r) refl
     where
-      by_test : (b : Bool) → Some v ≡ cond b (Some (f x)) None → map f (cond b (x ∷ []) []) ≡ v ∷ []
-      by_test true e = cc
-      by_test false e = absurd cc
+      own : Written X
+      own = record { writer = o.stamp; value = value }
 
-  nothing_added : (x : X) → p x ≡ true → None ≡ cond (q x) (Some (f x)) None → map f (filter q (cond (p x) (x ∷ []) [])) ≡ []
-  nothing_added x passes is = rw passes (by_test (q x) is)
+      writes : written_by field o.stamp o ≡ Some own
+      writes = rw (is, stamp_eq_same o.stamp o.stamp refl) refl
+
+      by : (l : Option (Written X)) → last_write field o.stamp r ≡ l → IsGiven field o.stamp
+      by None none = absurd (member_gives (written_by field o.stamp) r o own m writes ((latest_is_greatest X).1 (filter_map (written_by field o.stamp) r) none))
+      by (Some w) some =
+          let last = (latest_is_greatest X).0 (filter_map (written_by field o.stamp) r) w some in
+          record { write = w; is = some; given = all_here (GivenBy Among (written_by field o.stamp)) (filter_map (written_by field o.stamp) r) (all_filter_map Among (written_by field o.stamp) r all_r) last.place w last.is }
+
+  -- ---- markers
+
+  abbrev pub IsMarkerIn : Marker → Type 0
+  IsMarkerIn m = (o : Operation) × IsMember o r × (m ≡ marker_in r o)
+
+  pub one_marker : (a b : Marker) → IsMarkerIn a → IsMarkerIn b → marker_cmp a b ≡ Equal → a ≡ b
+  one_marker a b of_a of_b tied =
+      let stamps : a.marker ≡ b.marker = stamp_cmp-IsAntisymmetric a.marker b.marker (tied_second (nat_cmp a.at b.at) (stamp_cmp a.marker b.marker) tied) in
+      let op = one of_a.0 of_b.0 of_a.1 of_b.1 (sym (ap (λ (m : Marker). m.marker) of_a.2) ∙ stamps ∙ ap (λ (m : Marker). m.marker) of_b.2) in
+      of_a.2 ∙ ap (marker_in r) op ∙ sym of_b.2
+
+  pub all_markers : (xs : List Operation) → AllByRecursion Among xs → AllByRecursion IsMarkerIn (map (marker_in r) (filter (is_shown_in r adds_marker) xs))
+  all_markers xs all =
+      all_map (λ o. Among o × (is_shown_in r adds_marker o ≡ true)) IsMarkerIn (marker_in r) (λ o m. (o, m.0, refl)) (filter (is_shown_in r adds_marker) xs) (all_passing Among (is_shown_in r adds_marker) xs all)
+
+  -- ---- clips
+
+  pub clip_given : (o : Operation) → IsMember o r → adds_clip o.act ≡ true → IsGiven clip_place_written o.stamp
+  clip_given o m adds = by o.act refl adds
     where
-      by_test : (b : Bool) → None ≡ cond b (Some (f x)) None → map f (cond b (x ∷ []) []) ≡ []
-      by_test true e = absurd cc
-      by_test false e = refl
+      by : (act : Act) → o.act ≡ act → adds_clip act ≡ true → IsGiven clip_place_written o.stamp
+      by (AddClip source track at offset len) is added = given_last clip_place_written o (track, at) m (ap (clip_place_written o.stamp) is)
+      by _ is added = cc added
 
-  pub more_shown : (xs : List X) (i : ℕ) (x : X) (v : Y) (before after : List Y) → slice_get xs i ≡ Some x → before ≡ map f (filter q (filter p (take i xs))) → p x ≡ true → Some v ≡ cond (q x) (Some (f x)) None
-      → after ≡ before ++ v ∷ [] → after ≡ map f (filter q (filter p (take (i + 1) xs)))
-  more_shown xs i x v before after at so_far passes is stored =
-      stored ∙ ap (λ l. l ++ v ∷ []) so_far ∙ ap (λ l. map f (filter q (filter p (take i xs))) ++ l) (sym (added x v passes is)) ∙ sym (collected_more f p q xs i x at)
+  abbrev pub IsClipIn : Clip → Type 0
+  IsClipIn c = (o : Operation) × IsMember o r × (adds_clip o.act ≡ true) × (c ≡ clip_in r o)
 
-  pub none_shown : (xs : List X) (i : ℕ) (x : X) (before : List Y) → slice_get xs i ≡ Some x → before ≡ map f (filter q (filter p (take i xs))) → p x ≡ true → None ≡ cond (q x) (Some (f x)) None
-      → before ≡ map f (filter q (filter p (take (i + 1) xs)))
-  none_shown xs i x before at so_far passes is =
-      so_far ∙ sym (append-nil (map f (filter q (filter p (take i xs))))) ∙ ap (λ l. map f (filter q (filter p (take i xs))) ++ l) (sym (nothing_added x passes is)) ∙ sym (collected_more f p q xs i x at)
+  pub placed_by : (o : Operation) (g : IsGiven clip_place_written o.stamp) → (clip_in r o).place ≡ g.write.writer
+  placed_by o g = ap (λ (w : Option (Written (Moment × ℕ))). (unwrap_or w (record { writer = o.stamp; value = (o.stamp, 0) })).writer) g.is
 
-  pub waiting_unshown : (xs : List X) (i : ℕ) (x : X) (before : List Y) → slice_get xs i ≡ Some x → before ≡ map f (filter q (filter p (take i xs))) → p x ≡ false → before ≡ map f (filter q (filter p (take (i + 1) xs)))
-  waiting_unshown xs i x before at so_far waits =
-      so_far ∙ sym (append-nil (map f (filter q (filter p (take i xs)))))
-      ∙ ap (λ (b : Bool). map f (filter q (filter p (take i xs))) ++ map f (filter q (cond b (x ∷ []) []))) (sym waits)
-      ∙ sym (collected_more f p q xs i x at)
+  pub one_clip : (a b : Clip) → IsClipIn a → IsClipIn b → clip_cmp a b ≡ Equal → a ≡ b
+  one_clip a b of_a of_b tied =
+      let places : a.place ≡ b.place = stamp_cmp-IsAntisymmetric a.place b.place (tied_second (nat_cmp a.at b.at) (stamp_cmp a.place b.place) tied) in
+      let given_a = clip_given of_a.0 of_a.1 of_a.2 in
+      let given_b = clip_given of_b.0 of_b.1 of_b.2 in
+      let writers : given_a.write.writer ≡ given_b.write.writer =
+      sym (ap (λ (c : Clip). c.place) of_a.3 ∙ placed_by of_a.0 given_a) ∙ places ∙ ap (λ (c : Clip). c.place) of_b.3 ∙ placed_by of_b.0 given_b in
+      let stamps = (one_write Among one clip_place_written of_a.0.stamp of_b.0.stamp given_a.write given_b.write given_a.given given_b.given writers).0 in
+      of_a.3 ∙ ap (clip_in r) (one of_a.0 of_b.0 of_a.1 of_b.1 stamps) ∙ sym of_b.3
+
+  pub all_clips : (track : Moment) (xs : List Operation) → AllByRecursion Among xs → AllByRecursion IsClipIn (map (clip_in r) (filter (is_clip_on_in r track) xs))
+  all_clips track xs all =
+      all_map (λ o. Among o × (is_clip_on_in r track o ≡ true)) IsClipIn (clip_in r) (λ o m. (o, m.0, and_first _ _ (and_first _ _ m.1), refl)) (filter (is_clip_on_in r track) xs) (all_passing Among (is_clip_on_in r track) xs all)
+
+  -- ---- tracks
+
+  pub own_place : (o : Operation) (p : TreePlace) (w : Option (Write (Option Moment))) → option_map {U = TreePlace} (λ (v : Write (Option Moment)). record { place = o.stamp; after = v.value }) w ≡ Some p → p.place ≡ o.stamp
+  own_place o p None is = absurd (none-some p is)
+  own_place o p (Some v) is = ap (λ (q : TreePlace). q.place) (sym (same_Some _ p is))
+
+  pub one_place : (s t : TreePlace) → GivenBy Among place_added s → GivenBy Among place_added t → s.place ≡ t.place → s ≡ t
+  one_place s t of_s of_t places =
+      let s_own = own_place of_s.0 s (track_place_written of_s.0.stamp of_s.0.act) of_s.2 in
+      let t_own = own_place of_t.0 t (track_place_written of_t.0.stamp of_t.0.act) of_t.2 in
+      let op = one of_s.0 of_t.0 of_s.1 of_t.1 (sym s_own ∙ places ∙ t_own) in
+      same_Some s t (sym of_s.2 ∙ ap place_added op ∙ of_t.2)
+
+  pub track_given : (o : Operation) → IsMember o r → adds_track o.act ≡ true → IsGiven track_place_written o.stamp
+  track_given o m adds = by o.act refl adds
+    where
+      by : (act : Act) → o.act ≡ act → adds_track act ≡ true → IsGiven track_place_written o.stamp
+      by (AddTrack after title) is added = given_last track_place_written o after m (ap (track_place_written o.stamp) is)
+      by _ is added = cc added
+
+  pub stands_by : (o : Operation) (g : IsGiven track_place_written o.stamp) → track_place_in r o.stamp ≡ g.write.writer
+  stands_by o g = ap (λ (l : Option (Written (Option Moment))). unwrap_or (option_map (λ (w : Written (Option Moment)). w.writer) l) o.stamp) g.is
+
+  abbrev pub IsTrackIn : Operation → Type 0
+  IsTrackIn o = IsMember o r × (is_shown_in r adds_track o ≡ true)
+
+  pub one_track : (a b : Operation) → IsTrackIn a → IsTrackIn b → track_cmp_in r a b ≡ Equal → a ≡ b
+  one_track a b of_a of_b tied =
+      let places = (trees_are_ordered (places_in r)).apart (track_place_in r a.stamp) (track_place_in r b.stamp) tied in
+      let given_a = track_given a of_a.0 (and_first _ _ of_a.1) in
+      let given_b = track_given b of_b.0 (and_first _ _ of_b.1) in
+      let writers : given_a.write.writer ≡ given_b.write.writer = sym (stands_by a given_a) ∙ places ∙ stands_by b given_b in
+      one a b of_a.0 of_b.0 (one_write Among one track_place_written a.stamp b.stamp given_a.write given_b.write given_a.given given_b.given writers).0

@@ -1,120 +1,253 @@
--- Which track stands at the place that an operation gives.
-use Rattle.std.proofs.Common.{◌≡◌, ℕ, Bool, true, false, List, Option, Some, None, refl, sym, ap, ◌∙◌, subst, zero, suc, [], ◌∷◌, ◌||◌, inl, inr}
-use Rattle.std.specs.Prelude.{slice_get, option_map, unwrap_or, IsTrue}
-use Rattle.std.specs.List.{AllByRecursion, filter, list_any, list_all}
-use Rattle.std.proofs.lemmas.Option.{same_Some, none-some}
-use Rattle.mt_stamp.specs.Moment.{Moment, dot_of}
-use Rattle.mt_op.specs.declared.need.Need.{Need}
-use Rattle.mt_op.specs.declared.need.Role.TheVariants.{Track}
+-- The tracks that stand where operations put them, in the order of those places, are the tracks of a session.
+use Rattle.std.proofs.Common.{◌≡◌, ◌≢◌, ℕ, zero, suc, ◌<◌, Bool, true, false, cond, ◌&&◌, ◌||◌, eqb, List, [], ◌∷◌, Option, Some, None, get_or, length, map, refl, sym, ap, ◌∙◌, subst, arith, inl, inr, true≢false}
+use Rattle.std.specs.Prelude.{option_map, unwrap_or, slice_get, reverse}
+use Rattle.std.specs.Cmp.{IsTotalOrder}
+use Rattle.std.specs.List.{AllByRecursion, filter, filter_map, cons_option}
+use Rattle.std.specs.List.Sorted.{IsStrictlySortedBy, IsPermutation}
+use Rattle.std.specs.declared.cmp.Ordering.{Ordering}
+use Rattle.std.specs.declared.cmp.Ordering.TheVariants.{Less, Equal}
+use Rattle.std.proofs.lemmas.Bool.{eqb-true}
+use Rattle.std.proofs.lemmas.Cmp.{on_total}
+use Rattle.std.proofs.lemmas.Option.{same_Some, none-some, slice_get-get_or, get_or_from_slice_get, slice_get_within}
+use Rattle.std.proofs.lemmas.List.Elements.{All-from_recursion, recursion_from_All}
+use Rattle.std.proofs.lemmas.List.Sorted.{All-permutation, IsPermutation-reverse, IsPermutation-sym, sum_by-IsPermutation}
+use Rattle.mt_stamp.specs.Moment.{Moment, stamp_eq}
+use Rattle.mt_stamp.specs.Sorting.{sort_by, RisesStrictly, DifferBy}
+use Rattle.mt_stamp.specs.Tree.{TreePlace, tree_cmp}
+use Rattle.mt_stamp.proofs.Order.{stamp_eq-true, stamp_eq-itself}
+use Rattle.mt_stamp.proofs.Tree.{trees_are_ordered}
+use Rattle.mt_stamp.proofs.Differing.{differ_kept}
+use Rattle.mt_stamp.proofs.Members.{IsMember, AreApart, member_at, member_stands, member_kept, member_of_kept, one_list, sort_strict, member_sorted, member_unsorted}
+use Rattle.mt_stamp.proofs.SameItems.{SameItems}
+use Rattle.mt_op.specs.declared.need.Role.TheVariants.{Track as TrackRole, Place}
+use Rattle.mt_op.specs.ByStamp.{stamp_of}
 use Rattle.mt_op.specs.Operation.{Act, AddTrack, MoveTrack, Operation}
-use Rattle.mt_op.specs.Needs.{need_of, needs_of, needs, meets, clock_of, adds_track, adds_item, names_are_older}
-use Rattle.mt_op.specs.Ready.{is_met, is_ready}
-use Rattle.mt_op.specs.Dots.{dots_rise}
-use Rattle.mt_op.specs.Valid.{IsOperation}
-use Rattle.mt_op.specs.Writes.{Write, Written, track_place_written}
-use Rattle.mt_op.proofs.Needs.{and_first, and_second, stamp_eq-true, needs_are_older, all_older}
-use Rattle.mt_op.proofs.Readiness.{is_ready-met}
-use Rattle.mt_sessionview.specs.Session.{field_write, track_place}
-use Rattle.mt_sessionview.specs.Tables.{IsLastWriter}
-use Rattle.mt_sessionview.specs.TrackOrder.{placed_track, IsStanding}
-use Rattle.mt_sessionview.proofs.Found.{one_place}
+use Rattle.mt_op.specs.Needs.{need_of, meets, fits, adds_track, adds_place}
+use Rattle.mt_op.specs.Presence.{is_present}
+use Rattle.mt_op.specs.Writes.{Write, Written, title_written, track_place_written, written_by, last_write}
+use Rattle.mt_op.proofs.Needs.{and_first, and_second}
 use Rattle.mt_op.proofs.WriteOf.{is_write_of}
-use Rattle.mt_stamp.proofs.Members.{IsMember, member_stands, member_of_kept}
-use Rattle.mt_sessionview.proofs.TrackSorting.{has_place, last_place, never_unplaced}
-use Rattle.mt_sessionview.proofs.Waiting.{by_recursion_at}
+use Rattle.mt_items.specs.Noting.{AreNoted, is_need_met}
+use Rattle.mt_items.proofs.Roles.{none_written, track_places}
+use Rattle.mt_sessionview.specs.Content.{Track}
+use Rattle.mt_sessionview.specs.Chain.{has, stamp_at}
+use Rattle.mt_sessionview.specs.Noted.{value_in, is_shown_in, clips_in, places_in, track_place_in, track_cmp_in, track_in, tracks_in}
+use Rattle.mt_sessionview.specs.Read.{op_at, ops_at, placed_track, is_writer, stands_at, if_standing, standing, track_from, track_where, track_read, tree_place}
+use Rattle.mt_sessionview.proofs.InOrder.{noted_differ, one_op}
+use Rattle.mt_sessionview.proofs.Items.{stamp_eq_same}
+use Rattle.mt_sessionview.proofs.Lists.{all_members, member_all, all_also, any_member, given_by, member_given, member_map, member_of_map, rises_given, rises_mapped, rises_unmapped}
+use Rattle.mt_sessionview.proofs.Linking.{mapped_length}
+use Rattle.mt_sessionview.proofs.Orders.{track_cmp_total}
+use Rattle.mt_sessionview.proofs.PlaceTree.{given_places}
+use Rattle.mt_sessionview.proofs.Shown.{IsGiven, given_last, track_given, stands_by, IsTrackIn, one_track}
+use Rattle.mt_sessionview.proofs.SameSession.{tree_same}
 
--- one that passes is found, and what is found passes
-pub any_member : (p : Operation → Bool) (xs : List Operation) → list_any p xs ≡ true → (x : Operation) × IsMember x xs × (p x ≡ true)
-any_member p [] any = cc any
-any_member p (x ∷ xs) any = by (p x) refl any (any_member p xs)
+-- ---- what is read in the order of places
+
+read_where : {X Y Z : Type 0} (h : X → Option Y) (w : Option Y → Option Z) → w None ≡ None → (xs : List X) → filter_map (λ x. w (h x)) xs ≡ filter_map (λ y. w (Some y)) (filter_map h xs)
+read_where h w none [] = refl
+read_where {X} {Y} {Z} h w none (x ∷ xs) = by (h x) (read_where h w none xs)
   where
-    by : (b : Bool) → p x ≡ b → (b || list_any p xs) ≡ true → (list_any p xs ≡ true → (y : Operation) × IsMember y xs × (p y ≡ true)) → (y : Operation) × IsMember y (x ∷ xs) × (p y ≡ true)
-    by true passes h rest = (x, inl refl, passes)
-    by false fails h rest = let found = rest h in (found.0, inr found.1, found.2)
+    by : (o : Option Y) → filter_map (λ z. w (h z)) xs ≡ filter_map (λ y. w (Some y)) (filter_map h xs) → cons_option (w o) (filter_map (λ z. w (h z)) xs) ≡ filter_map (λ y. w (Some y)) (cons_option o (filter_map h xs))
+    by None rest = ap (λ (v : Option Z). cons_option v (filter_map (λ z. w (h z)) xs)) none ∙ rest
+    by (Some y) rest = ap (cons_option (w (Some y))) rest
 
--- what meets a need of a ready operation
-pub record IsMetBy (ops : List Operation) (need : Need) : Type 0 where
-  pub place : ℕ
-  pub op : Operation
-  pub at : slice_get ops place ≡ Some op
-  pub ready : is_ready clock_of needs meets ops op ≡ true
-  pub meets_it : meets need op ≡ true
+all_given : {V : Type 0} (f : Moment → Option V) (view : Operation → V) (xs : List Operation) → AllByRecursion (λ o. f o.stamp ≡ Some (view o)) xs → filter_map f (map stamp_of xs) ≡ map view xs
+all_given f view [] all = refl
+all_given {V} f view (x ∷ xs) all = (λ i. cons_option (all.0 i) (all_given f view xs all.1 i))
 
-pub need_is_met : (ops : List Operation) → AllByRecursion IsOperation ops → (p : ℕ) (o : Operation) → slice_get ops p ≡ Some o → is_ready clock_of needs meets ops o ≡ true → (need : Need) (i : ℕ) → slice_get (needs o) i ≡ Some need → IsMetBy ops need
-need_is_met ops valid p o at ready need i is =
-    let older = all_names ops valid in
-    let met : is_met clock_of needs meets ops (is_ready clock_of needs meets ops) o ≡ true =
-    sym (is_ready-met clock_of needs meets ops (all_older ops older) o (needs_are_older o (by_recursion_at (λ x. IsTrue (names_are_older x)) ops older p o at))) ∙ ready in
-    let any = any_member (is_ready clock_of needs meets ops) (filter (meets need) ops) (all_at (λ n. list_any (is_ready clock_of needs meets ops) (filter (meets n) ops)) (needs o) met i need is) in
-    let kept = member_of_kept (meets need) ops any.0 any.1 in
-    let stands = member_stands ops any.0 kept.0 in
-    record { place = stands.place; op = any.0; at = stands.at; ready = any.2; meets_it = kept.1 }
+-- ---- operations at places
+
+named_at : (ops : List Operation) (k : ℕ) → stamp_at (map stamp_of ops) k ≡ (op_at ops k).stamp
+named_at [] k = refl
+named_at (x ∷ xs) zero = refl
+named_at (x ∷ xs) (suc k) = named_at xs k
+
+names_at : (ops : List Operation) (order : List ℕ) → map (stamp_at (map stamp_of ops)) order ≡ map stamp_of (ops_at ops order)
+names_at ops [] = refl
+names_at ops (k ∷ order) = λ i. named_at ops k i ∷ names_at ops order i
+
+member_ops_at : (ops : List Operation) (order : List ℕ) → ((k p : ℕ) → slice_get order k ≡ Some p → p < length ops) → (v : Operation) → IsMember v (ops_at ops order) → IsMember v ops
+member_ops_at ops [] below v m = absurd m
+member_ops_at ops (p ∷ order) below v (inl same) = subst (λ (o : Operation). IsMember o ops) same (member_at ops p (op_at ops p) (slice_get-get_or ops p (op_at [] 0) (below 0 p refl)))
+member_ops_at ops (p ∷ order) below v (inr later) = member_ops_at ops order (λ k q at. below (suc k) q at) v later
+
+at_ops_had : (ops : List Operation) (order : List ℕ) (p : ℕ) → has order p ≡ true → IsMember (op_at ops p) (ops_at ops order)
+at_ops_had ops [] p had = absurd (true≢false (sym had))
+at_ops_had ops (q ∷ order) p had = by (eqb p q) refl had (at_ops_had ops order p)
   where
-    all_names : (xs : List Operation) → AllByRecursion IsOperation xs → AllByRecursion (λ x. IsTrue (names_are_older x)) xs
-    all_names [] all = tt
-    all_names (x ∷ xs) all = (all.0.older, all_names xs all.1)
+    by : (b : Bool) → eqb p q ≡ b → (b || has order p) ≡ true → (has order p ≡ true → IsMember (op_at ops p) (ops_at ops order)) → IsMember (op_at ops p) (ops_at ops (q ∷ order))
+    by true same h rest = inl (ap (op_at ops) (sym (eqb-true p q same)))
+    by false other h rest = inr (rest h)
 
-    all_at : (f : Need → Bool) (ns : List Need) → list_all f ns ≡ true → (k : ℕ) (n : Need) → slice_get ns k ≡ Some n → f n ≡ true
-    all_at f [] all k n e = absurd (none-some n e)
-    all_at f (m ∷ ns) all zero n e = ap f (sym (same_Some m n e)) ∙ and_first _ _ all
-    all_at f (m ∷ ns) all (suc k) n e = all_at f ns (and_second _ _ all) k n e
+strictly : (cmp : Moment → Moment → Ordering) (xs : List Moment) → IsStrictlySortedBy cmp xs → RisesStrictly cmp xs
+unfolding IsStrictlySortedBy
+strictly cmp [] rise = tt
+strictly cmp (x ∷ xs) rise = (rise.0, strictly cmp xs rise.1)
 
-module _ (ops : List Operation) (rise : dots_rise ops ≡ true) where
-  pub same_op : (i j : ℕ) (a b : Operation) → slice_get ops i ≡ Some a → slice_get ops j ≡ Some b → a.stamp ≡ b.stamp → a ≡ b
-  same_op i j a b at_i at_j same = same_Some a b (sym at_i ∙ ap (slice_get ops) (one_place ops rise i j a b at_i at_j (ap dot_of same)) ∙ at_j)
+pub members_moved : {X : Type 0} (xs ys : List X) → IsPermutation xs ys → (v : X) → IsMember v ys → IsMember v xs
+members_moved {X} xs ys moved v m =
+    member_all (λ w. IsMember w xs) ys v (recursion_from_All (λ w. IsMember w xs) ys (All-permutation (λ w. IsMember w xs) xs ys moved (All-from_recursion (λ w. IsMember w xs) xs (all_members (λ w. IsMember w xs) xs (λ w n. n))))) m
 
-  -- the track that has its place from an operation is the one that the operation places
-  pub standing_placed : (place : ℕ) (o : Operation) → slice_get ops place ≡ Some o → (p : ℕ) → (s : IsStanding ops o.stamp p) → placed_track o ≡ Some s.track.op.stamp
-  standing_placed place o at p s =
-      let x = s.track.op in
-      let has = has_place ops p x s.track.at s.track.is_ready (and_first _ _ s.track.shown) in
-      let by = is_write_of track_place_written x.stamp has.given.item (last_place ops x.stamp) has.given.is in
-      let stamps : has.given.item.stamp ≡ o.stamp = sym (ap (λ (w : Written (Option Moment)). w.writer) by.value_is) ∙ sym has.is ∙ s.has in
-      let one : has.given.item ≡ o = same_op has.given.place place has.given.item o has.given.at at stamps in
-      ap (λ (z : Operation). placed_track z) (sym one) ∙ ap (option_map (λ (w : Write (Option Moment)). w.item)) by.made ∙ ap Some by.item_is
+-- ---- who stands where
 
-  -- the operation that a placed track's stamp names is the track's
-  pub record IsPlacedTrack (at : ℕ) (y : Operation) : Type 0 where
-    pub ready : is_ready clock_of needs meets ops y ≡ true
-    pub adds : adds_track y.act ≡ true
+record IsStanding (r : List Operation) (place track : Moment) : Type 0 where
+  pub write : Written (Option Moment)
+  pub is : last_write track_place_written track r ≡ Some write
+  pub here : write.writer ≡ place
+  pub present : is_present r track ≡ true
 
-  pub placed_is_track : AllByRecursion IsOperation ops → (place : ℕ) (o : Operation) → slice_get ops place ≡ Some o → is_ready clock_of needs meets ops o ≡ true → (track : Moment) → placed_track o ≡ Some track
-      → (j : ℕ) (y : Operation) → slice_get ops j ≡ Some y → track ≡ y.stamp → IsPlacedTrack j y
-  placed_is_track valid place o at ready track placed j y at_j names = by o.act refl
+stands : (r : List Operation) (place : Moment) (named : Option Moment) (track : Moment) → if_standing r place named ≡ Some track → IsStanding r place track
+stands r place None track is = absurd (none-some track is)
+stands r place (Some t) track is = by (stands_at r t place) refl is
+  where
+    written : (l : Option (Written (Option Moment))) → last_write track_place_written t r ≡ l → (is_writer r place l && is_present r t) ≡ true → IsStanding r place t
+    written None none both = absurd (true≢false (sym both))
+    written (Some w) some both = record { write = w; is = some; here = stamp_eq-true w.writer place (and_first _ _ both); present = and_second _ _ both }
+
+    by : (b : Bool) → stands_at r t place ≡ b → cond b (Some t) None ≡ Some track → IsStanding r place track
+    by true both e = subst (IsStanding r place) (same_Some t track e) (written (last_write track_place_written t r) refl both)
+    by false no_one e = absurd (none-some track e)
+
+standing_is : (r : List Operation) (place track : Moment) (w : Written (Option Moment)) → last_write track_place_written track r ≡ Some w → w.writer ≡ place → is_present r track ≡ true → if_standing r place (Some track) ≡ Some track
+standing_is r place track w is here present =
+    ap (λ (b : Bool). cond b (Some track) None) ((λ i. is_writer r place (is i) && present i) ∙ ap (λ (b : Bool). b && true) (stamp_eq_same w.writer place here))
+
+-- what writes a track's place is a place, of that track
+places_given : (own : Moment) (act : Act) (w : Write (Option Moment)) → track_place_written own act ≡ Some w → (adds_place act ≡ true) × (placed_track own act ≡ Some w.item)
+places_given own (AddTrack after title) w is = (refl, ap (λ (v : Write (Option Moment)). Some v.item) (same_Some _ w is))
+places_given own (MoveTrack track after) w is = (refl, ap (λ (v : Write (Option Moment)). Some v.item) (same_Some _ w is))
+places_given own _ w is = absurd cc
+
+module _ (r : List Operation) (noted : AreNoted r) where
+  one : (a b : Operation) → IsMember a r → IsMember b r → a.stamp ≡ b.stamp → a ≡ b
+  one = one_op r noted
+
+  -- tracks by their places
+  abbrev by_place : Moment → Moment → Ordering
+  by_place a b = tree_cmp (places_in r) (track_place_in r a) (track_place_in r b)
+
+  by_place_total : IsTotalOrder by_place
+  by_place_total = on_total (track_place_in r) (trees_are_ordered (places_in r)).total
+
+  abbrev shown : List Operation
+  shown = filter (is_shown_in r adds_track) r
+
+  is_track : (o : Operation) → IsMember o shown → IsTrackIn r one o
+  is_track o m = member_of_kept (is_shown_in r adds_track) r o m
+
+  apart_tracks : (xs : List Operation) → ((o : Operation) → IsMember o xs → IsTrackIn r one o) → DifferBy stamp_of xs → AreApart (track_cmp_in r) (track_cmp_total r) xs
+  apart_tracks [] tracks d = tt
+  apart_tracks (x ∷ xs) tracks d = (
+    all_members (λ y. track_cmp_in r x y ≢ Equal) xs (λ y m tied.
+        member_all (λ z. x.stamp ≢ z.stamp) xs y d.0 m (ap (λ (o : Operation). o.stamp) (one_track r one x y (tracks x (inl refl)) (tracks y (inr m)) tied))),
+    apart_tracks xs (λ y m. tracks y (inr m)) d.1,
+  )
+
+  abbrev in_order : List Operation
+  in_order = sort_by (track_cmp_in r) shown
+
+  order_rises : RisesStrictly by_place (map stamp_of in_order)
+  order_rises =
+      rises_mapped by_place stamp_of in_order
+      (sort_strict (track_cmp_in r) (track_cmp_total r) shown (apart_tracks shown is_track (differ_kept stamp_of (is_shown_in r adds_track) r (noted_differ r noted))))
+
+  -- a track that stands somewhere is shown
+  shown_where : (place t : Moment) → IsStanding r place t → (a : Operation) × (IsMember a in_order) × (a.stamp ≡ t)
+  shown_where place t s = by (is_need_met r (need_of TrackRole t)) refl
     where
-      by : (act : Act) → o.act ≡ act → IsPlacedTrack j y
-      by (AddTrack after title) is =
-          let own : o.stamp ≡ track = same_Some o.stamp track (sym (ap (λ (a : Act). option_map (λ (w : Write (Option Moment)). w.item) (track_place_written o.stamp a)) is) ∙ placed) in
-          let one : o ≡ y = same_op place j o y at at_j (own ∙ names) in
-          let P : Operation → Type 0 = λ z. is_ready clock_of needs meets ops z ≡ true in
-          record { ready = subst P one ready; adds = ap (λ (z : Operation). adds_track z.act) (sym one) ∙ ap adds_track is }
-      by (MoveTrack moved after) is =
-          let own : moved ≡ track = same_Some moved track (sym (ap (λ (a : Act). option_map (λ (w : Write (Option Moment)). w.item) (track_place_written o.stamp a)) is) ∙ placed) in
-          let first : slice_get (needs o) 0 ≡ Some (need_of Track moved) = ap (λ (a : Act). slice_get (needs_of a) 0) is in
-          let met = need_is_met ops valid place o at ready (need_of Track moved) 0 first in
-          let stamps : moved ≡ met.op.stamp = stamp_eq-true moved met.op.stamp (and_first _ _ met.meets_it) in
-          let one : met.op ≡ y = same_op met.place j met.op y met.at at_j (sym stamps ∙ own ∙ names) in
-          let P : Operation → Type 0 = λ z. is_ready clock_of needs meets ops z ≡ true in
-          record { ready = subst P one met.ready; adds = ap (λ (z : Operation). adds_track z.act) (sym one) ∙ and_second _ _ met.meets_it }
-      by _ is = let none = sym (ap (λ (a : Act). option_map (λ (w : Write (Option Moment)). w.item) (track_place_written o.stamp a)) is) ∙ placed in absurd (none-some track none)
+      by : (b : Bool) → is_need_met r (need_of TrackRole t) ≡ b → (a : Operation) × (IsMember a in_order) × (a.stamp ≡ t)
+      by true met =
+          let found = any_member (meets (need_of TrackRole t)) r met in
+          let a = found.item in
+          let same : t ≡ a.stamp = stamp_eq-true t a.stamp (and_first _ _ found.passes) in
+          let adds : adds_track a.act ≡ true = and_second _ _ found.passes in
+          let there : is_shown_in r adds_track a ≡ true = (λ i. adds i && is_present r a.stamp) ∙ ap (is_present r) (sym same) ∙ s.present in
+          (a, member_sorted (track_cmp_in r) (track_cmp_total r) a shown (member_kept (is_shown_in r adds_track) r a found.member there), sym same)
+      by false unmet = absurd (none-some s.write (sym (none_written TrackRole track_place_written track_places r t noted unmet) ∙ s.is))
 
-  -- the row of a track names who gave it its place
-  pub row_is_place : (j place : ℕ) (y o : Operation) (row : Option ℕ) → slice_get ops place ≡ Some o → IsLastWriter track_place_written ops y.stamp (field_write track_place_written ops y.stamp) row → row ≡ Some place → track_place ops y.stamp ≡ o.stamp
-  row_is_place j place y o row at last is =
-      let w = subst (IsLastWriter track_place_written ops y.stamp (field_write track_place_written ops y.stamp)) is last in
-      let by = is_write_of track_place_written y.stamp w.op w.write w.writes in
-      let same : w.op ≡ o = same_Some w.op o (sym w.at ∙ at) in
-      ap (λ (l : Option (Written (Option Moment))). unwrap_or (option_map (λ (v : Written (Option Moment)). v.writer) l) y.stamp) w.is ∙ ap (λ (v : Written (Option Moment)). v.writer) by.value_is ∙ ap (λ (z : Operation). z.stamp) same
+  -- a track with its clips
+  title_of : (o : Operation) → IsMember o r → adds_track o.act ≡ true → IsGiven r one title_written o.stamp
+  title_of o m adds = by o.act refl adds
+    where
+      by : (act : Act) → o.act ≡ act → adds_track act ≡ true → IsGiven r one title_written o.stamp
+      by (AddTrack after title) is added = given_last r one title_written o title m (ap (title_written o.stamp) is)
+      by _ is added = cc added
 
-  pub place_is_row : (j place : ℕ) (y o : Operation) (row : Option ℕ) → slice_get ops j ≡ Some y → is_ready clock_of needs meets ops y ≡ true → adds_track y.act ≡ true → slice_get ops place ≡ Some o
-      → IsLastWriter track_place_written ops y.stamp (field_write track_place_written ops y.stamp) row → track_place ops y.stamp ≡ o.stamp → row ≡ Some place
-  place_is_row j place y o None at_j ready adds at last is = absurd (never_unplaced ops j y at_j ready adds last)
-  place_is_row j place y o (Some w) at_j ready adds at last is =
-      let by = is_write_of track_place_written y.stamp last.op last.write last.writes in
-      let stamps : last.op.stamp ≡ o.stamp =
-      sym (ap (λ (l : Option (Written (Option Moment))). unwrap_or (option_map (λ (v : Written (Option Moment)). v.writer) l) y.stamp) last.is ∙ ap (λ (v : Written (Option Moment)). v.writer) by.value_is) ∙ is in
-      ap Some (one_place ops rise w place last.op o last.at at (ap dot_of stamps))
+  track_is : (o : Operation) → IsMember o in_order → track_where r (Some o.stamp) ≡ Some (track_in r o)
+  track_is o m =
+      let track = is_track o (member_unsorted (track_cmp_in r) (track_cmp_total r) o shown m) in
+      let title = title_of o track.0 (and_first _ _ track.1) in
+      ap (track_from r o.stamp (clips_in r o.stamp)) title.is
+      ∙ (λ i. Some (record {
+        track = o.stamp;
+        title = unwrap_or (option_map (λ (w : Written (List ℕ)). w.value) (sym title.is i)) [];
+        gain = (track_in r o).gain;
+        mute = (track_in r o).mute;
+        clips = clips_in r o.stamp;
+      }))
 
-pub adds_track-item : (act : Act) → adds_track act ≡ true → adds_item act ≡ true
-adds_track-item (AddTrack after title) adds = refl
-adds_track-item _ adds = cc adds
+  module _ (ready : List Operation) (moved : IsPermutation ready r) (order : List ℕ) (below : (k p : ℕ) → slice_get order k ≡ Some p → p < length (filter (fits Place) ready)) (all : (p : ℕ) → p < length (filter (fits Place) ready) → has order p ≡ true)
+      (sorted : IsStrictlySortedBy (tree_cmp (map tree_place (filter (fits Place) ready))) (map (stamp_at (map stamp_of (filter (fits Place) ready))) order)) where
+    abbrev ops : List Operation
+    ops = filter (fits Place) ready
+
+    abbrev those : List Operation
+    those = ops_at ops order
+
+    same_tree : tree_cmp (map tree_place ops) ≡ tree_cmp (places_in r)
+    same_tree =
+        ap tree_cmp (sym (given_places ready))
+        ∙ sym (tree_same r ready (λ f. sum_by-IsPermutation f ready r moved) (all_members (λ o. IsMember o r) ready (λ o m. members_moved r ready (IsPermutation-sym ready r moved) o m)) one)
+
+    those_rise : RisesStrictly (λ a b. tree_cmp (places_in r) a.stamp b.stamp) those
+    those_rise =
+        rises_unmapped (tree_cmp (places_in r)) stamp_of those
+        (strictly (tree_cmp (places_in r)) (map stamp_of those)
+        (subst (λ (l : List Moment). IsStrictlySortedBy (tree_cmp (places_in r)) l) (names_at ops order) (subst (λ (cmp : Moment → Moment → Ordering). IsStrictlySortedBy cmp (map (stamp_at (map stamp_of ops)) order)) same_tree sorted)))
+
+    into : (t : Moment) → IsMember t (filter_map (standing r) those) → IsMember t (map stamp_of in_order)
+    into t m =
+        let from = given_by (standing r) those t m in
+        let found = shown_where from.item.stamp t (stands r from.item.stamp (placed_track from.item.stamp from.item.act) t from.gives) in
+        subst (λ (v : Moment). IsMember v (map stamp_of in_order)) found.2 (member_map stamp_of in_order found.0 found.1)
+
+    out_of : (t : Moment) → IsMember t (map stamp_of in_order) → IsMember t (filter_map (standing r) those)
+    out_of t m =
+        let from = member_of_map stamp_of in_order t m in
+        let a = from.0 in
+        let track = is_track a (member_unsorted (track_cmp_in r) (track_cmp_total r) a shown from.1) in
+        let g = track_given r one a track.0 (and_first _ _ track.1) in
+        let x = g.given.0 in
+        let write = is_write_of track_place_written a.stamp x g.write g.given.2 in
+        let places = places_given x.stamp x.act write.write write.made in
+        let in_ops : IsMember x ops = member_kept (fits Place) ready x (members_moved ready r moved x g.given.1) places.0 in
+        let at = member_stands ops x in_ops in
+        let had = at_ops_had ops order at.place (all at.place (slice_get_within ops at.place x at.at)) in
+        let in_those : IsMember x those = subst (λ (o : Operation). IsMember o those) (get_or_from_slice_get ops at.place x (op_at [] 0) at.at) had in
+        let stands_here : standing r x ≡ Some a.stamp =
+        ap (if_standing r x.stamp) (places.1 ∙ ap Some write.item_is)
+        ∙ standing_is r x.stamp a.stamp g.write g.is (ap (λ (w : Written (Option Moment)). w.writer) write.value_is) (and_second _ _ track.1) in
+        subst (λ (v : Moment). IsMember v (filter_map (standing r) those)) from.2 (member_given (standing r) those x a.stamp in_those stands_here)
+
+    standing_rise : RisesStrictly by_place (filter_map (standing r) those)
+    standing_rise =
+        rises_given (tree_cmp (places_in r)) (standing r) stamp_of (track_place_in r)
+        (λ o t is. let s = stands r o.stamp (placed_track o.stamp o.act) t is in ap (λ (l : Option (Written (Option Moment))). unwrap_or (option_map (λ (w : Written (Option Moment)). w.writer) l) t) s.is ∙ s.here) those those_rise
+
+    -- the tracks of a session
+    pub tracks_read : filter_map (track_read r) (ops_at (filter (fits Place) ready) order) ≡ tracks_in r
+    tracks_read =
+        read_where (standing r) (track_where r) refl those
+        ∙ ap (filter_map (λ t. track_where r (Some t))) (one_list by_place by_place_total (filter_map (standing r) those) (map stamp_of in_order) standing_rise order_rises into out_of)
+        ∙ all_given (λ t. track_where r (Some t)) (track_in r) in_order (all_members (λ o. track_where r (Some o.stamp) ≡ Some (track_in r o)) in_order track_is)
+
+-- the same of references to the operations, and of their stamps
+pub tracks_ordered : {X : Type 0} (f : X → Operation) (r : List Operation) → AreNoted r → (ready : List Operation) → IsPermutation ready r → (refs : List X) → map f refs ≡ filter (fits Place) ready → (stamps : List Moment) → stamps ≡ map stamp_of (filter (fits Place) ready)
+    → (order : List ℕ) → ((k p : ℕ) → slice_get order k ≡ Some p → p < length refs) → ((p : ℕ) → p < length refs → has order p ≡ true) → IsStrictlySortedBy (tree_cmp (map tree_place (map f refs))) (map (stamp_at stamps) order)
+    → filter_map (track_read r) (ops_at (filter (fits Place) ready) order) ≡ tracks_in r
+tracks_ordered f r noted ready moved refs refs_are stamps stamps_are order below all sorted =
+    let long : length (filter (fits Place) ready) ≡ length refs = sym (ap length refs_are) ∙ mapped_length f refs in
+    tracks_read r noted ready moved order (λ k p at. let less = below k p at in omega (arith, less, long)) (λ p less. all p (omega (arith, less, long)))
+    (subst (λ (l : List Moment). IsStrictlySortedBy (tree_cmp (map tree_place (filter (fits Place) ready))) (map (stamp_at l) order)) stamps_are
+    (subst (λ (l : List Operation). IsStrictlySortedBy (tree_cmp (map tree_place l)) (map (stamp_at stamps) order)) refs_are sorted))

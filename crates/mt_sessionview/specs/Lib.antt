@@ -2,11 +2,9 @@ pub mod Content
 pub mod Session
 pub mod Examples
 pub mod Faults
-pub mod StampOrder
-pub mod Tables
-pub mod Told
-pub mod TrackOrder
 pub mod SessionText
+pub mod SessionLaws
+pub mod Noted
+pub mod Read
 pub mod Chain
 pub mod Links
-pub mod SessionLaws

@@ -1,25 +1,20 @@
 //! Clips.
 
-ghost use Rattle.std.specs.Prelude.{◌≡◌, ◌<◌, ◌++◌, [], ◌∷◌, length, map, slice_get, slice_set, slice_index_or, Option, Some, None, unwrap_or, true, if◌then◌else◌, IfOk, IfErr, OnOk, IsTrue};
+ghost use Rattle.std.specs.Prelude.{◌≡◌, ◌++◌, [], ◌∷◌, unwrap_or, option_map, if◌then◌else◌, IfOk, IfErr, OnOk};
+ghost use Rattle.std.specs.BTreeMap.{get};
 ghost use Rattle.std.specs.List.Sorted.{IsPermutation, IsSorted};
-ghost use Rattle.mt_stamp.specs.Moment.{Moment};
-ghost use Rattle.mt_op.specs.Operation.{Operation};
-ghost use Rattle.mt_op.specs.Dots.{dots_rise};
-ghost use Rattle.mt_op.specs.Needs.{needs, meets, clock_of, adds_clip};
-ghost use Rattle.mt_op.specs.Ready.{is_ready};
-ghost use Rattle.mt_sessionview.specs.Content.{Clip, clip_cmp};
-ghost use Rattle.mt_sessionview.specs.Session.{ready_ops, is_shown, clip_place, clip_of, clips_on};
-ghost use Rattle.mt_sessionview.specs.Told.{Operations, AreTables, TellsClips};
+ghost use Rattle.mt_stamp.specs.Moment.{Moment, stamp_cmp, stamp_eq};
+ghost use Rattle.mt_sessionview.specs.Content.{clip_cmp};
+ghost use Rattle.mt_sessionview.specs.Read.{clip_read, AreTheClips};
 
 use crate::fault::SessionFault;
-use crate::item::item_place;
+use crate::read::value_or;
 use crate::session::ClipView;
-use crate::table::empty_table;
-use crate::tables::{Tables, is_item_present};
-use crate::values::{Placed, last_clip_place, last_gain, last_mute, last_trim};
-use mt_op::{Body, Gain, Op};
+use mt_items::Items;
+use mt_op::Gain;
 use mt_stamp::{List, Stamp};
 use std::alloc::Allocator;
+use std::collections::BTreeMap;
 
 // A clip, and the track that it is on.
 #[derive(Clone, Copy)]
@@ -28,45 +23,35 @@ struct OnTrack {
     clip: ClipView,
 }
 
-// The clip that the ready operation at a place added, with its track, where it added one that is present.
-fn clip_at<A: Allocator>(ops: &[Op<A>], tables: &Tables<A>, place: usize) -> Option<OnTrack>
-    requires inside { place < length ops.now }
-    requires ready { (o : Operation) → slice_get ops.now place ≡ Some o → is_ready clock_of needs meets ops.now o ≡ true }
-    requires tables { AreTables ops.now tables.now }
-    ensures { (o : Operation) → slice_get ops.now place ≡ Some o → result ≡ (if is_shown adds_clip ops.now o then Some (record { track = (clip_place ops.now o.stamp).value.0; clip = clip_of ops.now o }) else None) }
+// The clip of a stamp with its track, where it is present.
+fn clip_at<A: Allocator>(items: &Items<A>, clip: Stamp) -> Option<OnTrack>
+    ensures { result ≡ clip_read items.now clip }
 {
-    let op = &ops[place];
-    let Body::AddClip {
-        source,
-        track,
-        at,
-        offset,
-        len,
-    } = op.body()
-    else {
-        return None;
-    };
-    if !is_item_present(ops, tables, place) {
+    if !items.is_present(clip) {
         return None;
     }
-    let own = Placed {
-        writer: op.stamp(),
-        track: *track,
-        at: *at,
+    let Some(place) = items.clip_place(clip) else {
+        return None;
     };
-    let placed = last_clip_place(ops, tables.clip_places[place], own);
-    let (offset, len) = last_trim(ops, tables.trims[place], (*offset, *len));
+    let Some(trim) = items.trim(clip) else {
+        return None;
+    };
+    let Some(source) = items.source(clip) else {
+        return None;
+    };
+    let (track, at) = *place.get();
+    let (offset, len) = *trim.get();
     Some(OnTrack {
-        track: placed.track,
+        track,
         clip: ClipView {
-            clip: op.stamp(),
-            place: placed.writer,
-            at: placed.at,
+            clip,
+            place: place.stamp(),
+            at,
             offset,
             len,
-            gain: last_gain(ops, tables.gains[place], Gain::UNCHANGED),
-            mute: last_mute(ops, tables.mutes[place], false),
-            source: *source,
+            gain: value_or(items.gain(clip), Gain::UNCHANGED),
+            mute: value_or(items.mute(clip), false),
+            source,
         },
     })
 }
@@ -85,65 +70,33 @@ fn clips_from<A: Allocator + Clone>(
     }
 }
 
-// Puts a clip with those of the track at a place.
+// Puts a clip with those of its track.
 fn note_clip<A: Allocator + Clone>(
     alloc: &A,
-    table: &mut [Option<List<ClipView, A>>],
-    track: usize,
-    clip: ClipView,
+    table: &mut BTreeMap<Stamp, List<ClipView, A>, A>,
+    found: OnTrack,
 ) -> Result<(), SessionFault>
-    requires { track < length table.old }
-    ensures ok { OnOk result (table.new ≡ slice_set table.old track (Some (unwrap_or (slice_index_or table.old track None) [] ++ clip ∷ []))) }
+    ensures ok { OnOk result ((track : Moment) → unwrap_or (get stamp_cmp table.new track) [] ≡ unwrap_or (get stamp_cmp table.old track) [] ++ (if stamp_eq found.track track then found.clip ∷ [] else [])) }
     ensures err { IfErr result (λ fault. fault ≡ SessionFault.Memory) }
 {
-    let mut clips = clips_from(alloc, table[track].take())?;
-    clips.push(clip)?;
-    table[track] = Some(List::new(clips));
+    let mut clips = clips_from(alloc, table.remove(&found.track))?;
+    clips.push(found.clip)?;
+    table.insert(found.track, List::new(clips))?;
     Ok(())
 }
 
-// Notes the clip that the ready operation at a place added with those of its track, where it added one that is present.
-fn note_clip_at<A: Allocator + Clone>(
-    alloc: &A,
-    ops: &[Op<A>],
-    tables: &Tables<A>,
-    table: &mut [Option<List<ClipView, A>>],
-    place: usize,
-) -> Result<(), SessionFault>
-    requires rise { IsTrue (dots_rise ops.now) }
-    requires inside { place < length ops.now }
-    requires ready { (o : Operation) → slice_get ops.now place ≡ Some o → is_ready clock_of needs meets ops.now o ≡ true }
-    requires tables { AreTables ops.now tables.now }
-    requires count { length table.old ≡ length ops.now }
-    ensures ok { OnOk result ((o : Operation) (before : Operations) → slice_get ops.now place ≡ Some o → TellsClips ops.now before table.old → TellsClips ops.now (before ++ o ∷ []) table.new) }
-    ensures err { IfErr result (λ fault. fault ≡ SessionFault.Memory) }
-{
-    let Some(found) = clip_at(ops, tables, place) else {
-        return Ok(());
-    };
-    let Some(track) = item_place(ops, place, found.track) else {
-        return Ok(());
-    };
-    note_clip(alloc, table, track, found.clip)?;
-    Ok(())
-}
-
-// The present clips of each track, by the place of the track, in the order of the operations that added them.
+// The present clips of each track, by their rising stamps.
 pub(crate) fn clips_by_track<A: Allocator + Clone>(
     alloc: &A,
-    ops: &[Op<A>],
-    tables: &Tables<A>,
-) -> Result<Vec<Option<List<ClipView, A>>, A>, SessionFault>
-    requires rise { IsTrue (dots_rise ops.now) }
-    requires tables { AreTables ops.now tables.now }
-    ensures count { IfOk result (λ table. length table.items ≡ length ops.now) }
-    ensures clips { IfOk result (λ table. TellsClips ops.now (ready_ops ops.now) table.items) }
+    items: &Items<A>,
+) -> Result<BTreeMap<Stamp, List<ClipView, A>, A>, SessionFault>
+    ensures ok { IfOk result (AreTheClips items.now) }
     ensures err { IfErr result (λ fault. fault ≡ SessionFault.Memory) }
 {
-    let mut table = empty_table(alloc.clone()?, ops.len())?;
-    for place in 0..ops.len() {
-        if tables.ready[place] {
-            note_clip_at(alloc, ops, tables, &mut table, place)?;
+    let mut table = BTreeMap::new(alloc.clone()?);
+    for clip in &items.clips()? {
+        if let Some(found) = clip_at(items, *clip) {
+            note_clip(alloc, &mut table, found)?;
         }
     }
     Ok(table)
@@ -152,9 +105,9 @@ pub(crate) fn clips_by_track<A: Allocator + Clone>(
 // The clips of a track in order: by position, then by the stamp that gave their place.
 pub(crate) fn sorted_clips<A: Allocator + Clone>(
     alloc: &A,
-    clips: &Option<List<ClipView, A>>,
+    clips: Option<&List<ClipView, A>>,
 ) -> Result<Vec<ClipView, A>, SessionFault>
-    ensures moved { IfOk result (λ sorted. IsPermutation (unwrap_or clips.now []) sorted.items) }
+    ensures moved { IfOk result (λ sorted. IsPermutation (unwrap_or (option_map (λ c. c.now) clips.entry) []) sorted.items) }
     ensures sorted { IfOk result (λ sorted. IsSorted clip_cmp sorted.items) }
     ensures err { IfErr result (λ fault. fault ≡ SessionFault.Memory) }
 {

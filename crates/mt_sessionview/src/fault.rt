@@ -4,7 +4,7 @@ ghost use Rattle.std.specs.Prelude.{◌≡◌};
 ghost use Rattle.mt_sessionview.specs.Faults.{number_of};
 ghost use Rattle.mt_sessionview.specs.declared.fault.SessionFault.TheVariants.{Memory};
 
-use mt_cells::CellFault;
+use mt_items::ItemsFault;
 use std::alloc::{AllocError, AllocFailed};
 use thiserror::Error;
 
@@ -37,10 +37,10 @@ impl From<AllocError> for SessionFault {
     }
 }
 
-impl From<CellFault> for SessionFault {
+impl From<ItemsFault> for SessionFault {
     ghost from_gives = { λ _ e. e ≡ Memory };
 
-    fn from(_e: CellFault) -> SessionFault {
+    fn from(_e: ItemsFault) -> SessionFault {
         SessionFault::Memory
     }
 }

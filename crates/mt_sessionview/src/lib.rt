@@ -3,31 +3,24 @@
 #![tactic(auto)]
 
 mod build;
+mod by_stamp;
 mod chain;
 mod clip;
 mod fault;
-mod field;
-mod item;
 pub mod laws;
 mod marker;
-mod order;
-mod place;
 mod place_order;
-mod presence;
+mod read;
 mod readiness;
 mod ready;
 mod scratch;
 mod session;
-mod table;
-mod tables;
 #[cfg(test)]
 mod tests;
 mod text;
 mod track;
-mod track_order;
-mod values;
-mod writers;
 
+pub use by_stamp::sorted_ops;
 pub use fault::SessionFault;
 pub use readiness::ready_stamps;
 pub use scratch::{from_scratch, write_text};

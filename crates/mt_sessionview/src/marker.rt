@@ -1,70 +1,56 @@
 //! Markers.
 
-ghost use Rattle.std.specs.Prelude.{◌≡◌, ◌<◌, length, map, slice_get, Option, Some, None, true, if◌then◌else◌, IfOk, IfErr, OnOk, IsTrue};
+ghost use Rattle.std.specs.Prelude.{◌≡◌, IfOk, IfErr, OnOk};
+ghost use Rattle.std.specs.List.{filter_map};
 ghost use Rattle.std.specs.List.Sorted.{IsPermutation, IsSorted};
-ghost use Rattle.mt_op.specs.Operation.{Operation};
-ghost use Rattle.mt_op.specs.Needs.{needs, meets, clock_of, adds_marker};
-ghost use Rattle.mt_op.specs.Ready.{is_ready};
+ghost use Rattle.mt_op.specs.declared.need.Role.TheVariants.{Marker};
+ghost use Rattle.mt_items.specs.Cells.{items_of};
 ghost use Rattle.mt_sessionview.specs.Content.{marker_cmp};
-ghost use Rattle.mt_sessionview.specs.Session.{is_shown, shown_ops, marker_of};
-ghost use Rattle.mt_sessionview.specs.Told.{AreTables};
+ghost use Rattle.mt_sessionview.specs.Read.{marker_read};
 
 use crate::fault::SessionFault;
+use crate::read::value_or;
 use crate::session::MarkerView;
-use crate::tables::{Tables, is_item_present};
-use crate::values::{last_position, last_title};
-use mt_op::{Body, Op};
+use mt_items::Items;
+use mt_stamp::Stamp;
 use std::alloc::Allocator;
 
-// The marker that the ready operation at a place added, where it added one that is present.
+// The marker of a stamp, where it is present.
 fn marker_at<A: Allocator + Clone>(
-    ops: &[Op<A>],
-    tables: &Tables<A>,
-    place: usize,
+    items: &Items<A>,
+    marker: Stamp,
 ) -> Result<Option<MarkerView<A>>, SessionFault>
-    requires inside { place < length ops.now }
-    requires ready { (o : Operation) → slice_get ops.now place ≡ Some o → is_ready clock_of needs meets ops.now o ≡ true }
-    requires tables { AreTables ops.now tables.now }
-    ensures ok { IfOk result (λ view. (o : Operation) → slice_get ops.now place ≡ Some o → view ≡ (if is_shown adds_marker ops.now o then Some (marker_of ops.now o) else None)) }
+    ensures ok { IfOk result (λ view. view ≡ marker_read items.now marker) }
     ensures err { IfErr result (λ fault. fault ≡ SessionFault.Memory) }
 {
-    let op = &ops[place];
-    let Body::AddMarker {
-        at: own_position,
-        title: own_title,
-    } = op.body()
-    else {
-        return Ok(None);
-    };
-    if !is_item_present(ops, tables, place) {
+    if !items.is_present(marker) {
         return Ok(None);
     }
-    let Ok(title) = last_title(ops, tables.titles[place], own_title).try_clone() else {
+    let Some(title) = items.title(marker) else {
+        return Ok(None);
+    };
+    let Ok(title) = title.get().try_clone() else {
         return Err(SessionFault::Memory);
     };
     Ok(Some(MarkerView {
-        marker: op.stamp(),
-        at: last_position(ops, tables.positions[place], *own_position),
+        marker,
+        at: value_or(items.position(marker), 0),
         title,
     }))
 }
 
-// The markers that the ready operations added and that are present, in the order of the operations.
+// The markers that are present, by rising stamp.
 pub(crate) fn markers<A: Allocator + Clone>(
     alloc: A,
-    ops: &[Op<A>],
-    tables: &Tables<A>,
+    items: &Items<A>,
 ) -> Result<Vec<MarkerView<A>, A>, SessionFault>
-    requires tables { AreTables ops.now tables.now }
-    ensures ok { IfOk result (λ markers. markers.items ≡ map (marker_of ops.now) (shown_ops adds_marker ops.now)) }
+    ensures ok { IfOk result (λ markers. markers.items ≡ filter_map (marker_read items.now) (items_of Marker items.now)) }
     ensures err { IfErr result (λ fault. fault ≡ SessionFault.Memory) }
 {
     let mut markers = Vec::new(alloc);
-    for place in 0..ops.len() {
-        if tables.ready[place] {
-            if let Some(view) = marker_at(ops, tables, place)? {
-                markers.push(view)?;
-            }
+    for marker in &items.markers()? {
+        if let Some(view) = marker_at(items, *marker)? {
+            markers.push(view)?;
         }
     }
     Ok(markers)

@@ -1,78 +1,91 @@
 //! The order of the places of tracks.
 
-ghost use Rattle.std.specs.Prelude.{◌≡◌, ◌<◌, ℕ, true, false, map, length, slice_get, Some, IfOk, IfErr, IsTrue};
-ghost use Rattle.std.specs.List.{AllByRecursion};
-ghost use Rattle.mt_stamp.specs.Moment.{Moment};
-ghost use Rattle.mt_op.specs.Operation.{Operation};
-ghost use Rattle.mt_op.specs.Dots.{dots_rise};
-ghost use Rattle.mt_op.specs.Needs.{needs, meets, clock_of};
-ghost use Rattle.mt_op.specs.Ready.{is_ready};
-ghost use Rattle.mt_op.specs.Valid.{IsOperation};
-ghost use Rattle.mt_sessionview.specs.Chain.{has};
-ghost use Rattle.mt_sessionview.specs.StampOrder.{IsStampOrder};
-ghost use Rattle.mt_sessionview.specs.Tables.{StandsAt};
-ghost use Rattle.mt_sessionview.specs.TrackOrder.{after_written, IsPutIn, IsPlaceOrder};
+ghost use Rattle.std.specs.Prelude.{◌≡◌, ◌<◌, ℕ, true, false, length, map, slice_get, Some, IfOk, IfErr};
+ghost use Rattle.std.specs.List.{filter};
+ghost use Rattle.std.specs.List.Sorted.{IsStrictlySortedBy};
+ghost use Rattle.mt_stamp.specs.Moment.{Moment, stamp_cmp};
+ghost use Rattle.mt_stamp.specs.Sorting.{RisesStrictly};
+ghost use Rattle.mt_stamp.specs.Tree.{IsTree, tree_cmp};
+ghost use Rattle.mt_op.specs.ByStamp.{stamp_of};
+ghost use Rattle.mt_op.specs.declared.need.Role.TheVariants.{Place};
+ghost use Rattle.mt_op.specs.Needs.{fits};
+ghost use Rattle.mt_sessionview.specs.Chain.{has, IsPut, stamp_at};
+ghost use Rattle.mt_sessionview.specs.Read.{place_after, tree_place};
 
 use crate::chain::Chain;
 use crate::fault::SessionFault;
-use crate::item::item_place;
-use crate::place::Place;
-use mt_op::{Body, Op};
+use mt_op::{Body, Op, Role};
 use mt_stamp::Stamp;
 use std::alloc::Allocator;
 
-// What an operation gives a track a place after, none being the head, where it gives it one.
-fn after_written<A: Allocator>(op: &Op<A>) -> Option<Option<Stamp>>
-    ensures { result ≡ after_written op.now }
+// Those of the operations that give a track a place.
+pub(crate) fn place_ops<'a, A: Allocator + Clone>(
+    alloc: &A,
+    ops: &[&'a Op<A>],
+) -> Result<Vec<&'a Op<A>, A>, SessionFault>
+    ensures ok { IfOk result (λ places. map (λ o. o.now) places.items ≡ filter (fits Place) (map (λ o. o.now) ops.now)) }
+    ensures err { IfErr result (λ fault. fault ≡ SessionFault.Memory) }
+{
+    let mut places = Vec::new(alloc.clone()?);
+    for op in ops {
+        if op.fits(&Role::Place) {
+            places.push(*op)?;
+        }
+    }
+    Ok(places)
+}
+
+// What an operation puts a track after, none for the head.
+fn after<A: Allocator>(op: &Op<A>) -> Option<Stamp>
+    ensures { result ≡ place_after op.now.act }
 {
     match op.body() {
-        Body::AddTrack { after, .. } | Body::MoveTrack { after, .. } => Some(*after),
+        Body::AddTrack { after, .. } | Body::MoveTrack { after, .. } => *after,
         _ => None,
     }
 }
 
-// Puts a place into the chain where its operation says, if it gives a track a place.
-fn link_place<A: Allocator, B: Allocator>(chain: &mut Chain<A>, ops: &[Op<B>], place: usize)
-    requires rise { IsTrue (dots_rise ops.now) }
-    requires inside { place < length ops.now }
-    requires count { chain.old.count ≡ length ops.now }
+// Puts a place into the chain right after that of a stamp, or in front.
+fn link_place<A: Allocator>(
+    chain: &mut Chain<A>,
+    stamps: &[Stamp],
+    after: Option<Stamp>,
+    place: usize,
+)
+    requires rising { RisesStrictly stamp_cmp stamps.now }
+    requires in_range { place < chain.old.count }
     requires new { has chain.old.items place ≡ false }
-    requires there { (o : Operation) (p : Moment) (j : ℕ) → slice_get ops.now place ≡ Some o → after_written o ≡ Some (Some p) → StandsAt ops.now p j → has chain.old.items j ≡ true }
+    requires there { (p : Moment) → after ≡ Some p → (j : ℕ) × ((slice_get stamps.now j ≡ Some p) × (has chain.old.items j ≡ true)) }
     ensures count { chain.new.count ≡ chain.old.count }
-    ensures items { (o : Operation) → slice_get ops.now place ≡ Some o → IsPutIn ops.now (after_written o) place chain.old.items chain.new.items }
+    ensures items { IsPut stamps.now after place chain.old.items chain.new.items }
 {
-    let Some(after) = after_written(&ops[place]) else {
-        return;
-    };
     let Some(after) = after else {
         chain.insert_first(place);
         return;
     };
-    if let Some(before) = item_place(ops, place, after) {
+    if let Ok(before) = stamps.binary_search(&after) {
         chain.insert_after(before, place);
     }
 }
 
-// Where the ready operations stand that give a track a place, in the order of those places. By rising stamp each is put
-// right after the one that it names, so before all older ones that were put there.
+// The places that operations of these rising stamps give, in the order of their tree. By rising stamp each is put right after
+// the one that it names, so before all older ones that were put there.
 pub(crate) fn place_order<A: Allocator + Clone>(
     alloc: &A,
-    ops: &[Op<A>],
-    ready: &[bool],
-    by_stamp: &[Place],
+    ops: &[&Op<A>],
+    stamps: &[Stamp],
 ) -> Result<Vec<usize, A>, SessionFault>
-    requires rise { IsTrue (dots_rise ops.now) }
-    requires valid { AllByRecursion IsOperation ops.now }
-    requires table { ready.now ≡ map (is_ready clock_of needs meets ops.now) ops.now }
-    requires order { IsStampOrder ops.now by_stamp.now }
-    ensures ok { IfOk result (λ order. IsPlaceOrder ops.now order.items) }
+    requires stamps { stamps.now ≡ map stamp_of (map (λ o. o.now) ops.now) }
+    requires rising { RisesStrictly stamp_cmp stamps.now }
+    requires tree { IsTree (map tree_place (map (λ o. o.now) ops.now)) }
+    ensures below { IfOk result (λ order. (k p : ℕ) → slice_get order.items k ≡ Some p → p < length ops.now) }
+    ensures all { IfOk result (λ order. (p : ℕ) → p < length ops.now → has order.items p ≡ true) }
+    ensures sorted { IfOk result (λ order. IsStrictlySortedBy (tree_cmp (map tree_place (map (λ o. o.now) ops.now))) (map (stamp_at stamps.now) order.items)) }
     ensures err { IfErr result (λ fault. fault ≡ SessionFault.Memory) }
 {
     let mut chain = Chain::new(alloc.clone()?, ops.len())?;
-    for entry in by_stamp {
-        if ready[entry.place] {
-            link_place(&mut chain, ops, entry.place);
-        }
+    for place in 0..ops.len() {
+        link_place(&mut chain, stamps, after(ops[place]), place);
     }
     Ok(chain.to_vec(alloc.clone()?)?)
 }

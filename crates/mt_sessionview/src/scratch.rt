@@ -7,7 +7,7 @@ ghost use Rattle.mt_opcodec.specs.LogValue.{operations};
 ghost use Rattle.mt_sessionview.specs.Session.{session_of};
 ghost use Rattle.mt_sessionview.specs.SessionText.{session_text};
 
-use crate::build::session_of_ops;
+use crate::build::session_of_log;
 use crate::fault::SessionFault;
 use crate::session::Session;
 use crate::text::append_session_text;
@@ -27,7 +27,7 @@ pub fn from_scratch<A: Allocator + Clone>(
     ensures ok { IfOk result (λ session. session ≡ session_of (operations log.now)) }
     ensures err { IfErr result (λ fault. fault ≡ SessionFault.Memory) }
 {
-    session_of_ops(alloc, log.ops())
+    session_of_log(alloc, log)
 }
 
 /// Writes a session's text: a line for each track, followed by one for each of its clips, a line for each marker, all

@@ -1,73 +1,116 @@
 //! Tracks.
 
-ghost use Rattle.std.specs.Prelude.{◌≡◌, ◌<◌, ℕ, length, map, slice_get, slice_index_or, Option, Some, None, true, IfOk, IfErr, IfSome, IsTrue, MatchOption};
-ghost use Rattle.mt_op.specs.Operation.{Operation};
-ghost use Rattle.mt_op.specs.Dots.{dots_rise};
-ghost use Rattle.mt_op.specs.Needs.{needs, meets, clock_of, adds_track};
-ghost use Rattle.mt_op.specs.Ready.{is_ready};
-ghost use Rattle.mt_sessionview.specs.Content.{Clip};
-ghost use Rattle.mt_sessionview.specs.Session.{ready_ops, is_shown, shown_ops, track_of, track_place, clips_on};
-ghost use Rattle.mt_sessionview.specs.Told.{Operations, AreTables, TellsClips, AreAt};
+ghost use Rattle.std.specs.Prelude.{◌≡◌, ◌<◌, ℕ, length, map, slice_get, Some, IfOk, IfErr};
+ghost use Rattle.std.specs.List.{filter_map};
+ghost use Rattle.mt_op.specs.Writes.{title_written, last_write};
+ghost use Rattle.mt_items.specs.Noting.{AreNoted};
+ghost use Rattle.mt_sessionview.specs.Content.{AreClips};
+ghost use Rattle.mt_sessionview.specs.Read.{placed_track, stands_at, standing, track_from, AreTheClips, track_read, op_at, ops_at};
 
 use crate::clip::sorted_clips;
 use crate::fault::SessionFault;
+use crate::read::value_or;
 use crate::session::{ClipView, TrackView};
-use crate::tables::Tables;
-use crate::values::{last_gain, last_mute, last_title};
+use mt_items::Items;
 use mt_op::{Body, Gain, Op};
+use mt_stamp::{List, Stamp};
 use std::alloc::Allocator;
+use std::collections::BTreeMap;
 
-// The track that the ready operation at a place added, with its clips.
-fn track_at<A: Allocator + Clone>(
-    ops: &[Op<A>],
-    tables: &Tables<A>,
-    place: usize,
+// The track to which an operation gives a place.
+fn placed_track<A: Allocator>(op: &Op<A>) -> Option<Stamp>
+    ensures { result ≡ placed_track op.now.stamp op.now.act }
+{
+    match op.body() {
+        Body::AddTrack { .. } => Some(op.stamp()),
+        Body::MoveTrack { track, .. } => Some(*track),
+        _ => None,
+    }
+}
+
+// Whether a present track stands at a place.
+fn stands_at<A: Allocator>(items: &Items<A>, track: Stamp, place: Stamp) -> bool
+    ensures { result ≡ stands_at items.now track place }
+{
+    match items.current_place(track) {
+        Some(current) => current == place && items.is_present(track),
+        None => false,
+    }
+}
+
+// The present track that stands where an operation put it.
+fn standing<A: Allocator>(items: &Items<A>, op: &Op<A>) -> Option<Stamp>
+    ensures { result ≡ standing items.now op.now }
+{
+    match placed_track(op) {
+        Some(track) if stands_at(items, track, op.stamp()) => Some(track),
+        _ => None,
+    }
+}
+
+// A track with these clips.
+fn track_with<A: Allocator + Clone>(
+    items: &Items<A>,
+    track: Stamp,
     clips: Vec<ClipView, A>,
 ) -> Result<Option<TrackView<A>>, SessionFault>
-    requires rise { IsTrue (dots_rise ops.now) }
-    requires inside { place < length ops.now }
-    requires shown { (o : Operation) → slice_get ops.now place ≡ Some o → (is_ready clock_of needs meets ops.now o ≡ true) × (adds_track o.act ≡ true) }
-    requires tables { AreTables ops.now tables.now }
-    requires clips { (o : Operation) → slice_get ops.now place ≡ Some o → clips.items ≡ clips_on ops.now o.stamp }
-    ensures ok { IfOk result (λ view. (o : Operation) → slice_get ops.now place ≡ Some o → view ≡ Some (track_of ops.now o)) }
+    requires clips { AreClips clips.items }
+    ensures ok { IfOk result (λ view. view ≡ track_from items.now track clips.items (last_write title_written track items.now)) }
     ensures err { IfErr result (λ fault. fault ≡ SessionFault.Memory) }
 {
-    let op = &ops[place];
-    let Body::AddTrack { title: own, .. } = op.body() else {
+    let Some(title) = items.title(track) else {
         return Ok(None);
     };
-    let Ok(title) = last_title(ops, tables.titles[place], own).try_clone() else {
+    let Ok(title) = title.get().try_clone() else {
         return Err(SessionFault::Memory);
     };
     Ok(Some(TrackView {
-        track: op.stamp(),
+        track,
         title,
-        gain: last_gain(ops, tables.gains[place], Gain::UNCHANGED),
-        mute: last_mute(ops, tables.mutes[place], false),
-        clips: mt_stamp::List::new(clips),
+        gain: value_or(items.gain(track), Gain::UNCHANGED),
+        mute: value_or(items.mute(track), false),
+        clips: List::new(clips),
     }))
 }
 
-// The tracks at these places, in this order, with their clips.
+// The present track that stands where the operation at a place put it, with its clips.
+fn track_at<A: Allocator + Clone>(
+    alloc: &A,
+    items: &Items<A>,
+    clips: &BTreeMap<Stamp, List<ClipView, A>, A>,
+    ops: &[&Op<A>],
+    place: usize,
+) -> Result<Option<TrackView<A>>, SessionFault>
+    requires noted { AreNoted items.now }
+    requires clips { AreTheClips items.now clips.now }
+    requires inside { place < length ops.now }
+    ensures ok { IfOk result (λ view. view ≡ track_read items.now (op_at (map (λ o. o.now) ops.now) place)) }
+    ensures err { IfErr result (λ fault. fault ≡ SessionFault.Memory) }
+{
+    let Some(track) = standing(items, ops[place]) else {
+        return Ok(None);
+    };
+    let sorted = sorted_clips(alloc, clips.get(&track))?;
+    track_with(items, track, sorted)
+}
+
+// The present tracks with their clips, in this order of the operations that put them where they stand.
 pub(crate) fn tracks<A: Allocator + Clone>(
     alloc: &A,
-    ops: &[Op<A>],
-    tables: &Tables<A>,
+    items: &Items<A>,
+    clips: &BTreeMap<Stamp, List<ClipView, A>, A>,
+    ops: &[&Op<A>],
     order: &[usize],
-    clips: &[Option<mt_stamp::List<ClipView, A>>],
 ) -> Result<Vec<TrackView<A>, A>, SessionFault>
-    requires rise { IsTrue (dots_rise ops.now) }
-    requires tables { AreTables ops.now tables.now }
-    requires count { length clips.now ≡ length ops.now }
-    requires clips { TellsClips ops.now (ready_ops ops.now) clips.now }
-    requires order { (k p : ℕ) → slice_get order.now k ≡ Some p → (o : Operation) × ((slice_get ops.now p ≡ Some o) × ((is_ready clock_of needs meets ops.now o ≡ true) × (adds_track o.act ≡ true))) }
-    ensures ok { IfOk result (λ tracks. (shown : Operations) → AreAt ops.now order.now shown → tracks.items ≡ map (track_of ops.now) shown) }
+    requires noted { AreNoted items.now }
+    requires clips { AreTheClips items.now clips.now }
+    requires below { (k p : ℕ) → slice_get order.now k ≡ Some p → p < length ops.now }
+    ensures ok { IfOk result (λ tracks. tracks.items ≡ filter_map (track_read items.now) (ops_at (map (λ o. o.now) ops.now) order.now)) }
     ensures err { IfErr result (λ fault. fault ≡ SessionFault.Memory) }
 {
     let mut tracks = Vec::new(alloc.clone()?);
     for place in order {
-        let sorted = sorted_clips(alloc, &clips[*place])?;
-        if let Some(view) = track_at(ops, tables, *place, sorted)? {
+        if let Some(view) = track_at(alloc, items, clips, ops, *place)? {
             tracks.push(view)?;
         }
     }

@@ -1,4 +1,5 @@
 pub mod Moment
+pub mod MomentOrder
 pub mod Codes
 pub mod Texts
 pub mod Faults

@@ -1,18 +1,27 @@
 //! Stamps of operations.
 
-ghost use Rattle.std.specs.Prelude.{◌≡◌, ◌<◌, ◌≤◌, ◌^◌, ◌⊎◌, ◌↔◌, ◌≢◌, IfOk, IsErrOf, Ok};
+ghost use Rattle.std.specs.Prelude.{◌≡◌, ◌++◌, ◌<◌, ◌≤◌, ◌^◌, ◌⊎◌, ◌↔◌, ◌≢◌, IfOk, IsErrOf, Ok};
+ghost use Rattle.std.proofs.Common.{rules};
+ghost use Rattle.std.specs.Cmp.{partial_order_from_own_ties, partial_order_from_total};
+ghost use Rattle.std.specs.Cmp.Rules.{comparing, hashing};
+ghost use Rattle.std.specs.Ordering.{as_partial_cmp};
+ghost use Rattle.std.specs.Hash as fed;
+ghost use Rattle.mt_stamp.specs.MomentOrder.{stamps_total};
 ghost use Rattle.mt_stamp.specs.Moment.{Moment, IsMoment, greatest, dot_of};
 
 use crate::fault::StampFault;
 use crate::name::{Dot, Replica};
+use std::cmp::Ordering;
+use std::hash::{Hash, Hasher};
 use std::marker::Model;
 
 /// A stamp: the clock of an operation, the replica that made it and its number among that replica's.
 /// Clock and number lie between 1 and 2^62. Stamps are ordered by clock, then replica, then number.
-#[derive(Clone, Copy, Debug, PartialEq, Eq, PartialOrd, Ord, Hash)]
+#[derive(Clone, Copy, Debug)]
 pub struct Stamp {
-    clock: u64,
+    // First, since its 128 bits are aligned to 16 bytes: behind the clock it would leave 16 bytes of each stamp unused.
     replica: Replica,
+    clock: u64,
     seq: u64,
 }
 
@@ -26,6 +35,72 @@ impl Model for Stamp {
     ghost invariant = { λ s. IsMoment (record { clock = s.clock; replica = s.replica; seq = s.seq }) };
 
     ghost inverse = { λ m. record { clock = m.clock; replica = m.replica; seq = m.seq } };
+}
+
+impl PartialEq for Stamp {
+    ghost use Rattle.mt_stamp.specs.Moment.{stamp_eq};
+
+    ghost eq = { stamp_eq };
+
+    ghost laws = { Prim.search (comparing, rules) };
+
+    #[inline]
+    fn eq(&self, other: &Stamp) -> bool {
+        let clock = self.clock == other.clock;
+        clock && self.replica == other.replica && self.seq == other.seq
+    }
+}
+
+impl Eq for Stamp {
+    ghost laws = { Prim.search (comparing, rules) };
+}
+
+impl PartialOrd for Stamp {
+    ghost use Rattle.mt_stamp.specs.Moment.{stamp_cmp};
+
+    ghost partial_cmp = { as_partial_cmp stamp_cmp };
+
+    ghost laws = { partial_order_from_own_ties (partial_order_from_total stamps_total) (Prim.search (comparing, rules)) };
+
+    #[inline]
+    fn partial_cmp(&self, other: &Stamp) -> Option<Ordering> {
+        Some(self.cmp(other))
+    }
+}
+
+impl Ord for Stamp {
+    ghost use Rattle.mt_stamp.specs.Moment.{stamp_cmp};
+
+    ghost cmp = { stamp_cmp };
+
+    ghost total = { stamps_total };
+
+    ghost matches_partial_cmp = { Prim.search (comparing, rules) };
+
+    ghost matches_eq = { Prim.search (comparing, rules) };
+
+    #[inline]
+    fn cmp(&self, other: &Stamp) -> Ordering {
+        match self.clock.cmp(&other.clock) {
+            Ordering::Equal => match self.replica.cmp(&other.replica) {
+                Ordering::Equal => self.seq.cmp(&other.seq),
+                order => order,
+            },
+            order => order,
+        }
+    }
+}
+
+impl Hash for Stamp {
+    ghost hash_input = { λ s. fed.u64 s.clock ++ (fed.u128 s.replica.0 ++ fed.u64 s.seq) };
+
+    ghost respects_eq = { Prim.search (hashing, rules) };
+
+    fn hash<H: Hasher>(&self, state: &mut H) {
+        Hash::hash(&self.clock, state);
+        Hash::hash(&self.replica, state);
+        Hash::hash(&self.seq, state);
+    }
 }
 
 impl Stamp {

@@ -23,9 +23,11 @@ pub fn lacking<A: Allocator + Clone, B: Allocator>(
     ensures ok { IfOk result (λ ops. ops.items ≡ lacking log.now summary.now) }
     ensures err { IfErr result (λ fault. fault ≡ MessageFault.Memory) }
 {
+    let _ = log.runs();
+    let refs = log.refs(alloc.clone()?)?;
     let mut ops = Vec::new(alloc);
     let mut rest = summary.replicas();
-    for op in log.ops() {
+    for op in &refs {
         rest = past(rest, op.dot().replica);
         push_unless(&mut ops, front_covers(rest, op.dot()), op)?;
     }

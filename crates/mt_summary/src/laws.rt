@@ -10,7 +10,7 @@ pub fn summaries<A: Allocator>(log: &Log<A>)
     ensures { IsSummaryOf log.now }
 {
     // its operations are a log's
-    let _ = log.ops();
+    let _ = log.runs();
 }
 
 /// No run of a summary can be longer: the number after it is not covered.

@@ -1,6 +1,6 @@
 //! Summaries.
 
-ghost use Rattle.std.specs.Prelude.{◌≡◌, ◌++◌, [], IfOk, IfErr, OnOk, None};
+ghost use Rattle.std.specs.Prelude.{◌≡◌, ◌++◌, [], IfOk, IfErr, OnOk, None, map};
 ghost use Rattle.mt_summary.specs.Summary.{summary_of, covers, IsSummary, summary_after};
 ghost use Rattle.mt_summary.specs.Walking.{Continues};
 
@@ -66,7 +66,9 @@ impl<A: Allocator + Clone> Summary<A> {
         ensures ok { IfOk result (λ summary. summary ≡ summary_of log.now) }
         ensures err { IfErr result (λ fault. fault ≡ MessageFault.Memory) }
     {
-        let all = summary_of_ops(alloc, log.ops())?;
+        let _ = log.runs();
+        let refs = log.refs(alloc.clone()?)?;
+        let all = summary_of_ops(alloc, &refs)?;
         Ok(Summary::new(all))
     }
 }
@@ -74,9 +76,9 @@ impl<A: Allocator + Clone> Summary<A> {
 // What is said of operations by rising dot.
 fn summary_of_ops<A: Allocator + Clone, B: Allocator>(
     alloc: A,
-    ops: &[Op<B>],
+    ops: &[&Op<B>],
 ) -> Result<Vec<Numbers<A>, A>, MessageFault>
-    ensures ok { IfOk result (λ all. all.items ≡ summary_after None ops.now) }
+    ensures ok { IfOk result (λ all. all.items ≡ summary_after None (map (λ o. o.now) ops.now)) }
     ensures err { IfErr result (λ fault. fault ≡ MessageFault.Memory) }
 {
     let mut all = Vec::new(alloc.clone()?);

@@ -5,3 +5,10 @@ pub mod Pieces
 pub mod Joined
 pub mod Beginning
 pub mod Whole
+pub mod Exchanged
+pub mod Growing
+pub mod Honest
+pub mod Swapping
+pub mod Leaving
+pub mod Unions
+pub mod Turns

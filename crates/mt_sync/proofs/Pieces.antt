@@ -11,6 +11,9 @@ use Rattle.mt_sync.specs.declared.fault.SyncFault.TheVariants as fault
 use Rattle.mt_sync.specs.Conversation.{Turn, greets, takes, ended, stopped, End, Told, told}
 use Rattle.mt_sync.specs.Feeding.{IsGoing, Fed, FeedsAt, Feeds}
 use Rattle.mt_sync.specs.Conversing.{StopsBy, Outcome, Converses}
+use Rattle.mt_sync.specs.declared.fault.SyncFault.{SyncFault}
+use Rattle.mt_sync.specs.Leaving.{IsLeft}
+use Rattle.mt_sync.proofs.Leaving.{left_after}
 use Rattle.mt_sync.proofs.Cuts.{after, told-append}
 
 -- so far
@@ -51,6 +54,22 @@ all_of xs = ap (take (length xs)) (sym (append-nil xs)) ∙ take_at xs [] (lengt
 whole_front : (a b : Option (List ℕ)) (xs : List ℕ) → Appends a b xs → AppendsFront a b xs
 whole_front a b xs h = (length xs, subst (Appends a b) (sym (all_of xs)) h)
 
+-- what is not a refused growth
+no_refusal : ◌≡◌ {A = Result (Unit {0}) SyncFault} (Ok tt) (Err (fault.Talk Memory)) → ⊥
+no_refusal e = cc
+
+no_read : ◌≡◌ {A = Result (Unit {0}) SyncFault} (Err fault.Read) (Err (fault.Talk Memory)) → ⊥
+no_read e = cc
+
+no_end : ◌≡◌ {A = Result (Unit {0}) SyncFault} (Err fault.Ended) (Err (fault.Talk Memory)) → ⊥
+no_end e = cc
+
+no_write : ◌≡◌ {A = Result (Unit {0}) SyncFault} (Err fault.Write) (Err (fault.Talk Memory)) → ⊥
+no_write e = cc
+
+of_talk : (f : TalkFault) → ◌≡◌ {A = Result (Unit {0}) SyncFault} (Err (fault.Talk f)) (Err (fault.Talk Memory)) → f ≡ Memory
+of_talk f e = cc
+
 -- the other end's Bye was read and answered
 pub is_done : (start : End) (a b c d : Option (List ℕ)) (end : End) → Goes start a b c d end → end.turn ≡ ended → Converses start a b c d (Ok tt) end.set
 is_done start a b c d end g is = record {
@@ -58,6 +77,7 @@ is_done start a b c d end g is = record {
   consumed = g.consumed;
   front = subst (AppendsFront c d) (sym (ap (λ (t : Told). t.1) g.told_so)) (whole_front c d g.reply g.appended);
   outcome = subst (λ (t : Told). Outcome t c d end.set (Ok tt)) (sym g.told_so) (is, refl, g.appended);
+  left = λ e. absurd (no_refusal e);
 }
 
 -- the reader failed
@@ -67,6 +87,7 @@ is_unread start a b b' c d end g kept = record {
   consumed = Consumes-kept a b b' g.bytes g.consumed kept;
   front = subst (AppendsFront c d) (sym (ap (λ (t : Told). t.1) g.told_so)) (whole_front c d g.reply g.appended);
   outcome = ap (λ (t : Told). t.0.set) g.told_so;
+  left = λ e. absurd (no_read e);
 }
 
 -- the input ended first
@@ -76,6 +97,7 @@ is_unfinished start a b b' c d end g none not_ended = record {
   consumed = subst (Consumes a b') (append-nil g.bytes) (Consumes-trans a b b' g.bytes [] g.consumed none);
   front = subst (AppendsFront c d) (sym (ap (λ (t : Told). t.1) g.told_so)) (whole_front c d g.reply g.appended);
   outcome = subst (λ (t : Told). Outcome t c d end.set (Err fault.Ended)) (sym g.told_so) (not_ended, refl);
+  left = λ e. absurd (no_end e);
 }
 
 longer_front : (a b c : Option (List ℕ)) (xs ys : List ℕ) → Appends a b xs → AppendsFront b c ys → AppendsFront a c (xs ++ ys)
@@ -95,6 +117,7 @@ is_unwritten start a b b' c d d' end new piece more g took fed put =
       consumed = Consumes-trans a b b' g.bytes piece g.consumed took;
       front = subst (AppendsFront c d') (sym (ap (λ (t : Told). t.1) all)) (longer_front c d d' g.reply more g.appended put);
       outcome = ap (λ (t : Told). t.0.set) all;
+      left = λ e. absurd (no_write e);
     }
 
 stops_by : (f : TalkFault) (t : Told) (end : End) (new : End) → Fed {X = List ℕ} (λ l. l) t (Err f) new → StopsBy t.0 new.set f
@@ -106,14 +129,15 @@ stops_by OutOfTurn t end new h = (ap (λ (e : End). e.turn) h.0 ∙ h.1, ap (λ 
 stops_by FrameTooLong t end new h = (ap (λ (e : End). e.turn) h.0 ∙ h.1, ap (λ (e : End). e.set) h.0)
 
 -- the talk stopped at a piece
-pub is_stopped : (start : End) (a b b' c d : Option (List ℕ)) (end new : End) (piece : List ℕ) (f : TalkFault) → Goes start a b c d end → Consumes b b' piece → Fed {X = List ℕ} (λ l. l) (told end piece) (Err f) new → Converses start a b' c d (Err (fault.Talk f)) new.set
-is_stopped start a b b' c d end new piece f g took fed =
+pub is_stopped : (start : End) (a b b' c d : Option (List ℕ)) (end new : End) (piece : List ℕ) (f : TalkFault) → Goes start a b c d end → Consumes b b' piece → Fed {X = List ℕ} (λ l. l) (told end piece) (Err f) new → (f ≡ Memory → IsLeft end piece new.set) → Converses start a b' c d (Err (fault.Talk f)) new.set
+is_stopped start a b b' c d end new piece f g took fed left =
     let all = told_more start g.bytes piece end g.reply g.told_so in
     record {
       bytes = g.bytes ++ piece;
       consumed = Consumes-trans a b b' g.bytes piece g.consumed took;
       front = subst (AppendsFront c d) (sym (ap (λ (t : Told). t.1) all)) (longer_front c d d g.reply (told end piece).1 g.appended (0, Appends-nil d));
       outcome = subst (λ (t : Told). StopsBy t.0 new.set f) (sym all) (stops_by f (told end piece) end new fed);
+      left = λ e. left_after start g.bytes piece end g.reply new.set g.told_so (left (of_talk f e));
     }
 
 -- one piece more

@@ -16,6 +16,7 @@ use Rattle.mt_summary.specs.declared.fault.MessageFault.TheVariants as message
 use Rattle.mt_sync.specs.declared.fault.Side.{Side}
 use Rattle.mt_sync.specs.declared.fault.Side.TheVariants.{Caller, Answerer}
 use Rattle.mt_sync.specs.Feeding.{Talking, IsOpen, end_at}
+use Rattle.mt_sync.specs.Leaving.{IsLeft}
 use Rattle.mt_sync.specs.Conversation.{can_say, answer, greets, ended, stopped, End, Told, told}
 
 -- an end stopped by this fault, or memory ran out
@@ -35,12 +36,13 @@ Outcome t written written' set (Err fault.Ended) = (t.0.turn ≡ ended → ⊥) 
 Outcome t written written' set (Err fault.Read) = t.0.set ≡ set
 Outcome t written written' set (Err fault.Write) = t.0.set ≡ set
 
--- the bytes that were read, what was written of what they call for, and what the answer says of them
+-- the bytes that were read, what was written of what they call for, what the answer says of them, and what is left where memory ran out
 pub record Converses (start : End) (read read' written written' : Option (List ℕ)) (result : Result (Unit {0}) SyncFault) (set : Option LogMap) : Type 0 where
   pub bytes : List ℕ
   pub consumed : Consumes read read' bytes
   pub front : AppendsFront written written' (told start bytes).1
   pub outcome : Outcome (told start bytes) written written' set result
+  pub left : result ≡ Err (fault.Talk Memory) → IsLeft start bytes set
 
 -- ---- a whole conversation
 

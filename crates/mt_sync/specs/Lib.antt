@@ -1,6 +1,9 @@
 pub mod Faults
 pub mod Conversation
 pub mod Feeding
+pub mod Leaving
 pub mod Conversing
 pub mod Joining
+pub mod Taking
+pub mod Exchanging
 pub mod Laws

@@ -1,9 +1,10 @@
 //! Swapping by bytes that are carried by hand: a Have, what it lacks, and the taking of that.
 
-ghost use Rattle.std.specs.Prelude.{◌≡◌, [], None};
+ghost use Rattle.std.specs.Prelude.{◌≡◌, [], None, IfErr};
 ghost use Rattle.mt_sync.specs.Conversation.{takes, told};
 ghost use Rattle.mt_sync.specs.Feeding.{end_at};
 ghost use Rattle.mt_sync.specs.Conversing.{HasBytes, Lacks, TakesAll};
+ghost use Rattle.mt_sync.specs.Leaving.{IsLeft};
 
 use crate::fault::{SyncFault, TalkFault};
 use crate::replying::{put_answer, put_have};
@@ -63,7 +64,8 @@ pub fn lack_bytes<A: Allocator + Clone>(
 
 /// Takes the operations of frames of Ops up to Bye, frame by frame. Refused as an answerer's `Talk::feed` is, which waits for
 /// operations: 40, 38, 39 (so too for a byte after Bye), 20, 17 or 0; and as `Ended` (49) where the bytes end before Bye. After a
-/// refusal the editor holds its own operations and those before the fault. `frames` is where the bytes are kept while they are read.
+/// refusal the editor holds its own operations and those before the fault; where a growth was refused while operations joined it has failed.
+/// `frames` is where the bytes are kept while they are read.
 pub fn take_ops<A: Allocator + Clone>(
     alloc: A,
     frames: Global,
@@ -71,6 +73,7 @@ pub fn take_ops<A: Allocator + Clone>(
     bytes: &[u8],
 ) -> Result<(), SyncFault>
     ensures takes { TakesAll (told (end_at (takes None) [] editor.old.log) bytes.now) result editor.new.log }
+    ensures left { IfErr result (λ fault. fault ≡ SyncFault.Talk TalkFault.Memory → IsLeft (end_at (takes None) [] editor.old.log) bytes.now editor.new.log) }
     ensures name { editor.new.name ≡ editor.old.name }
 {
     let mut talk = Talk::waiting(alloc, frames, Turn::Takes(None));

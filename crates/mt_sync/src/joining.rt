@@ -1,7 +1,7 @@
 //! Operations that join the log of an editor.
 
-ghost use Rattle.std.specs.Prelude.{◌≡◌, IfOk, IfErr, IfSome, OnOk, Some};
-ghost use Rattle.mt_opcodec.specs.LogValue.{AreLogged, operations};
+ghost use Rattle.std.specs.Prelude.{◌≡◌, IfOk, IfErr, IfSome, OnOk, Some, map};
+ghost use Rattle.mt_opcodec.specs.LogValue.{AreLogged, log_of, operations};
 ghost use Rattle.mt_opcodec.specs.Union.{Agree, union};
 ghost use Rattle.mt_sync.specs.Conversation.{joined};
 ghost use Rattle.mt_sync.specs.Joining.{JoinsOne, Joins, JoinsIn};
@@ -12,12 +12,12 @@ use mt_opcodec::{Log, LogFault};
 use mt_replica::Editor;
 use std::alloc::Allocator;
 
-fn join_op<A: Allocator>(log: &mut Log<A>, op: Op<A>) -> Result<(), TalkFault>
+fn join_op<A: Allocator + Clone>(log: &mut Log<A>, op: Op<A>) -> Result<(), TalkFault>
     ensures { JoinsOne log.old op result log.new }
 {
     // each is an operation, the new one and those of the log
     let _ = op.dot();
-    let _ = log.ops();
+    let _ = log.runs();
     match log.add(op) {
         Ok(true) => Ok(()),
         Ok(false) => Ok(()),
@@ -27,8 +27,8 @@ fn join_op<A: Allocator>(log: &mut Log<A>, op: Op<A>) -> Result<(), TalkFault>
 }
 
 // The operations join the log one by one, up to the first whose dot names another one there.
-fn join_all<A: Allocator + Clone>(log: &mut Log<A>, ops: &[Op<A>]) -> Result<(), TalkFault>
-    ensures { Joins (joined log.old ops.now) result log.new }
+fn join_all<A: Allocator + Clone>(log: &mut Log<A>, ops: &[&Op<A>]) -> Result<(), TalkFault>
+    ensures { Joins (joined log.old (map (λ o. o.now) ops.now)) result log.new }
 {
     for op in ops {
         let Ok(copy) = op.try_clone() else {
@@ -100,12 +100,25 @@ fn join_up_to<A: Allocator + Clone>(
         Some(log) => copy_of(log)?,
         None => return Err(TalkFault::Failed),
     };
-    match join_all(&mut log, more.ops()) {
+    let ops = more.refs(alloc.clone()?)?;
+    match join_all(&mut log, &ops) {
         Ok(()) => replace(alloc, editor, log),
         Err(TalkFault::Conflict(dot)) => {
             replace(alloc, editor, log)?;
             Err(TalkFault::Conflict(dot))
         }
+        Err(_) => Err(TalkFault::Memory),
+    }
+}
+
+// The log of operations that rise by dot.
+fn log_of<A: Allocator + Clone>(alloc: &A, ops: Vec<Op<A>, A>) -> Result<Log<A>, TalkFault>
+    requires rising { AreLogged ops.items }
+    ensures ok { IfOk result (λ log. log ≡ log_of ops.items) }
+    ensures err { IfErr result (λ fault. fault ≡ TalkFault.Memory) }
+{
+    match Log::of_ops(alloc.clone()?, ops) {
+        Ok(log) => Ok(log),
         Err(_) => Err(TalkFault::Memory),
     }
 }
@@ -121,9 +134,11 @@ pub(crate) fn join_ops<A: Allocator + Clone>(
     ensures joins { JoinsIn editor.old.log ops.items result editor.new.log }
     ensures name { editor.new.name ≡ editor.old.name }
 {
-    let more = Log::of_ops(ops);
-    let both = match editor.log() {
-        Some(log) => union_of(alloc, log, &more)?,
+    let (both, more) = match editor.log() {
+        Some(log) => {
+            let more = log_of(alloc, ops)?;
+            (union_of(alloc, log, &more)?, more)
+        }
         None => return Err(TalkFault::Failed),
     };
     match both {

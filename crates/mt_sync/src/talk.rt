@@ -1,16 +1,17 @@
 //! One end of a conversation.
 
-ghost use Rattle.std.specs.Prelude.{◌≡◌, ◌<◌, ℕ, [], ◌↔◌, IsTrue, IfOk, Ok, Err, slice_index};
+ghost use Rattle.std.specs.Prelude.{◌≡◌, ◌<◌, ℕ, [], ◌↔◌, IsTrue, IfOk, IfErr, Ok, Err, slice_index};
 ghost use Rattle.mt_frames.specs.Frames.{frame_text};
 ghost use Rattle.mt_summary.specs.Summary.{summary_of};
 ghost use Rattle.mt_summary.specs.Messages.{have_text, IsMessage};
 ghost use Rattle.mt_summary.specs.Reading.{message_of};
 ghost use Rattle.mt_sync.specs.Conversation.{ended, greets, takes, hears, body_in, told};
 ghost use Rattle.mt_sync.specs.Feeding.{turn_of, IsOpen, IsGoing, Waits, end_at, end_of, TakesBody, Hears, Feeds, IsFaultOf, over_at, HearsAll, Calls};
+ghost use Rattle.mt_sync.specs.Leaving.{IsLeft, StaysOrFails};
 
 use crate::fault::{Side, TalkFault};
-use crate::joining::join_ops;
 use crate::replying::{put_farewell, put_greeting, put_have};
+use crate::taking::take_all;
 use crate::turn::Turn;
 use mt_frames::{FrameFault, Unread};
 use mt_replica::Editor;
@@ -97,9 +98,10 @@ impl<A: Allocator + Clone> Talk<A> {
     /// `OutOfTurn` (39) where nobody waits for that message; `Failed` (20) where the editor has failed and its log is
     /// needed; `Conflict` (17) where an operation's dot names another one in the log; `FrameTooLong` (40) where the own
     /// summary does not fit a frame. `Memory` (0) where a growth was refused. After a fault the editor holds its own operations and those before
-    /// the fault, and the talk answers 39 from then on.
+    /// the fault, and the talk answers 39 from then on; where a growth was refused while operations joined, the editor has failed.
     pub fn feed(&mut self, editor: &mut Editor<A>, piece: &[u8]) -> Result<Vec<u8, A>, TalkFault>
         ensures told { Feeds (λ out. out.items) (end_of self.old editor.old.log) piece.now result (end_of self.new editor.new.log) }
+        ensures left { IfErr result (λ fault. fault ≡ TalkFault.Memory → IsLeft (end_of self.old editor.old.log) piece.now editor.new.log) }
         ensures name { editor.new.name ≡ editor.old.name }
     {
         if self.turn.has_stopped() {
@@ -127,6 +129,7 @@ fn hear_all<A: Allocator + Clone>(
     requires going { IsGoing (turn_of turn.old) }
     requires waits { Waits (turn_of turn.old) unread.old }
     ensures told { HearsAll (λ out. out.items) (told (end_at (turn_of turn.old) unread.old editor.old.log) piece.now) result (turn_of turn.new) unread.new editor.new.log }
+    ensures left { IfErr result (λ fault. fault ≡ TalkFault.Memory → IsLeft (end_at (turn_of turn.old) unread.old editor.old.log) piece.now editor.new.log) }
     ensures name { editor.new.name ≡ editor.old.name }
 {
     let mut out = Vec::new(alloc.clone()?);
@@ -149,6 +152,7 @@ fn hear<A: Allocator + Clone>(
     requires waits { Waits (turn_of turn.old) unread.old }
     requires empty { out.old.items ≡ [] }
     ensures told { Hears (told (end_at (turn_of turn.old) unread.old editor.old.log) piece.now) result (turn_of turn.new) unread.new editor.new.log out.new.items }
+    ensures left { IfErr result (λ fault. fault ≡ TalkFault.Memory → IsLeft (end_at (turn_of turn.old) unread.old editor.old.log) piece.now editor.new.log) }
     ensures name { editor.new.name ≡ editor.old.name }
 {
     if turn.is_open() {
@@ -171,6 +175,7 @@ fn hear_frames<A: Allocator + Clone>(
     requires waits { Waits (turn_of turn.old) unread.old }
     requires empty { out.old.items ≡ [] }
     ensures told { Hears (told (end_at (turn_of turn.old) unread.old editor.old.log) piece.now) result (turn_of turn.new) unread.new editor.new.log out.new.items }
+    ensures left { IfErr result (λ fault. fault ≡ TalkFault.Memory → IsLeft (end_at (turn_of turn.old) unread.old editor.old.log) piece.now editor.new.log) }
     ensures name { editor.new.name ≡ editor.old.name }
 {
     unread.push(piece)?;
@@ -218,6 +223,7 @@ fn take_body<A: Allocator + Clone>(
 ) -> Result<(), TalkFault>
     requires { IsOpen (turn_of turn.old) }
     ensures told { TakesBody (body_in (turn_of turn.old) editor.old.log body.now) result (turn_of turn.new) editor.new.log out.old.items out.new.items }
+    ensures left { IfErr result (λ fault. fault ≡ TalkFault.Memory → StaysOrFails editor.old.log editor.new.log) }
     ensures name { editor.new.name ≡ editor.old.name }
 {
     // what is read is a message
@@ -246,6 +252,7 @@ fn take_message<A: Allocator + Clone>(
     requires open { IsOpen (turn_of turn.old) }
     requires sound { IsMessage (message_of message) }
     ensures told { TakesBody (hears (turn_of turn.old) (message_of message) editor.old.log) result (turn_of turn.new) editor.new.log out.old.items out.new.items }
+    ensures left { IfErr result (λ fault. fault ≡ TalkFault.Memory → StaysOrFails editor.old.log editor.new.log) }
     ensures name { editor.new.name ≡ editor.old.name }
 {
     match mem::replace(turn, Turn::Ended) {
@@ -268,7 +275,7 @@ fn take_message<A: Allocator + Clone>(
             Message::Have(_) => Err(TalkFault::OutOfTurn),
             Message::Ops(list) => {
                 *turn = Turn::Takes(Some(summary));
-                join_ops(alloc, editor, list.into_vec())
+                take_all(alloc, editor, list.into_vec())
             }
             Message::Bye => put_farewell(alloc, editor, &summary, out),
         },
@@ -276,7 +283,7 @@ fn take_message<A: Allocator + Clone>(
             Message::Have(_) => Err(TalkFault::OutOfTurn),
             Message::Ops(list) => {
                 *turn = Turn::Takes(None);
-                join_ops(alloc, editor, list.into_vec())
+                take_all(alloc, editor, list.into_vec())
             }
             Message::Bye => Ok(()),
         },

@@ -29,7 +29,7 @@ fn writes_and_reads_the_empty_log(rt: HostRuntime) -> Result<(), Fail> {
     assert_eq!(rt; log.len(), 0);
     assert!(rt; log.is_empty());
     assert!(rt; log.op_at(0).is_none());
-    assert!(rt; log.ops().is_empty());
+    assert!(rt; log.is_empty());
     Ok(())
 }
 
@@ -53,7 +53,6 @@ fn writes_and_reads_a_log_of_one_marker(rt: HostRuntime) -> Result<(), Fail> {
     assert!(rt; log.get(&Dot { replica: A, seq: 2 }).is_none());
     assert!(rt; log.op_at(0) == Some(&op));
     assert!(rt; log.op_at(1).is_none());
-    assert!(rt; log.ops() == [op].as_slice());
     Ok(())
 }
 
@@ -84,7 +83,7 @@ fn writes_and_reads_a_log_of_each_body(rt: HostRuntime) -> Result<(), Fail> {
     assert_eq!(rt; log.write()?.as_slice(), wanted.as_slice());
     let read = Log::read(rt.alloc(), wanted.as_slice())?;
     assert_eq!(rt; read.len(), 12);
-    assert!(rt; read.ops() == log.ops());
+    assert!(rt; read == log);
     Ok(())
 }
 

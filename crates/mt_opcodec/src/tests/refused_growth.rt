@@ -279,15 +279,15 @@ fn of_a_log_that_is_read(rt: HostRuntime) -> Result<(), Fail> {
 #[test]
 fn of_a_log_with_too_great_a_count(rt: HostRuntime) -> Result<(), Fail> {
     let text = log_of(rt.alloc(), u64::MAX, &[&NEWS])?;
-    let memory = Refusing::new(rt.alloc(), 2);
+    let memory = Refusing::new(rt.alloc(), 3);
     assert_eq!(rt;
         Log::read(&memory, text.as_slice()).err(),
         Some(LogFault::BadRecord(1, ReadFault::Truncated))
     );
     assert_eq!(rt;
         memory.allocations(),
-        2,
-        "one title, and one operation in the log"
+        3,
+        "one title, one operation in its run, and one run in the log"
     );
     Ok(())
 }

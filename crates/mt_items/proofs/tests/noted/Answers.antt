@@ -1,7 +1,6 @@
-use Rattle.std.proofs.Common.{◌≡◌, Bool, ◌||◌, sym, ap, ◌∙◌}
+use Rattle.std.proofs.Common.{◌≡◌, ◌||◌, sym, ap, ◌∙◌}
 use Rattle.std.specs.BTreeSet.{contains}
-use Rattle.mt_stamp.specs.Moment.{Moment, stamp_cmp, stamp_eq}
-use Rattle.mt_op.specs.Operation.{Operation}
+use Rattle.mt_stamp.specs.Moment.{stamp_cmp, stamp_eq}
 use Rattle.mt_items.specs.Noting.{is_noted}
 use Rattle.mt_items.proofs.Fresh.{one_more_known}
 use Rattle.mt_items.proofs.tests.noted.Goals as goal

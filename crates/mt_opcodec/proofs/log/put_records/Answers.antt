@@ -1,9 +1,17 @@
-use Rattle.std.proofs.Common.{length}
-use Rattle.mt_opcodec.specs.OpText.{op_text}
-use Rattle.mt_opcodec.specs.LogText.{log_head}
-use Rattle.mt_opcodec.proofs.Appends.{piece_more}
+use Rattle.std.proofs.Common.{rules, ◌≡◌, ◌++◌, [], subst, take, length, sym, ap, ◌∙◌, List, ℕ, append_assoc}
+use Rattle.std.proofs.lemmas.List.{take_all}
+use Rattle.mt_op.specs.Operation.{Operation}
+use Rattle.mt_opcodec.specs.LogText.{log_head, op_texts}
+use Rattle.mt_opcodec.specs.Runs.{RunOf, run_ops}
+use Rattle.mt_opcodec.proofs.RunLists.{texts_more}
 use Rattle.mt_opcodec.proofs.log.put_records.Goals as goal
 
-pub loop-op-preserved : goal.loop-op-preserved
-loop-op-preserved g c =
-    piece_more op_text (log_head (length c.args.ops.now)) c.args.ops.now c.loop-op.op-index c.op-item.result c.loop-op.out.items c.put_op.new.out.items c.loop-op-test.true c.op-item.is c.loop-op.invariant c.in_ok-put_op.ensures
+pub loop-run-init : goal.loop-run-init
+loop-run-init g c = subst (λ (n : ℕ). c.extend_from_slice-2.new.self.items ≡ log_head n) c.requires.counted (search rules)
+
+pub loop-run-preserved : goal.loop-run-preserved
+loop-run-preserved g c =
+    texts_more c.args.runs.now c.loop-run.run-index c.run-item.result c.ops.result.now (log_head (length (run_ops c.args.runs.now))) c.loop-run.out.items c.put_ops.new.out.items c.loop-run-test.true c.run-item.is c.ops.ensures.value c.loop-run.invariant c.in_ok-put_ops.ensures
+
+pub returns : goal.returns
+returns g c = c.loop-run.invariant ∙ ap (λ (l : List RunOf). log_head (length (run_ops c.args.runs.now)) ++ op_texts (run_ops l)) (take_all c.loop-run.run-index c.args.runs.now c.loop-run-test.false)

@@ -1,8 +1,7 @@
-use Rattle.std.proofs.Common.{◌≡◌, ◌++◌, length, take}
-use Rattle.std.specs.List.{flat_map}
-use Rattle.mt_opcodec.specs.OpText.{op_text}
-use Rattle.mt_opcodec.specs.LogText.{log_head}
+use Rattle.std.proofs.Common.{◌≡◌, ◌++◌, take, length}
+use Rattle.mt_opcodec.specs.LogText.{log_head, op_texts}
+use Rattle.mt_opcodec.specs.Runs.{run_ops}
 use Rattle.mt_opcodec.proofs.log.put_records.Given as goal
 
-abbrev pub invariant-loop-op : goal.invariant-loop-op
-invariant-loop-op g l = l.out.items ≡ log_head (length l.ops) ++ flat_map op_text (take l.op-index l.ops)
+abbrev pub invariant-loop-run : goal.invariant-loop-run
+invariant-loop-run g l = l.out.items ≡ log_head (length (run_ops l.runs)) ++ op_texts (run_ops (take l.run-index l.runs))

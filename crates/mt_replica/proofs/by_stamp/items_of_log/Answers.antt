@@ -1,7 +1,6 @@
-use Rattle.std.proofs.Common.{◌≡◌, ◌∙◌, sym, ap, subst, map, List, Bor, true}
+use Rattle.std.proofs.Common.{◌≡◌, ◌∙◌, sym, ap, subst, map, List, Bor}
 use Rattle.mt_op.specs.Operation.{Operation}
 use Rattle.mt_op.specs.declared.op.Op.{Op}
-use Rattle.mt_op.specs.Dots.{dots_rise}
 use Rattle.mt_op.specs.ByStamp.{op_cmp}
 use Rattle.mt_opcodec.specs.LogValue.{operations}
 use Rattle.mt_stamp.specs.Sorting.{sort_by, RisesStrictly}
@@ -12,10 +11,10 @@ use Rattle.mt_replica.proofs.by_stamp.items_of_log.Goals as goal
 pub items_of_ready-requires : goal.items_of_ready-requires
 items_of_ready-requires g c =
     let now : List (Bor (Op g.row.A.Denot)) → List Operation = λ refs. map (λ (o : Bor (Op g.row.A.Denot)). o.now) refs in
-    let is : now c.deref.result.now ≡ sort_by op_cmp c.ops.result.now = ap now c.deref.ensures.value ∙ c.in_ok-sorted.ensures in
-    record { rising = subst (RisesStrictly op_cmp) (sym is) (rising_ops c.ops.result.now (every_stamp c.ops.result.now (subst (λ (l : List Operation). dots_rise l ≡ true) (sym c.ops.ensures.value) c.ops.ensures.logged.rise))) }
+    let is : now c.deref.result.now ≡ sort_by op_cmp (operations c.args.log.now) = ap now c.deref.ensures.value ∙ c.in_ok-sorted.ensures in
+    record { rising = subst (RisesStrictly op_cmp) (sym is) (rising_ops (operations c.args.log.now) (every_stamp (operations c.args.log.now) c.runs.ensures.logged.rise)) }
 
 pub returns-in-Ok-clause-ok : goal.returns-in-Ok-clause-ok
 returns-in-Ok-clause-ok g c =
     let now : List (Bor (Op g.row.A.Denot)) → List Operation = λ refs. map (λ (o : Bor (Op g.row.A.Denot)). o.now) refs in
-    noted_same c.in-Ok.items (now c.deref.result.now) (operations c.args.log.now) (ap now c.deref.ensures.value ∙ c.in_ok-sorted.ensures ∙ ap (sort_by op_cmp) c.ops.ensures.value) c.in-Ok.ensures.ok
+    noted_same c.in-Ok.items (now c.deref.result.now) (operations c.args.log.now) (ap now c.deref.ensures.value ∙ c.in_ok-sorted.ensures) c.in-Ok.ensures.ok

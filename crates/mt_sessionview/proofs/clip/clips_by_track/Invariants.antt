@@ -1,5 +1,10 @@
-use Rattle.mt_sessionview.proofs.ClipRows.{Kept}
+use Rattle.std.proofs.Common.{◌≡◌, ◌++◌, [], drop}
+use Rattle.std.specs.Prelude.{unwrap_or}
+use Rattle.std.specs.BTreeMap.{get}
+use Rattle.std.specs.List.{filter_map}
+use Rattle.mt_stamp.specs.Moment.{Moment, stamp_cmp}
+use Rattle.mt_sessionview.specs.Read.{clip_on}
 use Rattle.mt_sessionview.proofs.clip.clips_by_track.Given as goal
 
-abbrev pub invariant-loop-place : goal.invariant-loop-place
-invariant-loop-place g l = Kept l.ops l.place l.table.items
+abbrev pub invariant-loop-clip : goal.invariant-loop-clip
+invariant-loop-clip g l = (track : Moment) → unwrap_or (get stamp_cmp l.table track) [] ++ filter_map (clip_on l.items track) (drop l.clip-index l.clip-items) ≡ filter_map (clip_on l.items track) l.clip-items

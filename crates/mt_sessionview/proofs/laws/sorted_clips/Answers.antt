@@ -1,5 +1,5 @@
 use Rattle.mt_sessionview.specs.Content.{clip_cmp}
-use Rattle.mt_sessionview.proofs.Clips.{clip_cmp_total}
+use Rattle.mt_sessionview.proofs.Orders.{clip_cmp_total}
 use Rattle.mt_stamp.proofs.Sorting.{sorts}
 use Rattle.mt_sessionview.proofs.laws.sorted_clips.Goals as goal
 

@@ -1,6 +1,6 @@
 use Rattle.mt_sessionview.specs.Content.{marker_cmp}
 use Rattle.mt_stamp.proofs.Sorting.{sorts}
-use Rattle.mt_sessionview.proofs.Markers.{marker_cmp_total}
+use Rattle.mt_sessionview.proofs.Orders.{marker_cmp_total}
 use Rattle.mt_sessionview.proofs.laws.sorted_markers.Goals as goal
 
 pub returns : goal.returns

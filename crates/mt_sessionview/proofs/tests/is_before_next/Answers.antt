@@ -1,7 +1,7 @@
 use Rattle.std.proofs.Common.{arith, subst}
 use Rattle.std.proofs.lemmas.Option.{slice_get_within}
 use Rattle.mt_op.specs.Valid.{IsOperation}
-use Rattle.mt_sessionview.proofs.Rows.{at_read}
+use Rattle.mt_sessionview.proofs.Rising.{at_read}
 use Rattle.mt_sessionview.proofs.tests.is_before_next.Goals as goal
 
 pub returns-then-i-ops-clause-valid : goal.returns-then-i-ops-clause-valid

@@ -1,8 +1,7 @@
-use Rattle.std.proofs.Common.{◌≡◌, List, map, take}
-use Rattle.mt_op.specs.Operation.{Operation}
-use Rattle.mt_sessionview.specs.Session.{track_of}
-use Rattle.mt_sessionview.specs.Told.{AreAt}
+use Rattle.std.proofs.Common.{◌≡◌, ◌++◌, map, drop}
+use Rattle.std.specs.List.{filter_map}
+use Rattle.mt_sessionview.specs.Read.{track_read, ops_at}
 use Rattle.mt_sessionview.proofs.track.tracks.Given as goal
 
 abbrev pub invariant-loop-place : goal.invariant-loop-place
-invariant-loop-place g l = (shown : List Operation) → AreAt l.ops l.order shown → l.tracks.items ≡ map (track_of l.ops) (take l.place-index shown)
+invariant-loop-place g l = l.tracks.items ++ filter_map (track_read l.items) (ops_at (map (λ o. o.now) l.ops) (drop l.place-index l.order)) ≡ filter_map (track_read l.items) (ops_at (map (λ o. o.now) l.ops) l.order)

@@ -10,9 +10,9 @@ use Rattle.mt_summary.proofs.laws.summaries.Goals as goal
 pub returns : goal.returns
 returns g c =
     let set = c.args.log.now in
-    let is : IsSummary (summary_of set) = is_summary set c.ops.ensures.logged in
+    let is : IsSummary (summary_of set) = is_summary set c.runs.ensures.logged in
     record {
       is = is;
-      exact = exact set c.ops.ensures.logged c.ops.ensures.whole;
-      only = λ other rise same. same_summary None other (summary_of set) rise is (λ dot. same dot ∙ sym (exact set c.ops.ensures.logged c.ops.ensures.whole dot));
+      exact = exact set c.runs.ensures.logged c.runs.ensures.whole;
+      only = λ other rise same. same_summary None other (summary_of set) rise is (λ dot. same dot ∙ sym (exact set c.runs.ensures.logged c.runs.ensures.whole dot));
     }

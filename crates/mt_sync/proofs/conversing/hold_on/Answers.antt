@@ -59,6 +59,6 @@ returns-in-Err-feed g c = record {
       is_stopped (end_of c.args.talk.now c.args.editor.now.log) (g.R.Read.remaining c.args.reader.now.inner) (g.R.Read.remaining c.loop-piece.reader.inner) (g.R.Read.remaining c.get.new.self.inner)
       (g.W.Write.contents c.args.writer.now.inner) (g.W.Write.contents c.loop-piece.writer.inner) (end_of c.loop-piece.talk c.loop-piece.editor.log) (end_of c.feed.new.self c.feed.new.editor.log)
       (take c.in-Ok.count c.get.new.buffer) c.in-Err-feed.fault c.loop-piece.invariant.2 c.in-Ok.ensures.bytes.0
-      (feed_stopped _ (end_of c.loop-piece.talk c.loop-piece.editor.log) (take c.in-Ok.count c.get.new.buffer) c.in-Err-feed.fault (end_of c.feed.new.self c.feed.new.editor.log) c.loop-piece.invariant.0 c.in-Err-feed.ensures.told);
+      (feed_stopped _ (end_of c.loop-piece.talk c.loop-piece.editor.log) (take c.in-Ok.count c.get.new.buffer) c.in-Err-feed.fault (end_of c.feed.new.self c.feed.new.editor.log) c.loop-piece.invariant.0 c.in-Err-feed.ensures.told) c.in-Err-feed.ensures.left;
   name = c.in-Err-feed.ensures.name ∙ c.loop-piece.invariant.1;
 }

@@ -12,4 +12,4 @@ returns-in-Ok-false g c =
 pub returns-in-Err-Conflict : goal.returns-in-Err-Conflict
 returns-in-Err-Conflict g c =
     let h = subst (λ (f : LogFault). Adds c.args.op c.args.log.now (Err f)) c.in-Err-Conflict.field-0-is c.in-Err-Conflict.ensures.answer in
-    (is_other c.args.log.now c.args.op h.1.0 c.in-Err-Conflict.dot h.0 h.1.1.0 h.1.1.1 c.dot.ensures.valid c.ops.ensures.logged.valid, h.0, c.in-Err-Conflict.ensures.kept (λ e. cc))
+    (is_other c.args.log.now c.args.op h.1.0 c.in-Err-Conflict.dot h.0 h.1.1.0 h.1.1.1 c.dot.ensures.valid c.runs.ensures.logged.valid, h.0, c.in-Err-Conflict.ensures.kept (λ e. cc))

@@ -1,11 +1,14 @@
-use Rattle.std.proofs.Common.{refl, ◌∙◌, Ok, Err}
+use Rattle.std.proofs.Common.{refl, ap, ◌∙◌, [], ◌++◌, Ok, Err, inl}
+use Rattle.mt_sync.specs.Conversation.{Told}
+use Rattle.mt_sync.specs.Leaving.{IsLeft}
+use Rattle.mt_sync.proofs.Leaving.{told_nothing, told_on, left_so, waits_for_more, over_asks_none}
 use Rattle.mt_sync.specs.Conversation.{told}
 use Rattle.mt_sync.specs.Feeding.{turn_of, end_at}
 use Rattle.mt_sync.proofs.Hearing.{begins, moves_on, pauses, refuses, stops, ends, shorter, body_read, some_taken, none_taken, is_over, is_not_over}
 use Rattle.mt_sync.proofs.talk.hear_frames.Goals as goal
 
 pub loop-body-init : goal.loop-body-init
-loop-body-init g c = (c.requires.reads, refl, begins (turn_of c.args.turn.now) c.args.unread.now c.args.editor.now.log c.args.piece.now c.push.new.self c.args.out.now.items c.requires.reads c.requires.waits c.in_ok-push.ensures.ok c.requires.empty)
+loop-body-init g c = (c.requires.reads, refl, begins (turn_of c.args.turn.now) c.args.unread.now c.args.editor.now.log c.args.piece.now c.push.new.self c.args.out.now.items c.requires.reads c.requires.waits c.in_ok-push.ensures.ok c.requires.empty, told_nothing (turn_of c.args.turn.now) c.args.unread.now c.args.editor.now.log c.args.piece.now c.push.new.self c.in_ok-push.ensures.ok)
 
 pub returns-in-Ok-2 : goal.returns-in-Ok-2
 returns-in-Ok-2 g c = record {
@@ -17,6 +20,7 @@ returns-in-Ok-2 g c = record {
       read.0 (is_over (turn_of c.take_body.new.turn) c.is_open.result c.is_open.ensures c.if-is_open.false) front.1 c.end_of_turn.ensures
       (moves_on (turn_of c.loop-body.turn) c.loop-body.unread c.in-Ok-Some.body.bytes.items c.next.new.self c.loop-body.editor.log c.loop-body.out.items (turn_of c.take_body.new.turn) c.take_body.new.editor.log c.take_body.new.out.items total
       c.loop-body.invariant.0 front.0 read c.loop-body.invariant.2);
+  left = over_asks_none c.in-Ok-Some.body.is_last c.end_of_turn.result (IsLeft (end_at (turn_of c.args.turn.now) c.args.unread.now c.args.editor.now.log) c.args.piece.now c.take_body.new.editor.log) c.end_of_turn.ensures;
   name = c.in-Ok.ensures.name ∙ c.loop-body.invariant.1;
 }
 
@@ -28,6 +32,7 @@ returns-in-Err-take_body g c = record {
       let read = body_read (turn_of c.loop-body.turn) c.loop-body.editor.log (Err c.in-Err-take_body.fault) (turn_of c.take_body.new.turn) c.take_body.new.editor.log c.loop-body.out.items c.take_body.new.out.items c.in-Ok-Some.body.bytes.items c.as_slice.result.now c.as_slice.ensures c.in-Err-take_body.ensures.told in
       stops c.in-Err-take_body.fault (turn_of c.loop-body.turn) c.loop-body.unread c.in-Ok-Some.body.bytes.items c.next.new.self c.loop-body.editor.log c.loop-body.out.items total (turn_of c.take_body.new.turn) c.take_body.new.editor.log c.take_body.new.out.items
       c.loop-body.invariant.0 front.0 read c.loop-body.invariant.2;
+  left = λ e. left_so (turn_of c.args.turn.now) c.args.unread.now c.args.editor.now.log c.args.piece.now (turn_of c.loop-body.turn) c.loop-body.unread c.loop-body.editor.log c.take_body.new.editor.log c.requires.reads (waits_for_more (turn_of c.args.turn.now) c.args.unread.now c.requires.reads c.requires.waits) c.loop-body.invariant.3 (c.in-Err-take_body.ensures.left e);
   name = c.in-Err-take_body.ensures.name ∙ c.loop-body.invariant.1;
 }
 
@@ -45,6 +50,8 @@ loop-body-preserved g c =
       c.in-Ok.ensures.name ∙ c.loop-body.invariant.1,
       moves_on (turn_of c.loop-body.turn) c.loop-body.unread c.in-Ok-Some.body.bytes.items c.next.new.self c.loop-body.editor.log c.loop-body.out.items (turn_of c.take_body.new.turn) c.take_body.new.editor.log c.take_body.new.out.items total
           c.loop-body.invariant.0 front.0 read c.loop-body.invariant.2,
+      told_on (end_at (turn_of c.args.turn.now) [] c.args.editor.now.log) (c.args.unread.now ++ c.args.piece.now) (turn_of c.loop-body.turn) c.loop-body.unread c.loop-body.editor.log c.in-Ok-Some.body.bytes.items c.next.new.self (turn_of c.take_body.new.turn) c.take_body.new.editor.log
+          c.loop-body.invariant.0 front.0 (ap (λ (t : Told). t.0) read.1.1) c.loop-body.invariant.3,
     )
 
 pub returns-in-Ok-None : goal.returns-in-Ok-None
@@ -53,6 +60,7 @@ returns-in-Ok-None g c = record {
       let front = none_taken c.loop-body.unread c.next.new.self c.in-Ok-None.field-0 c.in-Ok-None.field-0-is c.in-Ok-None.ensures in
       pauses (turn_of c.loop-body.turn) c.loop-body.unread c.next.new.self c.loop-body.editor.log c.loop-body.out.items (told (end_at (turn_of c.args.turn.now) c.args.unread.now c.args.editor.now.log) c.args.piece.now)
       c.loop-body.invariant.0 front.0 front.1 c.loop-body.invariant.2;
+  left = tt;
   name = c.loop-body.invariant.1;
 }
 
@@ -61,5 +69,6 @@ returns-in-Err g c = record {
   told =
       refuses (turn_of c.loop-body.turn) c.loop-body.unread c.loop-body.editor.log c.loop-body.out.items (told (end_at (turn_of c.args.turn.now) c.args.unread.now c.args.editor.now.log) c.args.piece.now)
       c.in-Err.fault c.fault_of.result (turn_of c.loop-body.turn) c.next.new.self c.loop-body.invariant.0 c.in-Err.ensures c.fault_of.ensures c.loop-body.invariant.2;
+  left = λ e. left_so (turn_of c.args.turn.now) c.args.unread.now c.args.editor.now.log c.args.piece.now (turn_of c.loop-body.turn) c.loop-body.unread c.loop-body.editor.log c.loop-body.editor.log c.requires.reads (waits_for_more (turn_of c.args.turn.now) c.args.unread.now c.requires.reads c.requires.waits) c.loop-body.invariant.3 (inl refl);
   name = c.loop-body.invariant.1;
 }

@@ -1,13 +1,15 @@
-use Rattle.std.proofs.Common.{◌≡◌, length}
+use Rattle.std.proofs.Common.{◌≡◌, [], ◌++◌, length}
 use Rattle.mt_sync.specs.Conversation.{told}
 use Rattle.mt_sync.specs.Feeding.{turn_of, IsOpen, end_at}
 use Rattle.mt_sync.proofs.Hearing.{still}
+use Rattle.mt_sync.proofs.Leaving.{IsToldTo}
 use Rattle.mt_sync.proofs.talk.hear_frames.Given as goal
 
 abbrev pub invariant-loop-body : goal.invariant-loop-body
 invariant-loop-body g l =
     IsOpen (turn_of l.turn) × (l.editor.name ≡ l.fn.editor.name)
     × (still (turn_of l.turn) l.unread l.editor.log l.out.items ≡ told (end_at (turn_of l.fn.turn) l.fn.unread l.fn.editor.log) l.piece)
+    × IsToldTo (end_at (turn_of l.fn.turn) [] l.fn.editor.log) (l.fn.unread ++ l.piece) (turn_of l.turn) l.unread l.editor.log
 
 abbrev pub decreases-loop-body : goal.decreases-loop-body
 decreases-loop-body g l = length l.unread

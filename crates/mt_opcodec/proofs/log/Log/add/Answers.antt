@@ -1,50 +1,15 @@
-use Rattle.std.proofs.Common.{Some, ◌∙◌, ap, sym, subst, List, true≢false}
-use Rattle.std.proofs.lemmas.Result.{err_from_is_err_and}
-use Rattle.std.specs.FinMap as fin
-use Rattle.mt_stamp.specs.declared.name.Dot.{Dot}
-use Rattle.mt_op.specs.Operation.{Operation}
-use Rattle.mt_op.specs.Dots.{op_dot, IsAt, IsGapFor}
-use Rattle.mt_opcodec.specs.LogValue.{log_of, AreLogged}
-use Rattle.mt_opcodec.proofs.Logs.{get_found, get_absent, insert_is, AreLogged-insert}
+use Rattle.std.proofs.Common.{◌≡◌, ◌+◌, Bool, true, Ok, ℕ, refl, sym, ap, ◌∙◌, subst}
+use Rattle.mt_opcodec.specs.LogValue.{Adds, log_of}
+use Rattle.mt_opcodec.specs.Runs.{run_ops}
+use Rattle.mt_opcodec.proofs.RunLogs.{one_longer}
 use Rattle.mt_opcodec.proofs.log.Log.add.Goals as goal
 
-pub returns-in-Ok-clause-answer : goal.returns-in-Ok-clause-answer
-returns-in-Ok-clause-answer g c =
-    let found : IsAt c.self.inside.ops.items (op_dot c.args.op) c.in-Ok.place = subst (λ (l : List Operation). IsAt l (op_dot c.args.op) c.in-Ok.place) c.deref.ensures.value (subst (λ (d : Dot). IsAt c.deref.result.now d c.in-Ok.place) c.dot.ensures.value c.in-Ok.ensures.found) in
-    get_found c.args.self.now c.self.inside.ops.items c.self.view_is c.self.invariant (op_dot c.args.op) c.in-Ok.place c.index.result.now found c.index.ensures
-    ∙ ap (λ (o : Operation). Some o) (c.equal_ops.ensures.0 c.if-equal_ops.true)
-
-pub returns-in-Ok-2-clause-answer : goal.returns-in-Ok-2-clause-answer
-returns-in-Ok-2-clause-answer g c =
-    let found : IsAt c.self.inside.ops.items (op_dot c.args.op) c.in-Ok.place = subst (λ (l : List Operation). IsAt l (op_dot c.args.op) c.in-Ok.place) c.deref.ensures.value (subst (λ (d : Dot). IsAt c.deref.result.now d c.in-Ok.place) c.dot.ensures.value c.in-Ok.ensures.found) in
-    let there = get_found c.args.self.now c.self.inside.ops.items c.self.view_is c.self.invariant (op_dot c.args.op) c.in-Ok.place c.index.result.now found c.index.ensures in (
-      c.dot-in-Ok-2.ensures.value,
-      (
-        c.index.result.now,
-        (
-          ap (λ (d : Dot). fin.get c.args.self.now d) c.dot-in-Ok-2.ensures.value ∙ there,
-          λ same. true≢false (sym (c.equal_ops.ensures.1 same) ∙ c.if-equal_ops.false),
-        ),
-      ),
-    )
-
-pub returns-in_err-insert-in-Err-clause-answer : goal.returns-in_err-insert-in-Err-clause-answer
-returns-in_err-insert-in-Err-clause-answer g c =
-    let gap : IsGapFor c.self.inside.ops.items (op_dot c.args.op) c.in-Err.place = subst (λ (l : List Operation). IsGapFor l (op_dot c.args.op) c.in-Err.place) c.deref.ensures.value (subst (λ (d : Dot). IsGapFor c.deref.result.now d c.in-Err.place) c.dot.ensures.value c.in-Err.ensures.absent) in
-    let p = err_from_is_err_and c.from_residual.result c.from_residual.ensures.1 in
-    rw (p.1, p.2) (get_absent c.args.self.now c.self.inside.ops.items c.self.view_is c.self.invariant (op_dot c.args.op) c.in-Err.place gap)
-
-pub invariant_of-self-in-Err : goal.invariant_of-self-in-Err
-invariant_of-self-in-Err g c =
-    let gap : IsGapFor c.self.inside.ops.items (op_dot c.args.op) c.in-Err.place = subst (λ (l : List Operation). IsGapFor l (op_dot c.args.op) c.in-Err.place) c.deref.ensures.value (subst (λ (d : Dot). IsGapFor c.deref.result.now d c.in-Err.place) c.dot.ensures.value c.in-Err.ensures.absent) in
-    subst AreLogged (sym c.in_ok-insert-in-Err.ensures.items) (AreLogged-insert c.self.inside.ops.items c.args.op c.in-Err.place c.self.invariant c.dot.ensures.valid gap)
-
-pub returns-clause-answer : goal.returns-clause-answer
-returns-clause-answer g c =
-    let gap : IsGapFor c.self.inside.ops.items (op_dot c.args.op) c.in-Err.place = subst (λ (l : List Operation). IsGapFor l (op_dot c.args.op) c.in-Err.place) c.deref.ensures.value (subst (λ (d : Dot). IsGapFor c.deref.result.now d c.in-Err.place) c.dot.ensures.value c.in-Err.ensures.absent) in
-    get_absent c.args.self.now c.self.inside.ops.items c.self.view_is c.self.invariant (op_dot c.args.op) c.in-Err.place gap
-
-pub returns-clause-added : goal.returns-clause-added
-returns-clause-added g c =
-    let gap : IsGapFor c.self.inside.ops.items (op_dot c.args.op) c.in-Err.place = subst (λ (l : List Operation). IsGapFor l (op_dot c.args.op) c.in-Err.place) c.deref.ensures.value (subst (λ (d : Dot). IsGapFor c.deref.result.now d c.in-Err.place) c.dot.ensures.value c.in-Err.ensures.absent) in
-    λ _. ap log_of c.in_ok-insert-in-Err.ensures.items ∙ insert_is c.args.self.now c.self.inside.ops.items c.self.view_is c.self.invariant c.args.op c.in-Err.place gap
+pub invariant_of-self-then-added : goal.invariant_of-self-then-added
+invariant_of-self-then-added g c =
+    let runs = c.self.inside.runs.items in
+    let is : c.add_to_runs.result ≡ Ok true = c.in_ok-added-in-Some.was ∙ ap (λ (b : Bool). Ok b) c.if-added.true in
+    record {
+      runs_are = c.add_to_runs.ensures.runs_are;
+      counted = c.in-Some.ensures.1 ∙ ap (λ (n : ℕ). n + 1) c.self.invariant.counted
+          ∙ sym (one_longer runs c.add_to_runs.new.runs.items c.args.op c.self.invariant.runs_are c.add_to_runs.ensures.runs_are (subst (Adds c.args.op (log_of (run_ops runs))) is c.add_to_runs.ensures.answer) (c.add_to_runs.ensures.added is));
+    }

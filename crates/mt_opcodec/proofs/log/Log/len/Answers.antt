@@ -1,7 +1,8 @@
-use Rattle.std.proofs.Common.{◌∙◌, ap, sym, length}
-use Rattle.mt_opcodec.specs.LogValue.{operations}
+use Rattle.std.proofs.Common.{sym, ◌∙◌}
+use Rattle.mt_opcodec.specs.Runs.{run_ops}
 use Rattle.mt_opcodec.proofs.Logs.{len_is}
+use Rattle.mt_opcodec.proofs.Runs.{runs_logged}
 use Rattle.mt_opcodec.proofs.log.Log.len.Goals as goal
 
 pub returns : goal.returns
-returns g c = ap length c.ops.ensures.value ∙ sym (len_is c.args.self.now (operations c.args.self.now) c.ops.ensures.whole c.ops.ensures.logged)
+returns g c = c.self.invariant.counted ∙ sym (len_is c.args.self.now (run_ops c.self.inside.runs.items) c.self.view_is (runs_logged _ c.self.invariant.runs_are))

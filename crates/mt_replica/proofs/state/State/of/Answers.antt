@@ -1,4 +1,5 @@
 use Rattle.std.proofs.Common.{◌∙◌, ap}
+use Rattle.mt_opcodec.specs.Runs.{run_ops}
 use Rattle.mt_replica.specs.Made.{greatest_clock, greatest_seq}
 use Rattle.mt_replica.proofs.Numbers.{own_is}
 use Rattle.mt_replica.proofs.state.State.of.Goals as goal
@@ -6,6 +7,6 @@ use Rattle.mt_replica.proofs.state.State.of.Goals as goal
 pub invariant_of-result : goal.invariant_of-result
 invariant_of-result g c = record {
   noted = c.in_ok-items.ensures.ok;
-  clock_is = c.greatest_clock-clock.ensures ∙ ap greatest_clock c.ops.ensures.value;
-  seq_is = c.greatest_seq-seq.ensures ∙ own_is c.args.name c.ops-2.result.now ∙ ap (greatest_seq c.args.name) c.ops-2.ensures.value;
+  clock_is = c.greatest_clock-clock.ensures ∙ ap greatest_clock c.runs.ensures.value;
+  seq_is = c.greatest_seq-seq.ensures ∙ own_is c.args.name (run_ops c.runs-2.result.now) ∙ ap (greatest_seq c.args.name) c.runs-2.ensures.value;
 }

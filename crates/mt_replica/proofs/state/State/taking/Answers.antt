@@ -18,7 +18,7 @@ pub returns-clause-taken : goal.returns-clause-taken
 returns-clause-taken g c =
     let new_is = c.in_ok-add_new.ensures.added ∙ ap (λ (n : Named). with_op n.log c.args.op) c.self.view_is in
     take_tells c.args.self.log c.args.op c.stamp-stamp.result c.deref.result.now c.deref-2.result.now c.in_ok-taken.taken
-    (subst (λ (l : LogMap). AreLogged (operations l)) new_is c.ops.ensures.logged) c.requires.new c.stamp-stamp.ensures.value
+    (subst (λ (l : LogMap). AreLogged (operations l)) new_is c.runs.ensures.logged) c.requires.new c.stamp-stamp.ensures.value
     (c.deref.ensures.value ∙ c.in_ok-before.ensures.ok ∙ ap (λ (n : Named). sort_by stamp_cmp (stamps_of (ready_ops (operations n.log)))) c.self.view_is)
     (c.deref-2.ensures.value ∙ c.in_ok-after.ensures.ok ∙ ap (λ (l : LogMap). sort_by stamp_cmp (stamps_of (ready_ops (operations l)))) new_is)
     c.in_ok-taken.ensures.ok

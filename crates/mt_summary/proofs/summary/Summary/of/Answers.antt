@@ -1,10 +1,18 @@
-use Rattle.std.proofs.Common.{sym, subst, List, ◌∙◌, ap}
+use Rattle.std.proofs.Common.{◌≡◌, None, sym, subst, List, Bor, map, ◌∙◌, ap}
+use Rattle.mt_op.specs.declared.op.Op.{Op}
 use Rattle.mt_op.specs.Operation.{Operation}
-use Rattle.mt_opcodec.specs.LogValue.{AreLogged}
-use Rattle.mt_summary.specs.Summary.{Summary, IsSummary}
+use Rattle.mt_opcodec.specs.LogValue.{AreLogged, operations}
+use Rattle.mt_summary.specs.Summary.{Summary, IsSummary, summary_of, summary_after}
 use Rattle.mt_summary.proofs.Rising.{rises}
 use Rattle.mt_summary.proofs.summary.Summary.of.Goals as goal
 
 pub new-requires : goal.new-requires
 new-requires g c =
-    subst IsSummary (sym c.in_ok-all.ensures.ok) (rises c.ops.result.now (subst AreLogged (sym c.ops.ensures.value) c.ops.ensures.logged))
+    let same : map (λ (o : Bor (Op g.row.B.Denot)). o.now) c.deref.result.now ≡ operations c.args.log.now = ap (map (λ (o : Bor (Op g.row.B.Denot)). o.now)) c.deref.ensures.value ∙ c.in_ok-refs.ensures in
+    subst IsSummary (sym c.in_ok-all.ensures.ok) (rises (map (λ (o : Bor (Op g.row.B.Denot)). o.now) c.deref.result.now) (subst AreLogged (sym same) c.runs.ensures.logged))
+
+pub returns-clause-ok : goal.returns-clause-ok
+unfolding summary_of
+returns-clause-ok g c =
+    let same : map (λ (o : Bor (Op g.row.B.Denot)). o.now) c.deref.result.now ≡ operations c.args.log.now = ap (map (λ (o : Bor (Op g.row.B.Denot)). o.now)) c.deref.ensures.value ∙ c.in_ok-refs.ensures in
+    c.new.ensures ∙ c.in_ok-all.ensures.ok ∙ ap (summary_after None) same

@@ -1,0 +1,73 @@
+//! Listing the operations of logs.
+
+ghost use Rattle.std.specs.Prelude.{◌≡◌, IfErr, OnOk, List};
+ghost use Rattle.std.specs.Io.KnownBytes.{Appends};
+ghost use Rattle.mt_opcodec.specs.LogValue.{LogMap};
+ghost use Rattle.mt_opcodec.specs.Union.{AllAgree};
+ghost use Rattle.mt_cli.specs.Reading.{text_of, Gave, GaveLogs, IsRead, AreRead};
+ghost use Rattle.mt_cli.specs.Listing.{log_list, list_text};
+ghost use Rattle.mt_cli.specs.Writing.{WriteFails, InputsFail, InputFails};
+
+use crate::fault::CliFault;
+use crate::tell::{Telling, tell_log, tell_logs};
+use mt_logtext::write_log_text;
+use mt_opcodec::{Latch, Log};
+use mt_sessionview::SessionFault;
+use std::alloc::Allocator;
+use std::io::{Read, Write};
+
+// A log's operations, a line each.
+#[derive(Drop)]
+struct Operations;
+
+impl Telling for Operations {
+    ghost use Rattle.mt_cli.specs.Listing.{log_list};
+
+    ghost told = { log_list };
+
+    fn tell<A: Allocator + Clone, W: Write>(
+        &self,
+        alloc: A,
+        log: &Log<A>,
+        output: &mut Latch<W>,
+    ) -> Result<(), CliFault> {
+        match write_log_text(alloc, log, output) {
+            Ok(()) => Ok(()),
+            Err(SessionFault::Memory) => Err(CliFault::Memory),
+            Err(SessionFault::Write) => Err(CliFault::Write),
+        }
+    }
+}
+
+/// Writes the operations of the union of the inputs' logs, a line each by rising stamp, and nothing else: the text of
+/// `mt_logtext`.
+///
+/// Refused, in this order: `Read` with the index of an input whose latch has failed, or `Log` with the index of
+/// one whose bytes are no log's text, from left to right; `Merge` where a log has another operation under a dot than
+/// the logs before it, with the least such dot of the first such log; `Write` where the output's latch has failed, which then holds a prefix of the
+/// text. Nothing is written before every log has been read and accepted. `Memory` where a growth was refused, and
+/// nothing was written then. Each input is read to its end, but for those behind one at fault, which are not asked.
+pub fn list_logs<A: Allocator + Clone, R: Read, W: Write>(
+    alloc: A,
+    inputs: &mut [Latch<R>],
+    output: &mut Latch<W>,
+) -> Result<(), CliFault>
+    ensures ok { OnOk result ((logs : List LogMap) × (GaveLogs R.remaining inputs.old logs × AllAgree logs × Appends (W.contents output.old.inner) (W.contents output.new.inner) (list_text logs))) }
+    ensures read { OnOk result (AreRead R.remaining inputs.new) }
+    ensures err { IfErr result (InputsFail log_list W.contents R.remaining inputs.old inputs.new output.old output.new) }
+{
+    tell_logs(&Operations, alloc, inputs, output)
+}
+
+/// The same for one input.
+pub fn list_log<A: Allocator + Clone, R: Read, W: Write>(
+    alloc: A,
+    input: &mut Latch<R>,
+    output: &mut Latch<W>,
+) -> Result<(), CliFault>
+    ensures ok { OnOk result ((log : LogMap) × (Gave R.remaining input.old (text_of log) × Appends (W.contents output.old.inner) (W.contents output.new.inner) (log_list log))) }
+    ensures read { OnOk result (IsRead R.remaining input.new) }
+    ensures err { IfErr result (InputFails log_list W.contents R.remaining input.old input.new output.old output.new) }
+{
+    tell_log(&Operations, alloc, input, output)
+}

@@ -1,0 +1,64 @@
+//! Commands that write one text of the union of logs.
+
+ghost use Rattle.std.specs.Prelude.{◌≡◌, ℕ, IfErr, OnOk, List};
+ghost use Rattle.std.specs.Io.KnownBytes.{Appends};
+ghost use Rattle.mt_opcodec.specs.LogValue.{LogMap};
+ghost use Rattle.mt_opcodec.specs.Union.{AllAgree, union_all};
+ghost use Rattle.mt_cli.specs.Reading.{text_of, Gave, GaveLogs, IsRead, AreRead};
+ghost use Rattle.mt_cli.specs.Writing.{WriteFails, InputsFail, InputFails};
+
+use crate::fault::CliFault;
+use crate::read::read_log;
+use crate::union::union_of;
+use mt_opcodec::{Latch, Log};
+use std::alloc::Allocator;
+use std::io::{Read, Write};
+
+/// A text of a log.
+pub(crate) trait Telling {
+    ghost told: { LogMap → List ℕ };
+
+    /// Writes the text, and nothing else.
+    fn tell<A: Allocator + Clone, W: Write>(
+        &self,
+        alloc: A,
+        log: &Log<A>,
+        output: &mut Latch<W>,
+    ) -> Result<(), CliFault>
+        ensures ok { OnOk result (Appends (W.contents output.old.inner) (W.contents output.new.inner) (told log.now)) }
+        ensures err { IfErr result (WriteFails told W.contents log.now output.old output.new) };
+}
+
+/// Writes the text of the union of the inputs' logs.
+pub(crate) fn tell_logs<T: Telling, A: Allocator + Clone, R: Read, W: Write>(
+    text: &T,
+    alloc: A,
+    inputs: &mut [Latch<R>],
+    output: &mut Latch<W>,
+) -> Result<(), CliFault>
+    ensures ok { OnOk result ((logs : List LogMap) × (GaveLogs R.remaining inputs.old logs × AllAgree logs × Appends (W.contents output.old.inner) (W.contents output.new.inner) (T.told (union_all logs)))) }
+    ensures read { OnOk result (AreRead R.remaining inputs.new) }
+    ensures err { IfErr result (InputsFail T.told W.contents R.remaining inputs.old inputs.new output.old output.new) }
+{
+    match union_of(alloc.clone()?, inputs) {
+        Ok(all) => text.tell(alloc, &all, output),
+        Err(fault) => Err(fault),
+    }
+}
+
+/// Writes the text of one input's log.
+pub(crate) fn tell_log<T: Telling, A: Allocator + Clone, R: Read, W: Write>(
+    text: &T,
+    alloc: A,
+    input: &mut Latch<R>,
+    output: &mut Latch<W>,
+) -> Result<(), CliFault>
+    ensures ok { OnOk result ((log : LogMap) × (Gave R.remaining input.old (text_of log) × Appends (W.contents output.old.inner) (W.contents output.new.inner) (T.told log))) }
+    ensures read { OnOk result (IsRead R.remaining input.new) }
+    ensures err { IfErr result (InputFails T.told W.contents R.remaining input.old input.new output.old output.new) }
+{
+    match read_log(alloc.clone()?, 0, input) {
+        Ok(log) => text.tell(alloc, &log, output),
+        Err(fault) => Err(fault),
+    }
+}

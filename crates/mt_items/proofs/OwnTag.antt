@@ -1,0 +1,47 @@
+-- The marks of an item that has its own tag alone.
+use Rattle.std.proofs.Common.{◌≡◌, Bool, true, false, not, ◌&&◌, ◌||◌, List, [], ◌∷◌, Option, None, refl, sym, ap, ◌∙◌, subst}
+use Rattle.std.specs.Prelude.{IsTrue, ◌↔◌}
+use Rattle.std.specs.FinSet as set
+use Rattle.std.specs.List.Sorted.{IsStrictlySortedBy}
+use Rattle.std.specs.Ordering.{eq_by_cmp}
+use Rattle.mt_stamp.specs.Moment.{Moment, stamp_cmp, stamp_eq}
+use Rattle.mt_stamp.proofs.Order.{stamp_eq-itself}
+use Rattle.mt_cells.specs.Folds.{is_in}
+use Rattle.mt_cells.specs.Marks.{Marks, is_live, IsPresent}
+use Rattle.mt_items.specs.Tags.{marks_from}
+use Rattle.mt_items.proofs.Marking.{inserted, tests_alike}
+
+or_none : (a b : Bool) → b ≡ false → (a || b) ≡ a
+or_none true b none = refl
+or_none false b none = none
+
+and_not : (a b : Bool) → b ≡ false → (a && not b) ≡ a
+and_not true b none = ap not none
+and_not false b none = refl
+
+abbrev no_stamps : set.FinSet stamp_cmp
+no_stamps = set.empty
+
+own_has : (own t : Moment) → set.contains (marks_from own None).tags t ≡ stamp_eq t own
+own_has own t = inserted no_stamps own t ∙ or_none (stamp_eq t own) (set.contains no_stamps t) (set.contains-empty stamp_cmp t)
+
+own_live : (own t : Moment) → is_live (marks_from own None) t ≡ stamp_eq t own
+own_live own t = and_not (set.contains (marks_from own None).tags t) (set.contains no_stamps t) (set.contains-empty stamp_cmp t) ∙ own_has own t
+
+module _ (own : Moment) (noted : Option Marks) (now : Marks) (view : marks_from own noted ≡ now) (none : noted ≡ None) where
+  is : marks_from own None ≡ now
+  is = sym (ap (marks_from own) none) ∙ view
+
+  pub has_own : (t : Moment) → stamp_eq t own ≡ set.contains now.tags t
+  has_own t = sym (own_has own t) ∙ ap (λ (m : Marks). set.contains m.tags t) is
+
+  pub present_own : IsTrue true ↔ IsPresent now
+  present_own = (λ h. subst IsPresent is (own, own_live own own ∙ stamp_eq-itself own), λ h. refl)
+
+  pub live_own : (tags : List Moment) → tags ≡ own ∷ [] → (t : Moment) → is_in (eq_by_cmp stamp_cmp) tags t ≡ is_live now t
+  live_own tags are t =
+      ap (λ (l : List Moment). is_in (eq_by_cmp stamp_cmp) l t) are ∙ or_none (eq_by_cmp stamp_cmp t own) false refl ∙ tests_alike t own ∙ sym (own_live own t) ∙ ap (λ (m : Marks). is_live m t) is
+
+pub one_rises : (own : Moment) (tags : List Moment) → tags ≡ own ∷ [] → IsStrictlySortedBy stamp_cmp tags
+unfolding IsStrictlySortedBy
+one_rises own tags are = subst (IsStrictlySortedBy stamp_cmp) (sym are) (tt, tt)

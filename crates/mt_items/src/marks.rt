@@ -1,0 +1,123 @@
+//! The tags of an item.
+
+ghost use Rattle.std.specs.Prelude.{◌≡◌, ◌↔◌, IsTrue, IfOk, IfErr, OnOk};
+ghost use Rattle.std.specs.List.Sorted.{IsStrictlySortedBy};
+ghost use Rattle.std.specs.Ordering.{eq_by_cmp};
+ghost use Rattle.std.specs.FinSet as set;
+ghost use Rattle.mt_stamp.specs.Moment.{Moment, stamp_cmp};
+ghost use Rattle.mt_cells.specs.Folds.{is_in};
+ghost use Rattle.mt_cells.specs.Marks.{is_live, IsPresent};
+ghost use Rattle.mt_items.specs.Tags.{marks_from};
+
+use crate::fault::ItemsFault;
+use mt_cells::Presence;
+use mt_stamp::Stamp;
+use std::alloc::Allocator;
+use std::marker::Model;
+
+// The tags of an item that was added, and those that were removed. Its own stamp is its first tag; it takes memory from the
+// first other tag or removal on.
+#[derive(Drop)]
+pub(crate) struct ItemMarks<A: Allocator> {
+    own: Stamp,
+    noted: Option<Presence<A>>,
+}
+
+impl<A: Allocator> Model for ItemMarks<A> {
+    ghost use Rattle.mt_cells.specs.Marks.{Marks, marks_code};
+    ghost use Rattle.mt_items.specs.Tags.{marks_from};
+
+    ghost Value = { Marks };
+
+    ghost coded = { marks_code };
+
+    ghost view = { λ m. marks_from m.own m.noted };
+}
+
+impl<A: Allocator> ItemMarks<A> {
+    // The marks of an item of this stamp that was added, and no more.
+    pub(crate) fn new(own: Stamp) -> Self
+        ensures { result ≡ record { tags = set.insert set.empty own; removed = set.empty } }
+    {
+        ItemMarks { own, noted: None }
+    }
+
+    // Whether a stamp tags the item, removed or not.
+    pub(crate) fn has_tag(&self, stamp: Stamp) -> bool
+        ensures { result ≡ set.contains self.now.tags stamp }
+    {
+        match &self.noted {
+            Some(presence) => presence.has_tag(stamp),
+            None => stamp == self.own,
+        }
+    }
+
+    // Whether the item is there: whether a tag is live.
+    pub(crate) fn is_present(&self) -> bool
+        ensures { IsTrue result ↔ IsPresent self.now }
+    {
+        match &self.noted {
+            Some(presence) => presence.is_present(),
+            None => true,
+        }
+    }
+
+    // The live tags, each once, from the least stamp to the greatest.
+    pub(crate) fn live_tags(&self, alloc: &A) -> Result<Vec<Stamp, A>, ItemsFault>
+    where
+        A: Clone,
+        ensures rising { IfOk result (λ tags. IsStrictlySortedBy stamp_cmp tags.items) }
+        ensures live { IfOk result (λ tags. (stamp : Moment) → is_in (eq_by_cmp stamp_cmp) tags.items stamp ≡ is_live self.now stamp) }
+        ensures err { IfErr result (λ fault. fault ≡ ItemsFault.Memory) }
+    {
+        let Some(presence) = &self.noted else {
+            let mut tags = Vec::new(alloc.clone()?);
+            tags.push(self.own)?;
+            return Ok(tags);
+        };
+        Ok(presence.live_tags()?)
+    }
+
+    // Tags the item with a stamp.
+    pub(crate) fn add_tag(&mut self, alloc: &A, stamp: Stamp) -> Result<(), ItemsFault>
+    where
+        A: Clone,
+        ensures tagged { OnOk result (self.new ≡ record { tags = set.insert self.old.tags stamp; removed = self.old.removed }) }
+        ensures err { IfErr result (λ fault. fault ≡ ItemsFault.Memory) }
+    {
+        let mut marks = marks_of(alloc, self.own, self.noted.take())?;
+        marks.add_tag(stamp)?;
+        self.noted = Some(marks);
+        Ok(())
+    }
+
+    // Removes the tag of a stamp.
+    pub(crate) fn remove_tag(&mut self, alloc: &A, stamp: Stamp) -> Result<(), ItemsFault>
+    where
+        A: Clone,
+        ensures removed { OnOk result (self.new ≡ record { tags = self.old.tags; removed = set.insert self.old.removed stamp }) }
+        ensures err { IfErr result (λ fault. fault ≡ ItemsFault.Memory) }
+    {
+        let mut marks = marks_of(alloc, self.own, self.noted.take())?;
+        marks.remove_tag(stamp)?;
+        self.noted = Some(marks);
+        Ok(())
+    }
+}
+
+// The marks of an item: its own stamp is its one tag where none are noted.
+fn marks_of<A: Allocator + Clone>(
+    alloc: &A,
+    own: Stamp,
+    noted: Option<Presence<A>>,
+) -> Result<Presence<A>, ItemsFault>
+    ensures ok { IfOk result (λ marks. marks ≡ marks_from own noted) }
+    ensures err { IfErr result (λ fault. fault ≡ ItemsFault.Memory) }
+{
+    if let Some(marks) = noted {
+        return Ok(marks);
+    }
+    let mut marks = Presence::new(alloc.clone()?);
+    marks.add_tag(own)?;
+    Ok(marks)
+}

@@ -1,0 +1,18 @@
+use Rattle.std.proofs.Common.{◌≡◌, List, None, Option, ap, subst}
+use Rattle.mt_stamp.specs.declared.name.Dot.{Dot}
+use Rattle.mt_op.specs.Operation.{Operation}
+use Rattle.mt_opcodec.specs.LogValue.{operations}
+use Rattle.mt_opcodec.specs.Clashing.{FirstOther}
+use Rattle.mt_opcodec.proofs.Others.{clash_told, agree_none}
+use Rattle.mt_opcodec.proofs.log.Log.clash.Goals as goal
+
+pub returns-clause-clash : goal.returns-clause-clash
+returns-clause-clash g c =
+    clash_told c.args.self.now c.args.other.now (operations c.args.other.now) c.runs.ensures.logged c.runs.ensures.whole c.first_other.result
+    (subst (λ (l : List Operation). FirstOther c.args.self.now l c.first_other.result) c.runs.ensures.value c.first_other.ensures)
+
+pub returns-clause-none : goal.returns-clause-none
+returns-clause-none g c =
+    λ none.
+    agree_none c.args.self.now c.args.other.now (operations c.args.other.now) c.runs.ensures.logged c.runs.ensures.whole
+    (subst (FirstOther c.args.self.now (operations c.args.other.now)) none (subst (λ (l : List Operation). FirstOther c.args.self.now l c.first_other.result) c.runs.ensures.value c.first_other.ensures))

@@ -1,0 +1,90 @@
+-- What holds of the tracks, clips and markers of operations that stand once.
+use Rattle.std.proofs.Common.{◌≡◌, ◌≢◌, true, false, List, [], ◌∷◌, map, refl, sym, ap, ◌∙◌}
+use Rattle.std.specs.List.{AllByRecursion, filter}
+use Rattle.std.specs.Cmp.{IsTotalOrder}
+use Rattle.std.specs.Ordering.{nat_cmp}
+use Rattle.std.specs.declared.cmp.Ordering.{Ordering}
+use Rattle.std.specs.declared.cmp.Ordering.TheVariants.{Equal}
+use Rattle.std.proofs.lemmas.Bool.{true≢false}
+use Rattle.mt_stamp.specs.Moment.{Moment, stamp_cmp, stamp_eq}
+use Rattle.mt_stamp.specs.Sorting.{sort_by, RisesStrictly, DifferBy}
+use Rattle.mt_stamp.proofs.Order.{stamp_cmp-IsAntisymmetric}
+use Rattle.mt_stamp.proofs.Differing.{differ_kept, differ_mapped, differ_also, differ_sorted}
+use Rattle.mt_stamp.proofs.Members.{IsMember, AreApart, sort_strict}
+use Rattle.mt_stamp.proofs.SameItems.{all_passing}
+use Rattle.mt_op.specs.ByStamp.{stamp_of}
+use Rattle.mt_op.specs.Operation.{Operation}
+use Rattle.mt_op.specs.Needs.{adds_track, adds_clip, adds_marker}
+use Rattle.mt_op.specs.Writes.{clip_place_written}
+use Rattle.mt_op.proofs.Needs.{and_first}
+use Rattle.mt_op.proofs.SameWrites.{one_write}
+use Rattle.mt_items.specs.Noting.{AreNoted, is_noted}
+use Rattle.mt_items.proofs.Noting.{first_false, rest_false}
+use Rattle.mt_sessionview.specs.Content.{Clip, Track, Marker, clip_cmp, marker_cmp, AreClips}
+use Rattle.mt_sessionview.specs.Noted.{is_shown_in, marker_in, markers_in, clip_place_in, clip_in, is_clip_on_in, clips_in, track_cmp_in, track_in, tracks_in}
+use Rattle.mt_sessionview.proofs.Items.{stamp_eq_same}
+use Rattle.mt_sessionview.proofs.Lists.{all_members, all_also, one_of}
+use Rattle.mt_sessionview.proofs.Orders.{tied_second, marker_cmp_total, clip_cmp_total}
+use Rattle.mt_sessionview.proofs.Shown.{Among, clip_given, placed_by}
+
+-- noted operations have stamps of their own
+pub noted_differ : (ops : List Operation) → AreNoted ops → DifferBy stamp_of ops
+noted_differ [] noted = tt
+noted_differ (o ∷ ops) noted = (each ops noted.0.fresh, noted_differ ops noted.1)
+  where
+    each : (xs : List Operation) → is_noted xs o.stamp ≡ false → AllByRecursion (λ x. stamp_of o ≢ stamp_of x) xs
+    each [] fresh = tt
+    each (x ∷ xs) fresh = ((λ same. true≢false (sym (stamp_eq_same o.stamp x.stamp same) ∙ first_false (stamp_eq o.stamp x.stamp) (is_noted xs o.stamp) fresh)), each xs (rest_false (stamp_eq o.stamp x.stamp) (is_noted xs o.stamp) fresh))
+
+pub one_op : (r : List Operation) → AreNoted r → (a b : Operation) → IsMember a r → IsMember b r → a.stamp ≡ b.stamp → a ≡ b
+one_op r noted a b in_a in_b same = one_of stamp_of r a b (noted_differ r noted) in_a in_b same
+
+-- items that differ by a key that ties agree on do not tie
+pub apart_by : {X Y : Type 0} (cmp : X → X → Ordering) (order : IsTotalOrder cmp) (key : X → Y) → ((a b : X) → cmp a b ≡ Equal → key a ≡ key b) → (xs : List X) → DifferBy key xs → AreApart cmp order xs
+apart_by cmp order key agree [] d = tt
+apart_by {X} cmp order key agree (x ∷ xs) d = (each xs d.0, apart_by cmp order key agree xs d.1)
+  where
+    each : (ys : List X) → AllByRecursion (λ y. key x ≢ key y) ys → AllByRecursion (λ y. cmp x y ≢ Equal) ys
+    each [] apart = tt
+    each (y ∷ ys) apart = (λ tied. apart.0 (agree x y tied), each ys apart.1)
+
+module _ (r : List Operation) (noted : AreNoted r) where
+  differ : DifferBy stamp_of r
+  differ = noted_differ r noted
+
+  pub markers_rise : RisesStrictly marker_cmp (markers_in r)
+  markers_rise =
+      let shown = filter (is_shown_in r adds_marker) r in
+      sort_strict marker_cmp marker_cmp_total (map (marker_in r) shown)
+      (apart_by marker_cmp marker_cmp_total (λ (m : Marker). m.marker) (λ a b tied. stamp_cmp-IsAntisymmetric a.marker b.marker (tied_second (nat_cmp a.at b.at) (stamp_cmp a.marker b.marker) tied)) (map (marker_in r) shown)
+      (differ_mapped (marker_in r) (λ (m : Marker). m.marker) shown (differ_kept stamp_of (is_shown_in r adds_marker) r differ)))
+
+  abbrev IsAdded : Operation → Type 0
+  IsAdded o = IsMember o r × (adds_clip o.act ≡ true)
+
+  same_clip : (a b : Operation) → IsAdded a → IsAdded b → (clip_place_in r a.stamp).writer ≡ (clip_place_in r b.stamp).writer → a.stamp ≡ b.stamp
+  same_clip a b of_a of_b same =
+      let one = one_op r noted in
+      let given_a = clip_given r one a of_a.0 of_a.1 in
+      let given_b = clip_given r one b of_b.0 of_b.1 in
+      (one_write (Among r one) one clip_place_written a.stamp b.stamp given_a.write given_b.write given_a.given given_b.given (sym (placed_by r one a given_a) ∙ same ∙ placed_by r one b given_b)).0
+
+  -- the clips of a track as a track keeps them
+  pub clips_are : (track : Moment) → AreClips (clips_in r track)
+  clips_are track =
+      let mine = filter (is_clip_on_in r track) r in
+      let all_mine : AllByRecursion IsAdded mine =
+      all_also (λ o. IsMember o r × (is_clip_on_in r track o ≡ true)) IsAdded (λ o m. (m.0, and_first _ _ (and_first _ _ m.1))) mine (all_passing (λ o. IsMember o r) (is_clip_on_in r track) r (all_members (λ o. IsMember o r) r (λ o m. m))) in
+      let writers : DifferBy (λ (o : Operation). (clip_place_in r o.stamp).writer) mine =
+      differ_also stamp_of (λ (o : Operation). (clip_place_in r o.stamp).writer) IsAdded same_clip mine all_mine (differ_kept stamp_of (is_clip_on_in r track) r differ) in
+      let places : DifferBy (λ (c : Clip). c.place) (map (clip_in r) mine) = differ_mapped (clip_in r) (λ (c : Clip). c.place) mine writers in
+      record {
+        rise = sort_strict clip_cmp clip_cmp_total (map (clip_in r) mine)
+            (apart_by clip_cmp clip_cmp_total (λ (c : Clip). c.place) (λ a b tied. stamp_cmp-IsAntisymmetric a.place b.place (tied_second (nat_cmp a.at b.at) (stamp_cmp a.place b.place) tied)) (map (clip_in r) mine) places);
+        apart = differ_sorted (λ (c : Clip). c.place) clip_cmp (map (clip_in r) mine) places;
+      }
+
+  pub tracks_once : DifferBy (λ (t : Track). t.track) (tracks_in r)
+  tracks_once =
+      let shown = filter (is_shown_in r adds_track) r in
+      differ_mapped (track_in r) (λ (t : Track). t.track) (sort_by (track_cmp_in r) shown) (differ_sorted stamp_of (track_cmp_in r) shown (differ_kept stamp_of (is_shown_in r adds_track) r differ))

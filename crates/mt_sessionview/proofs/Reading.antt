@@ -1,0 +1,180 @@
+-- What is read of the items of operations is what a session shows of them.
+use Rattle.std.proofs.Common.{◌≡◌, ℕ, Bool, true, false, cond, ◌&&◌, List, [], ◌∷◌, Option, Some, None, map, refl, sym, ap, ◌∙◌, subst, true≢false}
+use Rattle.std.specs.Prelude.{option_map, unwrap_or}
+use Rattle.std.specs.Cmp.{IsTotalOrder}
+use Rattle.std.specs.List.{AllByRecursion, filter, filter_map, cons_option, sum_by}
+use Rattle.std.specs.List.Sorted.{IsPermutation, IsSorted}
+use Rattle.std.specs.declared.cmp.Ordering.{Ordering}
+use Rattle.std.specs.declared.cmp.Ordering.TheVariants.{Equal}
+use Rattle.std.proofs.lemmas.Cmp.{on_total}
+use Rattle.std.proofs.lemmas.Option.{same_Some}
+use Rattle.std.proofs.lemmas.List.Elements.{All-from_recursion}
+use Rattle.mt_stamp.specs.Moment.{Moment, stamp_cmp, stamp_eq}
+use Rattle.mt_stamp.specs.Sorting.{sort_by}
+use Rattle.mt_stamp.proofs.Order.{stamp_cmp_total}
+use Rattle.mt_stamp.proofs.Members.{IsMember}
+use Rattle.mt_stamp.proofs.Differing.{all_sorted}
+use Rattle.mt_stamp.proofs.SameItems.{SameItems, same_filter, same_map, all_passing}
+use Rattle.mt_stamp.proofs.Sorting.{sorts, sorted_is_sort_by, sort_same}
+use Rattle.mt_op.specs.declared.need.Role.{Role}
+use Rattle.mt_op.specs.declared.need.Role.TheVariants.{Clip as ClipRole, Marker as MarkerRole}
+use Rattle.mt_op.specs.declared.digest.Digest.{Digest}
+use Rattle.mt_op.specs.ByStamp.{stamp_of, op_cmp}
+use Rattle.mt_op.specs.Gain.{unchanged}
+use Rattle.mt_op.specs.Operation.{Act, AddClip, AddMarker, Operation}
+use Rattle.mt_op.specs.Needs.{fits, adds_clip, adds_marker}
+use Rattle.mt_op.specs.Presence.{is_present}
+use Rattle.mt_op.specs.Writes.{Write, Written, title_written, gain_written, mute_written, clip_place_written, trim_written, source_written, position_written, written_by, last_write}
+use Rattle.mt_op.proofs.WriteOf.{is_write_of}
+use Rattle.mt_items.specs.Cells.{items_of}
+use Rattle.mt_sessionview.specs.Content.{Clip, Marker, clip_cmp, marker_cmp}
+use Rattle.mt_sessionview.specs.Session.{source_of}
+use Rattle.mt_sessionview.specs.Noted.{value_in, is_shown_in, marker_in, markers_in, clip_place_in, clip_in, is_clip_on_in, clips_in}
+use Rattle.mt_sessionview.specs.Read.{marker_from, marker_read, clip_from, clip_read, if_on, clip_on}
+use Rattle.mt_sessionview.specs.declared.clip.OnTrack.{OnTrack}
+use Rattle.mt_sessionview.proofs.Items.{stamp_eq_same}
+use Rattle.mt_sessionview.proofs.Lists.{all_members, all_also}
+use Rattle.mt_sessionview.proofs.Orders.{marker_cmp_total, clip_cmp_total}
+use Rattle.mt_sessionview.proofs.Shown.{IsGiven, given_last, clip_given, IsMarkerIn, one_marker, all_markers, IsClipIn, one_clip, all_clips}
+
+-- what is read of stamps is what is shown of the operations
+read_shown : {V : Type 0} (f : Moment → Option V) (q : Operation → Bool) (view : Operation → V) (xs : List Operation) → AllByRecursion (λ o. f o.stamp ≡ cond (q o) (Some (view o)) None) xs → filter_map f (map stamp_of xs) ≡ map view (filter q xs)
+read_shown f q view [] all = refl
+read_shown {V} f q view (x ∷ xs) all = ap (λ (o : Option V). cons_option o (filter_map f (map stamp_of xs))) all.0 ∙ by (q x) (read_shown f q view xs all.1)
+  where
+    by : (b : Bool) → filter_map f (map stamp_of xs) ≡ map view (filter q xs) → cons_option (cond b (Some (view x)) None) (filter_map f (map stamp_of xs)) ≡ map view (cond b (x ∷ filter q xs) (filter q xs))
+    by true rest = ap (λ (l : List V). view x ∷ l) rest
+    by false rest = rest
+
+kept_of_kind : (p q : Operation → Bool) → ((o : Operation) → p o ≡ false → q o ≡ false) → (xs : List Operation) → filter q (filter p xs) ≡ filter q xs
+kept_of_kind p q inner [] = refl
+kept_of_kind p q inner (x ∷ xs) = by (p x) refl (kept_of_kind p q inner xs)
+  where
+    by : (b : Bool) → p x ≡ b → filter q (filter p xs) ≡ filter q xs → filter q (cond b (x ∷ filter p xs) (filter p xs)) ≡ cond (q x) (x ∷ filter q xs) (filter q xs)
+    by true is rest = λ i. cond (q x) (x ∷ rest i) (rest i)
+    by false is rest = rest ∙ ap (λ (b : Bool). cond b (x ∷ filter q xs) (filter q xs)) (sym (inner x is))
+
+module _ (r : List Operation) where
+  abbrev ops_of : Role → List Operation
+  ops_of kind = sort_by op_cmp (filter (fits kind) r)
+
+  ops_in : (kind : Role) → AllByRecursion (λ o. IsMember o r × (fits kind o ≡ true)) (ops_of kind)
+  ops_in kind = all_sorted op_cmp (λ o. IsMember o r × (fits kind o ≡ true)) (filter (fits kind) r) (all_passing (λ o. IsMember o r) (fits kind) r (all_members (λ o. IsMember o r) r (λ o m. m)))
+
+  module _ {V : Type 0} (kind : Role) (f : Moment → Option V) (q : Operation → Bool) (view : Operation → V) (inner : (o : Operation) → fits kind o ≡ false → q o ≡ false)
+      (reads : (o : Operation) → IsMember o r → fits kind o ≡ true → f o.stamp ≡ cond (q o) (Some (view o)) None) where
+    read_is : filter_map f (items_of kind r) ≡ map view (filter q (ops_of kind))
+    read_is = read_shown f q view (ops_of kind) (all_also (λ o. IsMember o r × (fits kind o ≡ true)) (λ o. f o.stamp ≡ cond (q o) (Some (view o)) None) (λ o m. reads o m.0 m.1) (ops_of kind) (ops_in kind))
+
+    same_shown : SameItems (map view (filter q (ops_of kind))) (map view (filter q r))
+    same_shown =
+        same_map (filter q (ops_of kind)) (filter q r)
+        (λ g. same_filter (ops_of kind) (filter (fits kind) r) (λ h. (sorts op_cmp (on_total stamp_of stamp_cmp_total)).same h (filter (fits kind) r)) q g ∙ ap (sum_by g) (kept_of_kind (fits kind) q inner r)) view
+
+    -- and sorted, they are those in order
+    pub read_sorted : (cmp : V → V → Ordering) → IsTotalOrder cmp → (P : V → Type 0) → ((a b : V) → P a → P b → cmp a b ≡ Equal → a ≡ b) → ((xs : List Operation) → AllByRecursion (λ o. IsMember o r) xs → AllByRecursion P (map view (filter q xs)))
+        → (made sorted : List V) → made ≡ filter_map f (items_of kind r) → IsPermutation made sorted → IsSorted cmp sorted → sorted ≡ sort_by cmp (map view (filter q r))
+    read_sorted cmp total P apart all made sorted made_is moved rises =
+        let is : made ≡ map view (filter q (ops_of kind)) = made_is ∙ read_is in
+        let M : List V → Type 0 = λ l. IsPermutation l sorted in
+        let all_made = all (ops_of kind) (all_also (λ o. IsMember o r × (fits kind o ≡ true)) (λ o. IsMember o r) (λ o m. m.0) (ops_of kind) (ops_in kind)) in
+        sorted_is_sort_by cmp total P apart (map view (filter q (ops_of kind))) sorted (All-from_recursion P (map view (filter q (ops_of kind))) all_made) (subst M is moved) rises
+        ∙ sort_same cmp total P apart (map view (filter q (ops_of kind))) (map view (filter q r)) all_made (all r (all_members (λ o. IsMember o r) r (λ o m. m))) same_shown
+
+module _ (r : List Operation) (one : (a b : Operation) → IsMember a r → IsMember b r → a.stamp ≡ b.stamp → a ≡ b) where
+  -- ---- markers
+
+  marker_title : (o : Operation) → IsMember o r → adds_marker o.act ≡ true → IsGiven r one title_written o.stamp
+  marker_title o m adds = by o.act refl adds
+    where
+      by : (act : Act) → o.act ≡ act → adds_marker act ≡ true → IsGiven r one title_written o.stamp
+      by (AddMarker at title) is added = given_last r one title_written o title m (ap (title_written o.stamp) is)
+      by _ is added = cc added
+
+  marker_reads : (o : Operation) → IsMember o r → fits MarkerRole o ≡ true → marker_read r o.stamp ≡ cond (is_shown_in r adds_marker o) (Some (marker_in r o)) None
+  marker_reads o m adds =
+      let title = marker_title o m adds in
+      let is : marker_from r o.stamp (last_write title_written o.stamp r) ≡ Some (marker_in r o) =
+      ap (marker_from r o.stamp) title.is
+      ∙ (λ i. Some (record { marker = o.stamp; at = unwrap_or (value_in r position_written o.stamp) 0; title = unwrap_or (option_map (λ (w : Written (List ℕ)). w.value) (sym title.is i)) [] })) in
+      ap (λ (v : Option Marker). cond (is_present r o.stamp) v None) is ∙ ap (λ (b : Bool). cond (b && is_present r o.stamp) (Some (marker_in r o)) None) (sym adds)
+
+  unshown : (adds : Act → Bool) (o : Operation) → adds o.act ≡ false → is_shown_in r adds o ≡ false
+  unshown adds o none = ap (λ (b : Bool). b && is_present r o.stamp) none
+
+  pub markers_sorted : (made sorted : List Marker) → made ≡ filter_map (marker_read r) (items_of MarkerRole r) → IsPermutation made sorted → IsSorted marker_cmp sorted → sorted ≡ markers_in r
+  markers_sorted = read_sorted r MarkerRole (marker_read r) (is_shown_in r adds_marker) (marker_in r) (unshown adds_marker) marker_reads marker_cmp marker_cmp_total (IsMarkerIn r one) (one_marker r one) (all_markers r one)
+
+  -- ---- clips
+
+  clip_trim : (o : Operation) → IsMember o r → adds_clip o.act ≡ true → IsGiven r one trim_written o.stamp
+  clip_trim o m adds = by o.act refl adds
+    where
+      by : (act : Act) → o.act ≡ act → adds_clip act ≡ true → IsGiven r one trim_written o.stamp
+      by (AddClip source track at offset len) is added = given_last r one trim_written o (offset, len) m (ap (trim_written o.stamp) is)
+      by _ is added = cc added
+
+  -- what an operation alone writes of its own item
+  own_source : (own : Moment) (act : Act) (w : Write Digest) → source_written own act ≡ Some w → (own ≡ w.item) × (source_of act ≡ w.value)
+  own_source own (AddClip source track at offset len) w is =
+      let same : record { item = own; value = source } ≡ w = same_Some _ w is in (ap (λ (v : Write Digest). v.item) same, ap (λ (v : Write Digest). v.value) same)
+  own_source own _ w is = absurd cc
+
+  clip_source : (o : Operation) → IsMember o r → adds_clip o.act ≡ true → (w : Written Digest) × (last_write source_written o.stamp r ≡ Some w) × (w.value ≡ source_of o.act)
+  clip_source o m adds = by o.act refl adds
+    where
+      by : (act : Act) → o.act ≡ act → adds_clip act ≡ true → (w : Written Digest) × (last_write source_written o.stamp r ≡ Some w) × (w.value ≡ source_of o.act)
+      by (AddClip source track at offset len) is added =
+          let g = given_last r one source_written o source m (ap (source_written o.stamp) is) in
+          let write = is_write_of source_written o.stamp g.given.0 g.write g.given.2 in
+          let own = own_source g.given.0.stamp g.given.0.act write.write write.made in
+          let same : g.given.0 ≡ o = one g.given.0 o g.given.1 m (own.0 ∙ write.item_is) in
+          (g.write, g.is, ap (λ (v : Written Digest). v.value) write.value_is ∙ sym own.1 ∙ ap (λ (x : Operation). source_of x.act) same)
+      by _ is added = cc added
+
+  abbrev no_place : Moment → Written (Moment × ℕ)
+  no_place clip = record { writer = clip; value = (clip, 0) }
+
+  abbrev found_in : List Operation → Operation → OnTrack
+  found_in ops o = record { track = (clip_place_in ops o.stamp).value.0; clip = clip_in ops o }
+
+  clip_reads : (track : Moment) (o : Operation) → IsMember o r → fits ClipRole o ≡ true → clip_on r track o.stamp ≡ cond (is_clip_on_in r track o) (Some (clip_in r o)) None
+  clip_reads track o m adds =
+      ap (λ (v : Option OnTrack). if_on r track (cond (is_present r o.stamp) v None)) is ∙ by (is_present r o.stamp)
+      ∙ ap (λ (b : Bool). cond ((b && is_present r o.stamp) && stamp_eq (clip_place_in r o.stamp).value.0 track) (Some (clip_in r o)) None) (sym adds)
+    where
+      place : IsGiven r one clip_place_written o.stamp
+      place = clip_given r one o m adds
+
+      trim : IsGiven r one trim_written o.stamp
+      trim = clip_trim o m adds
+
+      source : (w : Written Digest) × (last_write source_written o.stamp r ≡ Some w) × (w.value ≡ source_of o.act)
+      source = clip_source o m adds
+
+      is : clip_from r o.stamp (last_write clip_place_written o.stamp r) (last_write trim_written o.stamp r) (last_write source_written o.stamp r) ≡ Some (found_in r o)
+      is =
+          (λ i. clip_from r o.stamp (place.is i) (trim.is i) (source.1 i))
+          ∙ (λ i. Some (record {
+            track = (unwrap_or (sym place.is i) (no_place o.stamp)).value.0;
+            clip = record {
+              clip = o.stamp;
+              place = (unwrap_or (sym place.is i) (no_place o.stamp)).writer;
+              at = (unwrap_or (sym place.is i) (no_place o.stamp)).value.1;
+              offset = (unwrap_or (option_map (λ (w : Written (ℕ × ℕ)). w.value) (sym trim.is i)) (0, 0)).0;
+              len = (unwrap_or (option_map (λ (w : Written (ℕ × ℕ)). w.value) (sym trim.is i)) (0, 0)).1;
+              gain = unwrap_or (value_in r gain_written o.stamp) unchanged;
+              mute = unwrap_or (value_in r mute_written o.stamp) false;
+              source = source.2 i;
+            };
+          }))
+
+      by : (b : Bool) → if_on r track (cond b (Some (found_in r o)) None) ≡ cond ((true && b) && stamp_eq (clip_place_in r o.stamp).value.0 track) (Some (clip_in r o)) None
+      by true = refl
+      by false = refl
+
+  off_track : (track : Moment) (o : Operation) → fits ClipRole o ≡ false → is_clip_on_in r track o ≡ false
+  off_track track o none = ap (λ (b : Bool). b && stamp_eq (clip_place_in r o.stamp).value.0 track) (unshown adds_clip o none)
+
+  pub clips_sorted : (track : Moment) (made sorted : List Clip) → made ≡ filter_map (clip_on r track) (items_of ClipRole r) → IsPermutation made sorted → IsSorted clip_cmp sorted → sorted ≡ clips_in r track
+  clips_sorted track = read_sorted r ClipRole (clip_on r track) (is_clip_on_in r track) (clip_in r) (off_track track) (clip_reads track) clip_cmp clip_cmp_total (IsClipIn r one) (one_clip r one) (all_clips r one track)

@@ -1,0 +1,95 @@
+-- The session of operations, of those that are ready by rising stamp.
+use Rattle.std.proofs.Common.{◌≡◌, ℕ, suc, ◌+◌, ◌-◌, Bool, true, false, cond, not, List, [], ◌∷◌, Some, length, map, refl, sym, ap, ◌∙◌, subst, arith}
+use Rattle.std.specs.Prelude.{slice_get, reverse}
+use Rattle.std.specs.Cmp.{IsTotalOrder, on_total}
+use Rattle.std.specs.List.{AllByRecursion, filter}
+use Rattle.std.specs.List.Sorted.{IsPermutation}
+use Rattle.std.proofs.lemmas.List.Sorted.{IsPermutation-reverse, sum_by-IsPermutation}
+use Rattle.mt_stamp.specs.Moment.{Moment, stamp_cmp}
+use Rattle.mt_stamp.specs.Sorting.{sort_by, RisesStrictly, DifferBy}
+use Rattle.mt_stamp.specs.Tree.{IsTree}
+use Rattle.mt_stamp.proofs.Order.{stamp_cmp_total, stamp_cmp-IsAntisymmetric}
+use Rattle.mt_stamp.proofs.Differing.{all_sorted, differ_sorted}
+use Rattle.mt_stamp.proofs.Members.{IsMember, member_sorted, member_unsorted, member_of_kept}
+use Rattle.mt_stamp.proofs.SameItems.{SameItems, same_map}
+use Rattle.mt_stamp.proofs.Sorting.{sorts, sort_same}
+use Rattle.mt_op.specs.ByStamp.{stamp_of, op_cmp}
+use Rattle.mt_op.specs.Operation.{Operation}
+use Rattle.mt_op.specs.Needs.{needs, meets, clock_of}
+use Rattle.mt_op.specs.Ready.{is_ready}
+use Rattle.mt_op.specs.Valid.{IsOperation}
+use Rattle.mt_opcodec.specs.LogValue.{AreLogged}
+use Rattle.mt_sessionview.specs.Content.{Content, Track, Marker}
+use Rattle.mt_sessionview.specs.Session.{ready_ops, held_ops, session_of, places, stamps_of}
+use Rattle.mt_sessionview.specs.Noted.{markers_in, tracks_in, places_in}
+use Rattle.mt_sessionview.proofs.Lists.{all_members, one_of, rises_kept, rises_mapped}
+use Rattle.mt_sessionview.proofs.PlaceTree.{places_are_a_tree}
+use Rattle.mt_sessionview.proofs.Refs.{sorted_already, rising_ops}
+use Rattle.mt_sessionview.proofs.SameReady.{ready_same}
+use Rattle.mt_sessionview.proofs.SameSession.{listing_same, markers_same, tracks_same}
+use Rattle.mt_sessionview.proofs.Standing.{members_moved}
+use Rattle.mt_sessionview.proofs.TrackSorting.{every_stamp}
+
+op_total : IsTotalOrder op_cmp
+op_total = on_total stamp_of stamp_cmp_total
+
+-- what passes and what does not are all
+parts : {X : Type 0} (p : X → Bool) (xs : List X) → length (filter p xs) + length (filter (λ x. not (p x)) xs) ≡ length xs
+parts p [] = refl
+parts {X} p (x ∷ xs) = by (p x) (parts p xs)
+  where
+    by : (b : Bool) → length (filter p xs) + length (filter (λ y. not (p y)) xs) ≡ length xs
+        → length (cond b (x ∷ filter p xs) (filter p xs)) + length (cond (not b) (x ∷ filter (λ y. not (p y)) xs) (filter (λ y. not (p y)) xs)) ≡ suc (length xs)
+    by true rest = omega (arith, rest)
+    by false rest = omega (arith, rest)
+
+any_stamp : (xs : List Moment) → AllByRecursion (λ m. Unit {0}) xs
+any_stamp [] = tt
+any_stamp (x ∷ xs) = (tt, any_stamp xs)
+
+module _ (ops : List Operation) (logged : AreLogged ops) where
+  abbrev s : List Operation
+  s = sort_by op_cmp ops
+
+  abbrev r : List Operation
+  r = reverse (ready_ops s)
+
+  pub differ : DifferBy stamp_of s
+  differ = differ_sorted stamp_of op_cmp ops (every_stamp ops logged.rise)
+
+  pub tree : IsTree (places_in (ready_ops s))
+  tree = places_are_a_tree s differ (all_sorted op_cmp IsOperation ops logged.valid)
+
+  one_ready : (a b : Operation) → IsMember a (ready_ops s) → IsMember b (ready_ops s) → a.stamp ≡ b.stamp → a ≡ b
+  one_ready a b in_a in_b same =
+      one_of stamp_of s a b differ (member_of_kept (is_ready clock_of needs meets s) s a in_a).0 (member_of_kept (is_ready clock_of needs meets s) s b in_b).0 same
+
+  same : SameItems (ready_ops s) r
+  same f = sym (sum_by-IsPermutation f (ready_ops s) r (IsPermutation-reverse (ready_ops s)))
+
+  listed : AllByRecursion (λ o. IsMember o (ready_ops s)) r
+  listed = all_members (λ o. IsMember o (ready_ops s)) r (λ o m. members_moved (ready_ops s) r (IsPermutation-reverse (ready_ops s)) o m)
+
+  session_sorted : session_of s ≡ session_of ops
+  session_sorted =
+      listing_same s ops (λ a b in_a in_b stamps. one_of stamp_of s a b differ in_a in_b stamps) (λ f. (sorts op_cmp op_total).same f ops)
+      (all_members (λ o. IsMember o s) ops (λ o m. member_sorted op_cmp op_total o ops m))
+
+  -- the session, from its parts
+  pub whole : (items : List Operation) (tracks : List Track) (markers : List Marker) (all some held : ℕ) → items ≡ r → tracks ≡ tracks_in items → markers ≡ markers_in items → all ≡ length s → some ≡ length (ready_ops s) → held ≡ all - some
+      → record { tracks = tracks; markers = markers; held = held } ≡ session_of ops
+  whole items tracks markers all some held items_are tracks_are markers_are all_is some_is held_is =
+      let t : tracks ≡ tracks_in (ready_ops s) = tracks_are ∙ ap tracks_in items_are ∙ sym (tracks_same (ready_ops s) r same listed one_ready) in
+      let m : markers ≡ markers_in (ready_ops s) = markers_are ∙ ap markers_in items_are ∙ sym (markers_same (ready_ops s) r same listed one_ready) in
+      let h : held ≡ length (held_ops s) = (let sum = parts (is_ready clock_of needs meets s) s in omega (arith, sum, all_is, some_is, held_is)) in
+      (λ i. record { tracks = t i; markers = m i; held = h i }) ∙ session_sorted
+
+  pub fewer : (all some : ℕ) → all ≡ length s → some ≡ length (ready_ops s) → (n : ℕ) × (some + n ≡ all)
+  fewer all some all_is some_is = (length (held_ops s), (let sum = parts (is_ready clock_of needs meets s) s in omega (arith, sum, all_is, some_is)))
+
+  -- the stamps of the ready ones rise
+  pub stamps_are : map stamp_of (ready_ops s) ≡ sort_by stamp_cmp (stamps_of (ready_ops ops))
+  stamps_are =
+      sym (sorted_already (map stamp_of (ready_ops s)) (rises_mapped stamp_cmp stamp_of (ready_ops s) (rises_kept op_cmp (is_ready clock_of needs meets s) s (rising_ops ops (every_stamp ops logged.rise)))))
+      ∙ sort_same stamp_cmp stamp_cmp_total (λ m. Unit {0}) (λ a b one other tied. stamp_cmp-IsAntisymmetric a b tied) (map stamp_of (ready_ops s)) (stamps_of (ready_ops ops)) (any_stamp (map stamp_of (ready_ops s))) (any_stamp (stamps_of (ready_ops ops)))
+      (same_map (ready_ops s) (ready_ops ops) (ready_same clock_of needs meets s ops (λ f. (sorts op_cmp op_total).same f ops)) stamp_of)

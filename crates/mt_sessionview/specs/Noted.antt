@@ -1,0 +1,77 @@
+-- What a session shows, of its ready operations alone. Working definitions: those of Session.antt, of the ready operations in any order.
+use Rattle.std.specs.Prelude.{ℕ, Bool, false, ◌&&◌, List, [], map, Option, option_map, unwrap_or}
+use Rattle.std.specs.List.{filter, filter_map}
+use Rattle.std.specs.declared.cmp.Ordering.{Ordering}
+use Rattle.mt_stamp.specs.Moment.{Moment}
+use Rattle.mt_stamp.specs.Tree.{TreePlace, tree_cmp}
+use Rattle.mt_op.specs.Gain.{unchanged}
+use Rattle.mt_op.specs.Operation.{Act, Operation}
+use Rattle.mt_op.specs.Needs.{stamp_eq, adds_track, adds_clip, adds_marker}
+use Rattle.mt_op.specs.Writes.{Write, Written, title_written, gain_written, mute_written, track_place_written, clip_place_written, trim_written, position_written, last_write}
+use Rattle.mt_op.specs.Presence.{is_present}
+use Rattle.mt_sessionview.specs.Content.{Clip, Track, Marker, clip_cmp, marker_cmp}
+use Rattle.mt_sessionview.specs.Session.{source_of, place_added}
+use Rattle.mt_stamp.specs.Sorting.{sort_by}
+
+-- the definitions of specs/Session.antt, of the ready operations
+module _ (r : List Operation) where
+  abbrev pub value_in : {X : Type 0} → (Moment → Act → Option (Write X)) → Moment → Option X
+  value_in {X} field item = option_map (λ (w : Written X). w.value) (last_write field item r)
+
+  abbrev pub is_shown_in : (Act → Bool) → Operation → Bool
+  is_shown_in adds o = adds o.act && is_present r o.stamp
+
+  abbrev pub shown_in : (Act → Bool) → List Operation
+  shown_in adds = filter (is_shown_in adds) r
+
+  abbrev pub marker_in : Operation → Marker
+  marker_in o = record {
+    marker = o.stamp;
+    at = unwrap_or (value_in position_written o.stamp) 0;
+    title = unwrap_or (value_in title_written o.stamp) [];
+  }
+
+  abbrev pub markers_in : List Marker
+  markers_in = sort_by marker_cmp (map marker_in (shown_in adds_marker))
+
+  abbrev pub clip_place_in : Moment → Written (Moment × ℕ)
+  clip_place_in clip = unwrap_or (last_write clip_place_written clip r) (record { writer = clip; value = (clip, 0) })
+
+  abbrev pub clip_in : Operation → Clip
+  clip_in o = record {
+    clip = o.stamp;
+    place = (clip_place_in o.stamp).writer;
+    at = (clip_place_in o.stamp).value.1;
+    offset = (unwrap_or (value_in trim_written o.stamp) (0, 0)).0;
+    len = (unwrap_or (value_in trim_written o.stamp) (0, 0)).1;
+    gain = unwrap_or (value_in gain_written o.stamp) unchanged;
+    mute = unwrap_or (value_in mute_written o.stamp) false;
+    source = source_of o.act;
+  }
+
+  abbrev pub is_clip_on_in : Moment → Operation → Bool
+  is_clip_on_in track o = is_shown_in adds_clip o && stamp_eq (clip_place_in o.stamp).value.0 track
+
+  abbrev pub clips_in : Moment → List Clip
+  clips_in track = sort_by clip_cmp (map clip_in (filter (is_clip_on_in track) r))
+
+  abbrev pub places_in : List TreePlace
+  places_in = filter_map place_added r
+
+  abbrev pub track_place_in : Moment → Moment
+  track_place_in track = unwrap_or (option_map (λ (w : Written (Option Moment)). w.writer) (last_write track_place_written track r)) track
+
+  abbrev pub track_cmp_in : Operation → Operation → Ordering
+  track_cmp_in a b = tree_cmp places_in (track_place_in a.stamp) (track_place_in b.stamp)
+
+  abbrev pub track_in : Operation → Track
+  track_in o = record {
+    track = o.stamp;
+    title = unwrap_or (value_in title_written o.stamp) [];
+    gain = unwrap_or (value_in gain_written o.stamp) unchanged;
+    mute = unwrap_or (value_in mute_written o.stamp) false;
+    clips = clips_in o.stamp;
+  }
+
+  abbrev pub tracks_in : List Track
+  tracks_in = map track_in (sort_by track_cmp_in (shown_in adds_track))

@@ -1,0 +1,39 @@
+//! Operations by their stamps.
+
+ghost use Rattle.std.specs.Prelude.{◌≡◌, IfOk, map};
+ghost use Rattle.mt_stamp.specs.Sorting.{sort_by};
+ghost use Rattle.mt_op.specs.ByStamp.{stamp_of, op_cmp};
+ghost use Rattle.mt_opcodec.specs.LogValue.{operations};
+
+use mt_op::Op;
+use mt_opcodec::Log;
+use mt_stamp::Stamp;
+use std::alloc::{AllocError, Allocator};
+
+/// References to a log's operations, by rising stamp. n operations cost n log n, and take memory for the references alone.
+pub fn sorted_ops<'a, A: Allocator, B: Allocator>(
+    alloc: B,
+    log: &'a Log<A>,
+) -> Result<Vec<&'a Op<A>, B>, AllocError>
+    ensures { IfOk result (λ sorted. map (λ o. o.now) sorted.items ≡ sort_by op_cmp (operations log.now)) }
+{
+    // brings that the dots of a log's operations differ
+    let _ = log.runs();
+    let mut sorted = log.refs(alloc)?;
+    sorted.sort_by_key(|op| op.stamp())?;
+    Ok(sorted)
+}
+
+// The stamps of operations, in their order.
+pub(crate) fn stamps_of<A: Allocator, B: Allocator>(
+    alloc: B,
+    ops: &[&Op<A>],
+) -> Result<Vec<Stamp, B>, AllocError>
+    ensures { IfOk result (λ stamps. stamps.items ≡ map stamp_of (map (λ o. o.now) ops.now)) }
+{
+    let mut stamps = Vec::with_capacity(alloc, ops.len())?;
+    for op in ops {
+        stamps.push(op.stamp())?;
+    }
+    Ok(stamps)
+}

@@ -1,0 +1,50 @@
+-- What an exchange between two editors answers and leaves.
+use Rattle.std.specs.Prelude.{◌≡◌, true, false, List, Option, Some, None, Result, Ok, Err, ◌⊎◌}
+use Rattle.mt_op.specs.Operation.{Operation}
+use Rattle.mt_opcodec.specs.LogValue.{LogMap, AreLogged}
+use Rattle.mt_opcodec.specs.Union.{union}
+use Rattle.mt_summary.specs.Summary.{summary_of}
+use Rattle.mt_sync.specs.declared.fault.TalkFault.{TalkFault}
+use Rattle.mt_sync.specs.declared.fault.TalkFault.TheVariants.{Memory, Conflict, Failed, BadMessage, OutOfTurn, FrameTooLong}
+use Rattle.mt_sync.specs.Conversation.{can_say, joined}
+
+-- where memory ran out: as it was, with all that it lacked, or failed
+abbrev pub IsLeftOf : LogMap → LogMap → Option LogMap → Type 0
+IsLeftOf own other new = (new ≡ Some own) ⊎ ((new ≡ Some (union own other)) ⊎ (new ≡ None))
+
+-- Each editor holds its own operations, and the other's under dots that it had not. No dot clashes, since nothing is sent under a dot
+-- that the other end has.
+abbrev pub ExchangesSets : LogMap → LogMap → Result (Unit {0}) TalkFault → Option LogMap → Option LogMap → Type 0
+ExchangesSets a b (Ok _) a' b' = ((can_say (summary_of a) ≡ true) × (can_say (summary_of b) ≡ true)) × ((a' ≡ Some (union a b)) × (b' ≡ Some (union b a)))
+ExchangesSets a b (Err FrameTooLong) a' b' = ((can_say (summary_of a) ≡ false) ⊎ (can_say (summary_of b) ≡ false)) × ((a' ≡ Some a) × (b' ≡ Some b))
+ExchangesSets a b (Err Memory) a' b' = IsLeftOf a b a' × IsLeftOf b a b'
+ExchangesSets a b (Err (Conflict dot)) a' b' = ⊥
+ExchangesSets a b (Err Failed) a' b' = ⊥
+ExchangesSets a b (Err BadMessage) a' b' = ⊥
+ExchangesSets a b (Err OutOfTurn) a' b' = ⊥
+
+-- the same, of editors of which one may have failed: then nothing changes
+abbrev pub Exchanges : Option LogMap → Option LogMap → Result (Unit {0}) TalkFault → Option LogMap → Option LogMap → Type 0
+Exchanges None b result a' b' = (result ≡ Err Failed) × ((a' ≡ None) × (b' ≡ b))
+Exchanges (Some a) None result a' b' = (result ≡ Err Failed) × ((a' ≡ Some a) × (b' ≡ None))
+Exchanges (Some a) (Some b) result a' b' = ExchangesSets a b result a' b'
+
+-- ---- what an editor lacks of another one's operations (working predicates)
+
+-- a log's operations that join a set without a clash and make it the union with another set
+abbrev pub IsMissing : LogMap → LogMap → List Operation → Type 0
+IsMissing own other list = AreLogged list × (joined own list ≡ (union own other, None))
+
+abbrev pub FindsMissing : {X : Type 0} → (X → List Operation) → LogMap → LogMap → Result X TalkFault → Type 0
+FindsMissing view own other (Ok x) = (can_say (summary_of own) ≡ true) × IsMissing own other (view x)
+FindsMissing view own other (Err Memory) = Unit {0}
+FindsMissing view own other (Err FrameTooLong) = can_say (summary_of own) ≡ false
+FindsMissing view own other (Err (Conflict dot)) = ⊥
+FindsMissing view own other (Err Failed) = ⊥
+FindsMissing view own other (Err BadMessage) = ⊥
+FindsMissing view own other (Err OutOfTurn) = ⊥
+
+abbrev pub FindsLacking : {X : Type 0} → (X → List Operation) → Option LogMap → Option LogMap → Result X TalkFault → Type 0
+FindsLacking view None other result = result ≡ Err Failed
+FindsLacking view (Some own) None result = result ≡ Err Failed
+FindsLacking view (Some own) (Some other) result = FindsMissing view own other result
