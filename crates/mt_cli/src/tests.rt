@@ -1,6 +1,5 @@
 //! What no clause says: printed texts that were worked out by hand, which device fails where, each growth refused in
-//! turn, and the command line.
-mod commands;
+//! turn.
 mod fakes;
 mod headline;
 mod infos;

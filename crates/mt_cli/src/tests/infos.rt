@@ -1,8 +1,6 @@
 //! What wave files say of themselves, over memory and over devices that fail.
 use super::fakes::{Choked, Narrow};
 use crate::{CliFault, write_info};
-use mt_bwfread::WaveFault;
-use mt_op::Digest;
 use mt_opcodec::Latch;
 use mt_testalloc::Refusing;
 use std::test::Fail;
@@ -59,19 +57,6 @@ fn append_field(bytes: &mut Vec<u8>, text: &[u8], len: usize) -> Result<(), Fail
     Ok(())
 }
 
-// The content of a chunk `bext` of version 1 with this history.
-fn bext(rt: &HostRuntime, history: &[u8]) -> Result<Vec<u8>, Fail> {
-    let mut bytes = Vec::new(rt.alloc());
-    append_field(&mut bytes, b"Caf\xc3\xa9 ~", 256)?;
-    append_field(&mut bytes, b"back\\slash", 32)?;
-    append_field(&mut bytes, b"", 32)?;
-    append_field(&mut bytes, b"2026-11-22", 10)?;
-    append_field(&mut bytes, b"12:34:56", 8)?;
-    append_field(&mut bytes, b"\x02\0\0\0\x01\0\0\0\x01\0", 264)?;
-    bytes.extend_from_slice(history)?;
-    Ok(bytes)
-}
-
 // A cue point of this name at this frame.
 fn point(rt: &HostRuntime, name: u32, at: u32) -> Result<Vec<u8>, Fail> {
     let mut bytes = Vec::new(rt.alloc());
@@ -105,80 +90,6 @@ fn info(rt: &HostRuntime, file: &[u8]) -> Result<Vec<u8>, CliFault> {
     let mut output = Latch::new(Vec::new(rt.alloc()));
     write_info(rt.alloc(), file, &mut output)?;
     Ok(output.into_inner())
-}
-
-// smallest_wave
-#[test]
-fn of_the_smallest_wave(rt: HostRuntime) -> Result<(), Fail> {
-    assert_eq!(rt; info(&rt, SMALLEST)?.as_slice(), SMALLEST_TEXT.as_bytes());
-    Ok(())
-}
-
-#[test]
-fn of_every_front_of_it(rt: HostRuntime) -> Result<(), Fail> {
-    for len in 0..SMALLEST.len() {
-        let mut output = Latch::new(Vec::new(rt.alloc()));
-        let fault = match len {
-            0..=7 => WaveFault::NotRiff,
-            8..=11 => WaveFault::NotWave,
-            12..=19 => WaveFault::NoFmt,
-            20..=35 | 44 => WaveFault::Truncated,
-            _ => WaveFault::NoData,
-        };
-        assert_eq!(rt;
-            write_info(rt.alloc(), &SMALLEST[..len], &mut output),
-            Err(CliFault::Source(0, fault)),
-            "{len}"
-        );
-        assert!(rt; output.into_inner().is_empty());
-    }
-    Ok(())
-}
-
-#[test]
-fn with_extension_cues_and_labels(rt: HostRuntime) -> Result<(), Fail> {
-    let file = wave(
-        &rt,
-        &[
-            (b"LIST", &labels(&rt)?),
-            (b"bext", &bext(&rt, b"A=PCM\r\n")?),
-            (b"cue ", &cues(&rt)?),
-        ],
-    )?;
-    let digest = Digest::of(&file).text(rt.alloc())?;
-    let text = format!(in rt.alloc();
-        "digest {digest}
-rate 48000
-channels 1
-bits 24
-frames 2
-bext 1
-description Caf\\xc3\\xa9 ~
-originator back\\x5cslash
-reference 
-date 2026-11-22
-time 12:34:56
-time-reference 4294967298
-history A=PCM\\x0d\\x0a
-cue 1 at 5 label News
-cue 2 at 4294967295
-cue 1 at 0 label News
-"
-    )?;
-    assert_eq!(rt; info(&rt, &file)?.as_slice(), text.as_bytes());
-    Ok(())
-}
-
-#[test]
-fn with_a_text_that_is_longer_than_a_buffer(rt: HostRuntime) -> Result<(), Fail> {
-    for len in [4_000, 5_000, 20_000] {
-        let history = "h".repeat(rt.alloc(), len)?;
-        let file = wave(&rt, &[(b"bext", &bext(&rt, history.as_bytes())?)])?;
-        let shown = info(&rt, &file)?;
-        let end = format!(in rt.alloc(); "time-reference 4294967298\nhistory {history}\n")?;
-        assert!(rt; shown.as_slice().ends_with(end.as_bytes()), "{len}");
-    }
-    Ok(())
 }
 
 #[test]

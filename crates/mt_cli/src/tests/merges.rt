@@ -1,9 +1,9 @@
 //! Merges over memory and over devices that fail.
 use super::fakes::{Narrow, Slow};
-use super::{A, B, late, log_of, marker, news, other, retitle};
+use super::{A, news, other};
 use crate::{CliFault, merge_logs};
 use mt_opcodec::{Latch, Log, LogFault};
-use mt_stamp::{Dot, Stamp};
+use mt_stamp::Dot;
 use std::test::Fail;
 
 /// The text of the merge of these logs.
@@ -17,46 +17,12 @@ fn merge(rt: &HostRuntime, logs: &[&[u8]]) -> Result<Vec<u8>, CliFault> {
     Ok(output.into_inner())
 }
 
-/// The text of the log of the marker `News`, its title `Late`, and the marker `(1, B, 7)`.
-fn union(rt: &HostRuntime) -> Result<Vec<u8>, Fail> {
-    let item = Stamp::new(1, A, 1)?;
-    let mut log = Log::new(rt.alloc());
-    let _new = log.add(marker(rt, item, "News")?)?;
-    let _new = log.add(retitle(rt, Stamp::new(2, B, 1)?, item, "Late")?)?;
-    let _new = log.add(marker(rt, Stamp::new(1, B, 7)?, "Coast")?)?;
-    Ok(log.write()?)
-}
-
 // empty_log
 #[test]
 fn merges_no_log_into_the_empty_one(rt: HostRuntime) -> Result<(), Fail> {
     let empty = Log::new(rt.alloc()).write()?;
     assert_eq!(rt; merge(&rt, &[])?.as_slice(), empty.as_slice());
     assert_eq!(rt; merge(&rt, &[&empty, &empty])?.as_slice(), empty.as_slice());
-    Ok(())
-}
-
-// three_logs
-#[test]
-fn merges_in_any_order_and_with_repeats(rt: HostRuntime) -> Result<(), Fail> {
-    let (x, late) = (news(&rt)?, late(&rt)?);
-    let y = merge(&rt, &[&late, &x])?;
-    let z = log_of(&rt, marker(&rt, Stamp::new(1, B, 7)?, "Coast")?)?;
-    let wanted = union(&rt)?;
-    assert_eq!(rt; merge(&rt, &[&x, &y, &z])?.as_slice(), wanted.as_slice());
-    assert_eq!(rt; merge(&rt, &[&x, &z, &y])?.as_slice(), wanted.as_slice());
-    assert_eq!(rt; merge(&rt, &[&y, &x, &z])?.as_slice(), wanted.as_slice());
-    assert_eq!(rt; merge(&rt, &[&y, &z, &x])?.as_slice(), wanted.as_slice());
-    assert_eq!(rt; merge(&rt, &[&z, &x, &y])?.as_slice(), wanted.as_slice());
-    assert_eq!(rt; merge(&rt, &[&z, &y, &x])?.as_slice(), wanted.as_slice());
-    assert_eq!(rt;
-        merge(&rt, &[&z, &y, &z, &x, &y])?.as_slice(),
-        wanted.as_slice()
-    );
-    let first = merge(&rt, &[&x, &y])?;
-    assert_eq!(rt; merge(&rt, &[&first, &z])?.as_slice(), wanted.as_slice());
-    let last = merge(&rt, &[&y, &z])?;
-    assert_eq!(rt; merge(&rt, &[&x, &last])?.as_slice(), wanted.as_slice());
     Ok(())
 }
 

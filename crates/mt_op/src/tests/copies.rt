@@ -2,7 +2,7 @@
 
 use crate::laws::{equal_bodies, equal_ops};
 use crate::tests::bodies::{add_marker, add_track, remove, retitle, twelve};
-use crate::{Body, Digest, Gain, Op, OpFault};
+use crate::{Body, Op, OpFault};
 use mt_stamp::{Replica, Stamp};
 use mt_testalloc::Refusing;
 use std::alloc::Allocator;
@@ -30,159 +30,6 @@ fn first_mistake<M: Allocator + Clone>(
 #[test]
 fn copies_each_act(rt: HostRuntime) -> Result<(), Fail> {
     let bodies = twelve(rt.alloc(), Stamp::new(1, A, 1)?)?;
-    assert_eq!(rt; first_mistake(&bodies)?, None);
-    Ok(())
-}
-
-#[test]
-fn copies_acts_on_tracks(rt: HostRuntime) -> Result<(), Fail> {
-    let track = Stamp::new(1, A, 1)?;
-    let other = Stamp::new(1, B, 1)?;
-    let bodies = [
-        add_track(rt.alloc(), None, "News")?,
-        add_track(rt.alloc(), None, "Sport")?,
-        add_track(rt.alloc(), Some(track), "News")?,
-        add_track(rt.alloc(), Some(other), "News")?,
-        Body::MoveTrack { track, after: None },
-        Body::MoveTrack {
-            track: other,
-            after: None,
-        },
-        Body::MoveTrack {
-            track,
-            after: Some(track),
-        },
-        Body::MoveTrack {
-            track,
-            after: Some(other),
-        },
-    ];
-    assert_eq!(rt; first_mistake(&bodies)?, None);
-    Ok(())
-}
-
-// An AddClip of these numbers, of a recording whose digest ends with `last`.
-fn add_clip<M: Allocator>(
-    _memory: M,
-    last: u8,
-    track: Stamp,
-    (at, offset, len): (u32, u32, u32),
-) -> Body<M> {
-    let mut source = [0; 32];
-    source[31] = last;
-    Body::AddClip {
-        source: Digest(source),
-        track,
-        at,
-        offset,
-        len,
-    }
-}
-
-#[test]
-fn copies_added_clips(rt: HostRuntime) -> Result<(), Fail> {
-    let track = Stamp::new(1, A, 1)?;
-    let other = Stamp::new(1, B, 1)?;
-    let bodies = [
-        add_clip(rt.alloc(), 1, track, (1, 2, 3)),
-        add_clip(rt.alloc(), 2, track, (1, 2, 3)),
-        add_clip(rt.alloc(), 1, other, (1, 2, 3)),
-        add_clip(rt.alloc(), 1, track, (4, 2, 3)),
-        add_clip(rt.alloc(), 1, track, (1, 4, 3)),
-        add_clip(rt.alloc(), 1, track, (1, 2, 4)),
-        add_clip(rt.alloc(), 1, track, (1, 3, 2)),
-        add_clip(rt.alloc(), 1, track, (2, 1, 3)),
-    ];
-    assert_eq!(rt; first_mistake(&bodies)?, None);
-    Ok(())
-}
-
-fn move_clip<M: Allocator>(_memory: M, clip: Stamp, track: Stamp, at: u32) -> Body<M> {
-    Body::MoveClip { clip, track, at }
-}
-
-fn trim_clip<M: Allocator>(_memory: M, clip: Stamp, offset: u32, len: u32) -> Body<M> {
-    Body::TrimClip { clip, offset, len }
-}
-
-#[test]
-fn copies_moved_and_trimmed_clips(rt: HostRuntime) -> Result<(), Fail> {
-    let clip = Stamp::new(1, A, 1)?;
-    let other = Stamp::new(1, B, 1)?;
-    let bodies = [
-        move_clip(rt.alloc(), clip, clip, 7),
-        move_clip(rt.alloc(), other, clip, 7),
-        move_clip(rt.alloc(), clip, other, 7),
-        move_clip(rt.alloc(), clip, clip, 8),
-        trim_clip(rt.alloc(), clip, 7, 8),
-        trim_clip(rt.alloc(), other, 7, 8),
-        trim_clip(rt.alloc(), clip, 8, 8),
-        trim_clip(rt.alloc(), clip, 7, 7),
-        trim_clip(rt.alloc(), clip, 8, 7),
-    ];
-    assert_eq!(rt; first_mistake(&bodies)?, None);
-    Ok(())
-}
-
-fn set_gain<M: Allocator>(_memory: M, item: Stamp, gain: Gain) -> Body<M> {
-    Body::SetGain { item, gain }
-}
-
-fn set_mute<M: Allocator>(_memory: M, item: Stamp, on: bool) -> Body<M> {
-    Body::SetMute { item, on }
-}
-
-#[test]
-fn copies_gains_and_mutes(rt: HostRuntime) -> Result<(), Fail> {
-    let item = Stamp::new(1, A, 1)?;
-    let other = Stamp::new(1, B, 1)?;
-    let bodies = [
-        set_gain(rt.alloc(), item, Gain::UNCHANGED),
-        set_gain(rt.alloc(), other, Gain::UNCHANGED),
-        set_gain(rt.alloc(), item, Gain::new(2, 1)?),
-        set_gain(rt.alloc(), item, Gain::new(1, 2)?),
-        set_gain(rt.alloc(), item, Gain::new(2, 2)?),
-        set_mute(rt.alloc(), item, true),
-        set_mute(rt.alloc(), item, false),
-        set_mute(rt.alloc(), other, true),
-    ];
-    assert_eq!(rt; first_mistake(&bodies)?, None);
-    Ok(())
-}
-
-#[test]
-fn copies_removes_and_restores(rt: HostRuntime) -> Result<(), Fail> {
-    let item = Stamp::new(1, A, 1)?;
-    let other = Stamp::new(1, B, 1)?;
-    let mut bodies = Vec::new(rt.alloc());
-    for (of, tags) in [
-        (item, [item].as_slice()),
-        (item, [item, other].as_slice()),
-        (item, [other].as_slice()),
-        (other, [item].as_slice()),
-    ] {
-        bodies.push(remove(rt.alloc(), of, tags)?)?;
-    }
-    bodies.push(Body::Restore { item })?;
-    bodies.push(Body::Restore { item: other })?;
-    assert_eq!(rt; first_mistake(&bodies)?, None);
-    Ok(())
-}
-
-#[test]
-fn copies_acts_on_markers(rt: HostRuntime) -> Result<(), Fail> {
-    let item = Stamp::new(1, A, 1)?;
-    let other = Stamp::new(1, B, 1)?;
-    let mut bodies = Vec::new(rt.alloc());
-    for (at, title) in [(7, "News"), (8, "News"), (7, "Sport")] {
-        bodies.push(add_marker(rt.alloc(), at, title)?)?;
-    }
-    for (marker, at) in [(item, 7), (item, 8), (other, 7)] {
-        bodies.push(Body::MoveMarker { marker, at })?;
-    }
-    for (of, title) in [(item, "News"), (item, "Sport"), (other, "News")] {
-        bodies.push(retitle(rt.alloc(), of, title)?)?;
-    }
     assert_eq!(rt; first_mistake(&bodies)?, None);
     Ok(())
 }
@@ -228,13 +75,7 @@ fn compares_bodies_without_their_stamps(rt: HostRuntime) -> Result<(), Fail> {
     Ok(())
 }
 
-// Whether a Remove of one tag copies as itself.
-fn copies_a_list<M: Allocator + Clone>(memory: M, item: Stamp) -> Result<bool, OpFault> {
-    let body = remove(memory, item, &[item])?;
-    Ok(body.try_clone()? == body)
-}
-
-// The same of an operation.
+// Whether an operation with a Remove of one tag copies as itself.
 fn copies_a_list_of_an_operation<M: Allocator + Clone>(
     memory: M,
     own: Stamp,
@@ -242,22 +83,6 @@ fn copies_a_list_of_an_operation<M: Allocator + Clone>(
 ) -> Result<bool, OpFault> {
     let op = Op::new(own, remove(memory, item, &[item])?)?;
     Ok(op.try_clone()? == op)
-}
-
-#[test]
-fn refuses_the_growth_of_a_copied_list(rt: HostRuntime) -> Result<(), Fail> {
-    let item = Stamp::new(1, A, 1)?;
-    for at in 0..3 {
-        let memory = Refusing::new(rt.alloc(), at);
-        let wanted = if at < 2 {
-            Err(OpFault::Memory)
-        } else {
-            Ok(true)
-        };
-        assert_eq!(rt; copies_a_list(&memory, item), wanted, "at {at}");
-        assert_eq!(rt; memory.has_refused(), at < 2, "at {at}");
-    }
-    Ok(())
 }
 
 #[test]
@@ -280,34 +105,12 @@ fn refuses_the_growth_of_a_list_copied_with_its_operation(rt: HostRuntime) -> Re
     Ok(())
 }
 
-// Whether an AddTrack copies as itself, and so an operation of it.
-fn copies_a_track<M: Allocator + Clone>(memory: M, after: Stamp) -> Result<bool, OpFault> {
-    let body = add_track(memory, Some(after), "News")?;
-    Ok(body.try_clone()? == body)
-}
-
 fn copies_a_track_of_an_operation<M: Allocator + Clone>(
     memory: M,
     own: Stamp,
 ) -> Result<bool, OpFault> {
     let op = Op::new(own, add_track(memory, None, "News")?)?;
     Ok(op.try_clone()? == op)
-}
-
-#[test]
-fn refuses_the_growth_of_a_copied_track(rt: HostRuntime) -> Result<(), Fail> {
-    let item = Stamp::new(1, A, 1)?;
-    for at in 0..3 {
-        let memory = Refusing::new(rt.alloc(), at);
-        let wanted = if at < 2 {
-            Err(OpFault::Memory)
-        } else {
-            Ok(true)
-        };
-        assert_eq!(rt; copies_a_track(&memory, item), wanted, "at {at}");
-        assert_eq!(rt; memory.has_refused(), at < 2, "at {at}");
-    }
-    Ok(())
 }
 
 #[test]

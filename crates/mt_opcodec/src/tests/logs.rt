@@ -3,7 +3,7 @@ use super::tracks_and_clips::{
     ADD_CLIP, ADD_TRACK, MOVE_CLIP, MOVE_TRACK, MUTE, SET_GAIN, TRIM_CLIP,
 };
 use super::{A, MOVE, NEWS, REMOVE, RESTORE, SPORT, log_of, marker};
-use crate::{Log, LogFault, ReadFault, read_op};
+use crate::{Log, read_op};
 use mt_stamp::{Dot, Stamp};
 use std::test::Fail;
 
@@ -84,106 +84,5 @@ fn writes_and_reads_a_log_of_each_body(rt: HostRuntime) -> Result<(), Fail> {
     let read = Log::read(rt.alloc(), wanted.as_slice())?;
     assert_eq!(rt; read.len(), 12);
     assert!(rt; read == log);
-    Ok(())
-}
-
-// damaged_logs: their frames
-#[test]
-fn refuses_what_is_no_log(rt: HostRuntime) -> Result<(), Fail> {
-    for (bytes, fault) in [
-        (b"RMT".as_slice(), LogFault::BadMagic),
-        (b"rmts\x01", LogFault::BadMagic),
-        (b"RMTS", LogFault::BadVersion),
-        (b"RMTS\x09", LogFault::BadVersion),
-        (b"RMTS\x01", LogFault::Damaged),
-    ] {
-        assert_eq!(rt;
-            Log::read(rt.alloc(), bytes).err(),
-            Some(fault),
-            "{bytes:?}"
-        );
-    }
-    let mut other_version = EMPTY;
-    other_version[4] = 2;
-    assert_eq!(rt;
-        Log::read(rt.alloc(), &other_version).err(),
-        Some(LogFault::BadVersion)
-    );
-    Ok(())
-}
-
-#[test]
-fn refuses_every_part_of_a_log(rt: HostRuntime) -> Result<(), Fail> {
-    let text = log_of(rt.alloc(), 1, &[&NEWS])?;
-    assert_eq!(rt; text.len(), 87);
-    for len in 0..text.len() {
-        let fault = match len {
-            0..4 => LogFault::BadMagic,
-            4 => LogFault::BadVersion,
-            _ => LogFault::Damaged,
-        };
-        assert_eq!(rt;
-            Log::read(rt.alloc(), &text[..len]).err(),
-            Some(fault),
-            "{len} bytes"
-        );
-    }
-    Ok(())
-}
-
-#[test]
-fn refuses_a_log_with_one_other_byte(rt: HostRuntime) -> Result<(), Fail> {
-    let text = log_of(rt.alloc(), 1, &[&NEWS])?;
-    for place in 0..text.len() {
-        let mut bytes = text.clone()?;
-        bytes[place] ^= 1;
-        let fault = match place {
-            0..4 => LogFault::BadMagic,
-            4 => LogFault::BadVersion,
-            _ => LogFault::Damaged,
-        };
-        assert_eq!(rt;
-            Log::read(rt.alloc(), bytes.as_slice()).err(),
-            Some(fault),
-            "at {place}"
-        );
-    }
-    Ok(())
-}
-
-// damaged_logs: their records
-#[test]
-fn refuses_wrong_records(rt: HostRuntime) -> Result<(), Fail> {
-    let cut_short = LogFault::BadRecord(1, ReadFault::Truncated);
-    let mut tagless = NEWS;
-    tagless[32] = 0xff;
-    let mut nameless = NEWS;
-    nameless[31] = 0;
-    for (count, records, fault) in [
-        (2, [NEWS.as_slice(), b""], cut_short),
-        (u64::MAX, [&NEWS, b""], cut_short),
-        (2, [&NEWS, &SPORT[..70]], cut_short),
-        (2, [&NEWS, &NEWS], LogFault::OutOfOrder(1)),
-        (2, [&SPORT, &NEWS], LogFault::OutOfOrder(1)),
-        (0, [&NEWS, b""], LogFault::Trailing),
-        (1, [&NEWS, &SPORT], LogFault::Trailing),
-        (
-            1,
-            [&tagless, b""],
-            LogFault::BadRecord(0, ReadFault::BadTag),
-        ),
-        (
-            1,
-            [&nameless, b""],
-            LogFault::BadRecord(0, ReadFault::BadField),
-        ),
-    ] {
-        let text = log_of(rt.alloc(), count, &records)?;
-        assert_eq!(rt;
-            Log::read(rt.alloc(), text.as_slice()).err(),
-            Some(fault),
-            "{count}"
-        );
-    }
     Ok(())
 }

@@ -12,35 +12,6 @@ fn log_with(memory: Global, texts: &[&[u8]]) -> Result<Log, Fail> {
     Ok(Log::read(memory, bytes.as_slice())?)
 }
 
-// three_logs
-#[test]
-fn merges_in_any_order_and_grouping(rt: HostRuntime) -> Result<(), Fail> {
-    // a marker (1, B, 7)
-    let mut coast = NEWS;
-    coast[23] = 11;
-    coast[31] = 7;
-    let x = log_with(rt.alloc(), &[&NEWS])?;
-    let y = log_with(rt.alloc(), &[&NEWS, &SPORT])?;
-    let z = log_with(rt.alloc(), &[&coast])?;
-    let wanted = log_of(rt.alloc(), 3, &[&NEWS, &SPORT, &coast])?;
-    for (a, b, c) in [
-        (&x, &y, &z),
-        (&x, &z, &y),
-        (&y, &x, &z),
-        (&y, &z, &x),
-        (&z, &x, &y),
-        (&z, &y, &x),
-    ] {
-        let first = Log::merge(rt.alloc(), a, b)?;
-        let merged = Log::merge(rt.alloc(), &first, c)?;
-        assert_eq!(rt; merged.write()?.as_slice(), wanted.as_slice());
-        let last = Log::merge(rt.alloc(), b, c)?;
-        let merged = Log::merge(rt.alloc(), a, &last)?;
-        assert_eq!(rt; merged.write()?.as_slice(), wanted.as_slice());
-    }
-    Ok(())
-}
-
 #[test]
 fn merges_a_log_with_itself_and_with_none(rt: HostRuntime) -> Result<(), Fail> {
     let log = log_with(rt.alloc(), &[&NEWS, &SPORT])?;

@@ -28,48 +28,6 @@ fn removal_of<M: Allocator>(memory: M, count: u16) -> Result<Vec<u8, M>, AllocEr
     Ok(bytes)
 }
 
-#[test]
-fn refuses_a_count_of_0(rt: HostRuntime) -> Result<(), Fail> {
-    let mut bytes = removal_of(rt.alloc(), 0)?;
-    for tag in 0..2 {
-        assert_eq!(rt;
-            read_op(rt.alloc(), bytes.as_slice()).err(),
-            Some(ReadFault::BadField),
-            "with {tag} tags"
-        );
-        put_parts(&mut bytes, 1, A, 1)?;
-    }
-    Ok(())
-}
-
-// Each second tag after `(4, A, 4)`, with four more counted and none of them there.
-#[test]
-fn refuses_tags_that_do_not_rise(rt: HostRuntime) -> Result<(), Fail> {
-    for (clock, replica, seq, fault) in [
-        (4, A, 4, ReadFault::BadField), // equal
-        (3, B, 5, ReadFault::BadField), // falling
-        (4, Replica(9), 5, ReadFault::BadField), // falling by its replica
-        (4, A, 3, ReadFault::BadField), // falling by its number
-        (0, B, 5, ReadFault::BadField), // no clock
-        (5, B, 0, ReadFault::BadField), // no number
-        (9, B, 5, ReadFault::BadField), // as new as the operation
-        (10, B, 5, ReadFault::BadField), // newer
-        (4, A, 5, ReadFault::Truncated), // rising: then the third is missing
-        (4, B, 1, ReadFault::Truncated),
-        (8, Replica(1), 1, ReadFault::Truncated),
-    ] {
-        let mut bytes = removal_of(rt.alloc(), 6)?;
-        put_parts(&mut bytes, 4, A, 4)?;
-        put_parts(&mut bytes, clock, replica, seq)?;
-        assert_eq!(rt;
-            read_op(rt.alloc(), bytes.as_slice()).err(),
-            Some(fault),
-            "clock {clock}, number {seq}"
-        );
-    }
-    Ok(())
-}
-
 // A count alone takes no memory.
 #[test]
 fn takes_no_memory_for_a_count(rt: HostRuntime) -> Result<(), Fail> {

@@ -1,6 +1,6 @@
 //! Acts on tracks, on clips and on what sounds, as bytes.
 use super::{A, B};
-use crate::{ReadFault, read_op, write_op};
+use crate::{read_op, write_op};
 use mt_op::{Body, Digest, Gain, Op, Title};
 use mt_stamp::Stamp;
 use std::alloc::Allocator;
@@ -189,102 +189,6 @@ fn writes_and_reads_acts_on_what_sounds(rt: HostRuntime) -> Result<(), Fail> {
         (muting, sounding, SOUND.as_slice()),
     ] {
         assert!(rt; is_text_of(rt.alloc(), &Op::new(stamp, body)?, text)?);
-    }
-    Ok(())
-}
-
-// operation_bytes: their fronts
-#[test]
-fn refuses_every_part_of_an_act(rt: HostRuntime) {
-    for text in [
-        ADD_FIRST_TRACK.as_slice(),
-        ADD_TRACK.as_slice(),
-        MOVE_TRACK.as_slice(),
-        MOVE_TRACK_FIRST.as_slice(),
-        ADD_CLIP.as_slice(),
-        MOVE_CLIP.as_slice(),
-        TRIM_CLIP.as_slice(),
-        SET_GAIN.as_slice(),
-        MUTE.as_slice(),
-    ] {
-        for len in 0..text.len() {
-            assert_eq!(rt;
-                read_op(rt.alloc(), &text[..len]).err(),
-                Some(ReadFault::Truncated),
-                "{len} of {} bytes",
-                text.len()
-            );
-        }
-    }
-}
-
-// What reading a text answers where one of its bytes is another and it ends at `len`.
-fn fault_of<M: Allocator + Copy>(
-    memory: M,
-    text: &[u8],
-    place: usize,
-    byte: u8,
-    len: usize,
-) -> Result<Option<ReadFault>, Fail> {
-    let mut bytes = text.to_vec(memory)?;
-    if let Some(at) = bytes.get_mut(place) {
-        *at = byte;
-    }
-    bytes.truncate(len);
-    Ok(read_op(memory, bytes.as_slice()).err())
-}
-
-// Each fault is met before the bytes end, so that it is BadField wherever they end after it.
-#[test]
-fn refuses_a_field_at_once(rt: HostRuntime) -> Result<(), Fail> {
-    for (text, place, byte, end) in [
-        (ADD_FIRST_TRACK.as_slice(), 33, 2, 34), // the place's flag
-        (ADD_FIRST_TRACK.as_slice(), 33, 255, 34),
-        (ADD_TRACK.as_slice(), 33, 2, 34),
-        (ADD_TRACK.as_slice(), 41, 5, 66), // the place's clock is its own
-        (ADD_TRACK.as_slice(), 41, 0, 66), // the place's clock is 0
-        (ADD_TRACK.as_slice(), 65, 0, 66), // the place's number is 0
-        (ADD_TRACK.as_slice(), 67, 10, 71), // a control character
-        (MOVE_TRACK.as_slice(), 40, 6, 65), // the track's clock is its own
-        (MOVE_TRACK.as_slice(), 65, 2, 66), // the place's flag
-        (MOVE_TRACK.as_slice(), 73, 6, 98), // the place's clock is its own
-        (MOVE_TRACK.as_slice(), 90, 0x40, 98), // the place's number is above 2^62
-        (ADD_CLIP.as_slice(), 72, 7, 97), // the track's clock is its own
-        (ADD_CLIP.as_slice(), 96, 0, 97), // the track's number is 0
-        (MOVE_CLIP.as_slice(), 40, 9, 65), // the clip's clock is its own
-        (MOVE_CLIP.as_slice(), 72, 9, 97), // the track's clock is its own
-        (TRIM_CLIP.as_slice(), 40, 10, 65), // the clip's clock is its own
-        (TRIM_CLIP.as_slice(), 72, 0, 73), // no frame
-        (SET_GAIN.as_slice(), 40, 11, 65), // the item's clock is its own
-        (MUTE.as_slice(), 40, 12, 65), // the item's clock is its own
-        (MUTE.as_slice(), 65, 2, 66), // the flag
-        (MUTE.as_slice(), 65, 255, 66),
-    ] {
-        for len in end..=text.len() {
-            assert_eq!(rt;
-                fault_of(rt.alloc(), text, place, byte, len)?,
-                Some(ReadFault::BadField),
-                "{byte} at {place}, {len} of {} bytes",
-                text.len()
-            );
-        }
-    }
-    Ok(())
-}
-
-// A clip of no frame, and a gain divided by 0, once the whole number is there.
-#[test]
-fn refuses_numbers_that_are_0(rt: HostRuntime) -> Result<(), Fail> {
-    let mut clip = ADD_CLIP;
-    clip[105..].fill(0);
-    let mut gain = SET_GAIN;
-    gain[67..].fill(0);
-    for text in [clip.as_slice(), gain.as_slice()] {
-        assert_eq!(rt; read_op(rt.alloc(), text).err(), Some(ReadFault::BadField));
-        assert_eq!(rt;
-            read_op(rt.alloc(), &text[..text.len() - 1]).err(),
-            Some(ReadFault::Truncated)
-        );
     }
     Ok(())
 }
