@@ -1,60 +1,19 @@
-ghost use Rattle.std.specs.Prelude.{◌≡◌, ◌<◌, ◌+◌, length, slice_get, Some, IsTrue};
-ghost use Rattle.std.specs.List.{AllByRecursion};
-ghost use Rattle.std.specs.declared.cmp.Ordering.TheVariants.{Less};
-ghost use Rattle.mt_stamp.specs.Moment.{dot_cmp};
-ghost use Rattle.mt_op.specs.Operation.{Operation};
-ghost use Rattle.mt_op.specs.Dots.{dots_rise, op_dot};
-ghost use Rattle.mt_op.specs.Valid.{IsOperation};
-
-use crate::build::session_of_ops;
 use crate::laws::{
     any_listing, equal_clips, equal_markers, equal_sessions, equal_tracks, held_operation,
     places_tree, sorted_clips, sorted_markers, sorted_stamps, sorted_tracks,
 };
-use crate::text::{append_held_line, append_marker_line, append_session_text};
-use crate::{MarkerView, Session, SessionFault, ready_stamps};
+use crate::text::{append_held_line, append_marker_line};
+use crate::{MarkerView, Session, SessionFault, from_scratch, ready_stamps};
 use mt_op::{Body, Digest, Op, OpFault, Title};
 use mt_opcodec::Log;
 use mt_stamp::{Replica, Stamp};
 use mt_testalloc::Refusing;
 use std::alloc::{AllocError, Allocator};
-use std::process::Abort;
 use std::test::Fail;
-
-mod presence;
 
 const A: Replica = Replica(10);
 
 const B: Replica = Replica(11);
-
-// Whether an operation's dot is smaller than the next one's, where there is a next one.
-fn is_before_next<M: Allocator>(ops: &[Op<M>], i: usize) -> bool
-    requires { i < length ops.now }
-    ensures before { IsTrue result → (x y : Operation) → slice_get ops.now i ≡ Some x → slice_get ops.now (i + 1) ≡ Some y → dot_cmp (op_dot x) (op_dot y) ≡ Less }
-    ensures valid { (x : Operation) → slice_get ops.now i ≡ Some x → IsOperation x }
-{
-    let dot = ops[i].dot();
-    if i + 1 < ops.len() {
-        dot.cmp(&ops[i + 1].dot()).is_lt()
-    } else {
-        true
-    }
-}
-
-// Whether the dots rise, as those of a log do.
-fn rises<M: Allocator>(ops: &[Op<M>]) -> bool
-    ensures rise { IsTrue result → IsTrue (dots_rise ops.now) }
-    ensures valid { IsTrue result → AllByRecursion IsOperation ops.now }
-{
-    let mut i = ops.len();
-    while i > 0 {
-        i -= 1;
-        if !is_before_next(ops, i) {
-            return false;
-        }
-    }
-    true
-}
 
 fn marker<M: Allocator>(memory: M, stamp: Stamp, at: u32, title: &str) -> Result<Op<M>, OpFault> {
     let title = Title::new(memory, title)?;
@@ -71,69 +30,33 @@ fn retitle<M: Allocator>(
     Op::new(stamp, Body::Retitle { item, title })
 }
 
-// The text of the session of these operations.
-fn shown<M: Allocator + Clone>(
-    rt: &impl Abort,
-    memory: M,
-    ops: &[Op<M>],
-) -> Result<String<M>, Fail> {
-    assert!(rt; rises(ops));
-    let mut text = String::new(memory.clone()?);
-    let session = session_of_ops(memory.clone()?, ops)?;
-    append_session_text(&memory, &mut text, &session)?;
-    Ok(text)
-}
-
-#[test]
-fn shows_nothing_of_no_operation(rt: HostRuntime) -> Result<(), Fail> {
-    assert_eq!(rt; shown(&rt, rt.alloc(), &[])?.as_str(), "held 0\n");
-    Ok(())
-}
-
-fn session_of<M: Allocator + Clone>(
-    rt: &impl Abort,
-    memory: M,
-    ops: &[Op<M>],
-) -> Result<Session<M>, Fail> {
-    assert!(rt; rises(ops));
-    Ok(session_of_ops(memory, ops)?)
-}
-
 // The session of one marker, and of a retitle that names another.
-fn news<M: Allocator + Clone>(
-    rt: &impl Abort,
-    memory: M,
-    is_late: bool,
-) -> Result<Session<M>, Fail> {
-    let mut ops = Vec::new(memory.clone()?);
-    ops.push(marker(memory.clone()?, Stamp::new(1, A, 1)?, 480, "News")?)?;
+fn news<M: Allocator + Clone>(memory: M, is_late: bool) -> Result<Session<M>, Fail> {
+    let mut log = Log::new(memory.clone()?);
+    let _new = log.add(marker(memory.clone()?, Stamp::new(1, A, 1)?, 480, "News")?)?;
     if is_late {
-        ops.push(retitle(
-            memory.clone()?,
-            Stamp::new(5, B, 1)?,
-            Stamp::new(2, A, 1)?,
-            "Late",
-        )?)?;
+        let item = Stamp::new(2, A, 1)?;
+        let _new = log.add(retitle(memory.clone()?, Stamp::new(5, B, 1)?, item, "Late")?)?;
     }
-    session_of(rt, memory, &ops)
+    Ok(from_scratch(memory, &log)?)
 }
 
 // Whether the session of one marker is that of the marker, and perhaps of a retitle that waits.
-fn is_news<M: Allocator + Clone>(rt: &impl Abort, memory: M, is_late: bool) -> Result<bool, Fail> {
-    let one = news(rt, memory.clone()?, false)?;
-    Ok(one == news(rt, memory, is_late)?)
+fn is_news<M: Allocator + Clone>(memory: M, is_late: bool) -> Result<bool, Fail> {
+    let one = news(memory.clone()?, false)?;
+    Ok(one == news(memory, is_late)?)
 }
 
 #[test]
 fn compares_sessions(rt: HostRuntime) -> Result<(), Fail> {
-    assert!(rt; is_news(&rt, rt.alloc(), false)?);
-    assert!(rt; !is_news(&rt, rt.alloc(), true)?);
+    assert!(rt; is_news(rt.alloc(), false)?);
+    assert!(rt; !is_news(rt.alloc(), true)?);
     Ok(())
 }
 
 #[test]
 fn holds_one_operation(rt: HostRuntime) -> Result<(), Fail> {
-    let other = news(&rt, rt.alloc(), true)?;
+    let other = news(rt.alloc(), true)?;
     assert_eq!(rt; other.held, 1);
     assert_eq!(rt; other.markers.items().len(), 1);
     for view in other.markers.items() {
@@ -144,19 +67,12 @@ fn holds_one_operation(rt: HostRuntime) -> Result<(), Fail> {
     Ok(())
 }
 
-// The session of a track with one clip, where one of them is muted.
-fn muted<M: Allocator + Clone>(
-    rt: &impl Abort,
-    memory: M,
-    item: Option<Stamp>,
-) -> Result<Session<M>, Fail> {
+// The log of a track with one clip, where one of them is muted.
+fn muting<M: Allocator + Clone>(memory: M, item: Option<Stamp>) -> Result<Log<M>, Fail> {
     let track = Stamp::new(1, A, 1)?;
-    let mut ops = Vec::new(memory.clone()?);
-    let added = Body::AddTrack {
-        after: None,
-        title: Title::new(memory.clone()?, "Voice")?,
-    };
-    ops.push(Op::new(track, added)?)?;
+    let mut log = Log::new(memory.clone()?);
+    let title = Title::new(memory, "Voice")?;
+    let _new = log.add(Op::new(track, Body::AddTrack { after: None, title })?)?;
     let clip = Body::AddClip {
         source: Digest([1; 32]),
         track,
@@ -164,35 +80,38 @@ fn muted<M: Allocator + Clone>(
         offset: 2,
         len: 3,
     };
-    ops.push(Op::new(Stamp::new(2, A, 2)?, clip)?)?;
+    let _new = log.add(Op::new(Stamp::new(2, A, 2)?, clip)?)?;
     if let Some(item) = item {
-        ops.push(Op::new(Stamp::new(3, A, 3)?, Body::SetMute { item, on: true })?)?;
+        let mute = Body::SetMute { item, on: true };
+        let _new = log.add(Op::new(Stamp::new(3, A, 3)?, mute)?)?;
     }
-    session_of(rt, memory, &ops)
+    Ok(log)
+}
+
+// The session of a track with one clip, where one of them is muted.
+fn muted<M: Allocator + Clone>(memory: M, item: Option<Stamp>) -> Result<Session<M>, Fail> {
+    let log = muting(memory.clone()?, item)?;
+    Ok(from_scratch(memory, &log)?)
 }
 
 // Whether the session where nothing is muted is that where this item is, or nothing.
-fn sounds_alike<M: Allocator + Clone>(
-    rt: &impl Abort,
-    memory: M,
-    item: Option<Stamp>,
-) -> Result<bool, Fail> {
-    let one = muted(rt, memory.clone()?, None)?;
-    Ok(equal_sessions(&one, &muted(rt, memory, item)?))
+fn sounds_alike<M: Allocator + Clone>(memory: M, item: Option<Stamp>) -> Result<bool, Fail> {
+    let one = muted(memory.clone()?, None)?;
+    Ok(equal_sessions(&one, &muted(memory, item)?))
 }
 
 #[test]
 fn tells_sessions_apart_by_a_track_and_a_clip(rt: HostRuntime) -> Result<(), Fail> {
-    assert!(rt; sounds_alike(&rt, rt.alloc(), None)?);
-    assert!(rt; !sounds_alike(&rt, rt.alloc(), Some(Stamp::new(1, A, 1)?))?);
-    assert!(rt; !sounds_alike(&rt, rt.alloc(), Some(Stamp::new(2, A, 2)?))?);
+    assert!(rt; sounds_alike(rt.alloc(), None)?);
+    assert!(rt; !sounds_alike(rt.alloc(), Some(Stamp::new(1, A, 1)?))?);
+    assert!(rt; !sounds_alike(rt.alloc(), Some(Stamp::new(2, A, 2)?))?);
     Ok(())
 }
 
 #[test]
 fn tells_tracks_and_clips_apart(rt: HostRuntime) -> Result<(), Fail> {
-    let one = muted(&rt, rt.alloc(), None)?;
-    let other = muted(&rt, rt.alloc(), Some(Stamp::new(2, A, 2)?))?;
+    let one = muted(rt.alloc(), None)?;
+    let other = muted(rt.alloc(), Some(Stamp::new(2, A, 2)?))?;
     for (a, b) in one.tracks.items().iter().zip(other.tracks.items().iter()) {
         assert!(rt; equal_tracks(a, a));
         assert!(rt; !equal_tracks(a, b));
@@ -202,32 +121,6 @@ fn tells_tracks_and_clips_apart(rt: HostRuntime) -> Result<(), Fail> {
         }
     }
     Ok(())
-}
-
-#[test]
-fn refuses_each_growth_of_a_session(rt: HostRuntime) -> Result<(), Fail> {
-    for at in 0..60 {
-        let memory = Refusing::new(rt.alloc(), at);
-        let (Ok(first), Ok(second), Ok(third)) = (
-            marker(&memory, Stamp::new(1, A, 1)?, 480, "News"),
-            marker(&memory, Stamp::new(2, A, 2)?, 480, "Sport"),
-            retitle(&memory, Stamp::new(2, B, 1)?, Stamp::new(1, A, 1)?, "Late"),
-        ) else {
-            assert!(rt; memory.has_refused());
-            continue;
-        };
-        let ops = [first, second, third];
-        assert!(rt; rises(&ops));
-        let session = session_of_ops(&memory, &ops);
-        assert_eq!(rt; session.is_err(), memory.has_refused(), "at {at}");
-        if !memory.has_refused() {
-            assert_eq!(rt; session?.markers.items().len(), 2);
-            assert!(rt; at > 3, "it grew");
-            return Ok(());
-        }
-        assert!(rt; matches!(session, Err(SessionFault::Memory)));
-    }
-    Err(Fail::from("each run met a refusal"))
 }
 
 // Whether the line of a marker and that of what is held are these.

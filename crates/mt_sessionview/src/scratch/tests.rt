@@ -38,7 +38,7 @@ impl Write for Narrow {
 }
 
 /// Adds a track that is moved, if there is memory for it.
-fn add_track<M: Allocator>(memory: M, log: &mut Log<M>, track: Stamp) -> Option<()> {
+fn add_track<M: Allocator + Clone>(memory: M, log: &mut Log<M>, track: Stamp) -> Option<()> {
     let title = Title::new(memory, "Voice").ok()?;
     let added = Body::AddTrack { after: None, title };
     let _new = log.add(Op::new(track, added).ok()?).ok()?;
@@ -50,7 +50,7 @@ fn add_track<M: Allocator>(memory: M, log: &mut Log<M>, track: Stamp) -> Option<
 }
 
 /// Adds a clip of a track, if there is memory for it.
-fn add_clip<M: Allocator>(log: &mut Log<M>, track: Stamp) -> Option<()> {
+fn add_clip<M: Allocator + Clone>(log: &mut Log<M>, track: Stamp) -> Option<()> {
     let clip = Body::AddClip {
         source: Digest([7; 32]),
         track,
