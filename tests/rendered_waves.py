@@ -40,7 +40,8 @@ def of_module(path):
 def mediainfo(path):
     tracks = {track["@type"]: track for track in json.loads(output("mediainfo", "--Output=JSON", path))["media"]["track"]}
     names = {"rate": "SamplingRate", "channels": "Channels", "bits": "BitDepth", "frames": "SamplingCount"}
-    return {fact: int(tracks["Audio"][name]) for fact, name in names.items()}
+    # it tells no frames of what is shorter than a millisecond
+    return {fact: int(tracks["Audio"][name]) for fact, name in names.items() if fact != "frames" or name in tracks["Audio"]}
 
 
 def sox_samples(path, bits):
@@ -90,7 +91,8 @@ def compare(program, folder, rate, bits, channels, frames, markers, kind="any"):
     for name, reader in TELLERS:
         if shutil.which(name) and frames:
             other = reader(paths["out.wav"])
-            assert all(other[fact] == facts[fact] for fact in facts), (name, other, facts)
+            missing = {"frames"} - set(other) if name == "mediainfo" else set()
+            assert all(other[fact] == facts[fact] for fact in set(facts) - missing), (name, other, facts)
     for name, player in PLAYERS:
         if shutil.which(name) and frames:
             assert player(paths["out.wav"], bits) == sound, "%s plays other samples than the recording's" % name
