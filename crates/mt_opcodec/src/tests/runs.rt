@@ -22,7 +22,7 @@ fn op_of<M: Allocator>(memory: M, replica: Replica, seq: u64) -> Result<Op<M>, L
 
 /// Another operation of that dot.
 fn other_of<M: Allocator>(memory: M, replica: Replica, seq: u64) -> Result<Op<M>, LogFault> {
-    let stamp = Stamp::new(seq + 1, replica, seq).map_err(|_| LogFault::Trailing)?;
+    let stamp = Stamp::new(seq.saturating_add(1), replica, seq).map_err(|_| LogFault::Trailing)?;
     match marker(memory, stamp, "News") {
         Ok(op) => Ok(op),
         Err(mt_op::OpFault::Memory) => Err(LogFault::Memory),
@@ -165,21 +165,6 @@ fn refers_to_its_operations_by_rising_dot(rt: HostRuntime) -> Result<(), Fail> {
     Ok(())
 }
 
-/// The log of three operations, of their vector.
-fn log_of_vector<M: Allocator + Copy>(memory: M) -> Result<Log<M>, LogFault> {
-    let mut ops = Vec::new(memory);
-    ops.push(op_of(memory, A, 1)?)?;
-    ops.push(op_of(memory, A, 2)?)?;
-    ops.push(op_of(memory, B, 1)?)?;
-    Log::of_ops(memory, ops)
-}
-
-#[test]
-fn is_made_of_operations(rt: HostRuntime) -> Result<(), Fail> {
-    assert!(rt; has_dots(&log_of_vector(rt.alloc())?, &[(A, 1), (A, 2), (B, 1)]));
-    Ok(())
-}
-
 // ---- each growth refused in turn
 
 /// The dots that are added one by one: of two replicas, in turn.
@@ -197,12 +182,12 @@ const DOTS: [(Replica, u64); 8] = [
 // How many operations stand after one was refused memory: as many as were added before, and all once they are added again.
 fn filled_again<M: Allocator + Copy>(memory: M) -> Result<(bool, bool), LogFault> {
     let mut log = Log::new(memory);
-    let mut added = 0;
+    let mut added = 0usize;
     let mut refused = false;
     for (replica, seq) in DOTS {
         match op_of(memory, replica, seq) {
             Ok(op) => match log.add(op) {
-                Ok(_) => added += 1,
+                Ok(_) => added = added.saturating_add(1),
                 Err(_) => refused = true,
             },
             Err(_) => refused = true,
@@ -236,28 +221,27 @@ fn of_a_log_of_two_runs(rt: HostRuntime) -> Result<(), Fail> {
     Err(Fail::from("each run met a refusal"))
 }
 
-// The length of two logs joined, of their union as a merge, and of a vector's log.
-fn joined_len<M: Allocator + Copy>(memory: M) -> Result<usize, LogFault> {
+// The lengths of two logs joined, of their union as a merge, and of the references to one.
+fn joined_lens<M: Allocator + Copy>(memory: M) -> Result<[usize; 3], LogFault> {
     let left = log_with(memory, &[(A, 1), (A, 3), (B, 1)])?;
     let right = log_with(memory, &[(A, 2), (B, 2), (C, 1)])?;
     let merged = Log::merge(memory, &left, &right)?;
-    let of_vector = log_of_vector(memory)?;
     let refs = left.refs(memory)?.len();
-    Ok(left.join(right)?.len() + merged.len() + of_vector.len() + refs)
+    Ok([left.join(right)?.len(), merged.len(), refs])
 }
 
 #[test]
 fn of_joined_logs(rt: HostRuntime) -> Result<(), Fail> {
     for at in 0..200 {
         let memory = Refusing::new(rt.alloc(), at);
-        let len = joined_len(&memory);
-        assert_eq!(rt; len.is_err(), memory.has_refused(), "at {at}");
+        let lens = joined_lens(&memory);
+        assert_eq!(rt; lens.is_err(), memory.has_refused(), "at {at}");
         if !memory.has_refused() {
-            assert_eq!(rt; len, Ok(18));
+            assert_eq!(rt; lens, Ok([6, 6, 3]));
             assert!(rt; at > 30, "copies, runs and their lists were refused memory");
             return Ok(());
         }
-        assert_eq!(rt; len, Err(LogFault::Memory), "at {at}");
+        assert_eq!(rt; lens, Err(LogFault::Memory), "at {at}");
     }
     Err(Fail::from("each run met a refusal"))
 }
