@@ -10,33 +10,34 @@ use crate::fault::CliFault;
 use crate::read::read_logs;
 use mt_opcodec::{Latch, Log, LogFault};
 use std::alloc::Allocator;
+use std::collections::VecDeque;
 use std::io::Read;
 
-// The union of all so far and of one more log.
-fn join<A: Allocator + Clone>(alloc: A, all: &Log<A>, log: &Log<A>) -> Result<Log<A>, CliFault>
-    ensures ok { IfOk result (λ joined. Agree all.now log.now × (joined ≡ union all.now log.now)) }
-    ensures err { IfErr result (JoinFails all.now log.now) }
+// The union of all so far and of one more log, which moves into it.
+fn join<A: Allocator + Clone>(all: Log<A>, log: Log<A>) -> Result<Log<A>, CliFault>
+    ensures ok { IfOk result (λ joined. Agree all log × (joined ≡ union all log)) }
+    ensures err { IfErr result (JoinFails all log) }
 {
-    match Log::merge(alloc, all, log) {
+    match all.join(log) {
         Ok(joined) => Ok(joined),
         Err(LogFault::Conflict(dot)) => Err(CliFault::Merge(dot)),
         Err(_) => Err(CliFault::Memory),
     }
 }
 
-// The union of the logs, joined from left to right.
-fn join_all<A: Allocator + Clone>(alloc: A, mut logs: Vec<Log<A>, A>) -> Result<Log<A>, CliFault>
+// The union of the logs, joined from left to right; each operation moves.
+fn join_all<A: Allocator + Clone>(alloc: A, logs: Vec<Log<A>, A>) -> Result<Log<A>, CliFault>
     ensures ok { IfOk result (λ all. AllAgree logs.items × (all ≡ union_all logs.items)) }
     ensures err { IfErr result (AllFail logs.items) }
 {
-    if logs.is_empty() {
-        return Ok(Log::new(alloc));
+    let mut all = Log::new(alloc);
+    let mut rest = VecDeque::from(logs);
+    loop {
+        match rest.pop_front() {
+            Some(log) => all = join(all, log)?,
+            None => return Ok(all),
+        }
     }
-    let mut all = logs.remove(0);
-    for log in &logs {
-        all = join(alloc.clone()?, &all, log)?;
-    }
-    Ok(all)
 }
 
 /// Reads the log of each input, from left to right, and joins them: what every command on logs begins with. Of no input it
