@@ -4,13 +4,13 @@ set -e
 cd "$(dirname "$0")/.."
 rt ci
 sh tests/suite.sh "$PWD/crates/radio/out/radio"
-sh tests/refusals.sh "$PWD/crates/radio/out/radio"
+sh tests/checks/refusals.sh "$PWD/crates/radio/out/radio"
 if command -v python3 >/dev/null 2>&1; then
-  python3 tests/model.py "$PWD/crates/radio/out/radio" --sets 300
-  python3 tests/real_waves.py "$PWD/crates/radio/out/radio"
-  python3 tests/rendered_waves.py "$PWD/crates/radio/out/radio"
-  python3 tests/story.py "$PWD/crates/radio/out/radio"
-  python3 tests/meetings.py "$PWD/crates/radio/out/radio"
+  python3 tests/checks/model.py "$PWD/crates/radio/out/radio" --sets 300
+  python3 tests/checks/real_waves.py "$PWD/crates/radio/out/radio"
+  python3 tests/checks/rendered_waves.py "$PWD/crates/radio/out/radio"
+  python3 tests/checks/story.py "$PWD/crates/radio/out/radio"
+  python3 tests/checks/meetings.py "$PWD/crates/radio/out/radio"
 else
   echo "skipped the comparisons with the model, with other programs' wave files and with the README: no python3"
 fi

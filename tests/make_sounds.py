@@ -9,7 +9,7 @@ import sys
 
 sys.dont_write_bytecode = True
 sys.path.insert(0, os.path.dirname(os.path.abspath(__file__)))
-from waves import adtl, bext, chunk, cue, data, fmt, labl, point, riff
+from formats.waves import adtl, bext, chunk, cue, data, fmt, labl, point, riff
 
 EXAMPLES = os.path.join(os.path.dirname(os.path.dirname(os.path.abspath(__file__))), "examples")
 RATE = 48000

@@ -1,8 +1,9 @@
 #!/bin/sh
-# Runs the cases of tests/cases on a built program: sh tests/suite.sh PROGRAM
+# Runs the cases of tests/cases on a built program, command by command: sh tests/suite.sh PROGRAM
 # In a case: words (a line each), files/ (they lie where the program runs), stdin, stdout, stderr, status; `setup` is run
 # there first; `output` says where standard output goes if not into a file: closed, full (a full device), pipe (no reader);
-# made/ has the files that the program makes or writes anew. Else no file may come, go or change.
+# made/ has the files that the program makes or writes anew. Else no file may come, go or change. `needs` says `permissions` where
+# a file has to be one that may not be read or written: such a case is skipped where root runs this and cannot be another.
 # The program runs as nobody where this script runs as root, since root may read every file.
 set -u
 program=$1
@@ -18,16 +19,15 @@ fi
 passed=0
 failed=0
 skipped=0
-for case in "$cases"/*/; do
-  name=$(basename "$case")
+for case in "$cases"/*/*/; do
+  name=$(basename "$(dirname "$case")")/$(basename "$case")
   here=$place/$name
-  case $name in unreadable_file | merge_into_a_closed_folder)
-    if [ "$(id -u)" = 0 ] && [ -z "$as" ]; then
-      echo "skipped $name: root may read and write everywhere, and there is no setpriv"
-      skipped=$((skipped + 1))
-      continue
-    fi ;;
-  esac
+  needs=$(cat "$case/needs" 2>/dev/null)
+  if [ "$needs" = permissions ] && [ "$(id -u)" = 0 ] && [ -z "$as" ]; then
+    echo "skipped $name: root may read and write everywhere, and there is no setpriv"
+    skipped=$((skipped + 1))
+    continue
+  fi
   mkdir -p "$here/in" "$here/out" "$here/wanted"
   for there in "$here/in" "$here/wanted"; do
     cp -R "$case/files/." "$there/"

@@ -1,6 +1,6 @@
 #!/usr/bin/env python3
 """Compares what other readers say of files that `radio render` writes with what `radio info` says of them, and their samples
-with those of the recording: python3 tests/rendered_waves.py PROGRAM
+with those of the recording: python3 tests/checks/rendered_waves.py PROGRAM
 
 python3's own module `wave` always reads them; soxi, ffprobe, sndfile-info, mediainfo, and sox and ffmpeg for the samples, where they are
 installed. What `radio info` tells of a file's `bext` chunk has to be the head that the file was rendered with.
@@ -18,11 +18,11 @@ import tempfile
 import wave
 
 sys.dont_write_bytecode = True
-sys.path.insert(0, os.path.dirname(os.path.abspath(__file__)))
-from logs import A, add_clip, add_marker, add_track, log
-from real_waves import READERS, output
-from real_waves import radio as info
-from waves import data, fmt, riff
+sys.path.insert(0, os.path.dirname(os.path.dirname(os.path.abspath(__file__))))
+from formats.logs import A, add_clip, add_marker, add_track, log
+from checks.real_waves import READERS, output
+from checks.real_waves import radio as info
+from formats.waves import data, fmt, riff
 
 
 def told(program, path):

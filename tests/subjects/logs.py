@@ -1,6 +1,6 @@
 """Cases of several logs, and of logs that are refused."""
-from case import LATE, M, NEWS, ONE, bad_record, case, fault
-from logs import A, B, C, add_marker, head, log, marker_line, move_marker, remove, restore, retitle, seal, stamp
+from subjects.case import LATE, M, NEWS, ONE, bad_record, case, fault
+from formats.logs import A, B, C, add_marker, head, log, marker_line, move_marker, remove, restore, retitle, seal, stamp
 
 # several logs
 three = {"a": ONE, "b": log([NEWS, LATE]), "c": log([add_marker((1, B, 7), 9, "Talk")])}

@@ -1,7 +1,7 @@
 """Cases of editing: what a script makes, which log is there afterwards, and what is refused."""
-from case import LATE, NEWS, ONE, case, fault
-from cases_of_command_lines import STATUS
-from logs import (
+from subjects.case import LATE, NEWS, ONE, case, fault
+from subjects.command_lines import STATUS
+from formats.logs import (
     A, B, C, add_clip, add_marker, add_track, log, move_clip, move_marker, move_track, remove, restore, retitle, set_gain,
     set_mute, stamp_text, trim_clip)
 

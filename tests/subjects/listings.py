@@ -1,6 +1,6 @@
 """Cases of `radio log`: a line for each operation, by rising stamp, and how many there are."""
-from case import LATE, M, NEWS, ONE, case, fault
-from logs import (A, B, C, add_clip, add_marker, add_track, log, move_clip, move_marker, move_track, remove, restore, retitle, set_gain, set_mute,
+from subjects.case import LATE, M, NEWS, ONE, case, fault
+from formats.logs import (A, B, C, add_clip, add_marker, add_track, log, move_clip, move_marker, move_track, remove, restore, retitle, set_gain, set_mute,
                   stamp_text, trim_clip)
 
 SOURCE = bytes(range(32))

@@ -1,5 +1,5 @@
 #!/usr/bin/env python3
-"""Follows the README as a newcomer does: python3 tests/story.py PROGRAM
+"""Follows the README as a newcomer does: python3 tests/checks/story.py PROGRAM
 
 Types the commands of its story, from nothing to a rendered file, in an empty folder, and compares what they print with what the
 README says that they print; then what it shows of `examples/`, whose logs are made anew from their scripts and have to be the same
@@ -11,7 +11,7 @@ import subprocess
 import sys
 import tempfile
 
-TOP = os.path.dirname(os.path.dirname(os.path.abspath(__file__)))
+TOP = os.path.dirname(os.path.dirname(os.path.dirname(os.path.abspath(__file__))))
 EXAMPLES = os.path.join(TOP, "examples")
 
 

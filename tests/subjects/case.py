@@ -1,11 +1,12 @@
-"""How a case is written, and what several subjects share. Each case is a folder: the words after the program's name (a line
-each), the files that lie where it runs, its input, and the output, the errors and the status that are wanted."""
+"""How a case is written, and what several subjects share. Each case is a folder below that of its command: the words after the
+program's name (a line each), the files that lie where it runs, its input, and the output, the errors and the status that are wanted."""
 import os
 
-from logs import A, B, C, add_marker, head, log, marker_line, retitle, seal
-from waves import info
+from formats.logs import A, B, C, add_marker, head, log, marker_line, retitle, seal
+from formats.waves import info
 
-CASES = os.path.join(os.path.dirname(os.path.abspath(__file__)), "cases")
+CASES = os.path.join(os.path.dirname(os.path.dirname(os.path.abspath(__file__))), "cases")
+COMMANDS = ("view", "log", "merge", "edit", "render", "have", "lack", "take", "serve", "meet", "info", "explain")
 NEWS = add_marker((1, A, 1), 480, "News")
 LATE = retitle((2, B, 1), (1, A, 1), "Late")
 ONE = log([NEWS])
@@ -16,9 +17,11 @@ TALK = add_marker(N, 960, "Talk")
 TALKED = marker_line(N, 960, "Talk")
 
 
-def case(name, words, files=None, stdin=b"", stdout="", status=0, stderr=None, output=None, setup=None, made=None):
-    """`made`: the files that it makes or writes anew, with their bytes."""
-    folder = os.path.join(CASES, name)
+def case(name, words, files=None, stdin=b"", stdout="", status=0, stderr=None, output=None, setup=None, made=None, needs=None):
+    """`made`: the files that it makes or writes anew, with their bytes. `needs`: `permissions`, where files that may not be read or
+    written have to be refused. The words that call no command, and the help, are cases of `radio`."""
+    command = words[0] if words and words[0] in COMMANDS and "--help" not in words else "radio"
+    folder = os.path.join(CASES, command, name.removeprefix(command + "_"))
     os.makedirs(os.path.join(folder, "files"))
     if stderr is None:
         stderr = ""
@@ -33,6 +36,8 @@ def case(name, words, files=None, stdin=b"", stdout="", status=0, stderr=None, o
         parts["output"] = output.encode() + b"\n"
     if setup is not None:
         parts["setup"] = setup.encode() + b"\n"
+    if needs is not None:
+        parts["needs"] = needs.encode() + b"\n"
     for part, data in parts.items():
         with open(os.path.join(folder, part), "wb") as file:
             file.write(data)

@@ -1,6 +1,6 @@
 """Cases of wave files: what `radio info` tells of them, the examples, and what is refused."""
-from case import case, fault, not_told, told
-from waves import FLOAT, adtl, bext, chunk, cue, data, extensible, fmt, info, labl, point, riff
+from subjects.case import case, fault, not_told, told
+from formats.waves import FLOAT, adtl, bext, chunk, cue, data, extensible, fmt, info, labl, point, riff
 
 # what wave files say of themselves
 SMALLEST = riff(fmt(rate=44100, bits=8), data(b"\0", pad=False))

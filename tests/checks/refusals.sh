@@ -1,8 +1,8 @@
 #!/bin/sh
-# Whether `radio explain` and docs/refusals.md have the same numbers and names: sh tests/refusals.sh PROGRAM
+# Whether `radio explain` and docs/refusals.md have the same numbers and names: sh tests/checks/refusals.sh PROGRAM
 set -eu
 program=$1
-page=$(dirname "$0")/../docs/refusals.md
+page=$(dirname "$0")/../../docs/refusals.md
 told=$(mktemp)
 written=$(mktemp)
 trap 'rm -f "$told" "$written"' EXIT

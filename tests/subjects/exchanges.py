@@ -1,10 +1,10 @@
 """Cases of exchange by files, and of addresses: what `have`, `lack` and `take` write, and what is refused."""
 import struct
 
-from case import LATE, NEWS, ONE, case, fault
-from cases_of_command_lines import STATUS
-from exchange import BYE, LONGEST, frame, have, ops, ops_body, summary
-from logs import A, B, C, add_marker, log
+from subjects.case import LATE, NEWS, ONE, case, fault
+from subjects.command_lines import STATUS
+from formats.exchange import BYE, LONGEST, frame, have, ops, ops_body, summary
+from formats.logs import A, B, C, add_marker, log
 
 EMPTY = log([])
 FIVE = [add_marker((number, A, number), number, "A%d" % number) for number in (1, 2, 3, 4)] + [add_marker((1, B, 1), 9, "B")]

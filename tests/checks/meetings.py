@@ -1,5 +1,5 @@
 #!/usr/bin/env python3
-"""Two processes that swap operations: python3 tests/meetings.py PROGRAM
+"""Two processes that swap operations: python3 tests/checks/meetings.py PROGRAM
 
 `radio serve` and `radio meet` over loopback on logs of several sizes with what they share: both end with the union, byte for byte as
 `radio merge` gives it, and what `have`, `lack` and `take` do by files gives the same. Then peers that cut, that send one byte at a
@@ -17,9 +17,9 @@ import threading
 import time
 
 sys.dont_write_bytecode = True
-sys.path.insert(0, os.path.dirname(os.path.abspath(__file__)))
-from exchange import BYE, LONGEST, frame, have, ops, summary
-from logs import A, B, C, add_marker, log
+sys.path.insert(0, os.path.dirname(os.path.dirname(os.path.abspath(__file__))))
+from formats.exchange import BYE, LONGEST, frame, have, ops, summary
+from formats.logs import A, B, C, add_marker, log
 
 ONLY_A, ONLY_B = 20, 21
 

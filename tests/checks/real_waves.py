@@ -1,6 +1,6 @@
 #!/usr/bin/env python3
 """Compares `radio info` with what other programs say of wave files that other programs wrote:
-python3 tests/real_waves.py PROGRAM
+python3 tests/checks/real_waves.py PROGRAM
 
 sox, ffmpeg, libsndfile's tools, espeak-ng and flac write the files; soxi, ffprobe and sndfile-info read them. What is not
 installed is skipped, with a line that says so. For a file that is refused, the number is given here.

@@ -1,6 +1,6 @@
 """Cases of `radio explain`. Its numbers and names are also compared with docs/refusals.md (refusals.sh)."""
-from case import case
-from cases_of_command_lines import STATUS
+from subjects.case import case
+from subjects.command_lines import STATUS
 
 READ = "45 Read: an input cannot be opened, or reading it failed\nSee that each named file is there, is no folder, and may be read.\n"
 case("explain_a_number", ["explain", "45"], stdout=READ)

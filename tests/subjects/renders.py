@@ -2,9 +2,9 @@
 import hashlib
 import struct
 
-from case import case, fault
-from logs import A, B, add_clip, add_marker, add_track, log, move_clip, remove, set_gain, set_mute
-from waves import data, fmt, info, rendered, riff
+from subjects.case import case, fault
+from formats.logs import A, B, add_clip, add_marker, add_track, log, move_clip, remove, set_gain, set_mute
+from formats.waves import data, fmt, info, rendered, riff
 
 TRACK, CLIP, SECOND, OTHER = (1, A, 1), (2, A, 2), (1, B, 1), (6, B, 2)
 

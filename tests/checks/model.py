@@ -1,5 +1,5 @@
 #!/usr/bin/env python3
-"""Compares `radio view`, `radio log` and `radio merge` with a model of the session in Python: tests/model.py PROGRAM [--sets N] [--seed N]
+"""Compares `radio view`, `radio log` and `radio merge` with a model of the session in Python: tests/checks/model.py PROGRAM [--sets N] [--seed N]
 
 The model is written from docs/formats.md alone, in the plainest way: what is ready by a fixed point, a field's value by a
 maximum, the order of tracks by sorting whole paths. The sets are drawn at random: a few replicas whose numbers may have gaps,
@@ -14,8 +14,8 @@ import sys
 import tempfile
 
 sys.dont_write_bytecode = True
-sys.path.insert(0, os.path.dirname(os.path.abspath(__file__)))
-import logs
+sys.path.insert(0, os.path.dirname(os.path.dirname(os.path.abspath(__file__))))
+from formats import logs
 
 ADDS = {"add_track", "add_clip", "add_marker"}
 FITS = {

@@ -1,8 +1,8 @@
 """Cases of tracks and clips: what `radio view` shows of them, and records of theirs that are none."""
 import hashlib
 
-from case import M, NEWS, SHOWN, bad_record, case, fault, view
-from logs import (
+from subjects.case import M, NEWS, SHOWN, bad_record, case, fault, view
+from formats.logs import (
     A, B, C, add_clip, add_marker, add_track, clip_line, head, log, marker_line, move_clip, move_marker, move_track, remove, restore,
     retitle, seal, set_gain, set_mute, stamp, track_line, trim_clip)
 

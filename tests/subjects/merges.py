@@ -1,9 +1,9 @@
 """Cases of merging: what the new log holds, which files are there afterwards, and what is refused."""
 import os
 
-from case import LATE, NEWS, ONE, case, fault
-from cases_of_tracks import twelve
-from logs import A, B, C, add_marker, log, marker_line, move_marker, retitle
+from subjects.case import LATE, NEWS, ONE, case, fault
+from subjects.tracks import twelve
+from formats.logs import A, B, C, add_marker, log, marker_line, move_marker, retitle
 
 X, Y = ONE, log([NEWS, LATE])
 COAST = add_marker((1, B, 7), 960, "Coast")
@@ -32,7 +32,7 @@ for order in ("xyz", "xzy", "yxz", "yzx", "zxy", "zyx"):
 merged("merge_held_operations", [("late", log([LATE])), ("z", Z)], log([LATE, COAST]))
 merged("merge_twelve_bodies", [("even", log(twelve[0::2])), ("odd", log(twelve[1::2]))], log(twelve))
 # the example that the README shows, which examples/make.sh made
-EXAMPLES = os.path.join(os.path.dirname(os.path.dirname(os.path.abspath(__file__))), "examples")
+EXAMPLES = os.path.join(os.path.dirname(os.path.dirname(os.path.dirname(os.path.abspath(__file__)))), "examples")
 PUT = [add_marker((1, A, 1), 480, "News"), add_marker((2, A, 2), 96000, "Weather")]
 TITLES = [retitle((3, B, 1), (1, A, 1), "Headlines"), retitle((4, B, 2), (2, A, 2), "Weather for the coast")]
 TRAFFIC = [move_marker((3, C, 1), (2, A, 2), 144000), add_marker((4, C, 2), 240000, "Traffic")]
@@ -68,4 +68,4 @@ not_merged("merge_onto_a_folder", 37, ["folder", "x"], {"x": X}, setup="mkdir fo
 not_merged("merge_onto_a_part_that_is_a_folder", 37, ["out", "x"], {"x": X}, setup="mkdir out.part")
 not_merged("merge_onto_a_part_that_is_a_link", 37, ["out", "x"], {"x": X, "other": Z}, setup="ln -s other out.part")
 not_merged("merge_onto_no_name", 37, ["", "x"], {"x": X})
-not_merged("merge_into_a_closed_folder", 37, ["out", "x"], {"x": X}, setup="chmod a-w .")
+not_merged("merge_into_a_closed_folder", 37, ["out", "x"], {"x": X}, setup="chmod a-w .", needs="permissions")

@@ -1,6 +1,6 @@
 """Cases of markers: what `radio view` shows of them."""
-from case import LATE, M, N, NEWS, ONE, SHOWN, TALK, TALKED, case, view
-from logs import A, B, C, add_marker, log, marker_line, move_marker, remove, restore, retitle
+from subjects.case import LATE, M, N, NEWS, ONE, SHOWN, TALK, TALKED, case, view
+from formats.logs import A, B, C, add_marker, log, marker_line, move_marker, remove, restore, retitle
 
 # what is shown
 view("empty_log", [], "held 0\n")

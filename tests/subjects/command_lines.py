@@ -1,13 +1,13 @@
 """Cases of files and streams, and of command lines."""
-from case import ONE, case, fault
-from cases_of_waves import SMALLEST
+from subjects.case import ONE, case, fault
+from subjects.waves import SMALLEST
 
 # files and streams
 fault("missing_file", 45, ["view", "missing"])
 fault("missing_before_damaged", 45, ["view", "bad", "missing"], files={"bad": ONE[:-1]})
 fault("a_directory", 45, ["view", "folder"], setup="mkdir folder")
 fault("a_file_as_folder", 45, ["view", "log/log"], files={"log": ONE})
-fault("unreadable_file", 45, ["view", "log"], files={"log": ONE}, setup="chmod 000 log")
+fault("unreadable_file", 45, ["view", "log"], files={"log": ONE}, setup="chmod 000 log", needs="permissions")
 fault("output_closed", 37, ["view", "log"], files={"log": ONE}, output="closed")
 fault("output_full", 37, ["view", "log"], files={"log": ONE}, output="full")
 fault("output_to_a_closed_pipe", 37, ["view", "log"], files={"log": ONE}, output="pipe")
