@@ -21,7 +21,7 @@ failed=0
 skipped=0
 for case in "$cases"/*/*/; do
   name=$(basename "$(dirname "$case")")/$(basename "$case")
-  here=$place/$name
+  here=$place/cases/$name
   needs=$(cat "$case/needs" 2>/dev/null)
   if [ "$needs" = permissions ] && [ "$(id -u)" = 0 ] && [ -z "$as" ]; then
     echo "skipped $name: root may read and write everywhere, and there is no setpriv"
