@@ -8,3 +8,4 @@ pub mod Noted
 pub mod Read
 pub mod Chain
 pub mod Links
+pub mod Changing
