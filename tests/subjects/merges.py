@@ -31,6 +31,11 @@ for order in ("xyz", "xzy", "yxz", "yzx", "zxy", "zyx"):
     merged("merge_" + order, [(name, {"x": X, "y": Y, "z": Z}[name]) for name in order], XYZ)
 merged("merge_held_operations", [("late", log([LATE])), ("z", Z)], log([LATE, COAST]))
 merged("merge_twelve_bodies", [("even", log(twelve[0::2])), ("odd", log(twelve[1::2]))], log(twelve))
+# more logs than are joined one after another: an operation of each, and one that all have
+MANY = [(str(number), log([NEWS, add_marker((2, C, number), number, "Cue")])) for number in range(1, 13)]
+ALL = log([NEWS] + [add_marker((2, C, number), number, "Cue") for number in range(1, 13)])
+merged("merge_twelve_logs", MANY, ALL)
+merged("merge_twelve_logs_from_the_last", MANY[::-1], ALL)
 # the example that the README shows, which examples/make.sh made
 EXAMPLES = os.path.join(os.path.dirname(os.path.dirname(os.path.dirname(os.path.abspath(__file__)))), "examples")
 PUT = [add_marker((1, A, 1), 480, "News"), add_marker((2, A, 2), 96000, "Weather")]
@@ -48,6 +53,7 @@ LATER = add_marker((9, A, 1), 480, "News")
 not_merged("merge_other_operation", 17, ["out", "x", "other"], {"x": X, "other": log([OTHER])})
 not_merged("merge_other_clock", 17, ["out", "x", "later"], {"x": X, "later": log([LATER])})
 not_merged("merge_third_log_in_conflict", 17, ["out", "y", "z", "other"], {"y": Y, "z": Z, "other": log([OTHER])})
+not_merged("merge_twelfth_log_in_conflict", 17, ["out"] + [name for name, _ in MANY[1:]] + ["other"], dict(MANY[1:] + [("other", log([OTHER]))]))
 not_merged("merge_no_log_text", 11, ["out", "x", "text"], {"x": X, "text": b"abc"})
 not_merged("merge_damaged_before_conflict", 13, ["out", "x", "other", "cut"], {"x": X, "other": log([OTHER]), "cut": Y[:-1]})
 not_merged("merge_missing_file", 45, ["out", "x", "missing"], {"x": X})

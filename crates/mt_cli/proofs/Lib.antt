@@ -1,4 +1,3 @@
-pub mod Joining
 pub mod Readers
 pub mod Writing
 pub mod Buffering

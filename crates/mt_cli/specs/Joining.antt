@@ -2,16 +2,10 @@
 use Rattle.std.specs.Prelude.{ℕ, List, Option, ◌⊎◌}
 use Rattle.mt_opcodec.specs.Latch.{Latched}
 use Rattle.mt_opcodec.specs.LogValue.{LogMap}
-use Rattle.mt_opcodec.specs.Union.{IsFirstClash, FirstClash}
+use Rattle.mt_opcodec.specs.Union.{FirstClash}
 use Rattle.mt_cli.specs.declared.fault.CliFault.{CliFault}
 use Rattle.mt_cli.specs.declared.fault.CliFault.TheVariants.{Memory, Merge}
 use Rattle.mt_cli.specs.Reading.{GaveLogs, AreRead, HasCause}
-
--- memory, or the first dot at which the two logs clash
-abbrev pub JoinFails : LogMap → LogMap → CliFault → Type 0
-JoinFails a b Memory = Unit {0}
-JoinFails a b (Merge dot) = IsFirstClash a b dot
-JoinFails a b _ = ⊥
 
 -- memory, or the first dot at which a log clashes with the union of those before it
 abbrev pub AllFail : List LogMap → CliFault → Type 0

@@ -2,41 +2,25 @@
 
 ghost use Rattle.std.specs.Prelude.{◌≡◌, IfErr, IfOk, OnOk, List};
 ghost use Rattle.mt_opcodec.specs.LogValue.{LogMap};
-ghost use Rattle.mt_opcodec.specs.Union.{Agree, union, union_all, AllAgree};
-ghost use Rattle.mt_cli.specs.Joining.{JoinFails, AllFail, UnionFails};
+ghost use Rattle.mt_opcodec.specs.Union.{union_all, AllAgree};
+ghost use Rattle.mt_cli.specs.Joining.{AllFail, UnionFails};
 ghost use Rattle.mt_cli.specs.Reading.{GaveLogs, AreRead};
 
 use crate::fault::CliFault;
 use crate::read::read_logs;
 use mt_opcodec::{Latch, Log, LogFault};
 use std::alloc::Allocator;
-use std::collections::VecDeque;
 use std::io::Read;
 
-// The union of all so far and of one more log, which moves into it.
-fn join<A: Allocator + Clone>(all: Log<A>, log: Log<A>) -> Result<Log<A>, CliFault>
-    ensures ok { IfOk result (λ joined. Agree all log × (joined ≡ union all log)) }
-    ensures err { IfErr result (JoinFails all log) }
-{
-    match all.join(log) {
-        Ok(joined) => Ok(joined),
-        Err(LogFault::Conflict(dot)) => Err(CliFault::Merge(dot)),
-        Err(_) => Err(CliFault::Memory),
-    }
-}
-
-// The union of the logs, joined from left to right; each operation moves.
+// The union of the logs; each operation moves.
 fn join_all<A: Allocator + Clone>(alloc: A, logs: Vec<Log<A>, A>) -> Result<Log<A>, CliFault>
     ensures ok { IfOk result (λ all. AllAgree logs.items × (all ≡ union_all logs.items)) }
     ensures err { IfErr result (AllFail logs.items) }
 {
-    let mut all = Log::new(alloc);
-    let mut rest = VecDeque::from(logs);
-    loop {
-        match rest.pop_front() {
-            Some(log) => all = join(all, log)?,
-            None => return Ok(all),
-        }
+    match Log::join_all(alloc, logs) {
+        Ok(all) => Ok(all),
+        Err(LogFault::Conflict(dot)) => Err(CliFault::Merge(dot)),
+        Err(_) => Err(CliFault::Memory),
     }
 }
 

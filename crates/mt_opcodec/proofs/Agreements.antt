@@ -28,7 +28,7 @@ of_second a b c ab h dot o p at_b at_c = by (fin.get a dot) refl
     by None e = h dot o p (get-union a b dot ∙ in_second (fin.get a dot) (fin.get b dot) e ∙ at_b) at_c
     by (Some q) e = sym (ab dot q o e at_b) ∙ h dot q p (get-union a b dot ∙ in_first (fin.get a dot) (fin.get b dot) q e) at_c
 
-of_both : (a b c : LogMap) → Agree a c → Agree b c → Agree (union a b) c
+pub of_both : (a b c : LogMap) → Agree a c → Agree b c → Agree (union a b) c
 of_both a b c ac bc dot o p at_u at_c = by (fin.get a dot) refl
   where
     by : (x : Option Operation) → fin.get a dot ≡ x → o ≡ p
@@ -43,7 +43,7 @@ each_second : (a b : LogMap) (logs : List LogMap) → Agree a b → AllByRecursi
 each_second a b [] ab h = tt
 each_second a b (c ∷ logs) ab h = (of_second a b c ab h.0, each_second a b logs ab h.1)
 
-each_both : (a b : LogMap) (logs : List LogMap) → AllByRecursion (Agree a) logs → AllByRecursion (Agree b) logs → AllByRecursion (Agree (union a b)) logs
+pub each_both : (a b : LogMap) (logs : List LogMap) → AllByRecursion (Agree a) logs → AllByRecursion (Agree b) logs → AllByRecursion (Agree (union a b)) logs
 each_both a b [] h k = tt
 each_both a b (c ∷ logs) h k = (of_both a b c h.0 k.0, each_both a b logs h.1 k.1)
 
@@ -64,7 +64,7 @@ with_empty (b ∷ logs) = ((λ dot o p none there. absurd (none-some o (sym (fin
 pub agree_pairwise : AgreePairwise
 agree_pairwise logs = ((λ h. (to_pairs fin.empty logs h).1), (λ h. from_pairs fin.empty logs (with_empty logs) h))
 
-flip : (a b : LogMap) → Agree a b → Agree b a
+pub flip : (a b : LogMap) → Agree a b → Agree b a
 flip a b h dot o p at_b at_a = sym (h dot p o at_a at_b)
 
 pub agree_grouped : AgreeGrouped

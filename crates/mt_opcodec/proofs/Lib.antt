@@ -32,3 +32,5 @@ pub mod RunLists
 pub mod Others
 pub mod RunLogs
 pub mod Refs
+pub mod JoiningAll
+pub mod Seeing

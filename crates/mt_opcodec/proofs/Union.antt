@@ -34,7 +34,7 @@ get-union a b dot =
 pub same_log : (a b : LogMap) → ((dot : Dot) → fin.get a dot ≡ fin.get b dot) → a ≡ b
 same_log a b h = fin.same_map dot_cmp_total dot_cmp-IsAntisymmetric a b h
 
-both_ways : (x y : Option Operation) → ((o p : Operation) → x ≡ Some o → y ≡ Some p → o ≡ p) → cond (is_some x) x y ≡ cond (is_some y) y x
+pub both_ways : (x y : Option Operation) → ((o p : Operation) → x ≡ Some o → y ≡ Some p → o ≡ p) → cond (is_some x) x y ≡ cond (is_some y) y x
 both_ways None None h = refl
 both_ways None (Some p) h = refl
 both_ways (Some o) None h = refl

@@ -10,3 +10,4 @@ pub mod Faults
 pub mod Latch
 pub mod Runs
 pub mod Clashing
+pub mod Seen

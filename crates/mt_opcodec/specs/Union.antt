@@ -61,3 +61,9 @@ FirstClashFrom a (b ∷ logs) dot = IsFirstClash a b dot ⊎ (Agree a b × First
 
 abbrev pub FirstClash : List LogMap → Dot → Type 0
 FirstClash logs dot = FirstClashFrom map.empty logs dot
+
+-- what refuses the union of logs: memory, or the first dot at which a log clashes with those before it
+abbrev pub JoinAllFails : List LogMap → LogFault → Type 0
+JoinAllFails logs Memory = Unit {0}
+JoinAllFails logs (Conflict dot) = FirstClash logs dot
+JoinAllFails logs _ = ⊥

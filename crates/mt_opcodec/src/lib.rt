@@ -29,6 +29,7 @@ mod fault;
 mod field_reader;
 mod find;
 mod join;
+mod join_all;
 mod joining;
 mod latch;
 pub mod laws;
@@ -38,6 +39,7 @@ mod op_reader;
 mod op_writer;
 mod run;
 mod run_list;
+mod seen;
 #[cfg(test)]
 mod tests;
 

@@ -1,8 +1,6 @@
 //! What no clause says: texts that were worked out elsewhere, what each refusal looks at, and that
 //! every call succeeds where there is memory.
-mod changes;
 mod logs;
-mod merges;
 mod operations;
 mod refused_growth;
 mod runs;

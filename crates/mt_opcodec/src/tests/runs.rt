@@ -245,3 +245,31 @@ fn of_joined_logs(rt: HostRuntime) -> Result<(), Fail> {
     }
     Err(Fail::from("each run met a refusal"))
 }
+
+// How many operations the union of so many logs has, each with one of its own and one that all have.
+fn len_of_many<M: Allocator + Copy>(memory: M, logs: u64) -> Result<usize, LogFault> {
+    let mut many = Vec::new(memory);
+    for seq in 2..logs.saturating_add(2) {
+        many.push(log_with(memory, &[(A, 1), (A, seq)])?)?;
+    }
+    Ok(Log::join_all(memory, many)?.len())
+}
+
+#[test]
+fn of_many_joined_logs(rt: HostRuntime) -> Result<(), Fail> {
+    for at in 0..200 {
+        let memory = Refusing::new(rt.alloc(), at);
+        let len = len_of_many(&memory, 9);
+        assert_eq!(rt; len.is_err(), memory.has_refused(), "at {at}");
+        if !memory.has_refused() {
+            assert_eq!(rt; len, Ok(10));
+            assert!(rt;
+                at > 60,
+                "logs, what was seen and their runs were refused memory"
+            );
+            return Ok(());
+        }
+        assert_eq!(rt; len, Err(LogFault::Memory), "at {at}");
+    }
+    Err(Fail::from("each run met a refusal"))
+}

@@ -1,7 +1,7 @@
 use Rattle.std.proofs.Common.{◌≡◌, sym, subst, ◌∷◌, List}
 use Rattle.mt_opcodec.specs.LogValue.{LogMap}
-use Rattle.mt_cli.proofs.Joining.{HasJoined, one_joined}
-use Rattle.mt_cli.proofs.union.join_all.Goals as goal
+use Rattle.mt_opcodec.proofs.JoiningAll.{HasJoined, one_joined}
+use Rattle.mt_opcodec.proofs.join_all.join_from_left.Goals as goal
 
 pub loop-log-preserved : goal.loop-log-preserved
 loop-log-preserved g c =

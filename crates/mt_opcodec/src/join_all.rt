@@ -1,0 +1,82 @@
+//! The union of many logs.
+
+ghost use Rattle.std.specs.Prelude.{◌≡◌, IfErr, IfOk};
+ghost use Rattle.mt_opcodec.specs.Laws.{PairsAgree};
+ghost use Rattle.mt_opcodec.specs.Union.{Agree, union, union_all, AllAgree, JoinAllFails};
+
+use crate::fault::LogFault;
+use crate::log::Log;
+use crate::seen::first_clash;
+use std::alloc::Allocator;
+use std::collections::VecDeque;
+
+// Up to so many logs are joined from left to right: a walk over what was joined before costs less then than a look at each
+// operation of all logs.
+const FEW: usize = 8;
+
+// The union of the logs, joined from left to right.
+fn join_from_left<A: Allocator + Clone>(alloc: A, logs: Vec<Log<A>, A>) -> Result<Log<A>, LogFault>
+    ensures ok { IfOk result (λ all. AllAgree logs.items × (all ≡ union_all logs.items)) }
+    ensures err { IfErr result (JoinAllFails logs.items) }
+{
+    let mut all = Log::new(alloc);
+    let mut rest = VecDeque::from(logs);
+    loop {
+        match rest.pop_front() {
+            Some(log) => all = all.join(log)?,
+            None => return Ok(all),
+        }
+    }
+}
+
+// The union of two logs that agree.
+fn join_agreeing<A: Allocator + Clone>(first: Log<A>, second: Log<A>) -> Result<Log<A>, LogFault>
+    requires agree { Agree first second }
+    ensures ok { IfOk result (λ all. all ≡ union first second) }
+    ensures err { IfErr result (λ fault. fault ≡ LogFault.Memory) }
+{
+    match first.join(second) {
+        Ok(both) => Ok(both),
+        Err(_) => Err(LogFault::Memory),
+    }
+}
+
+// The union of logs that agree, joined in pairs, and these in pairs again: each operation is walked once for each doubling of the
+// number of logs.
+fn join_in_pairs<A: Allocator + Clone>(alloc: A, logs: Vec<Log<A>, A>) -> Result<Log<A>, LogFault>
+    requires agree { PairsAgree logs.items }
+    ensures ok { IfOk result (λ all. all ≡ union_all logs.items) }
+    ensures err { IfErr result (λ fault. fault ≡ LogFault.Memory) }
+{
+    let mut rest = VecDeque::from(logs);
+    loop {
+        let Some(first) = rest.pop_front() else {
+            return Ok(Log::new(alloc));
+        };
+        let Some(second) = rest.pop_front() else {
+            return Ok(first);
+        };
+        rest.push_back(join_agreeing(first, second)?)?;
+    }
+}
+
+impl<A: Allocator + Clone> Log<A> {
+    /// The union of logs: each operation that any of them has, once, moved out of them. Refused as `Conflict` (17) where a log has
+    /// another operation under a dot than the logs before it, with the least such dot of the first such log, and as
+    /// `Memory` (0) where a growth was refused; all are then dropped.
+    ///
+    /// Eight logs or fewer are joined one after another. Of more it is first seen whether they agree, which takes memory
+    /// for a reference to each operation, and then they are joined in pairs: n operations in k logs cost n log n and n log k moves.
+    pub fn join_all(alloc: A, logs: Vec<Log<A>, A>) -> Result<Log<A>, LogFault>
+        ensures ok { IfOk result (λ all. AllAgree logs.items × (all ≡ union_all logs.items)) }
+        ensures err { IfErr result (JoinAllFails logs.items) }
+    {
+        if logs.len() <= FEW {
+            return join_from_left(alloc, logs);
+        }
+        match first_clash(alloc.clone()?, &logs)? {
+            Some(dot) => Err(LogFault::Conflict(dot)),
+            None => Ok(join_in_pairs(alloc, logs)?),
+        }
+    }
+}

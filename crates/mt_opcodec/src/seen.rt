@@ -1,0 +1,104 @@
+//! The first of many logs that contradicts those before it.
+
+ghost use Rattle.std.specs.Prelude.{◌≡◌, IfOk, OnOk, MatchOption};
+ghost use Rattle.std.specs.Option.{option_copied};
+ghost use Rattle.std.specs.BTreeMap.{get};
+ghost use Rattle.mt_stamp.specs.declared.name.Dot.{Dot as DotOf};
+ghost use Rattle.mt_stamp.specs.Moment.{dot_cmp};
+ghost use Rattle.mt_opcodec.specs.LogValue.{LogMap};
+ghost use Rattle.mt_opcodec.specs.Clashing.{HasAnother, FirstOther};
+ghost use Rattle.mt_opcodec.specs.Runs.{run_ops};
+ghost use Rattle.mt_opcodec.specs.Seen.{AreSeen, seen_after};
+ghost use Rattle.mt_opcodec.specs.Union.{AllAgree, FirstClash};
+
+use crate::log::Log;
+use crate::run::Run;
+use mt_op::Op;
+use mt_op::laws::equal_ops;
+use mt_stamp::Dot;
+use std::alloc::{AllocError, Allocator};
+use std::collections::BTreeMap;
+
+// Whether another operation was seen under this one's dot.
+fn has_another<A: Allocator, B: Allocator>(seen: &BTreeMap<Dot, &Op<A>, B>, op: &Op<A>) -> bool
+    ensures { (log : LogMap) → AreSeen (λ dot. option_copied (get dot_cmp seen.now dot)) log → HasAnother log op.now result }
+{
+    match seen.get(&op.dot()) {
+        Some(there) => !equal_ops(there, op),
+        None => false,
+    }
+}
+
+// The dot of the first of these operations under whose dot another one was seen.
+fn first_of_ops<A: Allocator, B: Allocator>(
+    seen: &BTreeMap<Dot, &Op<A>, B>,
+    ops: &[Op<A>],
+) -> Option<Dot>
+    ensures { (log : LogMap) → AreSeen (λ dot. option_copied (get dot_cmp seen.now dot)) log → FirstOther log ops.now result }
+{
+    for op in ops {
+        if has_another(seen, op) {
+            return Some(op.dot());
+        }
+    }
+    None
+}
+
+// The same, of the operations of all these runs.
+fn first_other<A: Allocator, B: Allocator>(
+    seen: &BTreeMap<Dot, &Op<A>, B>,
+    runs: &[Run<A>],
+) -> Option<Dot>
+    ensures { (log : LogMap) → AreSeen (λ dot. option_copied (get dot_cmp seen.now dot)) log → FirstOther log (run_ops runs.now) result }
+{
+    for run in runs {
+        if let Some(dot) = first_of_ops(seen, run.ops()) {
+            return Some(dot);
+        }
+    }
+    None
+}
+
+// Notes operations under their dots.
+fn note_ops<'a, A: Allocator, B: Allocator + Clone>(
+    seen: &mut BTreeMap<Dot, &'a Op<A>, B>,
+    ops: &'a [Op<A>],
+) -> Result<(), AllocError>
+    ensures { OnOk result ((dot : DotOf) → option_copied (get dot_cmp seen.new dot) ≡ seen_after ops.now (λ q. option_copied (get dot_cmp seen.old q)) dot) }
+{
+    for op in ops {
+        seen.insert(op.dot(), op)?;
+    }
+    Ok(())
+}
+
+// Notes the operations of runs under their dots.
+fn note_runs<'a, A: Allocator, B: Allocator + Clone>(
+    seen: &mut BTreeMap<Dot, &'a Op<A>, B>,
+    runs: &'a [Run<A>],
+) -> Result<(), AllocError>
+    ensures { OnOk result ((dot : DotOf) → option_copied (get dot_cmp seen.new dot) ≡ seen_after (run_ops runs.now) (λ q. option_copied (get dot_cmp seen.old q)) dot) }
+{
+    for run in runs {
+        note_ops(seen, run.ops())?;
+    }
+    Ok(())
+}
+
+// The first dot at which one of the logs clashes with those before it, or none where all agree. Takes memory for a reference to
+// each operation; its time is n log n for n of them, however many logs there are.
+pub(crate) fn first_clash<A: Allocator, B: Allocator + Clone>(
+    alloc: B,
+    logs: &[Log<A>],
+) -> Result<Option<Dot>, AllocError>
+    ensures { IfOk result (λ dot. MatchOption dot (AllAgree logs.now) (FirstClash logs.now)) }
+{
+    let mut seen = BTreeMap::new(alloc);
+    for log in logs {
+        if let Some(dot) = first_other(&seen, log.runs()) {
+            return Ok(Some(dot));
+        }
+        note_runs(&mut seen, log.runs())?;
+    }
+    Ok(None)
+}
