@@ -7,10 +7,10 @@ use mt_cuewrite::{Head, bounce};
 use mt_op::{Digest, Op};
 use mt_opcodec::{Latch, Log};
 use mt_render::{Catalogue, Format, Mix};
-use mt_replica::Editor;
+use mt_replica::{Change, Editor};
 use mt_script::run;
 use mt_sessionview::{Session, write_text};
-use mt_stamp::Replica;
+use mt_stamp::{Replica, Stamp};
 use std::alloc::Global;
 use std::test::Fail;
 
@@ -185,5 +185,31 @@ fn agree_on_a_moved_and_removed_clip(rt: HostRuntime) -> Result<(), Fail> {
         b"remove 2.2.00000000-0000-0000-0000-00000000000a\nrestore 2.2.00000000-0000-0000-0000-00000000000a\n",
     ];
     assert_eq!(rt; agreements(rt.alloc(), scripts, 120), Some((7, true)));
+    Ok(())
+}
+
+// Whether an editor that makes a change of a log agrees with one that makes it by a script.
+fn edits_as_scripted(alloc: Global, log: Log, change: &Change, script: &[u8]) -> Option<bool> {
+    let copy = log.try_clone().ok()?;
+    let scripted = Editor::from_log(alloc, A, went_on(alloc, A, copy, script)?).ok()?;
+    let mut editor = Editor::from_log(alloc, A, log).ok()?;
+    if editor.edit(change).is_err() {
+        return None;
+    }
+    Some(agree(alloc, &editor, &scripted))
+}
+
+// three_sample_file, moved by `edit`
+#[test]
+fn agree_on_an_edited_clip(rt: HostRuntime) -> Result<(), Fail> {
+    let script = b"add-track head Voice\nadd-clip cc0a0e0651f6e9e304442665437ab61ac3b5302b51bb4a161b144bf9985dfb79 $1 0 0 3\n";
+    let log = went_on(rt.alloc(), A, Log::new(rt.alloc()), script).ok_or("refused")?;
+    let change = Change::MoveClip {
+        clip: Stamp::new(2, A, 2)?,
+        track: Stamp::new(1, A, 1)?,
+        at: 70,
+    };
+    let moved = b"move-clip 2.2.00000000-0000-0000-0000-00000000000a 1.1.00000000-0000-0000-0000-00000000000a 70\n";
+    assert_eq!(rt; edits_as_scripted(rt.alloc(), log, &change, moved), Some(true));
     Ok(())
 }
