@@ -28,7 +28,9 @@ use Rattle.mt_opcodec.proofs.Logs.{entries-log_of}
 use Rattle.mt_items.specs.Noting.{MayFollow, is_noted, is_need_met}
 use Rattle.mt_sessionview.specs.Session.{ready_ops}
 use Rattle.mt_sessionview.proofs.SameReady.{ready_same}
+use Rattle.mt_holdback.specs.State.{State}
 use Rattle.mt_replica.specs.Edit.{Edit}
+use Rattle.mt_replica.specs.Holding.{all_offered, with_offered}
 use Rattle.mt_replica.specs.Kept.{with_op}
 use Rattle.mt_replica.specs.Made.{is_by, greatest_of, greatest_clock, greatest_seq, plays, names_of, names_present, names_refused, tags_fit, unless, or_else, stamp_refused, refused, or_made, made, made_act, made_stamp, made_op}
 use Rattle.mt_replica.specs.State.{Named, IsState, IsMade, body_refused}
@@ -43,6 +45,7 @@ use Rattle.mt_replica.proofs.Bridging.{refused_in_parts}
 use Rattle.mt_replica.proofs.Making.{Met, any_member, mapped_below, all_members}
 use Rattle.mt_replica.proofs.Valid.{newest, all_met, older, it_plays, same_length, tags_good}
 use Rattle.mt_replica.proofs.Gaining.{ready_gains}
+use Rattle.mt_replica.proofs.HeldBack.{offered_same}
 use Rattle.mt_replica.proofs.Inserted.{insert_same}
 use Rattle.mt_replica.proofs.Numbers.{clock_same, seq_same}
 
@@ -127,9 +130,12 @@ module _ (name : Replica) (log : LogMap) (edit : Edit) (logged : AreLogged (oper
       ready_same clock_of needs meets (operations (with_op log (made_op (operations log) name edit))) (made_op (operations log) name edit ∷ operations log) with_same f
       ∙ ap (sum_by f) (ready_gains (operations log) (made_op (operations log) name edit) older_all (newest (operations log)) (all_met (operations log) name edit none))
 
-  pub kept : (items : List Operation) (clock seq : ℕ) → IsState (record { name = name; log = log }) items clock seq
-      → IsState (record { name = name; log = with_op log (made_op (operations log) name edit) }) (made_op (operations log) name edit ∷ items) (suc (greatest_clock (operations log))) (suc (greatest_seq name (operations log)))
-  kept items clock seq is = record {
+  pub kept : (was now : State Operation) (items : List Operation) (clock seq : ℕ) → now ≡ record { kept = with_offered was.kept (made_op (operations log) name edit); failed = false } → IsState (record { name = name; log = log }) was items clock seq
+      → IsState (record { name = name; log = with_op log (made_op (operations log) name edit) }) now (made_op (operations log) name edit ∷ items) (suc (greatest_clock (operations log))) (suc (greatest_seq name (operations log)))
+  kept was now items clock seq offered is = record {
+    whole = ap (λ (w : State Operation). w.failed) offered;
+    offered = λ f. ap (λ (w : State Operation). sum_by f (all_offered w.kept)) offered
+        ∙ offered_same was.kept (made_op (operations log) name edit) (operations log) (operations (with_op log (made_op (operations log) name edit))) is.offered with_same f;
     noted = λ f. sum_by-cons f (made_op (operations log) name edit) items ∙ ap (λ (n : ℕ). f (made_op (operations log) name edit) + n) (is.noted f) ∙ sym (sum_by-cons f (made_op (operations log) name edit) (ready_ops (operations log))) ∙ sym (ready_more f);
     clock_is = sym (clock_same (operations (with_op log (made_op (operations log) name edit))) (made_op (operations log) name edit ∷ operations log) with_same ∙ max-eq_left (omega arith));
     seq_is = sym (seq_same name (operations (with_op log (made_op (operations log) name edit))) (made_op (operations log) name edit ∷ operations log) with_same
@@ -176,7 +182,10 @@ module _ (state : Named) (o : Operation) (made_it : IsMade state o) (logged : Ar
       let parts = unmade (refused (operations state.log) state.name made_it.0) (made_op (operations state.log) state.name made_it.0) o made_it.1 in
       subst (λ (p : Operation). fin.get state.log (op_dot p) ≡ None) parts.1 (absent state.name state.log made_it.0 logged whole parts.0)
 
-  pub made_kept : (items : List Operation) (clock seq : ℕ) → IsState state items clock seq → IsState (record { name = state.name; log = with_op state.log o }) (o ∷ items) o.stamp.clock o.stamp.seq
-  made_kept items clock seq is =
+  pub made_kept : (was now : State Operation) (items : List Operation) (clock seq : ℕ) → now ≡ record { kept = with_offered was.kept o; failed = false } → IsState state was items clock seq
+      → IsState (record { name = state.name; log = with_op state.log o }) now (o ∷ items) o.stamp.clock o.stamp.seq
+  made_kept was now items clock seq offered is =
       let parts = unmade (refused (operations state.log) state.name made_it.0) (made_op (operations state.log) state.name made_it.0) o made_it.1 in
-      subst (λ (p : Operation). IsState (record { name = state.name; log = with_op state.log p }) (p ∷ items) p.stamp.clock p.stamp.seq) parts.1 (kept state.name state.log made_it.0 logged whole parts.0 items clock seq is)
+      let it : Operation = made_op (operations state.log) state.name made_it.0 in
+      subst (λ (p : Operation). IsState (record { name = state.name; log = with_op state.log p }) now (p ∷ items) p.stamp.clock p.stamp.seq) parts.1
+      (kept state.name state.log made_it.0 logged whole parts.0 was now items clock seq (offered ∙ ap (λ (p : Operation). record { kept = with_offered was.kept p; failed = false }) (sym parts.1)) is)

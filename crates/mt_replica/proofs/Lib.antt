@@ -5,6 +5,8 @@ pub mod Valid
 pub mod Numbers
 pub mod Refs
 pub mod Bridging
+pub mod OwnStamps
+pub mod HeldBack
 pub mod Keeping
 pub mod Taking
 pub mod NextOne

@@ -1,5 +1,5 @@
 -- References sorted by what they refer to.
-use Rattle.std.proofs.Common.{◌≡◌, ◌≢◌, ℕ, zero, suc, ◌+◌, ◌<◌, ◌≤◌, List, [], ◌∷◌, map, reverse, length, refl, sym, ap, subst, ◌∙◌, inl, inr, arith}
+use Rattle.std.proofs.Common.{◌≡◌, ◌≢◌, ℕ, zero, suc, ◌+◌, ◌<◌, ◌≤◌, List, [], ◌∷◌, map, reverse, length, refl, sym, ap, subst, ◌∙◌, inl, inr, cond, arith}
 use Rattle.std.specs.Prelude.{slice_index_or, take}
 use Rattle.std.specs.List.{All, AllByRecursion, sum_by}
 use Rattle.std.specs.List.Sorted.{IsPermutation, IsSorted, IsSortedByKey}
@@ -7,7 +7,7 @@ use Rattle.std.specs.declared.cmp.Ordering.TheVariants.{Equal}
 use Rattle.std.proofs.lemmas.List.Elements.{All-from_recursion, recursion_from_All}
 use Rattle.std.proofs.lemmas.List.Sorted.{IsPermutation-refl, IsPermutation-reverse, sum_by-IsPermutation, All-permutation}
 use Rattle.std.specs.Cmp.{on_total}
-use Rattle.mt_stamp.specs.Moment.{stamp_cmp}
+use Rattle.mt_stamp.specs.Moment.{stamp_cmp, stamp_eq}
 use Rattle.mt_stamp.specs.Sorting.{sort_by, DifferBy, RisesStrictly}
 use Rattle.mt_stamp.proofs.Order.{stamp_cmp_total, stamp_cmp-IsAntisymmetric}
 use Rattle.mt_stamp.proofs.Members.{IsMember, AreApart, sort_strict}
@@ -18,6 +18,8 @@ use Rattle.mt_op.specs.ByStamp.{stamp_of, op_cmp}
 use Rattle.mt_op.specs.Needs.{needs, meets, clock_of}
 use Rattle.mt_sessionview.specs.Session.{ready_ops}
 use Rattle.mt_sessionview.proofs.SameReady.{ready_same}
+use Rattle.mt_holdback.specs.State.{State}
+use Rattle.mt_replica.specs.Holding.{stamp_count, HaveOwnStamps, AreOffered}
 use Rattle.mt_replica.proofs.Making.{all_members, member_all}
 
 index_map : {X Y : Type 0} (f : X → Y) (xs : List X) (k : ℕ) (d : Y) (e : X) → k < length xs → slice_index_or (map f xs) k d ≡ f (slice_index_or xs k e)
@@ -100,3 +102,14 @@ noted_same items sorted ops is noted f =
     ∙ sum_by-IsPermutation f (ready_ops sorted) (reverse (ready_ops sorted)) (IsPermutation-reverse (ready_ops sorted))
     ∙ ap (λ (l : List Operation). sum_by f (ready_ops l)) is
     ∙ ready_same clock_of needs meets (sort_by op_cmp ops) ops (λ h. (sorts op_cmp (on_total stamp_of stamp_cmp_total)).same h ops) f
+
+-- sorted, their stamps are their own still
+pub sorted_own : (sorted ops : List Operation) → sorted ≡ sort_by op_cmp ops → HaveOwnStamps ops → HaveOwnStamps sorted
+sorted_own sorted ops is own s =
+    let same = ap (stamp_count s) is ∙ (sorts op_cmp (on_total stamp_of stamp_cmp_total)).same (λ (x : Operation). cond (stamp_eq s x.stamp) 1 0) ops in
+    let once = own s in
+    omega (arith, same, once)
+
+-- those that were offered sorted are those that were offered
+pub sorted_offered : (waiting : State Operation) (sorted ops : List Operation) → sorted ≡ sort_by op_cmp ops → AreOffered waiting [] sorted → AreOffered waiting [] ops
+sorted_offered waiting sorted ops is are = record { whole = are.whole; offered = λ f. are.offered f ∙ ap (sum_by f) is ∙ (sorts op_cmp (on_total stamp_of stamp_cmp_total)).same f ops }

@@ -1,90 +1,48 @@
--- What a take answers.
-use Rattle.std.proofs.Common.{◌≡◌, ◌≢◌, ℕ, zero, suc, ◌+◌, ◌≤◌, ◌<◌, Bool, true, false, cond, not, ◌||◌, List, [], ◌∷◌, ◌++◌, map, length, refl, sym, ap, ◌∙◌, subst, inl, inr, arith}
-use Rattle.std.specs.Prelude.{Some, None, Result, Ok, Err, IfOk, IsTrue, is_ok, slice_index_or, ◌↔◌}
-use Rattle.std.specs.List.{HoldsAt, filter}
-use Rattle.std.specs.List.Sorted.{IsSorted, IsBinarySearchResult, IsSearchInRange}
+-- What a take keeps, and what it answers.
+use Rattle.std.proofs.Common.{◌≡◌, ◌≢◌, ℕ, ◌+◌, ◌≤◌, Bool, true, false, cond, not, ◌||◌, List, [], ◌∷◌, ◌++◌, map, length, refl, sym, ap, ◌∙◌, subst, arith}
+use Rattle.std.specs.Prelude.{Some, None, Ok, IsTrue, ◌↔◌, drop, max}
+use Rattle.std.specs.List.{AllByRecursion, filter, list_any, sum_by}
 use Rattle.std.specs.FinMap as fin
-use Rattle.std.specs.FinMap.Entries.{put, by_order}
-use Rattle.std.specs.Ordering.{is_lt}
 use Rattle.std.specs.declared.cmp.Ordering.{Ordering}
-use Rattle.std.specs.declared.cmp.Ordering.TheVariants.{Less, Equal, Greater}
-use Rattle.std.proofs.lemmas.Bool.{false≢true, cases_lt}
-use Rattle.std.proofs.lemmas.Cmp.{tied_itself}
-use Rattle.std.proofs.lemmas.List.Sorted.{searchable_from_sorted}
-use Rattle.mt_stamp.specs.declared.name.Dot.{Dot}
-use Rattle.mt_stamp.specs.Moment.{Moment, stamp_cmp, stamp_eq, dot_cmp}
-use Rattle.mt_stamp.specs.Sorting.{sort_by, Rises}
-use Rattle.mt_stamp.proofs.Order.{stamp_cmp_total, stamp_cmp-IsAntisymmetric, dot_cmp_total}
-use Rattle.mt_stamp.proofs.Members.{IsMember, member_kept, member_of_kept, member_sorted, member_unsorted}
-use Rattle.mt_stamp.proofs.SameItems.{same_any}
-use Rattle.mt_stamp.proofs.Sorting.{sorts}
+use Rattle.std.specs.declared.cmp.Ordering.TheVariants.{Less}
+use Rattle.std.proofs.lemmas.Bool.{false≢true}
+use Rattle.std.proofs.Math.Seq.{drop-append_seam}
+use Rattle.std.proofs.lemmas.List.{length-append}
+use Rattle.std.proofs.lemmas.List.Sums.{sum_by-cons}
+use Rattle.mt_stamp.specs.declared.name.Replica.{Replica}
+use Rattle.mt_stamp.specs.Moment.{Moment, stamp_cmp, stamp_eq}
+use Rattle.mt_stamp.specs.Sorting.{sort_by, RisesStrictly, DifferBy}
+use Rattle.mt_stamp.proofs.Order.{stamp_cmp_total}
+use Rattle.mt_stamp.proofs.Differing.{all_kept, differ_kept, differ_mapped}
+use Rattle.mt_stamp.proofs.Members.{IsMember, one_list, sort_strict, member_kept, member_of_kept, member_sorted, member_unsorted}
+use Rattle.mt_stamp.proofs.SameItems.{SameItems, same_any, all_map}
 use Rattle.mt_op.specs.Operation.{Operation}
 use Rattle.mt_op.specs.ByStamp.{stamp_of}
 use Rattle.mt_op.specs.Dots.{op_dot}
-use Rattle.mt_op.specs.Needs.{needs, meets, clock_of}
+use Rattle.mt_op.specs.Needs.{needs, meets, clock_of, fits}
 use Rattle.mt_op.specs.Ready.{is_ready}
 use Rattle.mt_op.specs.Presence.{is_listed}
-use Rattle.mt_op.proofs.Needs.{stamp_eq-true}
 use Rattle.mt_opcodec.specs.LogValue.{LogMap, operations, AreLogged}
+use Rattle.mt_items.specs.Noting.{is_noted}
+use Rattle.mt_holdback.specs.declared.hold_back.Offered.{Offered}
+use Rattle.mt_holdback.specs.HoldBack.{Kept, IsHoldBack, offered_with}
+use Rattle.mt_holdback.specs.HoldBack as holding
+use Rattle.mt_holdback.specs.State.{State}
+use Rattle.mt_holdback.specs.Ops.{op_key, op_needs}
 use Rattle.mt_sessionview.specs.Session.{ready_ops, stamps_of}
-use Rattle.mt_sessionview.proofs.Items.{stamp_eq_same}
 use Rattle.mt_sessionview.proofs.TrackSorting.{every_stamp}
 use Rattle.mt_replica.specs.declared.taken.Taken.{Taken}
 use Rattle.mt_replica.specs.declared.taken.Taken.TheVariants.{Already, Held, Applied}
-use Rattle.mt_replica.specs.Kept.{with_op, is_ready_in, TakeOf}
-use Rattle.mt_replica.specs.State.{Found, TakenGives, others_of}
-use Rattle.mt_replica.proofs.Making.{mapped_member}
-use Rattle.mt_replica.proofs.Refs.{one_of}
+use Rattle.mt_replica.specs.Holding.{all_offered, is_offered, newly_released, with_offered, offer_gives, is_held, StampsRise, HaveOwnStamps, AreOffered, stamp_count, noted_after, MayAllFollow, TakenGives}
+use Rattle.mt_replica.specs.Kept.{with_op, TakeOf, newly_ready}
+use Rattle.mt_replica.specs.Made.{greatest_of, greatest_clock, greatest_seq}
+use Rattle.mt_replica.specs.State.{Named, IsState, Found, own_seq}
 use Rattle.mt_replica.proofs.Bridging.{listed_member, member_listed, not_true}
-
--- ---- a search among stamps that rise
-
-grown : (k : ℕ) → suc (k + 1) ≡ suc k + 1
-grown k = omega arith
-
-rises_sorted : (xs : List Moment) → Rises stamp_cmp xs → IsSorted stamp_cmp xs
-rises_sorted [] rise k d low high = absurd (omega (arith, high))
-rises_sorted (x ∷ []) rise k d low high = absurd (omega (arith, high))
-rises_sorted (x ∷ y ∷ xs) rise zero d low high = rise.0.0
-rises_sorted (x ∷ y ∷ xs) rise (suc k) d low high =
-    subst (λ (j : ℕ). is_lt (stamp_cmp (slice_index_or (x ∷ y ∷ xs) j d) (slice_index_or (y ∷ xs) k d)) ≡ false) (grown k) (rises_sorted (y ∷ xs) rise.1 k d (omega arith) (omega (arith, high)))
-
-index_listed : (xs : List Moment) (i : ℕ) (d : Moment) → i < length xs → is_listed xs (slice_index_or xs i d) ≡ true
-index_listed [] i d below = absurd (omega (arith, below))
-index_listed (x ∷ xs) zero d below = ap (λ (b : Bool). b || is_listed xs x) (stamp_eq_same x x refl)
-index_listed (x ∷ xs) (suc i) d below = by (stamp_eq (slice_index_or xs i d) x) (index_listed xs i d (omega (arith, below)))
-  where
-    by : (b : Bool) → is_listed xs (slice_index_or xs i d) ≡ true → b || is_listed xs (slice_index_or xs i d) ≡ true
-    by true rest = refl
-    by false rest = rest
-
-none_listed : (xs : List Moment) (x : Moment) → ((k : ℕ) (d : Moment) → k < length xs → stamp_cmp (slice_index_or xs k d) x ≢ Equal) → is_listed xs x ≡ false
-none_listed [] x other = refl
-none_listed (y ∷ xs) x other =
-    let first : stamp_eq x y ≡ false = not_true (stamp_eq x y) (λ same. other 0 y (omega arith) (ap (λ (m : Moment). stamp_cmp m x) (sym (stamp_eq-true x y same)) ∙ tied_itself stamp_cmp_total x)) in
-    rw first (none_listed xs x (λ k d below. other (suc k) d (omega (arith, below))))
-
-pub search_tells : (xs : List Moment) (x : Moment) (r : Result ℕ ℕ) → Rises stamp_cmp xs → IsSearchInRange r (length xs) → IfOk r (HoldsAt (λ y. stamp_cmp y x ≡ Equal) xs) → IsBinarySearchResult (λ y. stamp_cmp y x) xs r → is_ok r ≡ is_listed xs x
-search_tells xs x (Ok i) rise range holds place = sym (ap (is_listed xs) (sym (stamp_cmp-IsAntisymmetric (slice_index_or xs i x) x (holds x))) ∙ index_listed xs i x range)
-search_tells xs x (Err i) rise range holds place =
-    let parts = place (searchable_from_sorted stamp_cmp_total (λ (m : Moment). m) xs x (rises_sorted xs rise)) in
-    sym (none_listed xs x (λ k d below tied. by parts.0 parts.1 k d below tied))
-  where
-    by : ((k : ℕ) (d : Moment) → 0 ≤ k → k < i → stamp_cmp (slice_index_or xs k d) x ≡ Less) → ((k : ℕ) (d : Moment) → i ≤ k → k < length xs → stamp_cmp (slice_index_or xs k d) x ≡ Greater)
-        → (k : ℕ) (d : Moment) → k < length xs → stamp_cmp (slice_index_or xs k d) x ≡ Equal → ⊥
-    by before behind k d below tied = elim (cases_lt k i) [
-      | inl under ↦ (let e : Less ≡ Equal = sym (before k d (omega arith) under) ∙ tied in absurd cc)
-      | inr over ↦ (let e : Greater ≡ Equal = sym (behind k d over below) ∙ tied in absurd cc)
-    ]
-
--- ---- stamps that are not among others
-
-pub others_first : (earlier : List Moment) (x : Moment) (xs : List Moment) → others_of earlier (x ∷ xs) ≡ others_of earlier (x ∷ []) ++ others_of earlier xs
-others_first earlier x xs = by (not (is_listed earlier x))
-  where
-    by : (b : Bool) → cond b (x ∷ others_of earlier xs) (others_of earlier xs) ≡ cond b (x ∷ []) [] ++ others_of earlier xs
-    by true = refl
-    by false = refl
+use Rattle.mt_replica.proofs.HeldBack.{as_waiting, released_same, offered_same, offered_more, ready_tells, released_follow, released_noted}
+use Rattle.mt_replica.proofs.Inserted.{insert_same}
+use Rattle.mt_replica.proofs.Numbers.{clock_same, seq_same, own_is}
+use Rattle.mt_replica.proofs.OwnStamps.{count_own, count_append, count_noted, none_noted, none_known, own_stamps, listed_is}
+use Rattle.mt_replica.proofs.Valid.{apart_stamps}
 
 -- ---- what a log has under a dot
 
@@ -92,69 +50,180 @@ pub found_is : (log : LogMap) (o there : Operation) (b : Bool) → Some there �
 found_is log o there true is same = sym is ∙ ap Some (same.0 refl)
 found_is log o there false is same = (there, (sym is, (λ one. false≢true (same.1 one))))
 
--- ---- what is ready
+-- ---- the operations of a log, offered one after another
 
-put_member : (k : Dot) (o : Operation) (es : List (Dot × Operation)) → IsMember o (map (λ (e : Dot × Operation). e.1) (put dot_cmp k o es))
-put_member k o [] = inl refl
-put_member k o (e ∷ es) = by (dot_cmp k e.0) (put_member k o es)
+pub none_offered : (waiting : State Operation) (ops : List Operation) → waiting ≡ record { kept = record { released = []; waiting = [] }; failed = false } → AreOffered waiting ops ops
+none_offered waiting ops is = subst (λ (w : State Operation). AreOffered w ops ops) (sym is) (record { whole = refl; offered = λ f. omega arith })
+
+pub next_unknown : (waiting : State Operation) (o : Operation) (left all : List Operation) → HaveOwnStamps all → AreOffered waiting (o ∷ left) all → is_offered waiting.kept o.stamp ≡ false
+next_unknown waiting o left all own are =
+    let once = own o.stamp in
+    let sum = are.offered (λ (x : Operation). cond (stamp_eq o.stamp x.stamp) 1 0) in
+    let one = count_own o left in
+    none_known o.stamp (all_offered waiting.kept) (omega (arith, once, sum, one))
+
+pub next_offered : (waiting after : State Operation) (o : Operation) (left all : List Operation) → AreOffered waiting (o ∷ left) all → after ≡ record { kept = with_offered waiting.kept o; failed = false } → AreOffered after left all
+next_offered waiting after o left all are is = subst (λ (w : State Operation). AreOffered w left all) (sym is) (record {
+  whole = refl;
+  offered = λ f. let sum = are.offered f in let first = sum_by-cons f o left in let more = offered_more f waiting.kept o in omega (arith, sum, first, more);
+})
+
+-- what was offered, where nothing is left, is all
+pub all_were_offered : (waiting : State Operation) (ops : List Operation) → AreOffered waiting [] ops → SameItems (all_offered waiting.kept) ops
+all_were_offered waiting ops are f = let sum = are.offered f in omega (arith, sum)
+
+-- what was released stays released
+pub still_released : (was now : State Operation) (o : Operation) (before : ℕ) → now ≡ record { kept = with_offered was.kept o; failed = false } → before ≡ length was.kept.released → before ≤ length now.kept.released
+still_released was now o before is before_is =
+    let longer = ap (λ (w : State Operation). length w.kept.released) is ∙ length-append was.kept.released (newly_released was.kept o) in
+    omega (arith, longer, before_is)
+
+-- ---- the stamps of what became ready
+
+strict_kept : (p : Moment → Bool) (xs : List Moment) → RisesStrictly stamp_cmp xs → RisesStrictly stamp_cmp (filter p xs)
+strict_kept p [] rise = tt
+strict_kept p (x ∷ xs) rise = by (p x) (strict_kept p xs rise.1)
   where
-    by : (r : Ordering) → IsMember o (map (λ (e : Dot × Operation). e.1) (put dot_cmp k o es)) → IsMember o (map (λ (e : Dot × Operation). e.1) (by_order r ((k, o) ∷ e ∷ es) ((e.0, o) ∷ es) (e ∷ put dot_cmp k o es)))
-    by Less rest = inl refl
-    by Equal rest = inl refl
-    by Greater rest = inr rest
+    by : (b : Bool) → RisesStrictly stamp_cmp (filter p xs) → RisesStrictly stamp_cmp (cond b (x ∷ filter p xs) (filter p xs))
+    by true rest = (all_kept (λ y. stamp_cmp x y ≡ Less) p xs rise.0, rest)
+    by false rest = rest
 
-it_is_there : (log : LogMap) (o : Operation) → IsMember o (operations (with_op log o))
-it_is_there log o =
-    subst (λ (es : List (Dot × Operation)). IsMember o (map (λ (e : Dot × Operation). e.1) es)) (sym (fin.entries-insert dot_cmp_total log (op_dot o) o)) (put_member (op_dot o) o (fin.entries log))
+strict_stamps : (xs : List Operation) → StampsRise xs → RisesStrictly stamp_cmp (stamps_of xs)
+strict_stamps [] rise = tt
+strict_stamps (x ∷ xs) rise = (all_map (λ (y : Operation). stamp_cmp x.stamp y.stamp ≡ Less) (λ s. stamp_cmp x.stamp s ≡ Less) (λ (y : Operation). y.stamp) (λ y less. less) xs rise.0, strict_stamps xs rise.1)
 
-mapped : {X Y : Type 0} (f : X → Y) (xs : List X) (x : X) → IsMember x xs → IsMember (f x) (map f xs)
-mapped f [] x m = m
-mapped f (y ∷ xs) x (inl here) = inl (ap f here)
-mapped f (y ∷ xs) x (inr later) = inr (mapped f xs x later)
+either_is : (a b c : Bool) → (a || b) ≡ c → c ≡ true → not a ≡ true → b ≡ true
+either_is true b c is there other = absurd (false≢true other)
+either_is false b c is there other = is ∙ there
 
-same_truth : (a b : Bool) → (a ≡ true → b ≡ true) → (b ≡ true → a ≡ true) → a ≡ b
-same_truth true b to from = sym (to refl)
-same_truth false true to from = from refl
-same_truth false false to from = refl
+or_second : (a b : Bool) → b ≡ true → (a || b) ≡ true
+or_second true b is = refl
+or_second false b is = is
 
--- its stamp is among those of the ready ones where it is ready
-pub listed_where_ready : (log : LogMap) (o : Operation) → AreLogged (operations (with_op log o)) → is_listed (sort_by stamp_cmp (stamps_of (ready_ops (operations (with_op log o))))) o.stamp ≡ is_ready_in log o
-listed_where_ready log o logged = same_truth (is_listed (sort_by stamp_cmp (stamps_of (ready_ops ops))) o.stamp) (is_ready_in log o) to from
+noted_append : (s : Moment) (xs ys : List Operation) → is_noted (xs ++ ys) s ≡ (is_noted xs s || is_noted ys s)
+noted_append s [] ys = refl
+noted_append s (x ∷ xs) ys = by (stamp_eq s x.stamp) (noted_append s xs ys)
   where
-    ops : List Operation
-    ops = operations (with_op log o)
+    by : (b : Bool) → is_noted (xs ++ ys) s ≡ (is_noted xs s || is_noted ys s) → (b || is_noted (xs ++ ys) s) ≡ ((b || is_noted xs s) || is_noted ys s)
+    by true rest = refl
+    by false rest = rest
 
-    to : is_listed (sort_by stamp_cmp (stamps_of (ready_ops (operations (with_op log o))))) o.stamp ≡ true → is_ready_in log o ≡ true
-    to listed =
-        let sorted = listed_member (sort_by stamp_cmp (stamps_of (ready_ops (operations (with_op log o))))) o.stamp listed in
-        let there = member_unsorted stamp_cmp stamp_cmp_total o.stamp (stamps_of (ready_ops (operations (with_op log o)))) sorted in
-        let one = mapped_member (λ (x : Operation). x.stamp) (ready_ops (operations (with_op log o))) o.stamp there in
-        let kept = member_of_kept (is_ready clock_of needs meets (operations (with_op log o))) (operations (with_op log o)) one.0 one.1.0 in
-        let same : one.0 ≡ o = one_of stamp_of (operations (with_op log o)) one.0 o (every_stamp (operations (with_op log o)) logged.rise) kept.0 (it_is_there log o) one.1.1 in
-        ap (is_ready clock_of needs meets (operations (with_op log o))) (sym same) ∙ kept.1
+module _ (first newly old ready : List Operation) (rise : StampsRise newly) (differ : DifferBy stamp_of ready) (were : SameItems first old) (are : SameItems (first ++ newly) ready) where
+  sorted : List Moment
+  sorted = sort_by stamp_cmp (stamps_of ready)
 
-    from : is_ready_in log o ≡ true → is_listed (sort_by stamp_cmp (stamps_of (ready_ops (operations (with_op log o))))) o.stamp ≡ true
-    from ready =
-        member_listed (sort_by stamp_cmp (stamps_of (ready_ops (operations (with_op log o))))) o.stamp
-        (member_sorted stamp_cmp stamp_cmp_total o.stamp (stamps_of (ready_ops (operations (with_op log o))))
-        (mapped (λ (x : Operation). x.stamp) (ready_ops (operations (with_op log o))) o
-        (member_kept (is_ready clock_of needs meets (operations (with_op log o))) (operations (with_op log o)) o (it_is_there log o) ready)))
+  abbrev is_other : Moment → Bool
+  is_other s = not (is_listed (stamps_of old) s)
 
-listing : (ops : List Operation) (s : Moment) → is_listed (sort_by stamp_cmp (stamps_of (ready_ops ops))) s ≡ is_listed (stamps_of (ready_ops ops)) s
-listing ops s = same_any (sort_by stamp_cmp (stamps_of (ready_ops ops))) (stamps_of (ready_ops ops)) (λ f. (sorts stamp_cmp stamp_cmp_total).same f (stamps_of (ready_ops ops))) (stamp_eq s)
+  was_listed : (s : Moment) → is_listed (stamps_of old) s ≡ is_noted first s
+  was_listed s = listed_is old s ∙ sym (same_any first old were (λ (x : Operation). stamp_eq s x.stamp))
 
-same_others : (ops : List Operation) (stamps : List Moment) → others_of (sort_by stamp_cmp (stamps_of (ready_ops ops))) stamps ≡ filter (λ s. not (is_listed (stamps_of (ready_ops ops)) s)) stamps
-same_others ops stamps = λ i. filter (λ s. not (listing ops s i)) stamps
+  now_listed : (s : Moment) → is_listed (stamps_of ready) s ≡ (is_noted first s || is_noted newly s)
+  now_listed s = listed_is ready s ∙ sym (same_any (first ++ newly) ready are (λ (x : Operation). stamp_eq s x.stamp)) ∙ noted_append s first newly
 
--- what became of it is what a take answers
-pub take_tells : {A : Type 0} (log : LogMap) (o : Operation) (stamp : Moment) (before after : List Moment) (taken : Taken A) → AreLogged (operations (with_op log o)) → fin.get log (op_dot o) ≡ None → stamp ≡ o.stamp
-    → before ≡ sort_by stamp_cmp (stamps_of (ready_ops (operations log))) → after ≡ sort_by stamp_cmp (stamps_of (ready_ops (operations (with_op log o)))) → TakenGives stamp before after taken → TakeOf log o (Ok taken)
-take_tells log o stamp before after Already logged absent own is_before is_after gives = absurd gives
-take_tells log o stamp before after Held logged absent own is_before is_after gives =
-    (absent, sym (listed_where_ready log o logged) ∙ (λ i. is_listed (sym is_after i) (sym own i)) ∙ gives)
-take_tells log o stamp before after (Applied stamps) logged absent own is_before is_after gives =
-    (absent, (sym (listed_where_ready log o logged) ∙ (λ i. is_listed (sym is_after i) (sym own i)) ∙ gives.0, gives.1 ∙ (λ i. others_of (is_before i) (is_after i)) ∙ same_others (operations log) (sort_by stamp_cmp (stamps_of (ready_ops (operations (with_op log o)))))))
+  apart : (s : Moment) → is_noted newly s ≡ true → is_noted first s ≡ false
+  apart s there =
+      let once = own_stamps ready differ s in
+      let sum = are (λ (x : Operation). cond (stamp_eq s x.stamp) 1 0) in
+      let parts = count_append s first newly in
+      let some = count_noted s newly there in
+      none_noted s first (omega (arith, once, sum, parts, some))
 
--- sorted stamps rise
-pub sorted_rise : (xs ys : List Moment) → ys ≡ sort_by stamp_cmp xs → Rises stamp_cmp ys
-sorted_rise xs ys is = subst (Rises stamp_cmp) (sym is) ((sorts stamp_cmp stamp_cmp_total).rises xs)
+  there : (s : Moment) → IsMember s (stamps_of newly) → IsMember s (filter is_other (sort_by stamp_cmp (stamps_of ready)))
+  there s m =
+      let new : is_noted newly s ≡ true = sym (listed_is newly s) ∙ member_listed (stamps_of newly) s m in
+      member_kept is_other (sort_by stamp_cmp (stamps_of ready)) s
+      (member_sorted stamp_cmp stamp_cmp_total s (stamps_of ready) (listed_member (stamps_of ready) s (now_listed s ∙ or_second (is_noted first s) (is_noted newly s) new)))
+      (ap not (was_listed s ∙ apart s new))
+
+  back : (s : Moment) → IsMember s (filter is_other (sort_by stamp_cmp (stamps_of ready))) → IsMember s (stamps_of newly)
+  back s m =
+      let kept = member_of_kept is_other (sort_by stamp_cmp (stamps_of ready)) s m in
+      let listed = member_listed (stamps_of ready) s (member_unsorted stamp_cmp stamp_cmp_total s (stamps_of ready) kept.0) in
+      listed_member (stamps_of newly) s (listed_is newly s ∙ either_is (is_noted first s) (is_noted newly s) (is_listed (stamps_of ready) s) (sym (now_listed s)) listed (ap not (sym (was_listed s)) ∙ kept.1))
+
+  pub newly_in_order : stamps_of newly ≡ filter is_other (sort_by stamp_cmp (stamps_of ready))
+  newly_in_order =
+      one_list stamp_cmp stamp_cmp_total (stamps_of newly) (filter is_other (sort_by stamp_cmp (stamps_of ready))) (strict_stamps newly rise)
+      (strict_kept is_other (sort_by stamp_cmp (stamps_of ready)) (sort_strict stamp_cmp stamp_cmp_total (stamps_of ready) (apart_stamps (stamps_of ready) (differ_mapped (λ (x : Operation). x.stamp) (λ (s : Moment). s) ready differ))))
+      there back
+
+-- ---- one operation more
+
+module _ (state : Named) (o : Operation) (was : State Operation) (items : List Operation) (clock seq : ℕ) (absent : fin.get state.log (op_dot o) ≡ None) (logged : AreLogged (operations (with_op state.log o))) (is : IsState state was items clock seq) where
+  all : List Operation
+  all = operations (with_op state.log o)
+
+  differ : DifferBy stamp_of (operations (with_op state.log o))
+  differ = every_stamp (operations (with_op state.log o)) logged.rise
+
+  own : HaveOwnStamps (operations (with_op state.log o))
+  own = own_stamps (operations (with_op state.log o)) differ
+
+  are : SameItems (operations (with_op state.log o)) (o ∷ operations state.log)
+  are = insert_same state.log o absent
+
+  -- it was not offered before
+  pub it_is_new : is_offered was.kept o.stamp ≡ false
+  it_is_new =
+      let count : Operation → ℕ = λ x. cond (stamp_eq o.stamp x.stamp) 1 0 in
+      let once = own o.stamp in
+      let sum = are count in
+      let one = count_own o (operations state.log) in
+      let same = is.offered count in
+      none_known o.stamp (all_offered was.kept) (omega (arith, once, sum, one, same))
+
+  -- what is offered with it is what is in the log with it
+  pub still_offered : SameItems (all_offered (with_offered was.kept o)) (operations (with_op state.log o))
+  still_offered = offered_same was.kept o (operations state.log) (operations (with_op state.log o)) is.offered are
+
+  pub clock_with : max (clock_of o) clock ≡ greatest_clock (operations (with_op state.log o))
+  clock_with = ap (max (clock_of o)) is.clock_is ∙ sym (clock_same (operations (with_op state.log o)) (o ∷ operations state.log) are)
+
+  pub seq_with : max (own_seq state.name o) seq ≡ greatest_seq state.name (operations (with_op state.log o))
+  seq_with =
+      ap (max (own_seq state.name o)) (is.seq_is ∙ sym (own_is state.name (operations state.log))) ∙ own_is state.name (o ∷ operations state.log)
+      ∙ sym (seq_same state.name (operations (with_op state.log o)) (o ∷ operations state.log) are)
+
+  module _ (now : State Operation) (newly : List Operation) (before : ℕ) (offered : now ≡ record { kept = with_offered was.kept o; failed = false }) (rule_was : IsHoldBack op_key op_needs fits was.kept) (rule_now : IsHoldBack op_key op_needs fits now.kept) (rise : StampsRise (newly_released was.kept o)) (before_is : before ≡ length was.kept.released) (newly_is : newly ≡ drop before now.kept.released) where
+    rule_with : IsHoldBack op_key op_needs fits (with_offered was.kept o)
+    rule_with = subst (λ (w : State Operation). IsHoldBack op_key op_needs fits w.kept) offered rule_now
+
+    newly_are : newly ≡ newly_released was.kept o
+    newly_are = newly_is ∙ (λ i. drop (before_is i) (offered i).kept.released) ∙ drop-append_seam was.kept.released (newly_released was.kept o)
+
+    -- what became ready may be noted
+    pub all_follow : MayAllFollow items newly
+    all_follow = subst (MayAllFollow items) (sym newly_are) (released_follow was.kept o (operations state.log) (operations (with_op state.log o)) items is.offered are own rule_was rule_with rise is.noted)
+
+    pub state_with : IsState (record { name = state.name; log = with_op state.log o }) now (noted_after items newly) (max (clock_of o) clock) (max (own_seq state.name o) seq)
+    state_with = record {
+      whole = ap (λ (w : State Operation). w.failed) offered;
+      offered = λ f. ap (λ (w : State Operation). sum_by f (all_offered w.kept)) offered ∙ still_offered f;
+      noted = λ f. ap (λ (l : List Operation). sum_by f (noted_after items l)) newly_are ∙ released_noted was.kept o (operations state.log) (operations (with_op state.log o)) items is.offered are own rule_was rule_with rise is.noted f;
+      clock_is = clock_with;
+      seq_is = seq_with;
+    }
+
+    newly_told : stamps_of newly ≡ newly_ready state.log o
+    newly_told =
+        ap stamps_of newly_are
+        ∙ newly_in_order was.kept.released (newly_released was.kept o) (ready_ops (operations state.log)) (ready_ops (operations (with_op state.log o))) rise
+        (differ_kept stamp_of (is_ready clock_of needs meets (operations (with_op state.log o))) (operations (with_op state.log o)) differ)
+        (released_same was.kept (operations state.log) rule_was is.offered)
+        (released_same (with_offered was.kept o) (operations (with_op state.log o)) rule_with still_offered)
+
+    told : (offer : Offered) (b : Bool) → offer ≡ offer_gives was.kept o → is_held offer ≡ b → is_ready clock_of needs meets (operations (with_op state.log o)) o ≡ not b
+    told offer b answered held =
+        sym (ready_tells was.kept o (operations state.log) (operations (with_op state.log o)) is.offered are)
+        ∙ by (as_waiting (offered_with op_key op_needs fits was.kept o) o) refl
+      where
+        by : (r : Bool) → as_waiting (offered_with op_key op_needs fits was.kept o) o ≡ r → r ≡ not b
+        by true r_is = ap not (sym (ap (λ (r : Bool). is_held (cond r (Offered.Ready (length was.kept.released)) Offered.Held)) r_is) ∙ ap is_held (sym answered) ∙ held)
+        by false r_is = ap not (sym (ap (λ (r : Bool). is_held (cond r (Offered.Ready (length was.kept.released)) Offered.Held)) r_is) ∙ ap is_held (sym answered) ∙ held)
+
+    -- what became of it is what a take answers
+    pub take_tells : {A : Type 0} (offer : Offered) (taken : Taken A) → offer ≡ offer_gives was.kept o → TakenGives offer newly taken → TakeOf state.log o (Ok taken)
+    take_tells offer Already answered gives = absurd gives
+    take_tells offer Held answered gives = (absent, told offer true answered gives)
+    take_tells offer (Applied stamps) answered gives = (absent, (told offer false answered gives.0, gives.1 ∙ newly_told))

@@ -3,6 +3,7 @@ pub mod Changes
 pub mod Faults
 pub mod Made
 pub mod Kept
+pub mod Holding
 pub mod State
 pub mod Codes
 pub mod Laws

@@ -1,18 +1,16 @@
 -- Working definitions: what an editor keeps beside its log.
-use Rattle.std.specs.Prelude.{◌≡◌, ◌≢◌, ℕ, cond, not, Bool, true, false, List, filter, length, nat_le, Option, Some, None, Ok}
+use Rattle.std.specs.Prelude.{◌≡◌, ◌≢◌, ℕ, cond, Bool, true, false, List, length, nat_le, Option, Some, None, Ok}
 use Rattle.std.specs.List.{sum_by}
 use Rattle.std.specs.FinMap as map
-use Rattle.mt_stamp.specs.Moment.{Moment}
 use Rattle.mt_op.specs.Dots.{op_dot}
-use Rattle.mt_op.specs.Presence.{is_listed}
-use Rattle.mt_replica.specs.declared.taken.Taken.{Taken}
-use Rattle.mt_replica.specs.declared.taken.Taken.TheVariants.{Already, Held, Applied}
 use Rattle.mt_stamp.specs.declared.name.Replica.{Replica}
 use Rattle.mt_op.specs.Operation.{Act, Operation, Remove}
 use Rattle.mt_op.specs.Tags.{greatest_tag_count}
+use Rattle.mt_holdback.specs.State as holding
 use Rattle.mt_opcodec.specs.LogValue.{LogMap, operations}
 use Rattle.mt_sessionview.specs.Session.{ready_ops}
 use Rattle.mt_replica.specs.Edit.{Edit}
+use Rattle.mt_replica.specs.Holding.{all_offered}
 use Rattle.mt_replica.specs.Kept.{Kept}
 use Rattle.mt_replica.specs.Made.{is_by, greatest_clock, greatest_seq, plays, names_of, names_present, names_refused, tags_fit, unless, or_else, made}
 use Rattle.mt_replica.specs.declared.fault.EditorFault.{EditorFault}
@@ -23,8 +21,11 @@ pub record Named : Type 0 where
   pub name : Replica
   pub log : LogMap
 
--- Noted are the ready operations of the log, and the greatest clock and number are known.
-pub record IsState (state : Named) (items : List Operation) (clock seq : ℕ) : Type 0 where
+-- What is in the log was offered to what holds operations back, which has not failed; noted are the ready operations of the log, and the
+-- greatest clock and number are known.
+pub record IsState (state : Named) (waiting : holding.State Operation) (items : List Operation) (clock seq : ℕ) : Type 0 where
+  pub whole : waiting.failed ≡ false
+  pub offered : (f : Operation → ℕ) → sum_by f (all_offered waiting.kept) ≡ sum_by f (operations state.log)
   pub noted : (f : Operation → ℕ) → sum_by f items ≡ sum_by f (ready_ops (operations state.log))
   pub clock_is : clock ≡ greatest_clock (operations state.log)
   pub seq_is : seq ≡ greatest_seq state.name (operations state.log)
@@ -62,16 +63,6 @@ abbrev pub Found : LogMap → Operation → Option Bool → Type 0
 Found log op None = map.get log (op_dot op) ≡ None
 Found log op (Some true) = map.get log (op_dot op) ≡ Some op
 Found log op (Some false) = (other : Operation) × ((map.get log (op_dot op) ≡ Some other) × (other ≢ op))
-
--- the stamps that are not among the earlier ones
-abbrev pub others_of : List Moment → List Moment → List Moment
-others_of earlier stamps = filter (λ s. not (is_listed earlier s)) stamps
-
--- what became of an operation of this stamp, from the stamps that were ready before and those that are
-abbrev pub TakenGives : {A : Type 0} → Moment → List Moment → List Moment → Taken A → Type 0
-TakenGives stamp before after Already = ⊥
-TakenGives stamp before after Held = is_listed after stamp ≡ false
-TakenGives stamp before after (Applied stamps) = (is_listed after stamp ≡ true) × (stamps ≡ others_of before after)
 
 -- an editor has a log, and nothing under the operation's dot
 abbrev pub IsNewTo : Option LogMap → Operation → Type 0

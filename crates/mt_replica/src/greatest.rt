@@ -10,8 +10,8 @@ use mt_opcodec::Run;
 use mt_stamp::Replica;
 use std::alloc::Allocator;
 
-// The greater of two numbers.
-fn greater(first: u64, second: u64) -> u64
+/// The greater of two numbers.
+pub(crate) fn greater(first: u64, second: u64) -> u64
     ensures { result ≡ max first second }
 {
     if first < second { second } else { first }
@@ -39,9 +39,9 @@ pub(crate) fn greatest_clock<A: Allocator>(runs: &[Run<A>]) -> u64
     greatest
 }
 
-// An operation's number where this replica made it, and else 0.
+/// An operation's number where this replica made it, and else 0.
 #[tactic(auto, unfolding(crate::specs::State::own_seq))]
-fn own_seq<A: Allocator>(name: Replica, op: &Op<A>) -> u64
+pub(crate) fn own_seq<A: Allocator>(name: Replica, op: &Op<A>) -> u64
     ensures { result ≡ own_seq name op.now }
 {
     if op.stamp().replica() == name {

@@ -21,6 +21,7 @@ mod draft;
 mod editor;
 mod fault;
 mod greatest;
+mod holding;
 pub mod laws;
 mod names;
 mod newly;

@@ -1,88 +1,74 @@
-//! The stamps of the operations that became ready.
+//! What became of an operation that was offered, and of the operations that became ready by it.
 
-ghost use Rattle.std.specs.Prelude.{◌≡◌, IfOk, IfErr, OnOk, List, [], ◌∷◌, ◌++◌};
-ghost use Rattle.mt_stamp.specs.Moment.{stamp_cmp};
-ghost use Rattle.mt_stamp.specs.Sorting.{sort_by, Rises};
-ghost use Rattle.mt_op.specs.Presence.{is_listed};
-ghost use Rattle.mt_opcodec.specs.LogValue.{operations};
-ghost use Rattle.mt_sessionview.specs.Session.{ready_ops, stamps_of};
-ghost use Rattle.mt_replica.specs.State.{TakenGives, others_of};
+ghost use Rattle.std.specs.Prelude.{◌≡◌, ◌∷◌, IfOk, IfErr};
+ghost use Rattle.mt_items.specs.Noting.{MayFollow};
+ghost use Rattle.mt_sessionview.specs.Session.{stamps_of};
+ghost use Rattle.mt_replica.specs.Holding.{MayAllFollow, noted_after, TakenGives};
 
 use crate::fault::EditorFault;
 use crate::taken::Taken;
-use mt_opcodec::Log;
-use mt_sessionview::ready_stamps;
+use mt_holdback::Offered;
+use mt_items::Items;
+use mt_op::Op;
 use mt_stamp::{List, Stamp};
 use std::alloc::{AllocError, Allocator};
 
-// The stamps of a log's ready operations, rising.
-pub(crate) fn ready_in<A: Allocator + Clone>(
-    alloc: &A,
-    log: &Log<A>,
-) -> Result<Vec<Stamp, A>, EditorFault>
-    ensures ok { IfOk result (λ stamps. stamps.items ≡ sort_by stamp_cmp (stamps_of (ready_ops (operations log.now)))) }
+/// The items with an operation noted.
+pub(crate) fn noted<A: Allocator + Clone>(
+    items: Items<A>,
+    op: &Op<A>,
+) -> Result<Items<A>, EditorFault>
+    requires follows { MayFollow items op.now }
+    ensures ok { IfOk result (λ after. after ≡ op.now ∷ items) }
     ensures err { IfErr result (λ fault. fault ≡ EditorFault.Memory) }
 {
-    match ready_stamps(alloc.clone()?, log) {
-        Ok(stamps) => Ok(stamps),
+    match items.note(op) {
+        Ok(items) => Ok(items),
         Err(_) => Err(EditorFault::Memory),
     }
 }
 
-// Whether a stamp is among these, which rise.
-fn is_among(stamps: &[Stamp], stamp: Stamp) -> bool
-    requires rise { Rises stamp_cmp stamps.now }
-    ensures { result ≡ is_listed stamps.now stamp }
-{
-    stamps.binary_search(&stamp).is_ok()
-}
-
-// Pushes a stamp that is not among these, which rise.
-fn push_other<A: Allocator>(
-    others: &mut Vec<Stamp, A>,
-    earlier: &[Stamp],
-    stamp: Stamp,
-) -> Result<(), AllocError>
-    requires rise { Rises stamp_cmp earlier.now }
-    ensures { OnOk result (others.new.items ≡ others.old.items ++ others_of earlier.now (stamp ∷ [])) }
-{
-    if is_among(earlier, stamp) {
-        return Ok(());
-    }
-    Ok(others.push(stamp)?)
-}
-
-// Those stamps that are not among the earlier ones, which rise.
-fn others_of<A: Allocator>(
-    alloc: A,
-    earlier: &[Stamp],
-    stamps: &[Stamp],
-) -> Result<Vec<Stamp, A>, AllocError>
-    requires rise { Rises stamp_cmp earlier.now }
-    ensures { IfOk result (λ others. others.items ≡ others_of earlier.now stamps.now) }
-{
-    let mut others = Vec::new(alloc);
-    for stamp in stamps {
-        push_other(&mut others, earlier, *stamp)?;
-    }
-    Ok(others)
-}
-
-// What became of an operation of this stamp, from the stamps that were ready before it was there and those that are.
-pub(crate) fn taken_as<A: Allocator + Clone>(
-    alloc: &A,
-    stamp: Stamp,
-    before: &[Stamp],
-    after: &[Stamp],
-) -> Result<Taken<A>, EditorFault>
-    requires before { Rises stamp_cmp before.now }
-    requires after { Rises stamp_cmp after.now }
-    ensures ok { IfOk result (TakenGives stamp before.now after.now) }
+/// The items with these operations noted, one after another.
+pub(crate) fn all_noted<A: Allocator + Clone>(
+    items: Items<A>,
+    ops: &[Op<A>],
+) -> Result<Items<A>, EditorFault>
+    requires follow { MayAllFollow items ops.now }
+    ensures ok { IfOk result (λ after. after ≡ noted_after items ops.now) }
     ensures err { IfErr result (λ fault. fault ≡ EditorFault.Memory) }
 {
-    if !is_among(after, stamp) {
-        return Ok(Taken::Held);
+    let mut items = items;
+    for op in ops {
+        items = noted(items, op)?;
     }
-    let stamps = others_of(alloc.clone()?, before, after)?;
-    Ok(Taken::Applied(List::new(stamps)))
+    Ok(items)
+}
+
+// The stamps of operations, in their order.
+fn stamps_of<A: Allocator>(alloc: A, ops: &[Op<A>]) -> Result<Vec<Stamp, A>, AllocError>
+    ensures { IfOk result (λ stamps. stamps.items ≡ stamps_of ops.now) }
+{
+    let mut stamps = Vec::with_capacity(alloc, ops.len())?;
+    for op in ops {
+        stamps.push(op.stamp())?;
+    }
+    Ok(stamps)
+}
+
+/// What became of an operation, from what its offer answered and what became ready by it.
+pub(crate) fn taken_as<A: Allocator + Clone>(
+    alloc: &A,
+    offered: Offered,
+    newly: &[Op<A>],
+) -> Result<Taken<A>, EditorFault>
+    ensures ok { IfOk result (TakenGives offered newly.now) }
+    ensures err { IfErr result (λ fault. fault ≡ EditorFault.Memory) }
+{
+    match offered {
+        Offered::Held => Ok(Taken::Held),
+        Offered::Ready(_) => {
+            let stamps = stamps_of(alloc.clone()?, newly)?;
+            Ok(Taken::Applied(List::new(stamps)))
+        }
+    }
 }

@@ -1,7 +1,6 @@
 //! A log, and what an editor keeps beside it.
 
-ghost use Rattle.mt_items.specs.Noting.{MayFollow};
-ghost use Rattle.std.specs.Prelude.{◌≡◌, ◌∷◌, ◌⊎◌, IfOk, IfErr, OnOk, None, Some, Ok, Err};
+ghost use Rattle.std.specs.Prelude.{◌≡◌, ◌⊎◌, IfOk, IfErr, OnOk, None, Some, Ok, Err};
 ghost use Rattle.std.specs.FinMap as map;
 ghost use Rattle.mt_op.specs.Dots.{op_dot};
 ghost use Rattle.mt_op.specs.Bodies.{act_of};
@@ -13,13 +12,15 @@ ghost use Rattle.mt_replica.specs.State.{IsMade, Found, body_refused};
 ghost use Rattle.mt_sessionview.specs.Session.{ready_ops};
 
 use crate::body::{body_of, lists_few, plays};
-use crate::by_stamp::items_of_log;
+use crate::by_stamp::beside_log;
 use crate::change::Change;
 use crate::fault::EditorFault;
-use crate::greatest::{greatest_clock, greatest_seq};
+use crate::greatest::{greater, greatest_clock, greatest_seq, own_seq};
+use crate::holding::{copied, offer_new, released_from};
 use crate::names::names_refused;
-use crate::newly::{ready_in, taken_as};
+use crate::newly::{all_noted, noted, taken_as};
 use crate::taken::Taken;
+use mt_holdback::HoldBack;
 use mt_items::Items;
 use mt_op::laws::equal_ops;
 use mt_op::{Body, Op};
@@ -28,12 +29,13 @@ use mt_stamp::{Replica, Stamp};
 use std::alloc::Allocator;
 use std::marker::Model;
 
-// A log with the name of its editor, the items that its ready operations leave, its greatest clock, and the greatest number of
-// that replica's operations. Seen as the name and the log.
+// A log with the name of its editor, its operations held back until they are ready, the items that the ready ones leave, its greatest
+// clock, and the greatest number of that replica's operations. Seen as the name and the log.
 #[derive(Drop)]
 pub(crate) struct State<A: Allocator> {
     name: Replica,
     log: Log<A>,
+    waiting: HoldBack<Op<A>, A>,
     items: Items<A>,
     clock: u64,
     seq: u64,
@@ -49,7 +51,7 @@ impl<A: Allocator> Model for State<A> {
 
     ghost view = { λ s. record { name = s.name; log = s.log } };
 
-    ghost invariant = { λ s. IsState (record { name = s.name; log = s.log }) s.items s.clock s.seq };
+    ghost invariant = { λ s. IsState (record { name = s.name; log = s.log }) s.waiting s.items s.clock s.seq };
 }
 
 impl<A: Allocator> State<A> {
@@ -68,12 +70,13 @@ impl<A: Allocator + Clone> State<A> {
         ensures ok { IfOk result (λ state. state ≡ record { name = name; log = log }) }
         ensures err { IfErr result (λ fault. fault ≡ EditorFault.Memory) }
     {
-        let items = items_of_log(alloc, &log)?;
+        let (waiting, items) = beside_log(alloc, &log)?;
         let clock = greatest_clock(log.runs());
         let seq = greatest_seq(name, log.runs());
         Ok(State {
             name,
             log,
+            waiting,
             items,
             clock,
             seq,
@@ -134,15 +137,19 @@ impl<A: Allocator + Clone> State<A> {
         let State {
             name,
             mut log,
+            mut waiting,
             items,
             ..
         } = self;
         let _ = log.runs();
         let items = noted(items, op)?;
         add_new(&mut log, copied(op)?)?;
+        let _ = log.runs();
+        offer_new(&mut waiting, copied(op)?)?;
         Ok(State {
             name,
             log,
+            waiting,
             items,
             clock: op.stamp().clock(),
             seq: op.stamp().seq(),
@@ -167,37 +174,32 @@ impl<A: Allocator + Clone> State<A> {
         ensures taken { IfOk result (λ both. TakeOf self.log op (Ok both.1)) }
         ensures err { IfErr result (λ fault. fault ≡ EditorFault.Memory) }
     {
-        let State { name, mut log, .. } = self;
-        let stamp = op.stamp();
-        let before = ready_in(alloc, &log)?;
-        add_new(&mut log, op)?;
+        let State {
+            name,
+            mut log,
+            mut waiting,
+            items,
+            clock,
+            seq,
+        } = self;
+        let clock = greater(op.stamp().clock(), clock);
+        let seq = greater(own_seq(name, &op), seq);
+        add_new(&mut log, copied(&op)?)?;
         let _ = log.runs();
-        let after = ready_in(alloc, &log)?;
-        let taken = taken_as(alloc, stamp, &before, &after)?;
-        Ok((State::of(alloc, name, log)?, taken))
-    }
-}
-
-// The items with an operation noted.
-fn noted<A: Allocator + Clone>(items: Items<A>, op: &Op<A>) -> Result<Items<A>, EditorFault>
-    requires follows { MayFollow items op.now }
-    ensures ok { IfOk result (λ after. after ≡ op.now ∷ items) }
-    ensures err { IfErr result (λ fault. fault ≡ EditorFault.Memory) }
-{
-    match items.note(op) {
-        Ok(items) => Ok(items),
-        Err(_) => Err(EditorFault::Memory),
-    }
-}
-
-// A copy of an operation.
-fn copied<A: Allocator + Clone>(op: &Op<A>) -> Result<Op<A>, EditorFault>
-    ensures ok { IfOk result (λ copy. copy ≡ op.now) }
-    ensures err { IfErr result (λ fault. fault ≡ EditorFault.Memory) }
-{
-    match op.try_clone() {
-        Ok(copy) => Ok(copy),
-        Err(_) => Err(EditorFault::Memory),
+        let before = waiting.released().len();
+        let offered = offer_new(&mut waiting, op)?;
+        let newly = released_from(&waiting, before);
+        let items = all_noted(items, newly)?;
+        let taken = taken_as(alloc, offered, newly)?;
+        let state = State {
+            name,
+            log,
+            waiting,
+            items,
+            clock,
+            seq,
+        };
+        Ok((state, taken))
     }
 }
 

@@ -1,24 +1,47 @@
-use Rattle.std.proofs.Common.{◌∙◌, ap, subst}
-use Rattle.mt_stamp.specs.Moment.{stamp_cmp}
-use Rattle.mt_stamp.specs.Sorting.{sort_by}
+use Rattle.std.proofs.Common.{◌≡◌, ◌∙◌, ap, subst, length}
+use Rattle.mt_holdback.specs.State.{State}
 use Rattle.mt_opcodec.specs.LogValue.{LogMap, operations, AreLogged}
-use Rattle.mt_sessionview.specs.Session.{ready_ops, stamps_of}
 use Rattle.mt_replica.specs.Kept.{with_op}
-use Rattle.mt_replica.specs.State.{Named}
-use Rattle.mt_replica.proofs.Taking.{take_tells, sorted_rise}
+use Rattle.mt_replica.specs.State.{Named, IsState}
+use Rattle.mt_replica.proofs.Taking.{it_is_new, still_released, all_follow, state_with, take_tells}
 use Rattle.mt_replica.proofs.state.State.taking.Goals as goal
 
-pub taken_as-requires-clause-before : goal.taken_as-requires-clause-before
-taken_as-requires-clause-before g c = sorted_rise (stamps_of (ready_ops (operations c.self.inside.log))) c.deref.result.now (c.deref.ensures.value ∙ c.in_ok-before.ensures.ok)
+pub offer_new-requires-clause-unknown : goal.offer_new-requires-clause-unknown
+offer_new-requires-clause-unknown g c =
+    let was = subst (λ (n : Named). IsState n c.self.inside.waiting c.self.inside.items c.self.inside.clock c.self.inside.seq) c.self.view_is c.self.invariant in
+    let log_is = c.in_ok-add_new.ensures.added ∙ (λ i. with_op (c.self.view_is i).log (c.in_ok-copied.ensures.ok i)) in
+    let logged = subst (λ (l : LogMap). AreLogged (operations l)) log_is c.runs.ensures.logged in
+    it_is_new c.args.self c.args.op c.self.inside.waiting c.self.inside.items c.self.inside.clock c.self.inside.seq c.requires.new logged was
 
-pub taken_as-requires-clause-after : goal.taken_as-requires-clause-after
-taken_as-requires-clause-after g c = sorted_rise (stamps_of (ready_ops (operations c.add_new.new.log))) c.deref-2.result.now (c.deref-2.ensures.value ∙ c.in_ok-after.ensures.ok)
+pub released_from-newly-requires : goal.released_from-newly-requires
+released_from-newly-requires g c =
+    record { bound = still_released c.self.inside.waiting c.offer_new.new.waiting c.args.op (length c.released-before.result.now) c.in_ok-offered.ensures.kept (ap length c.released-before.ensures.value) }
+
+pub all_noted-requires : goal.all_noted-requires
+all_noted-requires g c =
+    let was = subst (λ (n : Named). IsState n c.self.inside.waiting c.self.inside.items c.self.inside.clock c.self.inside.seq) c.self.view_is c.self.invariant in
+    let log_is = c.in_ok-add_new.ensures.added ∙ (λ i. with_op (c.self.view_is i).log (c.in_ok-copied.ensures.ok i)) in
+    let logged = subst (λ (l : LogMap). AreLogged (operations l)) log_is c.runs.ensures.logged in
+    record {
+      follow = all_follow c.args.self c.args.op c.self.inside.waiting c.self.inside.items c.self.inside.clock c.self.inside.seq c.requires.new logged was c.offer_new.new.waiting c.released_from-newly.result.now (length c.released-before.result.now)
+          c.in_ok-offered.ensures.kept c.released-before.ensures.exact c.released_from-newly.ensures.exact c.in_ok-offered.ensures.rising (ap length c.released-before.ensures.value) c.released_from-newly.ensures.value;
+    }
+
+pub invariant_of-state : goal.invariant_of-state
+invariant_of-state g c =
+    let was = subst (λ (n : Named). IsState n c.self.inside.waiting c.self.inside.items c.self.inside.clock c.self.inside.seq) c.self.view_is c.self.invariant in
+    let log_is = c.in_ok-add_new.ensures.added ∙ (λ i. with_op (c.self.view_is i).log (c.in_ok-copied.ensures.ok i)) in
+    let logged = subst (λ (l : LogMap). AreLogged (operations l)) log_is c.runs.ensures.logged in
+    let name_is = ap (λ (n : Named). n.name) c.self.view_is in
+    rw (log_is, c.in_ok-items.ensures.ok, c.greater-clock.ensures, c.clock.ensures.value, c.stamp.ensures.value, c.greater-seq.ensures, c.own_seq.ensures, name_is)
+    (state_with c.args.self c.args.op c.self.inside.waiting c.self.inside.items c.self.inside.clock c.self.inside.seq c.requires.new logged was c.offer_new.new.waiting c.released_from-newly.result.now (length c.released-before.result.now)
+    c.in_ok-offered.ensures.kept c.released-before.ensures.exact c.released_from-newly.ensures.exact c.in_ok-offered.ensures.rising (ap length c.released-before.ensures.value) c.released_from-newly.ensures.value)
 
 pub returns-clause-taken : goal.returns-clause-taken
 returns-clause-taken g c =
-    let new_is = c.in_ok-add_new.ensures.added ∙ ap (λ (n : Named). with_op n.log c.args.op) c.self.view_is in
-    take_tells c.args.self.log c.args.op c.stamp-stamp.result c.deref.result.now c.deref-2.result.now c.in_ok-taken.taken
-    (subst (λ (l : LogMap). AreLogged (operations l)) new_is c.runs.ensures.logged) c.requires.new c.stamp-stamp.ensures.value
-    (c.deref.ensures.value ∙ c.in_ok-before.ensures.ok ∙ ap (λ (n : Named). sort_by stamp_cmp (stamps_of (ready_ops (operations n.log)))) c.self.view_is)
-    (c.deref-2.ensures.value ∙ c.in_ok-after.ensures.ok ∙ ap (λ (l : LogMap). sort_by stamp_cmp (stamps_of (ready_ops (operations l)))) new_is)
-    c.in_ok-taken.ensures.ok
+    let was = subst (λ (n : Named). IsState n c.self.inside.waiting c.self.inside.items c.self.inside.clock c.self.inside.seq) c.self.view_is c.self.invariant in
+    let log_is = c.in_ok-add_new.ensures.added ∙ (λ i. with_op (c.self.view_is i).log (c.in_ok-copied.ensures.ok i)) in
+    let logged = subst (λ (l : LogMap). AreLogged (operations l)) log_is c.runs.ensures.logged in
+    take_tells c.args.self c.args.op c.self.inside.waiting c.self.inside.items c.self.inside.clock c.self.inside.seq c.requires.new logged was c.offer_new.new.waiting c.released_from-newly.result.now (length c.released-before.result.now)
+    c.in_ok-offered.ensures.kept c.released-before.ensures.exact c.released_from-newly.ensures.exact c.in_ok-offered.ensures.rising (ap length c.released-before.ensures.value) c.released_from-newly.ensures.value
+    c.in_ok-offered.offered c.in_ok-taken.taken c.in_ok-offered.ensures.answered c.in_ok-taken.ensures.ok

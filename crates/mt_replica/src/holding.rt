@@ -1,0 +1,70 @@
+//! Operations are offered to what holds them back until they are ready.
+
+ghost use Rattle.std.specs.Prelude.{◌≡◌, ◌≤◌, [], map, drop, length, false, IfOk, IfErr, OnOk};
+ghost use Rattle.mt_op.specs.Needs.{fits};
+ghost use Rattle.mt_holdback.specs.HoldBack.{IsHoldBack};
+ghost use Rattle.mt_holdback.specs.Ops.{op_key, op_needs};
+ghost use Rattle.mt_replica.specs.Holding.{is_offered, newly_released, with_offered, offer_gives, StampsRise, HaveOwnStamps, AreOffered};
+
+use crate::fault::EditorFault;
+use mt_holdback::{HoldBack, HoldBackFault, Offered};
+use mt_op::Op;
+use std::alloc::Allocator;
+
+/// A copy of an operation.
+pub(crate) fn copied<A: Allocator + Clone>(op: &Op<A>) -> Result<Op<A>, EditorFault>
+    ensures ok { IfOk result (λ copy. copy ≡ op.now) }
+    ensures err { IfErr result (λ fault. fault ≡ EditorFault.Memory) }
+{
+    match op.try_clone() {
+        Ok(copy) => Ok(copy),
+        Err(_) => Err(EditorFault::Memory),
+    }
+}
+
+/// Offers an operation of a new stamp.
+pub(crate) fn offer_new<A: Allocator + Clone>(
+    waiting: &mut HoldBack<Op<A>, A>,
+    op: Op<A>,
+) -> Result<Offered, EditorFault>
+    requires whole { waiting.old.failed ≡ false }
+    requires unknown { is_offered waiting.old.kept op.stamp ≡ false }
+    ensures answered { IfOk result (λ offered. offered ≡ offer_gives waiting.old.kept op) }
+    ensures kept { OnOk result (waiting.new ≡ record { kept = with_offered waiting.old.kept op; failed = false }) }
+    ensures rising { OnOk result (StampsRise (newly_released waiting.old.kept op)) }
+    ensures err { IfErr result (λ fault. fault ≡ EditorFault.Memory) }
+{
+    match waiting.offer(op) {
+        Ok(offered) => Ok(offered),
+        Err(HoldBackFault::Memory) => Err(EditorFault::Memory),
+        Err(HoldBackFault::Failed) => unreachable!(),
+    }
+}
+
+/// What holds operations back, to which these were offered.
+pub(crate) fn all_offered<A: Allocator + Clone>(
+    alloc: A,
+    ops: &[&Op<A>],
+) -> Result<HoldBack<Op<A>, A>, EditorFault>
+    requires own { HaveOwnStamps (map (λ o. o.now) ops.now) }
+    ensures ok { IfOk result (λ waiting. AreOffered waiting [] (map (λ o. o.now) ops.now)) }
+    ensures err { IfErr result (λ fault. fault ≡ EditorFault.Memory) }
+{
+    let mut waiting = HoldBack::new(alloc);
+    for op in ops {
+        offer_new(&mut waiting, copied(op)?)?;
+    }
+    Ok(waiting)
+}
+
+/// What was released from an index on.
+pub(crate) fn released_from<A: Allocator>(
+    waiting: &HoldBack<Op<A>, A>,
+    first: usize,
+) -> &[Op<A>]
+    requires bound { first ≤ length waiting.now.kept.released }
+    ensures value { result.now ≡ drop first waiting.now.kept.released }
+    ensures exact { IsHoldBack op_key op_needs fits waiting.now.kept }
+{
+    &waiting.released()[first..]
+}
