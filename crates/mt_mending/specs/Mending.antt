@@ -1,0 +1,74 @@
+-- What one operation more changes in a session: the entries of the one item that it is about. The operations stand here as they were
+-- noted, the last one first; where they stand does not matter (mt_sessionview: any_listing).
+use Rattle.std.specs.Prelude.{◌≡◌, ◌&&◌, List, ◌∷◌, map, filter, not, Option, Some, None, if◌then◌else◌}
+use Rattle.std.specs.declared.cmp.Ordering.{Ordering}
+use Rattle.mt_stamp.specs.Moment.{Moment}
+use Rattle.mt_stamp.specs.Tree.{tree_cmp}
+use Rattle.mt_op.specs.declared.need.Role.TheVariants.{Marker as MarkerRole, Track as TrackRole}
+use Rattle.mt_op.specs.Operation.{Operation}
+use Rattle.mt_op.specs.Needs.{need_of}
+use Rattle.mt_op.specs.Presence.{is_present}
+use Rattle.mt_items.specs.Noting.{AreNoted, is_need_met, subject}
+use Rattle.mt_sessionview.specs.Content.{Clip, Track, Marker, clip_cmp, marker_cmp}
+use Rattle.mt_sessionview.specs.Noted.{markers_in, clips_in, tracks_in, places_in, track_place_in}
+use Rattle.mt_sessionview.specs.Read.{marker_read, clip_on, track_where}
+use Rattle.mt_sessionview.specs.Changing.{put, without, is_marker_at, is_clip_at}
+
+-- the item that an operation adds or names
+abbrev pub subject_of : Operation → Moment
+subject_of o = subject o.stamp o.act
+
+module _ (ops : List Operation) where
+  -- the marker of a stamp, where the session of these operations shows one
+  abbrev pub marker_entry : Moment → Option Marker
+  marker_entry item = if is_need_met ops (need_of MarkerRole item) then marker_read ops item else None
+
+  -- the track of a stamp with its clips, where it shows one
+  abbrev pub track_entry : Moment → Option Track
+  track_entry item = if is_need_met ops (need_of TrackRole item) && is_present ops item then track_where ops (Some item) else None
+
+  -- tracks by their places
+  abbrev pub track_order : Track → Track → Ordering
+  track_order a b = tree_cmp (places_in ops) (track_place_in ops a.track) (track_place_in ops b.track)
+
+  -- markers with the entry of one item taken out, and that of these operations put in
+  abbrev pub markers_mended : Moment → List Marker → List Marker
+  markers_mended item markers = put marker_cmp (marker_entry item) (without (λ (m : Marker). m.marker) item markers)
+
+  -- the same of the clips of a track
+  abbrev pub clips_mended : Moment → Moment → List Clip → List Clip
+  clips_mended item track clips = put clip_cmp (clip_on ops track item) (without (λ (c : Clip). c.clip) item clips)
+
+  -- a track with its clips changed in that way
+  abbrev pub track_mended : Moment → Track → Track
+  track_mended item t = record { track = t.track; title = t.title; gain = t.gain; mute = t.mute; clips = clips_mended item t.track t.clips }
+
+  -- tracks with that of one item taken out, the clips of every other one changed, and that of these operations put in
+  abbrev pub tracks_mended : Moment → List Track → List Track
+  tracks_mended item tracks = put track_order (track_entry item) (map (track_mended item) (without (λ (t : Track). t.track) item tracks))
+
+-- One operation more changes among the markers that of its item alone.
+abbrev pub MarkersAreMended : Type 0
+MarkersAreMended = (o : Operation) (r : List Operation) → AreNoted (o ∷ r) → markers_in (o ∷ r) ≡ markers_mended (o ∷ r) (subject_of o) (markers_in r)
+
+-- And among the clips of each track.
+abbrev pub ClipsAreMended : Type 0
+ClipsAreMended = (o : Operation) (r : List Operation) (track : Moment) → AreNoted (o ∷ r) → clips_in (o ∷ r) track ≡ clips_mended (o ∷ r) (subject_of o) track (clips_in r track)
+
+-- And among the tracks, which stand in the order in which they stood.
+abbrev pub TracksAreMended : Type 0
+TracksAreMended = (o : Operation) (r : List Operation) → AreNoted (o ∷ r) → tracks_in (o ∷ r) ≡ tracks_mended (o ∷ r) (subject_of o) (tracks_in r)
+
+-- ---- an entry found by where it stands
+
+-- Where there is a marker of a stamp, taking it out is taking out what stands at its position under its stamp; where there is none, nothing is taken out.
+pub record MarkersAreFound : Type 0 where
+  pub there : (r : List Operation) (item : Moment) (m : Marker) → AreNoted r → marker_entry r item ≡ Some m
+      → without (λ (x : Marker). x.marker) item (markers_in r) ≡ filter (λ (x : Marker). not (is_marker_at m.at item x)) (markers_in r)
+  pub missing : (r : List Operation) (item : Moment) → AreNoted r → marker_entry r item ≡ None → without (λ (x : Marker). x.marker) item (markers_in r) ≡ markers_in r
+
+-- The same of a clip of a track, found by its position and the stamp of its place.
+pub record ClipsAreFound : Type 0 where
+  pub there : (r : List Operation) (track item : Moment) (c : Clip) → AreNoted r → clip_on r track item ≡ Some c
+      → without (λ (x : Clip). x.clip) item (clips_in r track) ≡ filter (λ (x : Clip). not (is_clip_at c.at c.place x)) (clips_in r track)
+  pub missing : (r : List Operation) (track item : Moment) → AreNoted r → clip_on r track item ≡ None → without (λ (x : Clip). x.clip) item (clips_in r track) ≡ clips_in r track

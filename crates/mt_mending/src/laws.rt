@@ -1,0 +1,29 @@
+//! What one operation more changes in every session: each law is the contract of a small function, which does nothing.
+
+ghost use Rattle.mt_mending.specs.Mending.{ClipsAreFound, ClipsAreMended, MarkersAreFound, MarkersAreMended, TracksAreMended};
+
+/// One more operation changes among the markers that of its item alone.
+pub fn mended_markers()
+    ensures { MarkersAreMended }
+{}
+
+/// One more operation changes among the clips of a track that of its item alone.
+pub fn mended_clips()
+    ensures { ClipsAreMended }
+{}
+
+/// One more operation changes among the tracks that of its item, and in the others the clip that is its item, alone: the others stand
+/// in the order in which they stood.
+pub fn mended_tracks()
+    ensures { TracksAreMended }
+{}
+
+/// A marker is taken out by its position and its stamp.
+pub fn found_markers()
+    ensures { MarkersAreFound }
+{}
+
+/// A clip is taken out of a track by its position and the stamp of its place.
+pub fn found_clips()
+    ensures { ClipsAreFound }
+{}

@@ -1,0 +1,4 @@
+//! What one operation more changes in a session.
+#![tactic(auto)]
+
+pub mod laws;
