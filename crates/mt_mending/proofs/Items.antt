@@ -46,6 +46,16 @@ markers_given ops = given (is_shown_in ops adds_marker) (marker_in ops)
 abbrev clips_given : List Operation → Moment → Operation → Option Clip
 clips_given ops track = given (is_clip_on_in ops track) (clip_in ops)
 
+-- what no operation added is no clip
+pub no_clip : (ops : List Operation) → AreNoted ops → (track item : Moment) → is_need_met ops (need_of ClipRole item) ≡ false → clip_on ops track item ≡ None
+no_clip ops noted track item none =
+    ap (λ w. if_on ops track (cond (is_present ops item) (clip_from ops item w (last_write trim_written item ops) (last_write source_written item ops)) None)) (none_written ClipRole clip_place_written clip_places ops item noted none)
+    ∙ unread (is_present ops item)
+  where
+    unread : (b : Bool) → if_on ops track (cond b None None) ≡ None
+    unread true = refl
+    unread false = refl
+
 module _ (ops : List Operation) (noted : AreNoted ops) (x : Operation) (m : IsMember x ops) where
   -- what an operation gives is the entry of its stamp
   pub marker_entry_is : markers_given ops x ≡ marker_entry ops x.stamp
@@ -62,16 +72,11 @@ module _ (ops : List Operation) (noted : AreNoted ops) (x : Operation) (m : IsMe
   pub clip_entry_is : (track : Moment) → clips_given ops track x ≡ clip_on ops track x.stamp
   clip_entry_is track = by (adds_clip x.act) refl
     where
-      unread : (b : Bool) → if_on ops track (cond b None None) ≡ None
-      unread true = refl
-      unread false = refl
-
       by : (b : Bool) → adds_clip x.act ≡ b → clips_given ops track x ≡ clip_on ops track x.stamp
       by true adds = sym (clip_reads ops (one_op ops noted) track x m adds)
       by false adds =
-          let none = none_written ClipRole clip_place_written clip_places ops x.stamp noted (met_is ops noted ClipRole x m ∙ adds) in
           none_given (is_clip_on_in ops track) (clip_in ops) x (off_track ops (one_op ops noted) track x adds)
-          ∙ sym (ap (λ w. if_on ops track (cond (is_present ops x.stamp) (clip_from ops x.stamp w (last_write trim_written x.stamp ops) (last_write source_written x.stamp ops)) None)) none ∙ unread (is_present ops x.stamp))
+          ∙ sym (no_clip ops noted track x.stamp (met_is ops noted ClipRole x m ∙ adds))
 
 module _ (o : Operation) (r : List Operation) (noted : AreNoted (o ∷ r)) where
   abbrev i : Moment

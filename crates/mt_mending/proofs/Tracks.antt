@@ -59,7 +59,7 @@ abbrev tracks_given : List Operation → Operation → Option Operation
 tracks_given ops = given (is_shown_in ops adds_track) (λ x. x)
 
 -- what an operation gives is the entry of its stamp
-track_entry_is : (ops : List Operation) → AreNoted ops → (x : Operation) → IsMember x ops → option_map (track_in ops) (tracks_given ops x) ≡ track_entry ops x.stamp
+pub track_entry_is : (ops : List Operation) → AreNoted ops → (x : Operation) → IsMember x ops → option_map (track_in ops) (tracks_given ops x) ≡ track_entry ops x.stamp
 track_entry_is ops noted x m =
     by (is_shown_in ops adds_track x) refl
     ∙ ap (λ (b : Bool). cond (b && is_present ops x.stamp) (track_where ops (Some x.stamp)) None) (sym (met_is ops noted TrackRole x m))

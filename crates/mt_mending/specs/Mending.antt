@@ -1,6 +1,6 @@
 -- What one operation more changes in a session: the entries of the one item that it is about. The operations stand here as they were
 -- noted, the last one first; where they stand does not matter (mt_sessionview: any_listing).
-use Rattle.std.specs.Prelude.{◌≡◌, ◌&&◌, List, ◌∷◌, map, filter, not, Option, Some, None, if◌then◌else◌}
+use Rattle.std.specs.Prelude.{◌≡◌, ◌↔◌, ℕ, ◌&&◌, List, ◌∷◌, map, filter, not, slice_get, Option, Some, None, if◌then◌else◌}
 use Rattle.std.specs.declared.cmp.Ordering.{Ordering}
 use Rattle.mt_stamp.specs.Moment.{Moment}
 use Rattle.mt_stamp.specs.Tree.{tree_cmp}
@@ -13,6 +13,10 @@ use Rattle.mt_sessionview.specs.Content.{Clip, Track, Marker, clip_cmp, marker_c
 use Rattle.mt_sessionview.specs.Noted.{markers_in, clips_in, tracks_in, places_in, track_place_in}
 use Rattle.mt_sessionview.specs.Read.{marker_read, clip_on, track_where}
 use Rattle.mt_sessionview.specs.Changing.{put, without, is_marker_at, is_clip_at}
+
+-- one of these
+abbrev pub IsListed : {X : Type 0} → X → List X → Type 0
+IsListed {X} x xs = (k : ℕ) × (slice_get xs k ≡ Some x)
 
 -- the item that an operation adds or names
 abbrev pub subject_of : Operation → Moment
@@ -46,6 +50,12 @@ module _ (ops : List Operation) where
   -- tracks with that of one item taken out, the clips of every other one changed, and that of these operations put in
   abbrev pub tracks_mended : Moment → List Track → List Track
   tracks_mended item tracks = put track_order (track_entry item) (map (track_mended item) (without (λ (t : Track). t.track) item tracks))
+
+-- An entry is what the session shows of a stamp.
+pub record EntriesAreShown (ops : List Operation) : Type 0 where
+  pub markers : (item : Moment) (m : Marker) → (marker_entry ops item ≡ Some m) ↔ (IsListed m (markers_in ops) × (m.marker ≡ item))
+  pub clips : (track item : Moment) (c : Clip) → (clip_on ops track item ≡ Some c) ↔ (IsListed c (clips_in ops track) × (c.clip ≡ item))
+  pub tracks : (item : Moment) (t : Track) → (track_entry ops item ≡ Some t) ↔ (IsListed t (tracks_in ops) × (t.track ≡ item))
 
 -- One operation more changes among the markers that of its item alone.
 abbrev pub MarkersAreMended : Type 0

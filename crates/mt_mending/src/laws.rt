@@ -1,6 +1,14 @@
 //! What one operation more changes in every session: each law is the contract of a small function, which does nothing.
 
-ghost use Rattle.mt_mending.specs.Mending.{ClipsAreFound, ClipsAreMended, MarkersAreFound, MarkersAreMended, TracksAreMended};
+ghost use Rattle.std.specs.Prelude.{List};
+ghost use Rattle.mt_op.specs.Operation.{Operation};
+ghost use Rattle.mt_items.specs.Noting.{AreNoted};
+ghost use Rattle.mt_mending.specs.Mending.{ClipsAreFound, ClipsAreMended, EntriesAreShown, MarkersAreFound, MarkersAreMended, TracksAreMended};
+
+/// An entry of a stamp is the marker, the clip of a track or the track of this stamp that the session shows, and nothing else.
+pub fn shown_entries()
+    ensures { (ops : List Operation) → AreNoted ops → EntriesAreShown ops }
+{}
 
 /// One more operation changes among the markers that of its item alone.
 pub fn mended_markers()
