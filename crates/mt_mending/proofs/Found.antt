@@ -112,11 +112,14 @@ module _ (r : List Operation) (noted : AreNoted r) where
       by o true = refl
       by o false = refl
 
-  all_tracks : AllByRecursion (IsOf r (is_shown_in r adds_track) (track_in r)) (tracks_in r)
+  pub all_tracks : AllByRecursion (IsOf r (is_shown_in r adds_track) (track_in r)) (tracks_in r)
   all_tracks = passing r (is_shown_in r adds_track) (track_in r) in_order (λ o m. member_of_kept (is_shown_in r adds_track) r o (member_unsorted (track_cmp_in r) (track_cmp_total r) o track_ops m))
 
   track_listed : (o : Operation) → IsMember o r → is_shown_in r adds_track o ≡ true → IsMember (track_in r o) (tracks_in r)
   track_listed o m passes = member_map (track_in r) in_order o (member_sorted (track_cmp_in r) (track_cmp_total r) o track_ops (member_kept (is_shown_in r adds_track) r o m passes))
+
+  pub tracks_left : (item : Moment) → track_entry r item ≡ None → without (λ (t : Track). t.track) item (tracks_in r) ≡ tracks_in r
+  tracks_left item none = missing tracks_have (tracks_in r) all_tracks item none
 
   pub entries_are_shown : EntriesAreShown r
   entries_are_shown = record {

@@ -6,3 +6,4 @@ pub mod Items
 pub mod Tracks
 pub mod Entries
 pub mod Found
+pub mod Leaving

@@ -1,10 +1,10 @@
 -- What one operation more changes in a session: the entries of the one item that it is about. The operations stand here as they were
 -- noted, the last one first; where they stand does not matter (mt_sessionview: any_listing).
-use Rattle.std.specs.Prelude.{◌≡◌, ◌↔◌, ℕ, ◌&&◌, List, ◌∷◌, map, filter, not, slice_get, Option, Some, None, if◌then◌else◌}
+use Rattle.std.specs.Prelude.{◌≡◌, ◌↔◌, ℕ, false, ◌&&◌, List, ◌∷◌, map, filter, not, slice_get, Option, Some, None, if◌then◌else◌}
 use Rattle.std.specs.declared.cmp.Ordering.{Ordering}
 use Rattle.mt_stamp.specs.Moment.{Moment}
 use Rattle.mt_stamp.specs.Tree.{tree_cmp}
-use Rattle.mt_op.specs.declared.need.Role.TheVariants.{Marker as MarkerRole, Track as TrackRole}
+use Rattle.mt_op.specs.declared.need.Role.TheVariants.{Marker as MarkerRole, Clip as ClipRole, Track as TrackRole}
 use Rattle.mt_op.specs.Operation.{Operation}
 use Rattle.mt_op.specs.Needs.{need_of}
 use Rattle.mt_op.specs.Presence.{is_present}
@@ -68,6 +68,20 @@ ClipsAreMended = (o : Operation) (r : List Operation) (track : Moment) → AreNo
 -- And among the tracks, which stand in the order in which they stood.
 abbrev pub TracksAreMended : Type 0
 TracksAreMended = (o : Operation) (r : List Operation) → AreNoted (o ∷ r) → tracks_in (o ∷ r) ≡ tracks_mended (o ∷ r) (subject_of o) (tracks_in r)
+
+-- What its item is tells what need not be looked at. An item that is no marker leaves the markers; one that is no clip leaves the clips
+-- of every track, and so all tracks but itself; and one that is no track changes the clips of tracks alone.
+pub record ItemsAreOfAKind (o : Operation) (r : List Operation) : Type 0 where
+  pub no_marker : is_need_met (o ∷ r) (need_of MarkerRole (subject_of o)) ≡ false → markers_in (o ∷ r) ≡ markers_in r
+  pub no_clip : is_need_met (o ∷ r) (need_of ClipRole (subject_of o)) ≡ false → (track : Moment) → clips_in (o ∷ r) track ≡ clips_in r track
+  pub track_alone : is_need_met (o ∷ r) (need_of ClipRole (subject_of o)) ≡ false
+      → tracks_in (o ∷ r) ≡ put (track_order (o ∷ r)) (track_entry (o ∷ r) (subject_of o)) (without (λ (t : Track). t.track) (subject_of o) (tracks_in r))
+  pub clips_alone : is_need_met (o ∷ r) (need_of TrackRole (subject_of o)) ≡ false → tracks_in (o ∷ r) ≡ map (track_mended (o ∷ r) (subject_of o)) (tracks_in r)
+
+-- A track on which the clip neither was nor is keeps its clips.
+abbrev pub OtherTracksStay : Type 0
+OtherTracksStay = (o : Operation) (r : List Operation) (track : Moment) → AreNoted (o ∷ r) → clip_on r track (subject_of o) ≡ None → clip_on (o ∷ r) track (subject_of o) ≡ None
+    → clips_in (o ∷ r) track ≡ clips_in r track
 
 -- ---- an entry found by where it stands
 

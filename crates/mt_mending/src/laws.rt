@@ -1,9 +1,9 @@
 //! What one operation more changes in every session: each law is the contract of a small function, which does nothing.
 
-ghost use Rattle.std.specs.Prelude.{List};
+ghost use Rattle.std.specs.Prelude.{List, ◌∷◌};
 ghost use Rattle.mt_op.specs.Operation.{Operation};
 ghost use Rattle.mt_items.specs.Noting.{AreNoted};
-ghost use Rattle.mt_mending.specs.Mending.{ClipsAreFound, ClipsAreMended, EntriesAreShown, MarkersAreFound, MarkersAreMended, TracksAreMended};
+ghost use Rattle.mt_mending.specs.Mending.{ClipsAreFound, ClipsAreMended, EntriesAreShown, ItemsAreOfAKind, MarkersAreFound, MarkersAreMended, OtherTracksStay, TracksAreMended};
 
 /// An entry of a stamp is the marker, the clip of a track or the track of this stamp that the session shows, and nothing else.
 pub fn shown_entries()
@@ -24,6 +24,17 @@ pub fn mended_clips()
 /// in the order in which they stood.
 pub fn mended_tracks()
     ensures { TracksAreMended }
+{}
+
+/// An item that is no marker leaves the markers, one that is no clip leaves the clips of every track, and one that is no track changes
+/// the clips of tracks alone.
+pub fn kinds_apart()
+    ensures { (o : Operation) (ops : List Operation) → AreNoted (o ∷ ops) → ItemsAreOfAKind o ops }
+{}
+
+/// A track on which the clip that an operation is about neither was nor is keeps its clips.
+pub fn other_tracks()
+    ensures { OtherTracksStay }
 {}
 
 /// A marker is taken out by its position and its stamp.
