@@ -1,17 +1,17 @@
 -- An entry is what operations give of its stamp.
-use Rattle.std.proofs.Common.{◌≡◌, ℕ, Bool, true, false, cond, not, List, [], ◌∷◌, Option, Some, None, map, refl, sym, ap, ◌∙◌, subst, true≢false}
+use Rattle.std.proofs.Common.{◌≡◌, Bool, true, false, cond, not, List, [], ◌∷◌, Option, Some, None, map, refl, sym, ap, ◌∙◌, subst, true≢false}
 use Rattle.std.specs.Prelude.{◌↔◌}
 use Rattle.std.specs.List.{AllByRecursion, filter}
 use Rattle.std.proofs.lemmas.Option.{same_Some, none-some}
 use Rattle.mt_stamp.specs.Moment.{Moment, stamp_eq}
 use Rattle.mt_stamp.proofs.Order.{stamp_eq-true}
-use Rattle.mt_stamp.proofs.Members.{IsMember, member_at, member_stands, member_kept}
-use Rattle.mt_stamp.proofs.SameItems.{all_passing, all_map}
+use Rattle.mt_stamp.proofs.Members.{IsMember, member_at, member_stands}
+use Rattle.mt_stamp.proofs.SameItems.{all_map}
 use Rattle.mt_op.specs.declared.need.Role.{Role}
 use Rattle.mt_op.specs.Operation.{Operation}
 use Rattle.mt_op.specs.Needs.{need_of, meets}
 use Rattle.mt_op.proofs.Needs.{and_first}
-use Rattle.mt_items.specs.Noting.{AreNoted, is_need_met}
+use Rattle.mt_items.specs.Noting.{is_need_met}
 use Rattle.mt_items.proofs.Noting.{unmet}
 use Rattle.mt_sessionview.specs.Changing.{without}
 use Rattle.mt_sessionview.proofs.Items.{stamp_eq_same}

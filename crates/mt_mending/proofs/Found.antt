@@ -1,5 +1,5 @@
 -- Entries of markers, clips and tracks: they are what a session shows, and how they are found by where they stand.
-use Rattle.std.proofs.Common.{◌≡◌, Bool, true, false, cond, not, eqb, ◌&&◌, List, Option, Some, None, map, refl, sym, ap, ◌∙◌}
+use Rattle.std.proofs.Common.{◌≡◌, Bool, true, false, cond, not, eqb, ◌&&◌, List, Some, None, map, refl, sym, ap, ◌∙◌}
 use Rattle.std.specs.Prelude.{option_map}
 use Rattle.std.specs.List.{AllByRecursion, filter}
 use Rattle.std.specs.Cmp.{tied_itself}
@@ -12,10 +12,10 @@ use Rattle.mt_stamp.proofs.Differing.{all_sorted}
 use Rattle.mt_stamp.proofs.Members.{IsMember, member_kept, member_of_kept, member_sorted, member_unsorted}
 use Rattle.mt_op.specs.declared.need.Role.TheVariants.{Clip as ClipRole, Marker as MarkerRole, Track as TrackRole}
 use Rattle.mt_op.specs.Operation.{Operation}
-use Rattle.mt_op.specs.Needs.{need_of, adds_track, adds_marker}
+use Rattle.mt_op.specs.Needs.{adds_track, adds_marker}
 use Rattle.mt_op.specs.Presence.{is_present}
 use Rattle.mt_op.proofs.Needs.{and_first, and_second}
-use Rattle.mt_items.specs.Noting.{AreNoted, is_need_met}
+use Rattle.mt_items.specs.Noting.{AreNoted}
 use Rattle.mt_sessionview.specs.Content.{Clip, Track, Marker, clip_cmp, marker_cmp}
 use Rattle.mt_sessionview.specs.Noted.{is_shown_in, shown_in, marker_in, markers_in, clip_in, is_clip_on_in, clips_in, track_cmp_in, track_in, tracks_in}
 use Rattle.mt_sessionview.specs.Read.{marker_read, clip_on, track_where}
@@ -28,7 +28,6 @@ use Rattle.mt_sessionview.proofs.Shown.{one_clip}
 use Rattle.mt_mending.specs.Mending.{marker_entry, track_entry, EntriesAreShown, MarkersAreFound, ClipsAreFound}
 use Rattle.mt_mending.proofs.Items.{marker_entry_is, clip_entry_is, no_clip}
 use Rattle.mt_mending.proofs.Tracks.{track_entry_is}
-use Rattle.mt_mending.proofs.Kept.{given}
 use Rattle.mt_mending.proofs.Entries.{IsOf, HaveEntries, passing, of_entry, shown, found, missing}
 
 module _ (r : List Operation) (noted : AreNoted r) where
@@ -85,12 +84,12 @@ module _ (r : List Operation) (noted : AreNoted r) where
         let of_c = of_entry clips_have item c is in
         found clips_have (clips_in r track) all_clips item (is_clip_at c.at c.place) c is (λ i. eq-eqb c.at c.at refl i && stamp_eq_same c.place c.place refl i)
         (λ x of_x passes.
-            let at : x.at ≡ c.at = eqb-true x.at c.at (and_first _ _ passes) in
-            let place : c.place ≡ x.place = stamp_eq-true c.place x.place (and_second (eqb x.at c.at) (stamp_eq c.place x.place) passes) in
-            let tied : clip_cmp x c ≡ Equal = (λ i. clip_cmp (record { clip = x.clip; place = sym place i; at = at i; offset = x.offset; len = x.len; gain = x.gain; mute = x.mute; source = x.source }) c) ∙ tied_itself clip_cmp_total c in
-            let adds = and_first _ _ (and_first _ _ of_x.2) in
-            let adds_c = and_first _ _ (and_first _ _ of_c.0.2) in
-            ap (λ (y : Clip). y.clip) (one_clip r (one_op r noted) x c (of_x.0, of_x.1, adds, of_x.3) (of_c.0.0, of_c.0.1, adds_c, of_c.0.3) tied) ∙ of_c.1)
+        let at : x.at ≡ c.at = eqb-true x.at c.at (and_first _ _ passes) in
+        let place : c.place ≡ x.place = stamp_eq-true c.place x.place (and_second (eqb x.at c.at) (stamp_eq c.place x.place) passes) in
+        let tied : clip_cmp x c ≡ Equal = (λ i. clip_cmp (record { clip = x.clip; place = sym place i; at = at i; offset = x.offset; len = x.len; gain = x.gain; mute = x.mute; source = x.source }) c) ∙ tied_itself clip_cmp_total c in
+        let adds = and_first _ _ (and_first _ _ of_x.2) in
+        let adds_c = and_first _ _ (and_first _ _ of_c.0.2) in
+        ap (λ (y : Clip). y.clip) (one_clip r (one_op r noted) x c (of_x.0, of_x.1, adds, of_x.3) (of_c.0.0, of_c.0.1, adds_c, of_c.0.3) tied) ∙ of_c.1)
 
   -- ---- tracks
 

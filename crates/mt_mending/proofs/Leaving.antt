@@ -15,7 +15,7 @@ use Rattle.mt_sessionview.specs.Noted.{is_shown_in, markers_in, clips_in, track_
 use Rattle.mt_sessionview.specs.Read.{marker_read, clip_on, track_where}
 use Rattle.mt_sessionview.specs.Changing.{put, without}
 use Rattle.mt_sessionview.proofs.Lists.{all_also}
-use Rattle.mt_mending.specs.Mending.{subject_of, marker_entry, track_entry, track_order, clips_mended, track_mended, ItemsAreOfAKind, OtherTracksStay}
+use Rattle.mt_mending.specs.Mending.{subject_of, track_entry, track_order, clips_mended, track_mended, ItemsAreOfAKind, OtherTracksStay}
 use Rattle.mt_mending.proofs.Items.{no_clip, markers_are_mended, clips_are_mended}
 use Rattle.mt_mending.proofs.Tracks.{tracks_are_mended}
 use Rattle.mt_mending.proofs.Found.{all_tracks, markers_are_found, clips_are_found, tracks_left}

@@ -7,3 +7,4 @@ pub mod Tracks
 pub mod Entries
 pub mod Found
 pub mod Leaving
+pub mod NotedSession

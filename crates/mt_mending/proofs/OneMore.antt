@@ -1,13 +1,13 @@
 -- Of what operations give, one operation more changes what its own item gives, and nothing else.
-use Rattle.std.proofs.Common.{◌≡◌, ℕ, ◌+◌, Bool, true, false, cond, not, List, [], ◌∷◌, ◌||◌, Option, Some, None, refl, sym, ap, ◌∙◌, subst, inl, inr, true≢false, arith}
-use Rattle.std.specs.List.{AllByRecursion, filter, filter_map, cons_option, sum_by, list_any}
+use Rattle.std.proofs.Common.{◌≡◌, ℕ, ◌+◌, Bool, true, false, cond, not, List, [], ◌∷◌, ◌||◌, Option, Some, None, refl, sym, ap, ◌∙◌, inl, inr, true≢false, arith}
+use Rattle.std.specs.List.{AllByRecursion, filter, filter_map, cons_option, sum_by}
 use Rattle.std.specs.Cmp.{IsTotalOrder}
 use Rattle.std.specs.declared.cmp.Ordering.{Ordering}
 use Rattle.std.specs.declared.cmp.Ordering.TheVariants.{Equal}
 use Rattle.std.proofs.lemmas.List.Sums.{sum_by-cons}
 use Rattle.mt_stamp.specs.Moment.{Moment, stamp_eq}
-use Rattle.mt_stamp.specs.Sorting.{sort_by, insert_by}
-use Rattle.mt_stamp.proofs.Order.{stamp_eq-true, stamp_eq-itself}
+use Rattle.mt_stamp.specs.Sorting.{sort_by}
+use Rattle.mt_stamp.proofs.Order.{stamp_eq-true}
 use Rattle.mt_stamp.proofs.Members.{IsMember}
 use Rattle.mt_stamp.proofs.SameItems.{SameItems, GivenBy, all_passing, all_filter_map}
 use Rattle.mt_stamp.proofs.Sorting.{sort_same}

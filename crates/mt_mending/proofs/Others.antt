@@ -1,9 +1,9 @@
 -- What an operation leaves of the items that it is not about, and which operation its own item is.
-use Rattle.std.proofs.Common.{◌≡◌, ℕ, Bool, true, false, cond, not, ◌&&◌, ◌||◌, List, [], ◌∷◌, ◌++◌, Option, Some, None, ◌⊎◌, map, refl, sym, ap, ◌∙◌, inl, inr, true≢false}
+use Rattle.std.proofs.Common.{◌≡◌, ℕ, Bool, true, false, cond, not, ◌&&◌, ◌||◌, List, [], ◌∷◌, ◌++◌, Option, ◌⊎◌, map, refl, sym, ap, ◌∙◌, inl, inr, true≢false}
 use Rattle.std.specs.Prelude.{option_map, unwrap_or}
 use Rattle.std.specs.List.{filter, list_any}
 use Rattle.mt_stamp.specs.Moment.{Moment, stamp_eq}
-use Rattle.mt_stamp.proofs.Order.{stamp_eq-true, stamp_eq-itself}
+use Rattle.mt_stamp.proofs.Order.{stamp_eq-true}
 use Rattle.mt_stamp.proofs.Members.{IsMember}
 use Rattle.mt_op.specs.declared.need.Role.{Role}
 use Rattle.mt_op.specs.Gain.{unchanged}
@@ -15,7 +15,6 @@ use Rattle.mt_op.proofs.Needs.{and_first, and_second}
 use Rattle.mt_items.specs.Noting.{AreNoted, is_noted, is_need_met, subject}
 use Rattle.mt_items.proofs.Noting.{unmet, either_true, subject_noted, AtSubject, at_subject, last_same, other_write}
 use Rattle.mt_items.proofs.Marking.{other_tag}
-use Rattle.mt_sessionview.specs.Content.{Clip, Marker}
 use Rattle.mt_sessionview.specs.Session.{source_of}
 use Rattle.mt_sessionview.specs.Noted.{value_in, is_shown_in, marker_in, clip_place_in, clip_in, is_clip_on_in, track_place_in}
 use Rattle.mt_sessionview.proofs.Items.{stamp_eq_same}

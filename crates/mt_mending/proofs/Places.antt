@@ -1,7 +1,7 @@
 -- A new place leaves the order of the others.
-use Rattle.std.proofs.Common.{◌≡◌, ℕ, zero, suc, ◌≤◌, Bool, true, false, cond, List, [], ◌∷◌, ◌++◌, length, Option, Some, None, refl, sym, ap, ◌∙◌, subst, inl, inr, true≢false, arith}
-use Rattle.std.specs.List.{cons_option, filter_map}
-use Rattle.std.proofs.lemmas.Option.{same_Some, none-some}
+use Rattle.std.proofs.Common.{◌≡◌, ℕ, zero, suc, ◌≤◌, Bool, true, false, cond, List, [], ◌∷◌, ◌++◌, length, Option, Some, None, refl, sym, ap, ◌∙◌, inr, true≢false, arith}
+use Rattle.std.specs.List.{cons_option}
+use Rattle.std.proofs.lemmas.Option.{none-some}
 use Rattle.mt_stamp.specs.Moment.{Moment, stamp_eq}
 use Rattle.mt_stamp.specs.Tree.{TreePlace, after_of, path_to, path_within, path, path_cmp, tree_cmp}
 use Rattle.mt_stamp.proofs.Order.{stamp_eq-true}
@@ -15,7 +15,7 @@ use Rattle.mt_items.specs.Noting.{AreNoted, is_noted, is_need_met}
 use Rattle.mt_items.proofs.Noting.{unmet}
 use Rattle.mt_sessionview.specs.Session.{place_added}
 use Rattle.mt_sessionview.specs.Noted.{places_in}
-use Rattle.mt_sessionview.specs.Read.{tree_place, place_after}
+use Rattle.mt_sessionview.specs.Read.{tree_place}
 use Rattle.mt_sessionview.proofs.Items.{stamp_eq_same}
 use Rattle.mt_sessionview.proofs.Lists.{all_true, any_member, given_by, member_given}
 use Rattle.mt_sessionview.proofs.PlaceTree.{added_is, gives, place_need}
@@ -100,15 +100,17 @@ grew_in (o ∷ r) noted = by (place_added o) refl (grew_in r noted.1)
     by : (e : Option TreePlace) → place_added o ≡ e → Grew (places_in r) → Grew (cons_option e (places_in r))
     by None is rest = rest
     by (Some t) is rest =
-        let made = (gives o t is).1 in
-        ((λ there. true≢false (sym (there_noted r t.place there) ∙ ap (is_noted r) (ap (λ (u : TreePlace). u.place) made) ∙ noted.0.fresh)),
+        let made = (gives o t is).1 in (
+          (λ there. true≢false (sym (there_noted r t.place there) ∙ ap (is_noted r) (ap (λ (u : TreePlace). u.place) made) ∙ noted.0.fresh)),
           (λ q after.
               let met = place_need (λ (need : Need). is_need_met r need ≡ true) q o.act (ap (λ (u : TreePlace). u.after) (sym made) ∙ after) (all_true (is_need_met r) (needs o) noted.0.met) in
-              let found = any_member (meets (need_of Place q)) r met in
-              (tree_place found.item,
+              let found = any_member (meets (need_of Place q)) r met in (
+                tree_place found.item,
                 member_given place_added r found.item (tree_place found.item) found.member (added_is found.item ∙ ap (λ (b : Bool). cond b (Some (tree_place found.item)) None) (and_second (stamp_eq q found.item.stamp) (fits Place found.item) found.passes)),
-                sym (stamp_eq-true q found.item.stamp (and_first _ _ found.passes)))),
-          rest)
+                sym (stamp_eq-true q found.item.stamp (and_first _ _ found.passes)),
+              )),
+          rest,
+        )
 
 -- The place of one operation more leaves the order of the places noted before.
 pub order_same : (o : Operation) (r : List Operation) → AreNoted (o ∷ r) → (a b : Moment) → is_noted r a ≡ true → is_noted r b ≡ true → tree_cmp (places_in (o ∷ r)) a b ≡ tree_cmp (places_in r) a b
@@ -117,7 +119,7 @@ order_same o r noted a b a_noted b_noted = by (place_added o) refl (grew_in (o �
     other : (t : TreePlace) → place_added o ≡ Some t → (p : Moment) → is_noted r p ≡ true → stamp_eq t.place p ≡ false
     other t is p there =
         unmet (stamp_eq t.place p) (λ same.
-            true≢false (sym there ∙ ap (is_noted r) (sym (stamp_eq-true t.place p same) ∙ ap (λ (u : TreePlace). u.place) (gives o t is).1) ∙ noted.0.fresh))
+        true≢false (sym there ∙ ap (is_noted r) (sym (stamp_eq-true t.place p same) ∙ ap (λ (u : TreePlace). u.place) (gives o t is).1) ∙ noted.0.fresh))
 
     by : (e : Option TreePlace) → place_added o ≡ e → Grew (cons_option e (places_in r)) → tree_cmp (cons_option e (places_in r)) a b ≡ tree_cmp (places_in r) a b
     by None is grew = refl

@@ -1,28 +1,27 @@
 -- The tracks after one operation more.
-use Rattle.std.proofs.Common.{◌≡◌, Bool, true, false, cond, not, ◌&&◌, List, [], ◌∷◌, Option, Some, None, map, refl, sym, ap, ◌∙◌, subst, inr}
+use Rattle.std.proofs.Common.{◌≡◌, Bool, true, false, cond, not, ◌&&◌, List, [], ◌∷◌, Option, Some, None, map, refl, sym, ap, ◌∙◌}
 use Rattle.std.specs.Prelude.{option_map, unwrap_or}
-use Rattle.std.specs.List.{AllByRecursion, filter, filter_map, cons_option}
+use Rattle.std.specs.List.{filter, filter_map, cons_option}
 use Rattle.std.specs.declared.cmp.Ordering.{Ordering}
 use Rattle.std.specs.declared.cmp.Ordering.TheVariants.{Equal}
 use Rattle.mt_stamp.specs.Moment.{Moment, stamp_eq}
 use Rattle.mt_stamp.specs.Sorting.{sort_by}
 use Rattle.mt_stamp.specs.Tree.{tree_cmp}
 use Rattle.mt_stamp.proofs.Order.{stamp_eq-true}
-use Rattle.mt_stamp.proofs.Differing.{all_sorted}
-use Rattle.mt_stamp.proofs.Members.{IsMember, member_kept, member_of_kept, member_sorted, member_unsorted}
+use Rattle.mt_stamp.proofs.Members.{IsMember, member_kept, member_of_kept, member_sorted}
 use Rattle.mt_stamp.proofs.SameItems.{GivenBy}
 use Rattle.mt_op.specs.declared.need.Role.TheVariants.{Track as TrackRole}
 use Rattle.mt_op.specs.ByStamp.{stamp_of}
 use Rattle.mt_op.specs.Gain.{unchanged}
 use Rattle.mt_op.specs.Operation.{Operation}
-use Rattle.mt_op.specs.Needs.{need_of, adds_track}
+use Rattle.mt_op.specs.Needs.{adds_track}
 use Rattle.mt_op.specs.Presence.{is_present}
 use Rattle.mt_op.specs.Writes.{Written, title_in, gain_in, mute_in, title_written, gain_written, mute_written, track_place_written, last_write}
-use Rattle.mt_items.specs.Noting.{AreNoted, is_noted, is_need_met}
+use Rattle.mt_items.specs.Noting.{AreNoted, is_noted}
 use Rattle.mt_items.proofs.Noting.{at_subject, writer_noted}
 use Rattle.mt_items.proofs.PerKind.{track_own}
 use Rattle.mt_sessionview.specs.Content.{Track}
-use Rattle.mt_sessionview.specs.Noted.{is_shown_in, shown_in, clips_in, places_in, track_place_in, track_cmp_in, track_in, tracks_in}
+use Rattle.mt_sessionview.specs.Noted.{is_shown_in, shown_in, places_in, track_place_in, track_cmp_in, track_in, tracks_in}
 use Rattle.mt_sessionview.specs.Read.{track_where}
 use Rattle.mt_sessionview.specs.Changing.{put, without}
 use Rattle.mt_sessionview.proofs.InOrder.{one_op}

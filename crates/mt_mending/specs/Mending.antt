@@ -1,6 +1,7 @@
 -- What one operation more changes in a session: the entries of the one item that it is about. The operations stand here as they were
 -- noted, the last one first; where they stand does not matter (mt_sessionview: any_listing).
-use Rattle.std.specs.Prelude.{◌≡◌, ◌↔◌, ℕ, false, ◌&&◌, List, ◌∷◌, map, filter, not, slice_get, Option, Some, None, if◌then◌else◌}
+use Rattle.std.specs.Prelude.{◌≡◌, ◌↔◌, ℕ, true, false, ◌&&◌, List, ◌∷◌, length, map, filter, not, slice_get, Option, Some, None, if◌then◌else◌}
+use Rattle.std.specs.List.Sorted.{IsPermutation}
 use Rattle.std.specs.declared.cmp.Ordering.{Ordering}
 use Rattle.mt_stamp.specs.Moment.{Moment}
 use Rattle.mt_stamp.specs.Tree.{tree_cmp}
@@ -8,8 +9,9 @@ use Rattle.mt_op.specs.declared.need.Role.TheVariants.{Marker as MarkerRole, Cli
 use Rattle.mt_op.specs.Operation.{Operation}
 use Rattle.mt_op.specs.Needs.{need_of}
 use Rattle.mt_op.specs.Presence.{is_present}
-use Rattle.mt_items.specs.Noting.{AreNoted, is_need_met, subject}
-use Rattle.mt_sessionview.specs.Content.{Clip, Track, Marker, clip_cmp, marker_cmp}
+use Rattle.mt_items.specs.Noting.{AreNoted, is_noted, is_need_met, subject}
+use Rattle.mt_sessionview.specs.Content.{Clip, Track, Marker, Content, clip_cmp, marker_cmp}
+use Rattle.mt_sessionview.specs.Session.{ready_ops, held_ops, session_of}
 use Rattle.mt_sessionview.specs.Noted.{markers_in, clips_in, tracks_in, places_in, track_place_in}
 use Rattle.mt_sessionview.specs.Read.{marker_read, clip_on, track_where}
 use Rattle.mt_sessionview.specs.Changing.{put, without, is_marker_at, is_clip_at}
@@ -57,6 +59,16 @@ pub record EntriesAreShown (ops : List Operation) : Type 0 where
   pub clips : (track item : Moment) (c : Clip) → (clip_on ops track item ≡ Some c) ↔ (IsListed c (clips_in ops track) × (c.clip ≡ item))
   pub tracks : (item : Moment) (t : Track) → (track_entry ops item ≡ Some t) ↔ (IsListed t (tracks_in ops) × (t.track ≡ item))
 
+-- the session that operations show, with a number of others held
+abbrev pub session_in : List Operation → ℕ → Content
+session_in ops held = record { tracks = tracks_in ops; markers = markers_in ops; held = held }
+
+-- It is the session of every set of which they are the ready ones, in whatever order they were noted.
+abbrev pub NotedAreTheSession : Type 0
+NotedAreTheSession = (s ops : List Operation) → AreNoted ops → IsPermutation ops (ready_ops s) → session_of s ≡ session_in ops (length (held_ops s))
+
+-- ---- one operation more
+
 -- One operation more changes among the markers that of its item alone.
 abbrev pub MarkersAreMended : Type 0
 MarkersAreMended = (o : Operation) (r : List Operation) → AreNoted (o ∷ r) → markers_in (o ∷ r) ≡ markers_mended (o ∷ r) (subject_of o) (markers_in r)
@@ -68,6 +80,10 @@ ClipsAreMended = (o : Operation) (r : List Operation) (track : Moment) → AreNo
 -- And among the tracks, which stand in the order in which they stood.
 abbrev pub TracksAreMended : Type 0
 TracksAreMended = (o : Operation) (r : List Operation) → AreNoted (o ∷ r) → tracks_in (o ∷ r) ≡ tracks_mended (o ∷ r) (subject_of o) (tracks_in r)
+
+-- Whatever place it adds, the places of those before stay in their order.
+abbrev pub PlacesStayInOrder : Type 0
+PlacesStayInOrder = (o : Operation) (r : List Operation) (a b : Moment) → AreNoted (o ∷ r) → is_noted r a ≡ true → is_noted r b ≡ true → tree_cmp (places_in (o ∷ r)) a b ≡ tree_cmp (places_in r) a b
 
 -- What its item is tells what need not be looked at. An item that is no marker leaves the markers; one that is no clip leaves the clips
 -- of every track, and so all tracks but itself; and one that is no track changes the clips of tracks alone.

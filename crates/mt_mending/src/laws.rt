@@ -3,7 +3,12 @@
 ghost use Rattle.std.specs.Prelude.{List, ◌∷◌};
 ghost use Rattle.mt_op.specs.Operation.{Operation};
 ghost use Rattle.mt_items.specs.Noting.{AreNoted};
-ghost use Rattle.mt_mending.specs.Mending.{ClipsAreFound, ClipsAreMended, EntriesAreShown, ItemsAreOfAKind, MarkersAreFound, MarkersAreMended, OtherTracksStay, TracksAreMended};
+ghost use Rattle.mt_mending.specs.Mending.{ClipsAreFound, ClipsAreMended, EntriesAreShown, ItemsAreOfAKind, MarkersAreFound, MarkersAreMended, NotedAreTheSession, OtherTracksStay, PlacesStayInOrder, TracksAreMended};
+
+/// What operations show that were noted, in whatever order, is the session of every set of which they are the ready ones.
+pub fn noted_session()
+    ensures { NotedAreTheSession }
+{}
 
 /// An entry of a stamp is the marker, the clip of a track or the track of this stamp that the session shows, and nothing else.
 pub fn shown_entries()
@@ -24,6 +29,11 @@ pub fn mended_clips()
 /// in the order in which they stood.
 pub fn mended_tracks()
     ensures { TracksAreMended }
+{}
+
+/// The places of tracks that were given before an operation stay in their order, whatever place it adds.
+pub fn places_in_order()
+    ensures { PlacesStayInOrder }
 {}
 
 /// An item that is no marker leaves the markers, one that is no clip leaves the clips of every track, and one that is no track changes

@@ -1,0 +1,15 @@
+use crate::laws;
+
+#[test]
+fn states_each_law(_rt: HostRuntime) {
+    laws::noted_session();
+    laws::shown_entries();
+    laws::mended_markers();
+    laws::mended_clips();
+    laws::mended_tracks();
+    laws::places_in_order();
+    laws::kinds_apart();
+    laws::other_tracks();
+    laws::found_markers();
+    laws::found_clips();
+}
