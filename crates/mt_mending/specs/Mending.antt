@@ -1,5 +1,5 @@
--- What one operation more changes in a session: the entries of the one item that it is about. The operations stand here as they were
--- noted, the last one first; where they stand does not matter (mt_sessionview: any_listing).
+-- What one operation more changes in a session: the entries of its subject. Operations stand here as they were noted, the last one
+-- first, and show the session of their set in whatever order that was (NotedAreTheSession).
 use Rattle.std.specs.Prelude.{◌≡◌, ◌↔◌, ℕ, true, false, ◌&&◌, List, ◌∷◌, length, map, filter, not, slice_get, Option, Some, None, if◌then◌else◌}
 use Rattle.std.specs.List.Sorted.{IsPermutation}
 use Rattle.std.specs.declared.cmp.Ordering.{Ordering}
