@@ -20,7 +20,7 @@ use Rattle.mt_mending.specs.Mending.{IsListed}
 use Rattle.mt_mending.proofs.Items.{given_is}
 use Rattle.mt_mending.proofs.Kept.{given, filter_alike}
 
-filter_all : {X : Type 0} (p : X → Bool) (xs : List X) → AllByRecursion (λ x. p x ≡ true) xs → filter p xs ≡ xs
+pub filter_all : {X : Type 0} (p : X → Bool) (xs : List X) → AllByRecursion (λ x. p x ≡ true) xs → filter p xs ≡ xs
 filter_all p [] all = refl
 filter_all {X} p (x ∷ xs) all = ap (λ (b : Bool). cond b (x ∷ filter p xs) (filter p xs)) all.0 ∙ ap (λ (l : List X). x ∷ l) (filter_all p xs all.1)
 

@@ -8,3 +8,4 @@ pub mod Entries
 pub mod Found
 pub mod Leaving
 pub mod NotedSession
+pub mod Once

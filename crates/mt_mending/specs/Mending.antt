@@ -1,6 +1,7 @@
 -- What one operation more changes in a session: the entries of its subject. Operations stand here as they were noted, the last one
 -- first, and show the session of their set in whatever order that was (NotedAreTheSession).
 use Rattle.std.specs.Prelude.{◌≡◌, ◌↔◌, ℕ, true, false, ◌&&◌, List, ◌∷◌, length, map, filter, not, slice_get, Option, Some, None, if◌then◌else◌}
+use Rattle.std.specs.List.{remove}
 use Rattle.std.specs.List.Sorted.{IsPermutation}
 use Rattle.std.specs.declared.cmp.Ordering.{Ordering}
 use Rattle.mt_stamp.specs.Moment.{Moment}
@@ -112,3 +113,11 @@ pub record ClipsAreFound : Type 0 where
   pub there : (r : List Operation) (track item : Moment) (c : Clip) → AreNoted r → clip_on r track item ≡ Some c
       → without (λ (x : Clip). x.clip) item (clips_in r track) ≡ filter (λ (x : Clip). not (is_clip_at c.at c.place x)) (clips_in r track)
   pub missing : (r : List Operation) (track item : Moment) → AreNoted r → clip_on r track item ≡ None → without (λ (x : Clip). x.clip) item (clips_in r track) ≡ clips_in r track
+
+-- No two entries have one stamp: taking out that of a stamp is taking out the one at its index.
+pub record EntriesStandOnce (ops : List Operation) : Type 0 where
+  pub markers : (k : ℕ) (m : Marker) → slice_get (markers_in ops) k ≡ Some m → without (λ (x : Marker). x.marker) m.marker (markers_in ops) ≡ remove (markers_in ops) k
+  pub clips : (track : Moment) (k : ℕ) (c : Clip) → slice_get (clips_in ops track) k ≡ Some c → without (λ (x : Clip). x.clip) c.clip (clips_in ops track) ≡ remove (clips_in ops track) k
+  pub tracks : (k : ℕ) (t : Track) → slice_get (tracks_in ops) k ≡ Some t → without (λ (x : Track). x.track) t.track (tracks_in ops) ≡ remove (tracks_in ops) k
+  -- where there is no track of a stamp none is taken out, as of markers and clips
+  pub no_track : (item : Moment) → track_entry ops item ≡ None → without (λ (x : Track). x.track) item (tracks_in ops) ≡ tracks_in ops

@@ -3,7 +3,7 @@
 ghost use Rattle.std.specs.Prelude.{List, ◌∷◌};
 ghost use Rattle.mt_op.specs.Operation.{Operation};
 ghost use Rattle.mt_items.specs.Noting.{AreNoted};
-ghost use Rattle.mt_mending.specs.Mending.{ClipsAreFound, ClipsAreMended, EntriesAreShown, ItemsAreOfAKind, MarkersAreFound, MarkersAreMended, NotedAreTheSession, OtherTracksStay, PlacesStayInOrder, TracksAreMended};
+ghost use Rattle.mt_mending.specs.Mending.{ClipsAreFound, ClipsAreMended, EntriesAreShown, EntriesStandOnce, ItemsAreOfAKind, MarkersAreFound, MarkersAreMended, NotedAreTheSession, OtherTracksStay, PlacesStayInOrder, TracksAreMended};
 
 /// What operations show that were noted, in whatever order, is the session of every set of which they are the ready ones.
 pub fn noted_session()
@@ -55,4 +55,9 @@ pub fn found_markers()
 /// A clip is taken out of a track by its position and the stamp of its place.
 pub fn found_clips()
     ensures { ClipsAreFound }
+{}
+
+/// No two entries have one stamp, so that of a stamp is taken out at its index.
+pub fn entries_once()
+    ensures { (ops : List Operation) → AreNoted ops → EntriesStandOnce ops }
 {}

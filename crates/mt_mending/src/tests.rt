@@ -12,4 +12,5 @@ fn states_each_law(_rt: HostRuntime) {
     laws::other_tracks();
     laws::found_markers();
     laws::found_clips();
+    laws::entries_once();
 }
