@@ -9,3 +9,4 @@ pub mod Found
 pub mod Leaving
 pub mod NotedSession
 pub mod Once
+pub mod PlaceOrder

@@ -22,7 +22,7 @@ use Rattle.mt_sessionview.proofs.PlaceTree.{added_is, gives, place_need}
 use Rattle.mt_mending.proofs.Others.{any_of}
 
 -- a place of this stamp is there
-abbrev IsThere : List TreePlace → Moment → Type 0
+abbrev pub IsThere : List TreePlace → Moment → Type 0
 IsThere places p = (t : TreePlace) × IsMember t places × (t.place ≡ p)
 
 -- each place came after what it was put after, and was new
@@ -87,7 +87,7 @@ path_same t places grew p other = within_same t places grew (suc (length places)
 
 -- ---- the places that noted operations gave
 
-there_noted : (r : List Operation) (p : Moment) → IsThere (places_in r) p → is_noted r p ≡ true
+pub there_noted : (r : List Operation) (p : Moment) → IsThere (places_in r) p → is_noted r p ≡ true
 there_noted r p there =
     let from = given_by place_added r there.0 there.1 in
     let made = (gives from.item there.0 from.gives).1 in

@@ -1,18 +1,20 @@
 -- What one operation more changes in a session: the entries of its subject. Operations stand here as they were noted, the last one
 -- first, and show the session of their set in whatever order that was (NotedAreTheSession).
-use Rattle.std.specs.Prelude.{◌≡◌, ◌↔◌, ℕ, true, false, ◌&&◌, List, ◌∷◌, length, map, filter, not, slice_get, Option, Some, None, if◌then◌else◌}
+use Rattle.std.specs.Prelude.{◌≡◌, ◌↔◌, ℕ, true, false, ◌&&◌, List, ◌∷◌, length, map, filter, not, slice_get, Option, option_map, Some, None, if◌then◌else◌}
 use Rattle.std.specs.List.{remove}
 use Rattle.std.specs.List.Sorted.{IsPermutation}
+use Rattle.std.specs.Ordering.{nat_cmp}
 use Rattle.std.specs.declared.cmp.Ordering.{Ordering}
 use Rattle.mt_stamp.specs.Moment.{Moment}
-use Rattle.mt_stamp.specs.Tree.{tree_cmp}
+use Rattle.mt_stamp.specs.Sorting.{sort_by}
+use Rattle.mt_stamp.specs.Tree.{TreePlace, stamps_of, tree_cmp}
 use Rattle.mt_op.specs.declared.need.Role.TheVariants.{Marker as MarkerRole, Clip as ClipRole, Track as TrackRole}
 use Rattle.mt_op.specs.Operation.{Operation}
 use Rattle.mt_op.specs.Needs.{need_of}
 use Rattle.mt_op.specs.Presence.{is_present}
 use Rattle.mt_items.specs.Noting.{AreNoted, is_noted, is_need_met, subject}
 use Rattle.mt_sessionview.specs.Content.{Clip, Track, Marker, Content, clip_cmp, marker_cmp}
-use Rattle.mt_sessionview.specs.Session.{ready_ops, held_ops, session_of}
+use Rattle.mt_sessionview.specs.Session.{ready_ops, held_ops, place_added, session_of}
 use Rattle.mt_sessionview.specs.Noted.{markers_in, clips_in, tracks_in, places_in, track_place_in}
 use Rattle.mt_sessionview.specs.Read.{marker_read, clip_on, track_where}
 use Rattle.mt_sessionview.specs.Changing.{put, without, is_marker_at, is_clip_at}
@@ -68,6 +70,18 @@ session_in ops held = record { tracks = tracks_in ops; markers = markers_in ops;
 abbrev pub NotedAreTheSession : Type 0
 NotedAreTheSession = (s ops : List Operation) → AreNoted ops → IsPermutation ops (ready_ops s) → session_of s ≡ session_in ops (length (held_ops s))
 
+-- the places of tracks in the order of their tree, and the one that an operation adds
+abbrev pub places_in_order : List Operation → List Moment
+places_in_order ops = sort_by (tree_cmp (places_in ops)) (stamps_of (places_in ops))
+
+abbrev pub place_of : Operation → Option Moment
+place_of o = option_map (λ (t : TreePlace). t.place) (place_added o)
+
+-- Tracks are in the order in which their places stand there.
+abbrev pub IndexesTellTheOrder : Type 0
+IndexesTellTheOrder = (ops : List Operation) (a b : Track) (i j : ℕ) → AreNoted ops → slice_get (places_in_order ops) i ≡ Some (track_place_in ops a.track) → slice_get (places_in_order ops) j ≡ Some (track_place_in ops b.track)
+    → track_order ops a b ≡ nat_cmp i j
+
 -- ---- one operation more
 
 -- One operation more changes among the markers that of its item alone.
@@ -85,6 +99,10 @@ TracksAreMended = (o : Operation) (r : List Operation) → AreNoted (o ∷ r) �
 -- Whatever place it adds, the places of those before stay in their order.
 abbrev pub PlacesStayInOrder : Type 0
 PlacesStayInOrder = (o : Operation) (r : List Operation) (a b : Moment) → AreNoted (o ∷ r) → is_noted r a ≡ true → is_noted r b ≡ true → tree_cmp (places_in (o ∷ r)) a b ≡ tree_cmp (places_in r) a b
+
+-- So the places in their order are those before, and the one that it adds put in.
+abbrev pub PlacesAreMended : Type 0
+PlacesAreMended = (o : Operation) (r : List Operation) → AreNoted (o ∷ r) → places_in_order (o ∷ r) ≡ put (tree_cmp (places_in (o ∷ r))) (place_of o) (places_in_order r)
 
 -- What its item is tells what need not be looked at. An item that is no marker leaves the markers; one that is no clip leaves the clips
 -- of every track, and so all tracks but itself; and one that is no track changes the clips of tracks alone.

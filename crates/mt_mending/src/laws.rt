@@ -3,7 +3,7 @@
 ghost use Rattle.std.specs.Prelude.{List, ◌∷◌};
 ghost use Rattle.mt_op.specs.Operation.{Operation};
 ghost use Rattle.mt_items.specs.Noting.{AreNoted};
-ghost use Rattle.mt_mending.specs.Mending.{ClipsAreFound, ClipsAreMended, EntriesAreShown, EntriesStandOnce, ItemsAreOfAKind, MarkersAreFound, MarkersAreMended, NotedAreTheSession, OtherTracksStay, PlacesStayInOrder, TracksAreMended};
+ghost use Rattle.mt_mending.specs.Mending.{ClipsAreFound, ClipsAreMended, EntriesAreShown, EntriesStandOnce, IndexesTellTheOrder, ItemsAreOfAKind, MarkersAreFound, MarkersAreMended, NotedAreTheSession, OtherTracksStay, PlacesAreMended, PlacesStayInOrder, TracksAreMended};
 
 /// What operations show that were noted, in whatever order, is the session of every set of which they are the ready ones.
 pub fn noted_session()
@@ -31,8 +31,18 @@ pub fn mended_tracks()
     ensures { TracksAreMended }
 {}
 
+/// Tracks are in the order in which their places stand among all places in order.
+pub fn order_by_index()
+    ensures { IndexesTellTheOrder }
+{}
+
+/// One more operation puts its place, if it adds one, among the places in order, and moves none.
+pub fn mended_places()
+    ensures { PlacesAreMended }
+{}
+
 /// The places of tracks that were given before an operation stay in their order, whatever place it adds.
-pub fn places_in_order()
+pub fn places_stay()
     ensures { PlacesStayInOrder }
 {}
 

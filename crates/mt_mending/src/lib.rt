@@ -16,12 +16,13 @@
 //! marker with a greater stamp before, the entry now would be the entry before, put back where it was.
 //!
 //! - [`laws::mended_markers`], [`laws::mended_clips`] and [`laws::mended_tracks`] say this of the three lists, and [`laws::shown_entries`] what an
-//!   entry is. A clip that moves is the entry of two tracks. A track that returns brings its clips.
+//!   entry is. A clip that moves leaves one track and comes to another. A track that returns brings its clips.
 //! - [`laws::found_markers`] and [`laws::found_clips`] say how the entry to take out is found: by its position, and by its stamp or that of its
-//!   place, which is how the lists are in order. [`laws::entries_once`] says that it is taken out by its index.
+//!   place, which is how the lists are in order. [`laws::entries_once`] says that it is taken out at its index.
+//! - [`laws::order_by_index`] tells the order of tracks by where their places stand among all places in order, which [`laws::mended_places`] keeps, and
+//!   [`laws::places_stay`] that no place that is added moves another.
 //! - [`laws::kinds_apart`] and [`laws::other_tracks`] say what need not be looked at. A marker's operation leaves all tracks, and one of a clip
 //!   leaves all but the two tracks that it was and is on.
-//! - [`laws::places_in_order`] says that no place that is added moves another, so the tracks that stay are in order.
 //! - [`laws::noted_session`] says that all this is of the session of the set.
 //!
 //! Operations are noted after what they need, in any order else.

@@ -7,7 +7,9 @@ fn states_each_law(_rt: HostRuntime) {
     laws::mended_markers();
     laws::mended_clips();
     laws::mended_tracks();
-    laws::places_in_order();
+    laws::places_stay();
+    laws::mended_places();
+    laws::order_by_index();
     laws::kinds_apart();
     laws::other_tracks();
     laws::found_markers();
