@@ -79,8 +79,8 @@ place_of o = option_map (λ (t : TreePlace). t.place) (place_added o)
 
 -- Tracks are in the order in which their places stand there.
 abbrev pub IndexesTellTheOrder : Type 0
-IndexesTellTheOrder = (ops : List Operation) (a b : Track) (i j : ℕ) → AreNoted ops → slice_get (places_in_order ops) i ≡ Some (track_place_in ops a.track) → slice_get (places_in_order ops) j ≡ Some (track_place_in ops b.track)
-    → track_order ops a b ≡ nat_cmp i j
+IndexesTellTheOrder = (ops : List Operation) (a b : Track) (i j : ℕ) → AreNoted ops → slice_get (places_in_order ops) i ≡ Some (track_place_in ops a.track)
+    → slice_get (places_in_order ops) j ≡ Some (track_place_in ops b.track) → track_order ops a b ≡ nat_cmp i j
 
 -- ---- one operation more
 
@@ -98,7 +98,8 @@ TracksAreMended = (o : Operation) (r : List Operation) → AreNoted (o ∷ r) �
 
 -- Whatever place it adds, the places of those before stay in their order.
 abbrev pub PlacesStayInOrder : Type 0
-PlacesStayInOrder = (o : Operation) (r : List Operation) (a b : Moment) → AreNoted (o ∷ r) → is_noted r a ≡ true → is_noted r b ≡ true → tree_cmp (places_in (o ∷ r)) a b ≡ tree_cmp (places_in r) a b
+PlacesStayInOrder = (o : Operation) (r : List Operation) (a b : Moment) → AreNoted (o ∷ r) → is_noted r a ≡ true → is_noted r b ≡ true
+    → tree_cmp (places_in (o ∷ r)) a b ≡ tree_cmp (places_in r) a b
 
 -- So the places in their order are those before, and the one that it adds put in.
 abbrev pub PlacesAreMended : Type 0

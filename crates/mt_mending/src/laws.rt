@@ -3,7 +3,8 @@
 ghost use Rattle.std.specs.Prelude.{List, ◌∷◌};
 ghost use Rattle.mt_op.specs.Operation.{Operation};
 ghost use Rattle.mt_items.specs.Noting.{AreNoted};
-ghost use Rattle.mt_mending.specs.Mending.{ClipsAreFound, ClipsAreMended, EntriesAreShown, EntriesStandOnce, IndexesTellTheOrder, ItemsAreOfAKind, MarkersAreFound, MarkersAreMended, NotedAreTheSession, OtherTracksStay, PlacesAreMended, PlacesStayInOrder, TracksAreMended};
+ghost use Rattle.mt_mending.specs.Mending.{ClipsAreFound, EntriesAreShown, EntriesStandOnce, MarkersAreFound, NotedAreTheSession};
+ghost use Rattle.mt_mending.specs.Mending.{ClipsAreMended, IndexesTellTheOrder, ItemsAreOfAKind, MarkersAreMended, OtherTracksStay, PlacesAreMended, PlacesStayInOrder, TracksAreMended};
 
 /// What operations show that were noted, in whatever order, is the session of every set of which they are the ready ones.
 pub fn noted_session()
