@@ -91,7 +91,7 @@ module _ (r : List Operation) (one : (a b : Operation) → IsMember a r → IsMe
       by (AddMarker at title) is added = given_last r one title_written o title m (ap (title_written o.stamp) is)
       by _ is added = cc added
 
-  marker_reads : (o : Operation) → IsMember o r → fits MarkerRole o ≡ true → marker_read r o.stamp ≡ cond (is_shown_in r adds_marker o) (Some (marker_in r o)) None
+  pub marker_reads : (o : Operation) → IsMember o r → fits MarkerRole o ≡ true → marker_read r o.stamp ≡ cond (is_shown_in r adds_marker o) (Some (marker_in r o)) None
   marker_reads o m adds =
       let title = marker_title o m adds in
       let is : marker_from r o.stamp (last_write title_written o.stamp r) ≡ Some (marker_in r o) =
@@ -99,7 +99,7 @@ module _ (r : List Operation) (one : (a b : Operation) → IsMember a r → IsMe
       ∙ (λ i. Some (record { marker = o.stamp; at = unwrap_or (value_in r position_written o.stamp) 0; title = unwrap_or (option_map (λ (w : Written (List ℕ)). w.value) (sym title.is i)) [] })) in
       ap (λ (v : Option Marker). cond (is_present r o.stamp) v None) is ∙ ap (λ (b : Bool). cond (b && is_present r o.stamp) (Some (marker_in r o)) None) (sym adds)
 
-  unshown : (adds : Act → Bool) (o : Operation) → adds o.act ≡ false → is_shown_in r adds o ≡ false
+  pub unshown : (adds : Act → Bool) (o : Operation) → adds o.act ≡ false → is_shown_in r adds o ≡ false
   unshown adds o none = ap (λ (b : Bool). b && is_present r o.stamp) none
 
   pub markers_sorted : (made sorted : List Marker) → made ≡ filter_map (marker_read r) (items_of MarkerRole r) → IsPermutation made sorted → IsSorted marker_cmp sorted → sorted ≡ markers_in r
@@ -138,7 +138,7 @@ module _ (r : List Operation) (one : (a b : Operation) → IsMember a r → IsMe
   abbrev found_in : List Operation → Operation → OnTrack
   found_in ops o = record { track = (clip_place_in ops o.stamp).value.0; clip = clip_in ops o }
 
-  clip_reads : (track : Moment) (o : Operation) → IsMember o r → fits ClipRole o ≡ true → clip_on r track o.stamp ≡ cond (is_clip_on_in r track o) (Some (clip_in r o)) None
+  pub clip_reads : (track : Moment) (o : Operation) → IsMember o r → fits ClipRole o ≡ true → clip_on r track o.stamp ≡ cond (is_clip_on_in r track o) (Some (clip_in r o)) None
   clip_reads track o m adds =
       ap (λ (v : Option OnTrack). if_on r track (cond (is_present r o.stamp) v None)) is ∙ by (is_present r o.stamp)
       ∙ ap (λ (b : Bool). cond ((b && is_present r o.stamp) && stamp_eq (clip_place_in r o.stamp).value.0 track) (Some (clip_in r o)) None) (sym adds)
@@ -173,7 +173,7 @@ module _ (r : List Operation) (one : (a b : Operation) → IsMember a r → IsMe
       by true = refl
       by false = refl
 
-  off_track : (track : Moment) (o : Operation) → fits ClipRole o ≡ false → is_clip_on_in r track o ≡ false
+  pub off_track : (track : Moment) (o : Operation) → fits ClipRole o ≡ false → is_clip_on_in r track o ≡ false
   off_track track o none = ap (λ (b : Bool). b && stamp_eq (clip_place_in r o.stamp).value.0 track) (unshown adds_clip o none)
 
   pub clips_sorted : (track : Moment) (made sorted : List Clip) → made ≡ filter_map (clip_on r track) (items_of ClipRole r) → IsPermutation made sorted → IsSorted clip_cmp sorted → sorted ≡ clips_in r track

@@ -174,7 +174,7 @@ module _ (r : List Operation) (noted : AreNoted r) where
       by (AddTrack after title) is added = given_last r one title_written o title m (ap (title_written o.stamp) is)
       by _ is added = cc added
 
-  track_is : (o : Operation) → IsMember o in_order → track_where r (Some o.stamp) ≡ Some (track_in r o)
+  pub track_is : (o : Operation) → IsMember o in_order → track_where r (Some o.stamp) ≡ Some (track_in r o)
   track_is o m =
       let track = is_track o (member_unsorted (track_cmp_in r) (track_cmp_total r) o shown m) in
       let title = title_of o track.0 (and_first _ _ track.1) in

@@ -1,0 +1,12 @@
+pub mod Kept
+pub mod OneMore
+pub mod Others
+pub mod Places
+pub mod Items
+pub mod Tracks
+pub mod Entries
+pub mod Found
+pub mod Leaving
+pub mod NotedSession
+pub mod Once
+pub mod PlaceOrder

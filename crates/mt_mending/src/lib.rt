@@ -1,0 +1,33 @@
+//! What one operation more changes in a session: the laws by which an editor keeps its session, entry by entry, instead of making
+//! it anew.
+//!
+//! An operation adds an item or names one, its *subject*, whatever its body. Where it is noted after others, the session that they
+//! show changes at this one item: among the markers, among the clips of each track and among the tracks, the entry of the subject is
+//! taken out, and the one that it has now, if any, is put in its place in order. All other entries stay what and where they are.
+//!
+//! ```text
+//! markers before           480 "News", 1.a.1    960 "Weather", 2.a.2
+//! noted, 5.b.1             MoveMarker 1.a.1 to 1200
+//! the entry of 1.a.1       before: at 480       now: at 1200
+//! taken out and put in     960 "Weather", 2.a.2    1200 "News", 1.a.1
+//! ```
+//!
+//! Had it been a Remove of all tags of 1.a.1, the subject would have no entry now, and nothing would be put in. Had another replica moved the
+//! marker with a greater stamp before, the entry now would be the entry before, put back where it was.
+//!
+//! - [`laws::mended_markers`], [`laws::mended_clips`] and [`laws::mended_tracks`] say this of the three lists, and [`laws::shown_entries`] what an
+//!   entry is. A clip that moves leaves one track and comes to another. A track that returns brings its clips.
+//! - [`laws::found_markers`] and [`laws::found_clips`] say how the entry to take out is found: by its position, and by its stamp or that of its
+//!   place, which is how the lists are in order. [`laws::entries_once`] says that it is taken out at its index.
+//! - [`laws::order_by_index`] tells the order of tracks by where their places stand among all places in order, which [`laws::mended_places`] keeps, and
+//!   [`laws::places_stay`] that no place that is added moves another.
+//! - [`laws::kinds_apart`] and [`laws::other_tracks`] say what need not be looked at. A marker's operation leaves all tracks, and one of a clip
+//!   leaves all but the two tracks that it was and is on.
+//! - [`laws::noted_session`] says that all this is of the session of the set.
+//!
+//! Operations are noted after what they need, in any order else.
+#![tactic(auto)]
+
+pub mod laws;
+#[cfg(test)]
+mod tests;
