@@ -1,6 +1,6 @@
 -- Markers and clips beside a position and a stamp.
-use Rattle.std.proofs.Common.{◌≡◌, ◌≢◌, ℕ, Bool, true, false, ◌&&◌, ◌==◌, List, [], ◌∷◌, eq-eqb, refl, sym, ap, ◌∙◌, subst, true≢false}
-use Rattle.std.specs.Prelude.{insert, remove}
+use Rattle.std.proofs.Common.{◌≡◌, ◌≢◌, ℕ, Bool, true, false, not, Some, ◌&&◌, ◌==◌, List, [], ◌∷◌, eq-eqb, refl, sym, ap, ◌∙◌, subst, true≢false}
+use Rattle.std.specs.Prelude.{insert, remove, filter, find, slice_get, slice_set}
 use Rattle.std.specs.List.{AllByRecursion, list_any}
 use Rattle.std.specs.Cmp.{tied_itself}
 use Rattle.std.specs.FinMap.{nat_cmp-IsAntisymmetric}
@@ -18,14 +18,15 @@ use Rattle.mt_op.specs.Gain.{unchanged}
 use Rattle.mt_sessionview.specs.Content.{Clip, Track, Marker, clip_cmp, marker_cmp, AreClips}
 use Rattle.mt_sessionview.specs.Changing.{is_marker_at, is_clip_at, is_placed_by, is_track_of, marker_beside, clip_beside, IsPlace, StandsAt}
 use Rattle.mt_sessionview.proofs.Orders.{marker_cmp_total, clip_cmp_total, tied_second}
-use Rattle.mt_sessionview.proofs.Placing.{Tells, none_passes, ties_with_none, goes_in, rises_without, differ_without}
+use Rattle.mt_sessionview.proofs.Placing.{Tells, none_passes, ties_with_none, goes_in, rises_without, differ_without, rewritten, rises_rewritten, found_passes}
+use Rattle.mt_sessionview.proofs.Retold.{differ_set}
 
 tied_first : (a b : Ordering) → ordering_then a b ≡ Equal → a ≡ Equal
 tied_first Less b tied = tied
 tied_first Equal b tied = refl
 tied_first Greater b tied = cc
 
-same_both : (a at : ℕ) (s stamp : Moment) → a ≡ at → s ≡ stamp → ((a == at) && stamp_eq stamp s) ≡ true
+pub same_both : (a at : ℕ) (s stamp : Moment) → a ≡ at → s ≡ stamp → ((a == at) && stamp_eq stamp s) ≡ true
 same_both a at s stamp e f = ap (λ b. b && stamp_eq stamp s) (eq-eqb a at e) ∙ ap (stamp_eq stamp) f ∙ stamp_eq-itself stamp
 
 less_is : (o : Ordering) → is_lt o ≡ true → o ≡ Less
@@ -128,3 +129,18 @@ AreClips-taken p cs items left place clips same stands is = record {
   rise = rises_without clip_cmp p cs items left place clips.rise same stands is;
   apart = subst (DifferBy (λ (c : Clip). c.place)) (sym is) (differ_without (λ (c : Clip). c.place) cs place clips.apart);
 }
+
+-- a clip in the place of the one that begins where it does
+pub clip_rewritten : (c : Clip) (cs items : List Clip) (place : ℕ) (old : Clip) → AreClips cs → items ≡ cs → StandsAt (is_clip_at c.at c.place) items place → slice_get cs place ≡ Some old → slice_set cs place c ≡ insert_by clip_cmp c (filter (λ d. not (is_clip_at c.at c.place d)) cs)
+clip_rewritten c cs items place old clips same stands at =
+    rewritten clip_cmp clip_cmp_total (clip_beside c.at c.place) (is_clip_at c.at c.place) (clips_tell c.at c.place) c (λ y. refl) cs items place old clips.rise same stands at
+
+pub AreClips-rewritten : (c : Clip) (cs items : List Clip) (place : ℕ) (old : Clip) → AreClips cs → items ≡ cs → StandsAt (is_clip_at c.at c.place) items place → slice_get cs place ≡ Some old → AreClips (slice_set cs place c)
+AreClips-rewritten c cs items place old clips same stands at =
+    let found : find (is_clip_at c.at c.place) cs ≡ Some old = ap (find (is_clip_at c.at c.place)) (sym same) ∙ stands.there ∙ ap (λ (l : List Clip). slice_get l place) same ∙ at in
+    let passes : is_clip_at c.at c.place old ≡ true = found_passes (is_clip_at c.at c.place) cs old found in
+    let here : c.place ≡ old.place = stamp_eq-true c.place old.place (and_second (old.at == c.at) (stamp_eq c.place old.place) passes) in
+    record {
+      rise = subst (RisesStrictly clip_cmp) (sym (clip_rewritten c cs items place old clips same stands at)) (rises_rewritten clip_cmp clip_cmp_total (clip_beside c.at c.place) (is_clip_at c.at c.place) (clips_tell c.at c.place) c (λ y. refl) cs clips.rise);
+      apart = differ_set (λ (d : Clip). d.place) cs place old c at here clips.apart;
+    }

@@ -9,7 +9,7 @@ use Rattle.std.specs.declared.cmp.Ordering.{Ordering}
 use Rattle.std.specs.declared.cmp.Ordering.TheVariants.{Less, Equal, Greater}
 use Rattle.mt_stamp.specs.Sorting.{insert_by, RisesStrictly, DifferBy}
 use Rattle.std.proofs.lemmas.Option.{same_Some}
-use Rattle.mt_stamp.proofs.Members.{member_at}
+use Rattle.mt_stamp.proofs.Members.{member_at, strict_insert}
 use Rattle.mt_sessionview.specs.Changing.{IsPlace, StandsAt, IsNowhere, changed_at}
 use Rattle.mt_sessionview.proofs.Lists.{member_all, rises_kept}
 
@@ -159,6 +159,64 @@ module _ {X : Type 0} (cmp : X → X → Ordering) (beside : X → Ordering) (p 
     λ e. true≢false (sym (tells.passes y (sym (same y) ∙ order.antisymm y x ∙ ap ordering_reverse e)) ∙ none.0),
     ties_with_none order x same xs none.1,
   )
+
+  -- an entry that ties with one goes in its place
+  pub set_is : IsTotalOrder cmp → (x old : X) (xs : List X) (place : ℕ) → RisesStrictly cmp xs → slice_get xs place ≡ Some old → cmp old x ≡ Equal → slice_set xs place x ≡ insert_by cmp x (remove xs place)
+  set_is order x old [] place rise at tied = absurd cc
+  set_is order x old (y ∷ xs) zero rise at tied = first xs rise.0
+    where
+      first : (zs : List X) → AllByRecursion (λ z. cmp y z ≡ Less) zs → x ∷ zs ≡ insert_by cmp x zs
+      first [] all = refl
+      first (z ∷ zs) all =
+          let less : cmp x z ≡ Less = sym (order.congr old x z tied) ∙ ap (λ w. cmp w z) (sym (same_Some y old at)) ∙ all.0 in
+          sym (ap (λ o. match_ordering o (x ∷ z ∷ zs) (x ∷ z ∷ zs) (z ∷ insert_by cmp x zs)) less)
+  set_is order x old (y ∷ xs) (suc place) rise at tied =
+      let less : cmp y old ≡ Less = member_all (λ z. cmp y z ≡ Less) xs old rise.0 (member_at xs place old at) in
+      let turned : cmp x y ≡ cmp old y = sym (order.congr old x y tied) in
+      let greater : cmp x y ≡ Greater = turned ∙ order.antisymm old y ∙ ap ordering_reverse less in
+      ap (λ l. y ∷ l) (set_is order x old xs place rise.1 at tied)
+      ∙ sym (ap (λ o. match_ordering o (x ∷ y ∷ remove xs place) (x ∷ y ∷ remove xs place) (y ∷ insert_by cmp x (remove xs place))) greater)
+
+none_left : {X : Type 0} (p : X → Bool) (xs : List X) → AllByRecursion (λ x. p x ≡ false) (filter (λ x. not (p x)) xs)
+none_left p [] = tt
+none_left {X} p (x ∷ xs) = by (p x) refl (none_left p xs)
+  where
+    by : (b : Bool) → p x ≡ b → AllByRecursion (λ y. p y ≡ false) (filter (λ y. not (p y)) xs) → AllByRecursion (λ y. p y ≡ false) (cond (not b) (x ∷ filter (λ y. not (p y)) xs) (filter (λ y. not (p y)) xs))
+    by true is rest = rest
+    by false is rest = (is, rest)
+
+pub found_passes : {X : Type 0} (p : X → Bool) (xs : List X) (y : X) → find p xs ≡ Some y → p y ≡ true
+found_passes p [] y is = absurd cc
+found_passes {X} p (x ∷ xs) y is = by (p x) refl is (found_passes p xs y)
+  where
+    by : (b : Bool) → p x ≡ b → cond b (Some x) (find p xs) ≡ Some y → (find p xs ≡ Some y → p y ≡ true) → p y ≡ true
+    by true here found rest = ap p (sym (same_Some x y found)) ∙ here
+    by false here found rest = rest found
+
+-- one that passes is found
+pub is_somewhere : {X : Type 0} (p : X → Bool) (xs items : List X) → list_any p xs ≡ true → items ≡ xs → IsNowhere p items → ⊥
+is_somewhere {X} p xs items any same nowhere = none xs any (ap (find p) (sym same) ∙ nowhere.none)
+  where
+    none : (ys : List X) → list_any p ys ≡ true → find p ys ≡ None → ⊥
+    none [] any found = true≢false (sym any)
+    none (y ∷ ys) any found = by (p y) any found (none ys)
+      where
+        by : (b : Bool) → (b || list_any p ys) ≡ true → cond b (Some y) (find p ys) ≡ None → (list_any p ys ≡ true → find p ys ≡ None → ⊥) → ⊥
+        by true h e rest = cc
+        by false h e rest = rest h e
+
+-- an entry in the place of the one that passes is put where that was
+module _ {X : Type 0} (cmp : X → X → Ordering) (order : IsTotalOrder cmp) (beside : X → Ordering) (p : X → Bool) (tells : Tells cmp beside p) (x : X) (same : (y : X) → cmp y x ≡ beside y) where
+  pub rewritten : (xs items : List X) (place : ℕ) (old : X) → RisesStrictly cmp xs → items ≡ xs → StandsAt p items place → slice_get xs place ≡ Some old → slice_set xs place x ≡ insert_by cmp x (filter (λ y. not (p y)) xs)
+  rewritten xs items place old rise is stands at =
+      let found : find p xs ≡ Some old = ap (find p) (sym is) ∙ stands.there ∙ ap (λ (l : List X). slice_get l place) is ∙ at in
+      let tied : cmp old x ≡ Equal = same old ∙ tells.tied old (found_passes p xs old found) in
+      let rest : remove xs place ≡ filter (λ y. not (p y)) xs = ap (λ (l : List X). remove l place) (sym is) ∙ sym stands.rest ∙ ap (filter (λ y. not (p y))) is in
+      set_is cmp beside p tells order x old xs place rise at tied ∙ ap (insert_by cmp x) rest
+
+  pub rises_rewritten : (xs : List X) → RisesStrictly cmp xs → RisesStrictly cmp (insert_by cmp x (filter (λ y. not (p y)) xs))
+  rises_rewritten xs rise =
+      strict_insert cmp order x (filter (λ y. not (p y)) xs) (ties_with_none cmp beside p tells order x same (filter (λ y. not (p y)) xs) (none_left p xs)) (rises_kept cmp (λ y. not (p y)) xs rise)
 
 -- what is left where one is taken out still rises
 pub rises_without : {X : Type 0} (cmp : X → X → Ordering) (p : X → Bool) (xs items left : List X) (place : ℕ) → RisesStrictly cmp xs → items ≡ xs → StandsAt p items place → left ≡ remove xs place → RisesStrictly cmp left

@@ -1,6 +1,6 @@
 -- A session of which one track is changed.
-use Rattle.std.proofs.Common.{◌≡◌, ◌≢◌, ℕ, zero, suc, List, [], ◌∷◌, Some, Result, Ok, Err, refl, sym, ap, ◌∙◌, subst}
-use Rattle.std.specs.Prelude.{slice_get, slice_set, OnOk, OnErr}
+use Rattle.std.proofs.Common.{◌≡◌, ◌≢◌, ℕ, zero, suc, ◌<◌, List, length, arith, [], ◌∷◌, Some, Result, Ok, Err, refl, sym, ap, ◌∙◌, subst}
+use Rattle.std.specs.Prelude.{slice_get, slice_set, insert, remove, OnOk, OnErr}
 use Rattle.std.specs.List.{AllByRecursion}
 use Rattle.std.proofs.lemmas.Option.{same_Some}
 use Rattle.mt_stamp.specs.Sorting.{DifferBy}
@@ -8,7 +8,7 @@ use Rattle.mt_stamp.proofs.Members.{member_at}
 use Rattle.mt_sessionview.specs.Content.{Content, IsContent, Track}
 use Rattle.mt_sessionview.specs.Changing.{changed_at}
 use Rattle.mt_sessionview.proofs.Lists.{member_all}
-use Rattle.mt_sessionview.proofs.Placing.{changed_is}
+use Rattle.mt_sessionview.proofs.Placing.{changed_is, differ_with, differ_without}
 
 -- a list with what stands at an index put there again
 set_same : {X : Type 0} (xs : List X) (index : ℕ) (x y : X) → slice_get xs index ≡ Some x → y ≡ x → slice_set xs index y ≡ xs
@@ -54,3 +54,32 @@ content_kept a b index t u same at is =
 pub stamp_kept : {T E : Type 0} (r : Result T E) (t u : Track) (f : Track → Track) → (f t).track ≡ t.track → OnOk r (u ≡ f t) → OnErr r (u ≡ t) → u.track ≡ t.track
 stamp_kept (Ok v) t u f same ok err = ap (λ (w : Track). w.track) ok ∙ same
 stamp_kept (Err e) t u f same ok err = ap (λ (w : Track). w.track) err
+
+-- ---- a track that is moved
+
+-- what stands at an index
+pub record IsAt {X : Type 0} (xs : List X) (index : ℕ) : Type 0 where
+  pub item : X
+  pub at : slice_get xs index ≡ Some item
+
+is_at : {X : Type 0} (xs : List X) (index : ℕ) → index < length xs → IsAt xs index
+is_at [] index inside = absurd (omega (arith, inside))
+is_at (x ∷ xs) zero inside = record { item = x; at = refl }
+is_at (x ∷ xs) (suc index) inside = let i = is_at xs index (omega (arith, inside)) in record { item = i.item; at = i.at }
+
+apart_rest : {X Y : Type 0} (key : X → Y) (xs : List X) (index : ℕ) (x : X) → slice_get xs index ≡ Some x → DifferBy key xs → AllByRecursion (λ y. key x ≢ key y) (remove xs index)
+apart_rest key [] index x at d = absurd cc
+apart_rest {X} key (z ∷ xs) zero x at d = each xs d.0
+  where
+    each : (ys : List X) → AllByRecursion (λ y. key z ≢ key y) ys → AllByRecursion (λ y. key x ≢ key y) ys
+    each [] apart = tt
+    each (y ∷ ys) apart = (λ e. apart.0 (ap key (same_Some z x at) ∙ e), each ys apart.1)
+apart_rest key (z ∷ xs) (suc index) x at d = (
+  λ e. member_all (λ y. key z ≢ key y) xs x d.0 (member_at xs index x at) (sym e),
+  apart_rest key xs index x at d.1,
+)
+
+pub differ_moved : {X Y : Type 0} (key : X → Y) (xs moved : List X) (from to : ℕ) → from < length xs → ((x : X) → slice_get xs from ≡ Some x → moved ≡ insert (remove xs from) to x) → DifferBy key xs → DifferBy key moved
+differ_moved key xs moved from to inside is d =
+    let i = is_at xs from inside in
+    subst (DifferBy key) (sym (is i.item i.at)) (differ_with key (remove xs from) to i.item (apart_rest key xs from i.item i.at d) (differ_without key xs from d))

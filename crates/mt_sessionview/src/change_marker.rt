@@ -1,6 +1,6 @@
 //! One marker of a session, put in or taken out.
 
-ghost use Rattle.std.specs.Prelude.{◌≡◌, false, IfErr, IfNone, IfSome, OnErr, OnOk, find, filter, not};
+ghost use Rattle.std.specs.Prelude.{◌≡◌, true, false, IfErr, IfNone, IfSome, OnErr, OnOk, find, filter, not};
 ghost use Rattle.std.specs.List.{list_any};
 ghost use Rattle.mt_stamp.specs.Sorting.{RisesStrictly, insert_by};
 ghost use Rattle.mt_sessionview.specs.Content.{marker_cmp};
@@ -66,5 +66,18 @@ impl<A: Allocator> Session<A> {
     {
         let index = marker_index(self.markers.items(), at, marker)?;
         Some(self.markers.remove(index))
+    }
+
+    /// Puts a marker in the place of the one that stands at its position, in frames, under its stamp, as a new title asks.
+    /// One has to stand there. Finding it takes as many comparisons as the logarithm of how many markers there are. Takes no
+    /// memory.
+    pub fn set_marker(&mut self, marker: MarkerView<A>)
+        requires { list_any (is_marker_at marker.at marker.marker) self.old.markers ≡ true }
+        ensures { self.new ≡ record self.old { markers = insert_by marker_cmp marker (filter (λ m. not (is_marker_at marker.at marker.marker m)) self.old.markers) } }
+    {
+        let Some(index) = marker_index(self.markers.items(), marker.at, marker.marker) else {
+            return;
+        };
+        *self.markers.item_mut(index) = marker;
     }
 }

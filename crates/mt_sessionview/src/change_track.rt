@@ -2,6 +2,7 @@
 
 ghost use Rattle.std.specs.Prelude.{◌≡◌, ◌<◌, ◌≤◌, false, length, slice_get, Some, IfErr, OnErr, OnOk, insert, remove, position};
 ghost use Rattle.std.specs.List.{list_any};
+ghost use Rattle.mt_sessionview.specs.Content.{Track};
 ghost use Rattle.mt_sessionview.specs.Changing.{changed_at, is_track_of, with_fields};
 
 use crate::fault::SessionFault;
@@ -43,6 +44,16 @@ impl<A: Allocator> Session<A> {
         ensures rest { self.new ≡ record self.old { tracks = remove self.old.tracks index } }
     {
         self.tracks.remove(index)
+    }
+
+    /// Moves the track at an index, counted from 0, to another: it is taken out with its clips, and then put in before what
+    /// stands there. What lies between moves. Takes no memory.
+    pub fn move_track(&mut self, from: usize, to: usize)
+        requires from { from < length self.old.tracks }
+        requires to { to < length self.old.tracks }
+        ensures { (t : Track) → slice_get self.old.tracks from ≡ Some t → self.new ≡ record self.old { tracks = insert (remove self.old.tracks from) to t } }
+    {
+        self.tracks.move_item(from, to);
     }
 
     /// Gives the track at an index, counted from 0, this title, gain and mute. Its stamp and its clips stay. Takes no memory.

@@ -75,6 +75,18 @@ impl<T, A: Allocator> List<T, A> {
     }
 }
 
+impl<T: Drop, A: Allocator> List<T, A> {
+    /// Moves the item at an index to another: it is taken out, and then put in. Moves what lies between. Takes no memory.
+    pub fn move_item(&mut self, from: usize, to: usize)
+        requires from { from < length self.old }
+        requires to { to < length self.old }
+        ensures { (item : T) → slice_get self.old from ≡ Some item → self.new ≡ insert (remove self.old from) to item }
+    {
+        let item = self.items.remove(from);
+        let _room = self.items.insert(to, item);
+    }
+}
+
 impl<T: Copy, A: Allocator + Clone> Clone for List<T, A> {
     ghost is_clone = { λ list copy. copy ≡ list };
 
