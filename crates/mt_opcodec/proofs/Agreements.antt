@@ -1,14 +1,13 @@
 -- Logs that are joined from left to right agree exactly where every two of them do.
-use Rattle.std.proofs.Common.{◌≡◌, Bool, cond, List, [], ◌∷◌, Option, Some, None, refl, sym, ap, subst, ◌∙◌}
+use Rattle.std.proofs.Common.{◌≡◌, cond, List, [], ◌∷◌, Option, Some, None, refl, sym, subst, ◌∙◌}
 use Rattle.std.specs.Prelude.{is_some}
 use Rattle.std.specs.List.{AllByRecursion}
 use Rattle.std.specs.FinMap as fin
-use Rattle.std.proofs.lemmas.Option.{same_Some, none-some}
-use Rattle.mt_stamp.specs.declared.name.Dot.{Dot}
+use Rattle.std.proofs.lemmas.Option.{none-some}
 use Rattle.mt_stamp.specs.Moment.{dot_cmp}
 use Rattle.mt_op.specs.Operation.{Operation}
 use Rattle.mt_opcodec.specs.LogValue.{LogMap}
-use Rattle.mt_opcodec.specs.Union.{Agree, union, AgreeFrom, AllAgree}
+use Rattle.mt_opcodec.specs.Union.{Agree, union, AgreeFrom}
 use Rattle.mt_opcodec.specs.Laws.{PairsAgree, AgreePairwise, AgreeGrouped}
 use Rattle.mt_opcodec.proofs.Union.{get-union}
 

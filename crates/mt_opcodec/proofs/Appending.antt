@@ -1,10 +1,10 @@
 -- The operations of two runs of which one ends before the other begins.
-use Rattle.std.proofs.Common.{◌≡◌, ℕ, zero, suc, ◌-◌, ◌<◌, true, List, [], ◌∷◌, ◌++◌, Option, Some, None, map, length, refl, sym, ap, ◌∙◌, subst, arith, inl, inr}
+use Rattle.std.proofs.Common.{◌≡◌, ℕ, zero, suc, ◌-◌, true, List, [], ◌∷◌, ◌++◌, Option, Some, map, length, refl, sym, ap, ◌∙◌, subst, arith, inl, inr}
 use Rattle.std.specs.Prelude.{slice_get}
 use Rattle.std.specs.List.{AllByRecursion}
 use Rattle.std.specs.FinMap as fin
 use Rattle.std.specs.FinMap.Entries.{below_all}
-use Rattle.std.specs.Ordering.{is_lt, ordering_reverse}
+use Rattle.std.specs.Ordering.{ordering_reverse}
 use Rattle.std.specs.declared.cmp.Ordering.TheVariants.{Less, Greater}
 use Rattle.std.proofs.lemmas.Option.{none-some, same_Some, slice_get_within}
 use Rattle.std.proofs.lemmas.Bool.{cases_lt}
@@ -15,7 +15,7 @@ use Rattle.mt_op.specs.Operation.{Operation}
 use Rattle.mt_op.specs.Dots.{op_dot, entry_of, dots_rise}
 use Rattle.mt_op.proofs.Dots.{dots_rise-at}
 use Rattle.mt_op.proofs.Needs.{and_first, and_second}
-use Rattle.mt_opcodec.specs.LogValue.{LogMap, log_of, AreLogged}
+use Rattle.mt_opcodec.specs.LogValue.{log_of, AreLogged}
 use Rattle.mt_opcodec.specs.Union.{Agree, union}
 use Rattle.mt_opcodec.specs.Merging.{EndsBefore}
 use Rattle.mt_opcodec.proofs.Logs.{get-log_of}

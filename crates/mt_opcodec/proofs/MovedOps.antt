@@ -1,11 +1,10 @@
 -- Moving the operations of two logs into their union, one after another.
-use Rattle.std.proofs.Common.{◌≡◌, ◌≢◌, ℕ, zero, suc, ◌+◌, ◌<◌, ◌≤◌, List, [], ◌∷◌, ◌++◌, Option, Some, None, length, drop, refl, sym, ap, ◌∙◌, subst, arith}
+use Rattle.std.proofs.Common.{◌≡◌, ℕ, zero, suc, ◌+◌, List, [], ◌∷◌, ◌++◌, Option, Some, length, drop, refl, sym, ap, ◌∙◌, subst, arith}
 use Rattle.std.specs.Prelude.{slice_get, slice_index_or}
-use Rattle.std.proofs.lemmas.Option.{none-some, same_Some, slice_get_within}
-use Rattle.mt_stamp.specs.declared.name.Dot.{Dot}
+use Rattle.std.proofs.lemmas.Option.{none-some, same_Some}
 use Rattle.mt_op.specs.Operation.{Operation}
 use Rattle.mt_op.specs.Dots.{op_dot}
-use Rattle.mt_opcodec.specs.LogValue.{LogMap, log_of, AreLogged}
+use Rattle.mt_opcodec.specs.LogValue.{log_of, AreLogged}
 use Rattle.mt_opcodec.specs.Union.{Agree, union, IsFirstClash}
 use Rattle.mt_opcodec.specs.Merging.{ComesNext}
 use Rattle.mt_opcodec.specs.declared.joining.Next.TheVariants as next

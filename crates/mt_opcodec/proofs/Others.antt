@@ -1,8 +1,7 @@
 -- The first operation of a list that a log has another one for.
-use Rattle.std.proofs.Common.{◌≡◌, ◌≢◌, ℕ, zero, suc, ◌+◌, ◌<◌, Bool, true, false, List, [], ◌∷◌, ◌++◌, Option, Some, None, length, get_or, drop, map, refl, sym, ap, ◌∙◌, subst, arith, inl, inr}
+use Rattle.std.proofs.Common.{◌≡◌, ℕ, zero, suc, ◌+◌, ◌<◌, Bool, true, false, List, [], ◌∷◌, ◌++◌, Option, Some, None, length, get_or, drop, refl, sym, ap, ◌∙◌, subst, arith, inl, inr}
 use Rattle.std.specs.Prelude.{IsTrue, ◌↔◌, not, slice_get, IfSome}
 use Rattle.std.specs.FinMap as fin
-use Rattle.std.specs.FinMap.Entries.{find}
 use Rattle.std.specs.Ordering.{ordering_reverse}
 use Rattle.std.specs.declared.cmp.Ordering.TheVariants.{Less, Greater}
 use Rattle.std.proofs.lemmas.Option.{none-some, same_Some}
@@ -12,11 +11,10 @@ use Rattle.mt_stamp.specs.declared.name.Dot.{Dot}
 use Rattle.mt_stamp.specs.Moment.{dot_cmp}
 use Rattle.mt_stamp.proofs.Order.{dot_cmp_total}
 use Rattle.mt_op.specs.Operation.{Operation}
-use Rattle.mt_op.specs.Dots.{op_dot, entry_of, dots_rise}
+use Rattle.mt_op.specs.Dots.{op_dot}
 use Rattle.mt_op.proofs.Dots.{dots_rise-at}
-use Rattle.mt_op.proofs.Needs.{and_second}
-use Rattle.mt_opcodec.specs.LogValue.{LogMap, operations, log_of, AreLogged}
-use Rattle.mt_opcodec.specs.Union.{Agree, ClashesAt, IsFirstClash}
+use Rattle.mt_opcodec.specs.LogValue.{LogMap, log_of, AreLogged}
+use Rattle.mt_opcodec.specs.Union.{Agree, IsFirstClash}
 use Rattle.mt_opcodec.specs.Clashing.{HasAnother, FirstOther}
 use Rattle.mt_opcodec.proofs.Logs.{get-log_of, get-at}
 use Rattle.mt_opcodec.proofs.Merging.{find_place}

@@ -1,5 +1,5 @@
 -- A log of runs: what is added last, how many operations there are, and when two are equal.
-use Rattle.std.proofs.Common.{◌≡◌, ℕ, zero, suc, ◌+◌, ◌<◌, Bool, true, false, cond, List, [], ◌∷◌, ◌++◌, Option, Some, None, Result, Ok, Err, length, drop, refl, sym, ap, ◌∙◌, subst, arith}
+use Rattle.std.proofs.Common.{◌≡◌, ℕ, zero, suc, ◌+◌, ◌<◌, Bool, true, false, cond, List, [], ◌∷◌, ◌++◌, Option, Some, None, Ok, length, drop, refl, sym, ap, ◌∙◌, subst, arith}
 use Rattle.std.specs.Prelude.{IsTrue, ◌↔◌, is_some, nat_eq, slice_get, insert}
 use Rattle.std.specs.Bool.{one_answer}
 use Rattle.std.specs.List.{AllByRecursion}
@@ -11,14 +11,13 @@ use Rattle.std.proofs.lemmas.Option.{none-some, same_Some, slice_get_within}
 use Rattle.mt_stamp.specs.declared.name.Dot.{Dot}
 use Rattle.mt_stamp.specs.declared.name.Replica.{Replica}
 use Rattle.mt_stamp.specs.Moment.{dot_cmp}
-use Rattle.mt_stamp.proofs.Order.{dot_cmp_total, same_replica}
+use Rattle.mt_stamp.proofs.Order.{dot_cmp_total}
 use Rattle.mt_op.specs.Operation.{Operation}
 use Rattle.mt_op.specs.Dots.{op_dot, dots_rise, IsGapFor}
 use Rattle.mt_op.proofs.Dots.{dots_rise-at}
 use Rattle.mt_opcodec.specs.LogReading.{is_after}
 use Rattle.mt_opcodec.specs.LogText.{op_texts}
 use Rattle.mt_opcodec.specs.LogValue.{LogMap, operations, log_of, AreLogged, Adds}
-use Rattle.mt_opcodec.specs.declared.fault.LogFault.{LogFault}
 use Rattle.mt_opcodec.specs.Runs.{RunOf, IsRun, AreAbove, RunsRise, AreRuns, run_ops}
 use Rattle.mt_opcodec.proofs.Logs.{operations-log_of, log_of-nil, log_of-insert, dots_rise-insert, get_absent, len-log_of}
 use Rattle.mt_opcodec.proofs.Merging.{push_is_insert}

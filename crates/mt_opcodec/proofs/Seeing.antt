@@ -1,6 +1,6 @@
 -- What was seen of logs that are walked from left to right.
-use Rattle.std.proofs.Common.{◌≡◌, ℕ, zero, suc, ◌+◌, ◌<◌, Bool, true, false, cond, List, [], ◌∷◌, ◌++◌, Option, Some, None, length, get_or, drop, map, refl, sym, ap, ◌∙◌, subst, arith, inl, inr}
-use Rattle.std.specs.Prelude.{IsTrue, ◌↔◌, not, is_some, slice_get, MatchOption}
+use Rattle.std.proofs.Common.{◌≡◌, ℕ, suc, ◌+◌, ◌<◌, Bool, true, false, cond, List, [], ◌∷◌, ◌++◌, Option, Some, None, length, get_or, drop, map, refl, sym, ap, ◌∙◌, subst, arith, inl}
+use Rattle.std.specs.Prelude.{IsTrue, is_some}
 use Rattle.std.specs.FinMap as fin
 use Rattle.std.specs.FinMap.Entries.{find}
 use Rattle.std.specs.BTreeMap.{is_at}
@@ -8,7 +8,6 @@ use Rattle.std.specs.Map.{lookup}
 use Rattle.std.specs.Ordering.{is_eq, ordering_reverse}
 use Rattle.std.specs.declared.cmp.Ordering.{Ordering}
 use Rattle.std.specs.declared.cmp.Ordering.TheVariants.{Less, Equal, Greater}
-use Rattle.std.proofs.lemmas.Option.{none-some, same_Some}
 use Rattle.std.proofs.lemmas.Bool.{true≢false}
 use Rattle.std.proofs.lemmas.List.{drop_more}
 use Rattle.mt_stamp.specs.declared.name.Dot.{Dot}
@@ -18,15 +17,15 @@ use Rattle.mt_op.specs.Operation.{Operation}
 use Rattle.mt_op.specs.Dots.{op_dot, entry_of, dots_rise}
 use Rattle.mt_op.proofs.Dots.{dots_rise-at}
 use Rattle.mt_op.proofs.Needs.{and_second}
-use Rattle.mt_opcodec.specs.LogValue.{LogMap, operations, log_of, AreLogged}
-use Rattle.mt_opcodec.specs.Union.{Agree, union, AgreeFrom, AllAgree, FirstClash}
-use Rattle.mt_opcodec.specs.Clashing.{HasAnother, FirstOther}
+use Rattle.mt_opcodec.specs.LogValue.{LogMap, log_of, AreLogged}
+use Rattle.mt_opcodec.specs.Union.{Agree, union, FirstClash}
+use Rattle.mt_opcodec.specs.Clashing.{FirstOther}
 use Rattle.mt_opcodec.specs.Seen.{AreSeen, seen_after}
 use Rattle.mt_opcodec.proofs.Logs.{get-log_of}
 use Rattle.mt_opcodec.proofs.Merging.{find_place}
 use Rattle.mt_opcodec.proofs.Others.{agree_none, clash_first}
 use Rattle.mt_opcodec.proofs.Union.{get-union, both_ways}
-use Rattle.mt_opcodec.proofs.JoiningAll.{HasJoined, none_joined, one_joined, all_joined}
+use Rattle.mt_opcodec.proofs.JoiningAll.{HasJoined, none_joined, one_joined}
 
 eq_is : (c : Ordering) → is_eq c ≡ true → c ≡ Equal
 eq_is Less h = absurd (true≢false (sym h))

@@ -1,4 +1,4 @@
-use Rattle.std.proofs.Common.{◌≡◌, [], List, None, Option, refl, sym, subst}
+use Rattle.std.proofs.Common.{List, None, refl, sym, subst}
 use Rattle.mt_op.specs.Operation.{Operation}
 use Rattle.mt_opcodec.specs.Clashing.{HasAnother, FirstOther}
 use Rattle.mt_opcodec.proofs.Others.{none_here, one_here}

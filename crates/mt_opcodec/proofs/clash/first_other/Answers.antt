@@ -1,4 +1,4 @@
-use Rattle.std.proofs.Common.{◌≡◌, ◌++◌, ◌+◌, [], List, Some, None, Option, drop, refl, sym, ap, subst}
+use Rattle.std.proofs.Common.{◌+◌, List, Some, None, drop, refl, sym, subst}
 use Rattle.mt_op.specs.Operation.{Operation}
 use Rattle.mt_opcodec.specs.Runs.{RunOf, run_ops}
 use Rattle.mt_opcodec.specs.Clashing.{FirstOther}

@@ -1,4 +1,4 @@
-use Rattle.std.proofs.Common.{◌≡◌, sym, subst, ◌∷◌, List}
+use Rattle.std.proofs.Common.{subst, List}
 use Rattle.mt_opcodec.specs.LogValue.{LogMap}
 use Rattle.mt_opcodec.proofs.JoiningAll.{HasJoined, one_joined}
 use Rattle.mt_opcodec.proofs.join_all.join_from_left.Goals as goal

@@ -1,4 +1,4 @@
-use Rattle.std.proofs.Common.{◌≡◌, sym, subst, ap, ◌∙◌, ◌∷◌, ◌++◌, [], List}
+use Rattle.std.proofs.Common.{sym, subst, ap, ◌∙◌, ◌∷◌, List}
 use Rattle.mt_opcodec.specs.LogValue.{LogMap}
 use Rattle.mt_opcodec.proofs.JoiningAll.{ArePaired, one_left, two_paired}
 use Rattle.mt_opcodec.proofs.RunLists.{nothing_left}

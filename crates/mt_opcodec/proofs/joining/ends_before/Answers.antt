@@ -1,4 +1,4 @@
-use Rattle.std.proofs.Common.{◌≡◌, Some, true, ap, sym, ◌∙◌}
+use Rattle.std.proofs.Common.{◌≡◌, true, ap, sym, ◌∙◌}
 use Rattle.std.specs.Option.{option_copied}
 use Rattle.std.specs.Ordering.{is_lt}
 use Rattle.mt_stamp.specs.declared.name.Dot.{Dot}

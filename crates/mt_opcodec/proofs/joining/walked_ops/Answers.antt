@@ -1,8 +1,7 @@
-use Rattle.std.proofs.Common.{◌≡◌, sym, subst, ap, ◌∙◌, arith, List, length, refl}
+use Rattle.std.proofs.Common.{◌≡◌, sym, subst, arith, List}
 use Rattle.mt_op.specs.Operation.{Operation}
 use Rattle.mt_opcodec.specs.LogValue.{log_of}
-use Rattle.mt_opcodec.specs.Union.{IsFirstClash, MergeFails}
-use Rattle.mt_opcodec.specs.declared.fault.LogFault.{LogFault}
+use Rattle.mt_opcodec.specs.Union.{MergeFails}
 use Rattle.mt_opcodec.proofs.MovedOps.{IsJoining, joining_start, join_left, join_right, join_both, join_conflict, join_end, shorter}
 use Rattle.mt_opcodec.proofs.joining.walked_ops.Goals as goal
 

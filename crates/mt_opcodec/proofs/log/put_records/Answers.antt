@@ -1,6 +1,5 @@
-use Rattle.std.proofs.Common.{rules, ◌≡◌, ◌++◌, [], subst, take, length, sym, ap, ◌∙◌, List, ℕ, append_assoc}
+use Rattle.std.proofs.Common.{rules, ◌≡◌, ◌++◌, subst, length, ap, ◌∙◌, List, ℕ}
 use Rattle.std.proofs.lemmas.List.{take_all}
-use Rattle.mt_op.specs.Operation.{Operation}
 use Rattle.mt_opcodec.specs.LogText.{log_head, op_texts}
 use Rattle.mt_opcodec.specs.Runs.{RunOf, run_ops}
 use Rattle.mt_opcodec.proofs.RunLists.{texts_more}

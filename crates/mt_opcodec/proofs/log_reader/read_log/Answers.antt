@@ -1,8 +1,7 @@
-use Rattle.std.proofs.Common.{◌≡◌, ℕ, arith, ◌++◌, [], ◌∷◌, None, Some, List, true, ◌∙◌, sym, ap, ◌+◌, ◌-◌, subst}
+use Rattle.std.proofs.Common.{◌≡◌, ℕ, arith, ◌++◌, [], ◌∷◌, None, Some, List, ◌∙◌, sym, ap, ◌+◌, ◌-◌, subst}
 use Rattle.mt_stamp.specs.declared.name.Dot.{Dot}
 use Rattle.mt_op.specs.Operation.{Operation}
-use Rattle.mt_op.specs.Dots.{op_dot}
-use Rattle.mt_opcodec.specs.LogReading.{is_after, records_at}
+use Rattle.mt_opcodec.specs.LogReading.{records_at}
 use Rattle.mt_opcodec.specs.LogValue.{LogMap, operations}
 use Rattle.mt_opcodec.specs.OpReading.{op_at}
 use Rattle.mt_opcodec.proofs.LogTexts.{record_ok}

@@ -1,10 +1,8 @@
 use Rattle.std.proofs.Common.{◌∙◌, ap, refl, sym, subst, List}
 use Rattle.std.proofs.lemmas.Result.{err_from_is_err_and}
 use Rattle.std.specs.Prelude.{insert}
-use Rattle.std.specs.FinMap as fin
 use Rattle.mt_stamp.specs.declared.name.Dot.{Dot}
-use Rattle.mt_op.specs.Dots.{op_dot}
-use Rattle.mt_opcodec.specs.LogValue.{LogMap, log_of}
+use Rattle.mt_opcodec.specs.LogValue.{log_of}
 use Rattle.mt_opcodec.specs.Runs.{RunOf, IsRun, AreRuns, run_ops, IsRunAt, IsRunGap}
 use Rattle.mt_opcodec.proofs.Adding.{run_adds, none_there, run_there}
 use Rattle.mt_opcodec.proofs.RunEdits.{AreRuns-set, AreRuns-insert, log_of-set, log_of-only}

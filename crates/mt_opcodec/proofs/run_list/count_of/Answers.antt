@@ -1,6 +1,6 @@
 use Rattle.std.proofs.Common.{length, ap, ◌∙◌}
 use Rattle.std.proofs.lemmas.List.{take_all}
-use Rattle.mt_opcodec.specs.Runs.{RunOf, run_ops}
+use Rattle.mt_opcodec.specs.Runs.{run_ops}
 use Rattle.mt_opcodec.proofs.RunLists.{count_more}
 use Rattle.mt_opcodec.proofs.run_list.count_of.Goals as goal
 

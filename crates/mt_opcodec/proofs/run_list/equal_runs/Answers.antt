@@ -1,6 +1,5 @@
-use Rattle.std.proofs.Common.{◌≡◌, get_or, refl, ap, sym, ◌∙◌, length, List, arith}
+use Rattle.std.proofs.Common.{refl, sym, ◌∙◌, arith}
 use Rattle.std.proofs.lemmas.List.{take_all, take_more_same}
-use Rattle.mt_opcodec.specs.Runs.{RunOf}
 use Rattle.mt_opcodec.proofs.RunLists.{same_at}
 use Rattle.mt_opcodec.proofs.run_list.equal_runs.Goals as goal
 

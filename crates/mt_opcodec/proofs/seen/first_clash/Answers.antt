@@ -1,11 +1,9 @@
-use Rattle.std.proofs.Common.{◌≡◌, List, Some, None, Option, refl, sym, ap, subst, ◌∙◌}
+use Rattle.std.proofs.Common.{List, Some, None, refl, sym, ap, subst, ◌∙◌}
 use Rattle.std.specs.Option.{option_copied}
-use Rattle.mt_stamp.specs.declared.name.Dot.{Dot}
 use Rattle.mt_op.specs.Operation.{Operation}
 use Rattle.mt_opcodec.specs.LogValue.{operations, log_of, AreLogged}
 use Rattle.mt_opcodec.specs.Runs.{run_ops}
 use Rattle.mt_opcodec.specs.Clashing.{FirstOther}
-use Rattle.mt_opcodec.specs.Seen.{seen_after}
 use Rattle.mt_opcodec.proofs.Seeing.{none_in, clash_in, pass_in}
 use Rattle.mt_opcodec.proofs.seen.first_clash.Goals as goal
 

@@ -1,7 +1,7 @@
-use Rattle.std.proofs.Common.{◌≡◌, ◌++◌, ◌+◌, [], List, Some, None, Option, drop, refl, sym, ap, subst}
+use Rattle.std.proofs.Common.{◌+◌, List, Some, None, drop, refl, sym, subst}
 use Rattle.mt_op.specs.Operation.{Operation}
 use Rattle.mt_opcodec.specs.Runs.{RunOf, run_ops}
-use Rattle.mt_opcodec.specs.Clashing.{HasAnother, FirstOther}
+use Rattle.mt_opcodec.specs.Clashing.{FirstOther}
 use Rattle.mt_opcodec.proofs.Others.{none_in_front, one_in_front}
 use Rattle.mt_opcodec.proofs.RunLists.{drop_past, ops_left}
 use Rattle.mt_opcodec.proofs.seen.first_other.Goals as goal

@@ -1,8 +1,7 @@
-use Rattle.std.proofs.Common.{◌≡◌, Option, None, ap, sym, ◌∙◌}
+use Rattle.std.proofs.Common.{ap, sym, ◌∙◌}
 use Rattle.std.specs.Option.{option_copied}
 use Rattle.std.specs.BTreeMap.{get}
 use Rattle.std.proofs.lemmas.Option.{none-some}
-use Rattle.mt_stamp.specs.declared.name.Dot.{Dot}
 use Rattle.mt_stamp.specs.Moment.{dot_cmp}
 use Rattle.mt_opcodec.proofs.Others.{found_there}
 use Rattle.mt_opcodec.proofs.seen.has_another.Goals as goal

@@ -1,4 +1,4 @@
-use Rattle.std.proofs.Common.{◌≡◌, ◌+◌, Bool, true, Ok, ℕ, refl, sym, ap, ◌∙◌, subst}
+use Rattle.std.proofs.Common.{◌≡◌, ◌+◌, Bool, true, Ok, ℕ, sym, ap, ◌∙◌, subst}
 use Rattle.mt_opcodec.specs.LogValue.{Adds, log_of}
 use Rattle.mt_opcodec.specs.Runs.{run_ops}
 use Rattle.mt_opcodec.proofs.RunLogs.{one_longer}

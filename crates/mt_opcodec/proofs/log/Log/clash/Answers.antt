@@ -1,5 +1,4 @@
-use Rattle.std.proofs.Common.{◌≡◌, List, None, Option, ap, subst}
-use Rattle.mt_stamp.specs.declared.name.Dot.{Dot}
+use Rattle.std.proofs.Common.{List, subst}
 use Rattle.mt_op.specs.Operation.{Operation}
 use Rattle.mt_opcodec.specs.LogValue.{operations}
 use Rattle.mt_opcodec.specs.Clashing.{FirstOther}

@@ -1,7 +1,6 @@
-use Rattle.std.proofs.Common.{◌≡◌, List, Option, None, subst}
+use Rattle.std.proofs.Common.{Option, subst}
 use Rattle.std.specs.Prelude.{MatchOption}
 use Rattle.mt_stamp.specs.declared.name.Dot.{Dot}
-use Rattle.mt_opcodec.specs.LogValue.{LogMap}
 use Rattle.mt_opcodec.specs.Union.{AllAgree, FirstClash}
 use Rattle.mt_opcodec.proofs.Agreements.{agree_pairwise}
 use Rattle.mt_opcodec.proofs.log.Log.join_all.Goals as goal

@@ -1,7 +1,7 @@
 use Rattle.std.proofs.Common.{◌≡◌, subst}
-use Rattle.std.specs.Prelude.{IfOk, IfErr}
+use Rattle.std.specs.Prelude.{IfOk}
 use Rattle.mt_opcodec.specs.LogValue.{LogMap}
-use Rattle.mt_opcodec.specs.Union.{Agree, union, MergeFails}
+use Rattle.mt_opcodec.specs.Union.{Agree, union}
 use Rattle.mt_opcodec.proofs.log.Log.merge.Goals as goal
 
 pub returns-clause-ok : goal.returns-clause-ok

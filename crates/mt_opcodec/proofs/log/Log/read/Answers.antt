@@ -1,6 +1,4 @@
-use Rattle.std.proofs.Common.{sym, ap, ◌∙◌, arith}
-use Rattle.mt_opcodec.specs.LogReading.{log_at}
-use Rattle.mt_opcodec.proofs.LogTexts.{log_takes, log_again, log_only_err}
+use Rattle.std.proofs.Common.{arith}
 use Rattle.mt_opcodec.specs.LogValue.{operations}
 use Rattle.mt_opcodec.proofs.LogTexts.{read_found, read_only}
 use Rattle.mt_opcodec.proofs.log.Log.read.Goals as goal

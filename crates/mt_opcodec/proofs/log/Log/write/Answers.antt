@@ -1,4 +1,4 @@
-use Rattle.std.proofs.Common.{◌∙◌, ap, sym}
+use Rattle.std.proofs.Common.{◌∙◌, ap}
 use Rattle.mt_opcodec.specs.LogValue.{operations, log_of}
 use Rattle.sha2.specs.Sha256.{sha256}
 use Rattle.mt_opcodec.specs.LogText.{log_body}
