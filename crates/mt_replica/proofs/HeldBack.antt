@@ -49,7 +49,7 @@ below_is : (n : ℕ) (s : List Operation) → rule.is_ready_below (waits.clock_o
 below_is zero s = refl
 below_is (suc n) s =
     let each : (d : Operation) → rule.is_ready_below (waits.clock_of op_key op_needs fits) op_needs meets_pair (suc n) s d ≡ rule.is_ready_below clock_of needs meets (suc n) s d
-        = λ d. met_is (rule.is_ready_below (waits.clock_of op_key op_needs fits) op_needs meets_pair n s) (rule.is_ready_below clock_of needs meets n s) (below_is n s) s (needs d) in
+    = λ d. met_is (rule.is_ready_below (waits.clock_of op_key op_needs fits) op_needs meets_pair n s) (rule.is_ready_below clock_of needs meets n s) (below_is n s) s (needs d) in
     λ i d. each d i
 
 -- what is ready among what was offered is ready among operations of which there are the same
@@ -153,10 +153,10 @@ module _ (first waiting : List Operation) where
     needs_met seen after d noted cut same rise [] names = refl
     needs_met seen after d noted cut same rise (n ∷ ns) names =
         let here : list_any (as_waiting (whole newly)) (filter (meets n) (whole newly)) ≡ is_need_met noted n
-            = either_way (meets n) (as_waiting (whole newly)) (whole newly)
-            ∙ ap (list_any (meets n)) (split_by (as_waiting (whole newly)) (first ++ newly) waiting pass fail ∙ ap (λ (xs : List Operation). first ++ xs) cut ∙ sym (append_assoc first seen (d ∷ after)))
-            ∙ any_both (meets n) (first ++ seen) (d ∷ after) (none_meets n (clock_of d) names.0 (d ∷ after) (omega arith, later_clocks d after rise))
-            ∙ sym (same_any noted (first ++ seen) same (meets n)) in
+        = either_way (meets n) (as_waiting (whole newly)) (whole newly)
+        ∙ ap (list_any (meets n)) (split_by (as_waiting (whole newly)) (first ++ newly) waiting pass fail ∙ ap (λ (xs : List Operation). first ++ xs) cut ∙ sym (append_assoc first seen (d ∷ after)))
+        ∙ any_both (meets n) (first ++ seen) (d ∷ after) (none_meets n (clock_of d) names.0 (d ∷ after) (omega arith, later_clocks d after rise))
+        ∙ sym (same_any noted (first ++ seen) same (meets n)) in
         let rest = needs_met seen after d noted cut same rise ns names.1 in
         λ i. here i && rest i
 
@@ -184,15 +184,15 @@ module _ (first waiting : List Operation) where
             met = sym (needs_met seen after d noted cut same rise.0 (needs d) names.0) ∙ sym met ∙ ready.0;
           },
           may_follow (seen ++ d ∷ []) after (d ∷ noted) (cut ∙ sym (append_assoc seen (d ∷ []) after))
-          (λ f.
-          let a = sum_by-cons f d noted in
-          let b = same f in
-          let c = sum_by-append f first seen in
-          let e = sum_by-append f first (seen ++ d ∷ []) in
-          let g = sum_by-append f seen (d ∷ []) in
-          let h = sum_by-cons f d [] in
-          omega (arith, a, b, c, e, g, h))
-          rise.1 names.1 ready.1,
+              (λ f.
+              let a = sum_by-cons f d noted in
+              let b = same f in
+              let c = sum_by-append f first seen in
+              let e = sum_by-append f first (seen ++ d ∷ []) in
+              let g = sum_by-append f seen (d ∷ []) in
+              let h = sum_by-cons f d [] in
+              omega (arith, a, b, c, e, g, h))
+              rise.1 names.1 ready.1,
         )
 
 -- whatever is counted of them, they add it

@@ -1,18 +1,23 @@
 -- What a take keeps, and what it answers.
-use Rattle.std.proofs.Common.{◌≡◌, ◌≢◌, ℕ, ◌+◌, ◌≤◌, Bool, true, false, cond, not, ◌||◌, List, [], ◌∷◌, ◌++◌, map, length, refl, sym, ap, ◌∙◌, subst, arith}
-use Rattle.std.specs.Prelude.{Some, None, Ok, IsTrue, ◌↔◌, drop, max}
-use Rattle.std.specs.List.{AllByRecursion, filter, list_any, sum_by}
+use Rattle.std.proofs.Common.{◌≡◌, ◌≢◌, ℕ, zero, suc, ◌+◌, ◌≤◌, ◌<◌, Bool, true, false, cond, not, ◌||◌, List, [], ◌∷◌, ◌++◌, map, length, refl, sym, ap, ◌∙◌, subst, inl, inr, arith}
+use Rattle.std.specs.Prelude.{Some, None, Result, Ok, Err, IfOk, IsTrue, is_ok, slice_index_or, ◌↔◌, drop, max}
+use Rattle.std.specs.List.{AllByRecursion, HoldsAt, filter, list_any, sum_by}
+use Rattle.std.specs.List.Sorted.{IsSorted, IsBinarySearchResult, IsSearchInRange}
+use Rattle.std.specs.Ordering.{is_lt}
 use Rattle.std.specs.FinMap as fin
 use Rattle.std.specs.declared.cmp.Ordering.{Ordering}
-use Rattle.std.specs.declared.cmp.Ordering.TheVariants.{Less}
-use Rattle.std.proofs.lemmas.Bool.{false≢true}
+use Rattle.std.specs.declared.cmp.Ordering.TheVariants.{Less, Equal, Greater}
+use Rattle.std.proofs.lemmas.Bool.{false≢true, cases_lt}
+use Rattle.std.proofs.lemmas.Cmp.{tied_itself}
+use Rattle.std.proofs.lemmas.List.Sorted.{searchable_from_sorted}
 use Rattle.std.proofs.Math.Seq.{drop-append_seam}
 use Rattle.std.proofs.lemmas.List.{length-append}
 use Rattle.std.proofs.lemmas.List.Sums.{sum_by-cons}
 use Rattle.mt_stamp.specs.declared.name.Replica.{Replica}
 use Rattle.mt_stamp.specs.Moment.{Moment, stamp_cmp, stamp_eq}
-use Rattle.mt_stamp.specs.Sorting.{sort_by, RisesStrictly, DifferBy}
-use Rattle.mt_stamp.proofs.Order.{stamp_cmp_total}
+use Rattle.mt_stamp.specs.Sorting.{sort_by, Rises, RisesStrictly, DifferBy}
+use Rattle.mt_stamp.proofs.Order.{stamp_cmp_total, stamp_cmp-IsAntisymmetric}
+use Rattle.mt_stamp.proofs.Sorting.{sorts}
 use Rattle.mt_stamp.proofs.Differing.{all_kept, differ_kept, differ_mapped}
 use Rattle.mt_stamp.proofs.Members.{IsMember, one_list, sort_strict, member_kept, member_of_kept, member_sorted, member_unsorted}
 use Rattle.mt_stamp.proofs.SameItems.{SameItems, same_any, all_map}
@@ -22,6 +27,7 @@ use Rattle.mt_op.specs.Dots.{op_dot}
 use Rattle.mt_op.specs.Needs.{needs, meets, clock_of, fits}
 use Rattle.mt_op.specs.Ready.{is_ready}
 use Rattle.mt_op.specs.Presence.{is_listed}
+use Rattle.mt_op.proofs.Needs.{stamp_eq-true}
 use Rattle.mt_opcodec.specs.LogValue.{LogMap, operations, AreLogged}
 use Rattle.mt_items.specs.Noting.{is_noted}
 use Rattle.mt_holdback.specs.declared.hold_back.Offered.{Offered}
@@ -30,6 +36,7 @@ use Rattle.mt_holdback.specs.HoldBack as holding
 use Rattle.mt_holdback.specs.State.{State}
 use Rattle.mt_holdback.specs.Ops.{op_key, op_needs}
 use Rattle.mt_sessionview.specs.Session.{ready_ops, stamps_of}
+use Rattle.mt_sessionview.proofs.Items.{stamp_eq_same}
 use Rattle.mt_sessionview.proofs.TrackSorting.{every_stamp}
 use Rattle.mt_replica.specs.declared.taken.Taken.{Taken}
 use Rattle.mt_replica.specs.declared.taken.Taken.TheVariants.{Already, Held, Applied}
@@ -43,6 +50,50 @@ use Rattle.mt_replica.proofs.Inserted.{insert_same}
 use Rattle.mt_replica.proofs.Numbers.{clock_same, seq_same, own_is}
 use Rattle.mt_replica.proofs.OwnStamps.{count_own, count_append, count_noted, none_noted, none_known, own_stamps, listed_is}
 use Rattle.mt_replica.proofs.Valid.{apart_stamps}
+
+-- ---- a search among stamps that rise
+
+grown : (k : ℕ) → suc (k + 1) ≡ suc k + 1
+grown k = omega arith
+
+rises_sorted : (xs : List Moment) → Rises stamp_cmp xs → IsSorted stamp_cmp xs
+rises_sorted [] rise k d low high = absurd (omega (arith, high))
+rises_sorted (x ∷ []) rise k d low high = absurd (omega (arith, high))
+rises_sorted (x ∷ y ∷ xs) rise zero d low high = rise.0.0
+rises_sorted (x ∷ y ∷ xs) rise (suc k) d low high =
+    subst (λ (j : ℕ). is_lt (stamp_cmp (slice_index_or (x ∷ y ∷ xs) j d) (slice_index_or (y ∷ xs) k d)) ≡ false) (grown k) (rises_sorted (y ∷ xs) rise.1 k d (omega arith) (omega (arith, high)))
+
+index_listed : (xs : List Moment) (i : ℕ) (d : Moment) → i < length xs → is_listed xs (slice_index_or xs i d) ≡ true
+index_listed [] i d below = absurd (omega (arith, below))
+index_listed (x ∷ xs) zero d below = ap (λ (b : Bool). b || is_listed xs x) (stamp_eq_same x x refl)
+index_listed (x ∷ xs) (suc i) d below = by (stamp_eq (slice_index_or xs i d) x) (index_listed xs i d (omega (arith, below)))
+  where
+    by : (b : Bool) → is_listed xs (slice_index_or xs i d) ≡ true → b || is_listed xs (slice_index_or xs i d) ≡ true
+    by true rest = refl
+    by false rest = rest
+
+none_listed : (xs : List Moment) (x : Moment) → ((k : ℕ) (d : Moment) → k < length xs → stamp_cmp (slice_index_or xs k d) x ≢ Equal) → is_listed xs x ≡ false
+none_listed [] x other = refl
+none_listed (y ∷ xs) x other =
+    let first : stamp_eq x y ≡ false = not_true (stamp_eq x y) (λ same. other 0 y (omega arith) (ap (λ (m : Moment). stamp_cmp m x) (sym (stamp_eq-true x y same)) ∙ tied_itself stamp_cmp_total x)) in
+    rw first (none_listed xs x (λ k d below. other (suc k) d (omega (arith, below))))
+
+pub search_tells : (xs : List Moment) (x : Moment) (r : Result ℕ ℕ) → Rises stamp_cmp xs → IsSearchInRange r (length xs) → IfOk r (HoldsAt (λ y. stamp_cmp y x ≡ Equal) xs) → IsBinarySearchResult (λ y. stamp_cmp y x) xs r → is_ok r ≡ is_listed xs x
+search_tells xs x (Ok i) rise range holds place = sym (ap (is_listed xs) (sym (stamp_cmp-IsAntisymmetric (slice_index_or xs i x) x (holds x))) ∙ index_listed xs i x range)
+search_tells xs x (Err i) rise range holds place =
+    let parts = place (searchable_from_sorted stamp_cmp_total (λ (m : Moment). m) xs x (rises_sorted xs rise)) in
+    sym (none_listed xs x (λ k d below tied. by parts.0 parts.1 k d below tied))
+  where
+    by : ((k : ℕ) (d : Moment) → 0 ≤ k → k < i → stamp_cmp (slice_index_or xs k d) x ≡ Less) → ((k : ℕ) (d : Moment) → i ≤ k → k < length xs → stamp_cmp (slice_index_or xs k d) x ≡ Greater)
+        → (k : ℕ) (d : Moment) → k < length xs → stamp_cmp (slice_index_or xs k d) x ≡ Equal → ⊥
+    by before behind k d below tied = elim (cases_lt k i) [
+      | inl under ↦ (let e : Less ≡ Equal = sym (before k d (omega arith) under) ∙ tied in absurd cc)
+      | inr over ↦ (let e : Greater ≡ Equal = sym (behind k d over below) ∙ tied in absurd cc)
+    ]
+
+-- sorted stamps rise
+pub sorted_rise : (xs ys : List Moment) → ys ≡ sort_by stamp_cmp xs → Rises stamp_cmp ys
+sorted_rise xs ys is = subst (Rises stamp_cmp) (sym is) ((sorts stamp_cmp stamp_cmp_total).rises xs)
 
 -- ---- what a log has under a dot
 

@@ -58,10 +58,7 @@ pub(crate) fn all_offered<A: Allocator + Clone>(
 }
 
 /// What was released from an index on.
-pub(crate) fn released_from<A: Allocator>(
-    waiting: &HoldBack<Op<A>, A>,
-    first: usize,
-) -> &[Op<A>]
+pub(crate) fn released_from<A: Allocator>(waiting: &HoldBack<Op<A>, A>, first: usize) -> &[Op<A>]
     requires bound { first ≤ length waiting.now.kept.released }
     ensures value { result.now ≡ drop first waiting.now.kept.released }
     ensures exact { IsHoldBack op_key op_needs fits waiting.now.kept }
