@@ -1,6 +1,7 @@
 //! The commands, a file each: its words, and what it runs.
 
 use crate::fault::CliFault;
+use crate::files::open;
 use crate::merge::put_log;
 use crate::part::Part;
 use crate::read::read_log;
@@ -48,6 +49,12 @@ const NOBODY: Replica = Replica(0);
 fn editor_of<R: Read>(alloc: Global, name: Replica, input: &mut Latch<R>) -> Result<Editor, Stop> {
     let log = read_log(alloc, 0, input)?;
     Ok(Editor::from_log(alloc, name, log)?)
+}
+
+// An editor of the log in this file, who makes nothing of its own.
+fn open_editor<F: Files + AllocGlobal>(rt: &F, path: &str) -> Result<Editor, Stop> {
+    let mut log = open(rt, 0, path)?;
+    editor_of(rt.alloc(), NOBODY, &mut log)
 }
 
 // Writes an editor's log into a file.

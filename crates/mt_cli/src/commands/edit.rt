@@ -13,7 +13,7 @@ use mt_replica::Editor;
 use mt_script::run as run_script;
 use mt_stamp::Replica;
 use std::alloc::{AllocError, Global};
-use std::io::Write;
+use std::io::{Read, Write};
 use std::rt::Files;
 
 pub(crate) fn words<'a>(alloc: Global) -> Result<Command<'a>, AllocError> {
@@ -52,20 +52,50 @@ fn put_edited<W: Write, P: Write>(
     Ok(())
 }
 
+// Makes the changes of the script that the second input holds, and tells how many they are.
+fn make_all<R: Read>(
+    alloc: Global,
+    editor: &mut Editor,
+    script: &mut Latch<R>,
+) -> Result<usize, Stop> {
+    let text = read_all(alloc, 1, script)?;
+    Ok(run_script(alloc, editor, &text)?)
+}
+
+// Writes what became of an editor's log into a file.
+fn put_out<F: Files + AllocGlobal, W: Write>(
+    rt: &F,
+    out: &str,
+    editor: &Editor,
+    made: usize,
+    output: &mut Latch<W>,
+) -> Result<(), Stop> {
+    let mut part = Part::create(rt.alloc(), rt, out)?;
+    let written = put_edited(editor, made, output, part.output());
+    Ok(part.finish(rt, out, written)?)
+}
+
+// What an editor of this name makes of the log that the first input holds, by the script that the second one holds.
+fn put_made<F: Files + AllocGlobal, R: Read, W: Write>(
+    rt: &F,
+    name: Replica,
+    inputs: &mut [Latch<R>; 2],
+    out: &str,
+    output: &mut Latch<W>,
+) -> Result<(), Stop> {
+    let mut editor = editor_of(rt.alloc(), name, &mut inputs[0])?;
+    let made = make_all(rt.alloc(), &mut editor, &mut inputs[1])?;
+    put_out(rt, out, &editor, made, output)
+}
+
 pub(crate) fn run<F: Files + AllocGlobal, W: Write>(
     rt: &F,
     words: &ArgMatches<'_>,
     output: &mut Latch<W>,
 ) -> Result<(), Stop> {
-    let alloc = rt.alloc();
     let name = Replica::read(words.get_str("REPLICA").unwrap_or(""))?;
-    let mut log = open(rt, 0, words.get_str("LOG").unwrap_or(""))?;
-    let mut script = open(rt, 1, words.get_str("SCRIPT").unwrap_or(""))?;
-    let mut editor = editor_of(alloc, name, &mut log)?;
-    let text = read_all(alloc, 1, &mut script)?;
-    let made = run_script(alloc, &mut editor, &text)?;
+    let log = open(rt, 0, words.get_str("LOG").unwrap_or(""))?;
+    let script = open(rt, 1, words.get_str("SCRIPT").unwrap_or(""))?;
     let out = words.get_str("OUT").unwrap_or("");
-    let mut part = Part::create(alloc, rt, out)?;
-    let written = put_edited(&editor, made, output, part.output());
-    Ok(part.finish(rt, out, written)?)
+    put_made(rt, name, &mut [log, script], out, output)
 }

@@ -1,5 +1,6 @@
 //! `radio render`.
 
+use super::word;
 use crate::files::open_all;
 use crate::part::Part;
 use crate::render::bounce_logs;
@@ -11,15 +12,11 @@ use std::alloc::{AllocError, Global};
 use std::rt::Files;
 
 pub(crate) fn words<'a>(alloc: Global) -> Result<Command<'a>, AllocError> {
-    let out = Arg::new(alloc, "OUT")
-        .required(true)
-        .help("The wave file to write");
-    let log = Arg::new(alloc, "LOG").required(true).help("The log");
     let command = Command::new(alloc, "render")
         .about("Writes the session of a log as a broadcast wave file, its markers as cue points")
         .after_help(AFTER_HELP)
-        .arg(out)?
-        .arg(log)?
+        .arg(word(alloc, "OUT", "The wave file to write"))?
+        .arg(word(alloc, "LOG", "The log"))?
         .arg(sources(alloc))?;
     head_words(alloc, format_words(alloc, command)?)
 }
@@ -37,44 +34,42 @@ fn sources<'a>(alloc: Global) -> Arg<'a> {
 
 // The options of the format.
 fn format_words<'a>(alloc: Global, command: Command<'a>) -> Result<Command<'a>, AllocError> {
-    let rate = number(alloc, "rate", "48000", "Frames a second, 1 to 384000").value_parser(
-        value_parser!(u32),
-    );
-    let bits = number(alloc, "bits", "24", "Bits of a sample, 16 or 24").value_parser(value_parser!(
-        u16
-    ));
-    let channels = number(alloc, "channels", "1", "Channels, 1 or 2").value_parser(value_parser!(
-        u16
-    ));
-    command.arg(rate)?.arg(bits)?.arg(channels)
+    command
+        .arg(number(alloc, "rate", "48000", "Frames a second, 1 to 384000").value_parser(
+            value_parser!(u32),
+        ))?
+        .arg(number(alloc, "bits", "24", "Bits of a sample, 16 or 24").value_parser(value_parser!(
+            u16
+        )))?
+        .arg(number(alloc, "channels", "1", "Channels, 1 or 2").value_parser(value_parser!(u16)))
 }
 
 // The options of the head.
 fn head_words<'a>(alloc: Global, command: Command<'a>) -> Result<Command<'a>, AllocError> {
-    let description = text(alloc, "description", "", "What it is, of at most 256 bytes");
-    let originator = text(alloc, "originator", "", "Who made it, of at most 32 bytes");
-    let reference = text(
-        alloc,
-        "reference",
-        "",
-        "Its reference there, of at most 32 bytes",
-    );
-    let date = text(alloc, "date", "2000-01-01", "The date, as dddd-dd-dd");
-    let time = text(alloc, "time", "00:00:00", "The time, as dd:dd:dd");
-    let time_reference = number(
-        alloc,
-        "time-reference",
-        "0",
-        "Frames from midnight to the first",
-    )
-    .value_parser(value_parser!(u64));
+    let command = command
+        .arg(text(alloc, "description", "", "What it is, of at most 256 bytes"))?
+        .arg(text(alloc, "originator", "", "Who made it, of at most 32 bytes"))?
+        .arg(text(
+            alloc,
+            "reference",
+            "",
+            "Its reference there, of at most 32 bytes",
+        ))?;
+    time_words(alloc, command)
+}
+
+// The options of the head that say when.
+fn time_words<'a>(alloc: Global, command: Command<'a>) -> Result<Command<'a>, AllocError> {
     command
-        .arg(description)?
-        .arg(originator)?
-        .arg(reference)?
-        .arg(date)?
-        .arg(time)?
-        .arg(time_reference)
+        .arg(text(alloc, "date", "2000-01-01", "The date, as dddd-dd-dd"))?
+        .arg(text(alloc, "time", "00:00:00", "The time, as dd:dd:dd"))?
+        .arg(number(
+            alloc,
+            "time-reference",
+            "0",
+            "Frames from midnight to the first",
+        )
+        .value_parser(value_parser!(u64)))
 }
 
 // An option with a number.

@@ -1,7 +1,6 @@
 //! `radio serve`.
 
-use super::{NOBODY, converse_over, editor_of, put_editor, word};
-use crate::files::open;
+use super::{converse_over, open_editor, put_editor, word};
 use crate::stop::Stop;
 use clap::{ArgMatches, Command};
 use mt_sync::Side;
@@ -24,9 +23,7 @@ pub(crate) fn run<F: Files + Net + AllocGlobal>(
     rt: &F,
     words: &ArgMatches<'_>,
 ) -> Result<(), Stop> {
-    let alloc = rt.alloc();
-    let mut log = open(rt, 0, words.get_str("LOG").unwrap_or(""))?;
-    let mut editor = editor_of(alloc, NOBODY, &mut log)?;
+    let mut editor = open_editor(rt, words.get_str("LOG").unwrap_or(""))?;
     let listener = match TcpListener::bind(rt, words.get_str("ADDR").unwrap_or("")) {
         Ok(listener) => listener,
         Err(_) => return Err(Stop::net()),
@@ -35,6 +32,6 @@ pub(crate) fn run<F: Files + Net + AllocGlobal>(
         Ok((stream, _)) => stream,
         Err(_) => return Err(Stop::net()),
     };
-    converse_over(alloc, &mut editor, Side::Answerer, stream)?;
+    converse_over(rt.alloc(), &mut editor, Side::Answerer, stream)?;
     put_editor(rt, words.get_str("OUT").unwrap_or(""), &editor)
 }

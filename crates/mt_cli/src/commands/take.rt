@@ -5,8 +5,11 @@ use crate::files::open;
 use crate::read::read_all;
 use crate::stop::Stop;
 use clap::{ArgMatches, Command};
+use mt_opcodec::Latch;
+use mt_replica::Editor;
 use mt_sync::take_ops;
 use std::alloc::{AllocError, Global};
+use std::io::Read;
 use std::rt::Files;
 
 pub(crate) fn words<'a>(alloc: Global) -> Result<Command<'a>, AllocError> {
@@ -20,12 +23,25 @@ pub(crate) fn words<'a>(alloc: Global) -> Result<Command<'a>, AllocError> {
         .arg(word(alloc, "OUT", "The log to write, which may be LOG"))
 }
 
+// Lets an editor take the operations that the second input holds.
+fn take_all<R: Read>(alloc: Global, editor: &mut Editor, ops: &mut Latch<R>) -> Result<(), Stop> {
+    let bytes = read_all(alloc, 1, ops)?;
+    Ok(take_ops(alloc, alloc, editor, &bytes)?)
+}
+
+// Writes the log that the first input holds, with the operations that the second one holds.
+fn put_taken<F: Files + AllocGlobal, R: Read>(
+    rt: &F,
+    inputs: &mut [Latch<R>; 2],
+    out: &str,
+) -> Result<(), Stop> {
+    let mut editor = editor_of(rt.alloc(), NOBODY, &mut inputs[0])?;
+    take_all(rt.alloc(), &mut editor, &mut inputs[1])?;
+    put_editor(rt, out, &editor)
+}
+
 pub(crate) fn run<F: Files + AllocGlobal>(rt: &F, words: &ArgMatches<'_>) -> Result<(), Stop> {
-    let alloc = rt.alloc();
-    let mut log = open(rt, 0, words.get_str("LOG").unwrap_or(""))?;
-    let mut ops = open(rt, 1, words.get_str("OPS").unwrap_or(""))?;
-    let mut editor = editor_of(alloc, NOBODY, &mut log)?;
-    let bytes = read_all(alloc, 1, &mut ops)?;
-    take_ops(alloc, alloc, &mut editor, &bytes)?;
-    put_editor(rt, words.get_str("OUT").unwrap_or(""), &editor)
+    let log = open(rt, 0, words.get_str("LOG").unwrap_or(""))?;
+    let ops = open(rt, 1, words.get_str("OPS").unwrap_or(""))?;
+    put_taken(rt, &mut [log, ops], words.get_str("OUT").unwrap_or(""))
 }

@@ -202,14 +202,19 @@ fn edits_as_scripted(alloc: Global, log: Log, change: &Change, script: &[u8]) ->
 // three_sample_file, moved by `edit`
 #[test]
 fn agree_on_an_edited_clip(rt: HostRuntime) -> Result<(), Fail> {
-    let script = b"add-track head Voice\nadd-clip cc0a0e0651f6e9e304442665437ab61ac3b5302b51bb4a161b144bf9985dfb79 $1 0 0 3\n";
+    let script =
+        b"add-track head Voice\nadd-clip cc0a0e0651f6e9e304442665437ab61ac3b5302b51bb4a161b144bf9985dfb79 $1 0 0 3\n";
     let log = went_on(rt.alloc(), A, Log::new(rt.alloc()), script).ok_or("refused")?;
     let change = Change::MoveClip {
         clip: Stamp::new(2, A, 2)?,
         track: Stamp::new(1, A, 1)?,
         at: 70,
     };
-    let moved = b"move-clip 2.2.00000000-0000-0000-0000-00000000000a 1.1.00000000-0000-0000-0000-00000000000a 70\n";
-    assert_eq!(rt; edits_as_scripted(rt.alloc(), log, &change, moved), Some(true));
+    let moved =
+        b"move-clip 2.2.00000000-0000-0000-0000-00000000000a 1.1.00000000-0000-0000-0000-00000000000a 70\n";
+    assert_eq!(rt;
+        edits_as_scripted(rt.alloc(), log, &change, moved),
+        Some(true)
+    );
     Ok(())
 }
