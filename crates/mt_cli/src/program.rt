@@ -7,7 +7,7 @@ use crate::commands::{
 };
 use crate::fault::CliFault;
 use crate::stop::Stop;
-use clap::Command;
+use clap::{ArgMatches, Command};
 use mt_opcodec::Latch;
 use std::alloc::{AllocError, Global};
 use std::io::{Read, Write};
@@ -63,46 +63,105 @@ fn run<F: Files + Net + AllocGlobal, R: Read, W: Write>(
         Err(error) => return Err(Stop::told(rt.alloc(), error)),
     };
     match matches.subcommand() {
-        Some(("view", words)) => view::run(rt, words, input, output),
-        Some(("log", words)) => log::run(rt, words, input, output),
-        Some(("merge", words)) => merge::run(rt, words),
-        Some(("edit", words)) => edit::run(rt, words, output),
-        Some(("render", words)) => render::run(rt, words),
-        Some(("have", words)) => have::run(rt, words),
-        Some(("lack", words)) => lack::run(rt, words),
-        Some(("take", words)) => take::run(rt, words),
-        Some(("serve", words)) => serve::run(rt, words),
-        Some(("meet", words)) => meet::run(rt, words),
-        Some(("info", words)) => info::run(rt, words, output),
-        Some(("explain", words)) => explain::run(rt.alloc(), words, output),
-        _ => Err(Stop::Told {
-            text: String::new(rt.alloc()),
-            is_mistake: true,
-        }),
+        Some((name, words)) => print(rt, name, words, input, output),
+        None => Err(nobody(rt.alloc())),
+    }
+}
+
+// What a command that nobody handles comes to.
+fn nobody(alloc: Global) -> Stop {
+    Stop::Told {
+        text: String::new(alloc),
+        is_mistake: true,
+    }
+}
+
+// The commands that write on the output, and all others.
+fn print<F: Files + Net + AllocGlobal, R: Read, W: Write>(
+    rt: &F,
+    name: &str,
+    words: &ArgMatches<'_>,
+    input: &mut Latch<R>,
+    output: &mut Latch<W>,
+) -> Result<(), Stop> {
+    match name {
+        "view" => view::run(rt, words, input, output),
+        "log" => log::run(rt, words, input, output),
+        "info" => info::run(rt, words, output),
+        "explain" => explain::run(rt.alloc(), words, output),
+        _ => make(rt, name, words, output),
+    }
+}
+
+// The commands that make a file of files, and all others.
+fn make<F: Files + Net + AllocGlobal, W: Write>(
+    rt: &F,
+    name: &str,
+    words: &ArgMatches<'_>,
+    output: &mut Latch<W>,
+) -> Result<(), Stop> {
+    match name {
+        "merge" => merge::run(rt, words),
+        "edit" => edit::run(rt, words, output),
+        "render" => render::run(rt, words),
+        _ => swap(rt, name, words),
+    }
+}
+
+// The commands by which editors swap operations.
+fn swap<F: Files + Net + AllocGlobal>(
+    rt: &F,
+    name: &str,
+    words: &ArgMatches<'_>,
+) -> Result<(), Stop> {
+    match name {
+        "have" => have::run(rt, words),
+        "lack" => lack::run(rt, words),
+        "take" => take::run(rt, words),
+        "serve" => serve::run(rt, words),
+        "meet" => meet::run(rt, words),
+        _ => Err(nobody(rt.alloc())),
     }
 }
 
 // The command line of `radio`.
 fn radio<'a>(alloc: Global) -> Result<Command<'a>, AllocError> {
-    Command::new(alloc, "radio")
-        .bin_name("radio")?
-        .version("0.1.0")
-        .about("A nondestructive multitrack audio editor whose sessions are replicated")
-        .after_help(AFTER_HELP)
-        .no_binary_name(true)
-        .subcommand_required(true)
+    with_swaps(alloc, with_files(alloc, named(alloc)?)?)?
+        .subcommand(info::words(alloc)?)?
+        .subcommand(explain::words(alloc)?)
+}
+
+// Its name and what is told of it as a whole.
+fn named<'a>(alloc: Global) -> Result<Command<'a>, AllocError> {
+    Ok(
+        Command::new(alloc, "radio")
+            .bin_name("radio")?
+            .version("0.1.0")
+            .about("A nondestructive multitrack audio editor whose sessions are replicated")
+            .after_help(AFTER_HELP)
+            .no_binary_name(true)
+            .subcommand_required(true),
+    )
+}
+
+// With the commands that show logs and make files of them.
+fn with_files<'a>(alloc: Global, command: Command<'a>) -> Result<Command<'a>, AllocError> {
+    command
         .subcommand(view::words(alloc)?)?
         .subcommand(log::words(alloc)?)?
         .subcommand(merge::words(alloc)?)?
         .subcommand(edit::words(alloc)?)?
-        .subcommand(render::words(alloc)?)?
+        .subcommand(render::words(alloc)?)
+}
+
+// With the commands by which editors swap operations.
+fn with_swaps<'a>(alloc: Global, command: Command<'a>) -> Result<Command<'a>, AllocError> {
+    command
         .subcommand(have::words(alloc)?)?
         .subcommand(lack::words(alloc)?)?
         .subcommand(take::words(alloc)?)?
         .subcommand(serve::words(alloc)?)?
-        .subcommand(meet::words(alloc)?)?
-        .subcommand(info::words(alloc)?)?
-        .subcommand(explain::words(alloc)?)
+        .subcommand(meet::words(alloc)?)
 }
 
 const AFTER_HELP: &str =

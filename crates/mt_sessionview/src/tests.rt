@@ -1,3 +1,5 @@
+mod changes;
+
 use crate::laws::{
     any_listing, equal_clips, equal_markers, equal_sessions, equal_tracks, held_operation,
     places_tree, sorted_clips, sorted_markers, sorted_stamps, sorted_tracks,

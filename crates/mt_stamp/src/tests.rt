@@ -1,6 +1,7 @@
 use crate::laws::{compare_dots, compare_stamps, order, texts, tree_order};
 use crate::{Dot, List, Replica, Stamp, StampFault};
 use mt_testalloc::Refusing;
+use std::alloc::{AllocError, Global};
 use std::cmp::Ordering;
 use std::test::Fail;
 
@@ -113,6 +114,36 @@ fn keeps_a_list(rt: HostRuntime) -> Result<(), Fail> {
     assert!(rt; copy == list);
     assert_eq!(rt; copy.items(), [3, 1, 2].as_slice());
     assert_eq!(rt; list.into_vec().as_slice(), [3, 1, 2].as_slice());
+    Ok(())
+}
+
+#[test]
+fn changes_a_list_in_place(rt: HostRuntime) -> Result<(), Fail> {
+    let mut list = List::new(vec![in rt.alloc(); 3, 1, 2]?);
+    assert!(rt; list.insert(1, 5).is_ok());
+    if list.items().len() == 4 {
+        *list.item_mut(2) = 7;
+        list.move_item(3, 0);
+        let first = list.remove(0);
+        assert_eq!(rt; first, 2);
+    }
+    assert_eq!(rt; list.items(), [3, 5, 7].as_slice());
+    Ok(())
+}
+
+// What a list of three items is after one more was put in, if there was memory for it.
+fn is_left(memory: &Refusing<Global>) -> Result<(bool, bool), AllocError> {
+    let mut list = List::new(vec![in memory; 3, 1, 2]?);
+    let is_refused = list.insert(0, 5).is_err();
+    Ok((is_refused, list.items() == [3, 1, 2].as_slice()))
+}
+
+#[test]
+fn refuses_the_growth_of_a_list(rt: HostRuntime) -> Result<(), Fail> {
+    let refused = Refusing::new(rt.alloc(), 1);
+    assert_eq!(rt; is_left(&refused), Ok((true, true)));
+    let granted = Refusing::new(rt.alloc(), 2);
+    assert_eq!(rt; is_left(&granted), Ok((false, false)));
     Ok(())
 }
 
