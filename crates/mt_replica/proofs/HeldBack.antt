@@ -1,6 +1,5 @@
 -- What was released of the operations of a log is what is ready, and what an offer releases may be noted.
 use Rattle.std.proofs.Common.{◌≡◌, ℕ, zero, suc, ◌+◌, ◌<◌, ◌≤◌, Bool, true, false, not, cond, ◌||◌, ◌&&◌, List, [], ◌∷◌, ◌++◌, filter, map, refl, sym, ap, ◌∙◌, subst, arith, append_assoc, append-nil}
-use Rattle.std.specs.Prelude.{insert}
 use Rattle.std.specs.List.{AllByRecursion, list_all, list_any, prefix_len, sum_by}
 use Rattle.std.specs.Ordering.{is_lt}
 use Rattle.std.proofs.lemmas.List.Sums.{sum_by-cons, sum_by-append, sum_by-insert}
@@ -16,7 +15,7 @@ use Rattle.mt_op.specs.Needs.{needs, meets, clock_of, fits}
 use Rattle.mt_op.specs.Ready as rule
 use Rattle.mt_op.proofs.Needs.{and_first}
 use Rattle.mt_op.proofs.Readiness.{is_ready-met}
-use Rattle.mt_items.specs.Noting.{MayFollow, is_noted, is_need_met, are_needs_met}
+use Rattle.mt_items.specs.Noting.{is_need_met}
 use Rattle.mt_holdback.specs.Waiting as waits
 use Rattle.mt_holdback.specs.Waiting.{NamesOlder}
 use Rattle.mt_holdback.specs.HoldBack.{Kept, IsHoldBack, queued, offered_with}

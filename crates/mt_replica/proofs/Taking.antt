@@ -1,11 +1,10 @@
 -- What a take keeps, and what it answers.
-use Rattle.std.proofs.Common.{◌≡◌, ◌≢◌, ℕ, zero, suc, ◌+◌, ◌≤◌, ◌<◌, Bool, true, false, cond, not, ◌||◌, List, [], ◌∷◌, ◌++◌, map, length, refl, sym, ap, ◌∙◌, subst, inl, inr, arith}
+use Rattle.std.proofs.Common.{◌≡◌, ◌≢◌, ℕ, zero, suc, ◌+◌, ◌≤◌, ◌<◌, Bool, true, false, cond, not, ◌||◌, List, [], ◌∷◌, ◌++◌, length, refl, sym, ap, ◌∙◌, subst, inl, inr, arith}
 use Rattle.std.specs.Prelude.{Some, None, Result, Ok, Err, IfOk, IsTrue, is_ok, slice_index_or, ◌↔◌, drop, max}
-use Rattle.std.specs.List.{AllByRecursion, HoldsAt, filter, list_any, sum_by}
+use Rattle.std.specs.List.{HoldsAt, filter, sum_by}
 use Rattle.std.specs.List.Sorted.{IsSorted, IsBinarySearchResult, IsSearchInRange}
 use Rattle.std.specs.Ordering.{is_lt}
 use Rattle.std.specs.FinMap as fin
-use Rattle.std.specs.declared.cmp.Ordering.{Ordering}
 use Rattle.std.specs.declared.cmp.Ordering.TheVariants.{Less, Equal, Greater}
 use Rattle.std.proofs.lemmas.Bool.{false≢true, cases_lt}
 use Rattle.std.proofs.lemmas.Cmp.{tied_itself}
@@ -13,7 +12,6 @@ use Rattle.std.proofs.lemmas.List.Sorted.{searchable_from_sorted}
 use Rattle.std.proofs.Math.Seq.{drop-append_seam}
 use Rattle.std.proofs.lemmas.List.{length-append}
 use Rattle.std.proofs.lemmas.List.Sums.{sum_by-cons}
-use Rattle.mt_stamp.specs.declared.name.Replica.{Replica}
 use Rattle.mt_stamp.specs.Moment.{Moment, stamp_cmp, stamp_eq}
 use Rattle.mt_stamp.specs.Sorting.{sort_by, Rises, RisesStrictly, DifferBy}
 use Rattle.mt_stamp.proofs.Order.{stamp_cmp_total, stamp_cmp-IsAntisymmetric}
@@ -31,8 +29,7 @@ use Rattle.mt_op.proofs.Needs.{stamp_eq-true}
 use Rattle.mt_opcodec.specs.LogValue.{LogMap, operations, AreLogged}
 use Rattle.mt_items.specs.Noting.{is_noted}
 use Rattle.mt_holdback.specs.declared.hold_back.Offered.{Offered}
-use Rattle.mt_holdback.specs.HoldBack.{Kept, IsHoldBack, offered_with}
-use Rattle.mt_holdback.specs.HoldBack as holding
+use Rattle.mt_holdback.specs.HoldBack.{IsHoldBack, offered_with}
 use Rattle.mt_holdback.specs.State.{State}
 use Rattle.mt_holdback.specs.Ops.{op_key, op_needs}
 use Rattle.mt_sessionview.specs.Session.{ready_ops, stamps_of}
@@ -40,9 +37,9 @@ use Rattle.mt_sessionview.proofs.Items.{stamp_eq_same}
 use Rattle.mt_sessionview.proofs.TrackSorting.{every_stamp}
 use Rattle.mt_replica.specs.declared.taken.Taken.{Taken}
 use Rattle.mt_replica.specs.declared.taken.Taken.TheVariants.{Already, Held, Applied}
-use Rattle.mt_replica.specs.Holding.{all_offered, is_offered, newly_released, with_offered, offer_gives, is_held, StampsRise, HaveOwnStamps, AreOffered, stamp_count, noted_after, MayAllFollow, TakenGives}
+use Rattle.mt_replica.specs.Holding.{all_offered, is_offered, newly_released, with_offered, offer_gives, is_held, StampsRise, HaveOwnStamps, AreOffered, noted_after, MayAllFollow, TakenGives}
 use Rattle.mt_replica.specs.Kept.{with_op, TakeOf, newly_ready}
-use Rattle.mt_replica.specs.Made.{greatest_of, greatest_clock, greatest_seq}
+use Rattle.mt_replica.specs.Made.{greatest_clock, greatest_seq}
 use Rattle.mt_replica.specs.State.{Named, IsState, Found, own_seq}
 use Rattle.mt_replica.proofs.Bridging.{listed_member, member_listed, not_true}
 use Rattle.mt_replica.proofs.HeldBack.{as_waiting, released_same, offered_same, offered_more, ready_tells, released_follow, released_noted}
@@ -103,9 +100,6 @@ found_is log o there false is same = (there, (sym is, (λ one. false≢true (sam
 
 -- ---- the operations of a log, offered one after another
 
-pub none_offered : (waiting : State Operation) (ops : List Operation) → waiting ≡ record { kept = record { released = []; waiting = [] }; failed = false } → AreOffered waiting ops ops
-none_offered waiting ops is = subst (λ (w : State Operation). AreOffered w ops ops) (sym is) (record { whole = refl; offered = λ f. omega arith })
-
 pub next_unknown : (waiting : State Operation) (o : Operation) (left all : List Operation) → HaveOwnStamps all → AreOffered waiting (o ∷ left) all → is_offered waiting.kept o.stamp ≡ false
 next_unknown waiting o left all own are =
     let once = own o.stamp in
@@ -160,9 +154,6 @@ noted_append s (x ∷ xs) ys = by (stamp_eq s x.stamp) (noted_append s xs ys)
     by false rest = rest
 
 module _ (first newly old ready : List Operation) (rise : StampsRise newly) (differ : DifferBy stamp_of ready) (were : SameItems first old) (are : SameItems (first ++ newly) ready) where
-  sorted : List Moment
-  sorted = sort_by stamp_cmp (stamps_of ready)
-
   abbrev is_other : Moment → Bool
   is_other s = not (is_listed (stamps_of old) s)
 
@@ -202,9 +193,6 @@ module _ (first newly old ready : List Operation) (rise : StampsRise newly) (dif
 -- ---- one operation more
 
 module _ (state : Named) (o : Operation) (was : State Operation) (items : List Operation) (clock seq : ℕ) (absent : fin.get state.log (op_dot o) ≡ None) (logged : AreLogged (operations (with_op state.log o))) (is : IsState state was items clock seq) where
-  all : List Operation
-  all = operations (with_op state.log o)
-
   differ : DifferBy stamp_of (operations (with_op state.log o))
   differ = every_stamp (operations (with_op state.log o)) logged.rise
 

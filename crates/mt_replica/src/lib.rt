@@ -12,6 +12,9 @@
 //! What an edit makes is one definition (`specs/Made.antt`): the first refusal in its order, or one operation whose clock passes every clock of
 //! the log. `Draft` is the same without a session, for many edits between which nobody looks at one. `laws` says what holds of
 //! what is made.
+//!
+//! A take looks at the operation, at those that it makes ready, and at what these name, whatever else is in the log: the editor
+//! keeps its operations in a hold-back, and notes what that releases in the state of items. The session is worked out anew.
 #![tactic(auto)]
 
 mod body;

@@ -1,11 +1,10 @@
-use Rattle.std.proofs.Common.{◌≡◌, ◌∙◌, sym, ap, subst, map, List, [], Bor}
+use Rattle.std.proofs.Common.{◌≡◌, ◌∙◌, sym, ap, subst, map, List, Bor}
 use Rattle.mt_op.specs.Operation.{Operation}
 use Rattle.mt_op.specs.declared.op.Op.{Op}
 use Rattle.mt_op.specs.ByStamp.{op_cmp}
 use Rattle.mt_opcodec.specs.LogValue.{operations}
 use Rattle.mt_stamp.specs.Sorting.{sort_by, RisesStrictly}
 use Rattle.mt_sessionview.proofs.TrackSorting.{every_stamp}
-use Rattle.mt_replica.specs.Holding.{HaveOwnStamps}
 use Rattle.mt_replica.proofs.OwnStamps.{own_stamps}
 use Rattle.mt_replica.proofs.Refs.{rising_ops, noted_same, sorted_own, sorted_offered}
 use Rattle.mt_replica.proofs.by_stamp.beside_log.Goals as goal

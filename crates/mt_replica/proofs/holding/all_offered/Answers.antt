@@ -2,7 +2,6 @@ use Rattle.std.proofs.Common.{List, ◌+◌, ◌∙◌, map, drop, ap, subst, Bo
 use Rattle.mt_op.specs.Operation.{Operation}
 use Rattle.mt_op.specs.declared.op.Op.{Op}
 use Rattle.mt_op.proofs.TagLists.{drop_here}
-use Rattle.mt_holdback.specs.State.{State}
 use Rattle.mt_replica.specs.Holding.{AreOffered, with_offered}
 use Rattle.mt_replica.proofs.Taking.{next_unknown, next_offered}
 use Rattle.mt_replica.proofs.holding.all_offered.Goals as goal

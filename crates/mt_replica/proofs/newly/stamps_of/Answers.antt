@@ -1,4 +1,4 @@
-use Rattle.std.proofs.Common.{◌+◌, List, [], ◌∷◌, ◌++◌, drop, refl, ap, ◌∙◌}
+use Rattle.std.proofs.Common.{◌+◌, [], ◌∷◌, ◌++◌, drop, refl, ap, ◌∙◌}
 use Rattle.mt_stamp.specs.Moment.{Moment}
 use Rattle.mt_op.proofs.TagLists.{drop_here}
 use Rattle.mt_sessionview.specs.Session.{stamps_of}

@@ -1,5 +1,4 @@
-use Rattle.std.proofs.Common.{◌≡◌, ◌∙◌, ap, subst, length}
-use Rattle.mt_holdback.specs.State.{State}
+use Rattle.std.proofs.Common.{◌∙◌, ap, subst, length}
 use Rattle.mt_opcodec.specs.LogValue.{LogMap, operations, AreLogged}
 use Rattle.mt_replica.specs.Kept.{with_op}
 use Rattle.mt_replica.specs.State.{Named, IsState}

@@ -1,10 +1,9 @@
 use Rattle.std.proofs.Common.{◌≡◌, ◌∙◌, ap, subst, false}
-use Rattle.mt_holdback.specs.State.{State}
 use Rattle.mt_op.specs.Operation.{Operation}
 use Rattle.mt_opcodec.specs.LogValue.{LogMap, operations, log_of, AreLogged}
 use Rattle.mt_sessionview.specs.Session.{ready_ops}
 use Rattle.mt_stamp.proofs.SameItems.{SameItems}
-use Rattle.mt_replica.specs.Holding.{is_offered, with_offered}
+use Rattle.mt_replica.specs.Holding.{with_offered}
 use Rattle.mt_replica.specs.Kept.{with_op}
 use Rattle.mt_replica.specs.State.{Named, IsState}
 use Rattle.mt_replica.proofs.Keeping.{made_follows, made_absent, made_kept}
