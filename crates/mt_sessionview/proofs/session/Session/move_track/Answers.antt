@@ -1,4 +1,4 @@
-use Rattle.std.proofs.Common.{◌≡◌, ◌<◌, length, ap, sym, arith}
+use Rattle.std.proofs.Common.{◌≡◌, length, ap, arith}
 use Rattle.mt_sessionview.specs.Content.{Content, Track}
 use Rattle.mt_sessionview.proofs.Retold.{differ_moved}
 use Rattle.mt_sessionview.proofs.session.Session.move_track.Goals as goal

@@ -1,4 +1,4 @@
-use Rattle.std.proofs.Common.{◌≡◌, false, List, ap, sym, subst, ◌∙◌}
+use Rattle.std.proofs.Common.{◌≡◌, false, ap, sym, subst, ◌∙◌}
 use Rattle.std.specs.List.{list_any}
 use Rattle.mt_stamp.specs.Sorting.{insert_by, RisesStrictly}
 use Rattle.mt_sessionview.specs.Content.{Content, Marker, marker_cmp}

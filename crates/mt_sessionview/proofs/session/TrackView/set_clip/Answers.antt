@@ -1,9 +1,9 @@
-use Rattle.std.proofs.Common.{◌≡◌, ap, sym, subst, ◌∙◌, true, not, refl}
-use Rattle.std.specs.Prelude.{filter, find, slice_get, slice_set}
+use Rattle.std.proofs.Common.{◌≡◌, ap, subst, ◌∙◌, true, not}
+use Rattle.std.specs.Prelude.{filter}
 use Rattle.std.specs.List.{list_any}
 use Rattle.mt_stamp.specs.Sorting.{insert_by}
 use Rattle.mt_sessionview.specs.Content.{Clip, Track, clip_cmp}
-use Rattle.mt_sessionview.specs.Changing.{is_clip_at, clip_beside, with_clip, without_clip, IsNowhere, StandsAt}
+use Rattle.mt_sessionview.specs.Changing.{is_clip_at, IsNowhere, StandsAt}
 use Rattle.mt_sessionview.proofs.Beside.{clip_rewritten, AreClips-rewritten}
 use Rattle.mt_sessionview.proofs.Placing.{is_somewhere}
 use Rattle.mt_sessionview.proofs.session.TrackView.set_clip.Goals as goal
