@@ -5,12 +5,15 @@ with those of the recording: python3 tests/checks/rendered_waves.py PROGRAM
 python3's own module `wave` always reads them; soxi, ffprobe, sndfile-info, mediainfo, and sox and ffmpeg for the samples, where they are
 installed. What `radio info` tells of a file's `bext` chunk has to be the head that the file was rendered with.
 
-Known to be told otherwise by others: python's `wave` and soxi show neither the `bext` chunk nor cue points; ffprobe shows no cue points;
+sndfile-info tells the cue points and their labels, and ffprobe tells them as chapters: both have to be the markers.
+
+Known to be told otherwise by others: python's `wave` and soxi show neither the `bext` chunk nor cue points, and mediainfo no cue points;
 mediainfo counts no frames of a file that has none, so files without a frame are read by python's `wave` alone.
 """
 import hashlib
 import json
 import os
+import re
 import shutil
 import subprocess
 import sys
@@ -54,6 +57,20 @@ def ffmpeg_samples(path, bits):
     return subprocess.run(words, check=True, stdout=subprocess.PIPE).stdout
 
 
+def cue_points(path):
+    """What sndfile-info tells of cue points: position and label."""
+    told = output("sndfile-info", path)
+    labels = dict(re.findall(r"labl : (\d+) : (.*)", told))
+    return [(int(at), labels.get(name)) for name, at in re.findall(r"Cue ID : +(\d+) +Pos : +(\d+)", told)]
+
+
+def chapters(path):
+    """The same as chapters, as ffprobe tells them."""
+    told = json.loads(output("ffprobe", "-of", "json", "-show_chapters", path))["chapters"]
+    return [(int(one["start"]), one["tags"]["title"]) for one in told]
+
+
+CUE_TELLERS = [("sndfile-info", cue_points), ("ffprobe", chapters)]
 TELLERS = READERS + [("mediainfo", mediainfo)]
 PLAYERS = [("sox", sox_samples), ("ffmpeg", ffmpeg_samples)]
 
@@ -93,6 +110,10 @@ def compare(program, folder, rate, bits, channels, frames, markers, kind="any"):
             other = reader(paths["out.wav"])
             missing = {"frames"} - set(other) if name == "mediainfo" else set()
             assert all(other[fact] == facts[fact] for fact in set(facts) - missing), (name, other, facts)
+    for name, teller in CUE_TELLERS:
+        # more cue points than a few are not listed by each of them
+        if shutil.which(name) and frames and len(markers) < 10:
+            assert teller(paths["out.wav"]) == markers, (name, teller(paths["out.wav"]), markers)
     for name, player in PLAYERS:
         if shutil.which(name) and frames:
             assert player(paths["out.wav"], bits) == sound, "%s plays other samples than the recording's" % name
