@@ -75,16 +75,17 @@ fn put_out<F: Files + AllocGlobal, W: Write>(
     Ok(part.finish(rt, out, written)?)
 }
 
-// What an editor of this name makes of the log that the first input holds, by the script that the second one holds.
+// Writes what an editor of this name makes of a log by a script.
 fn put_made<F: Files + AllocGlobal, R: Read, W: Write>(
     rt: &F,
     name: Replica,
-    inputs: &mut [Latch<R>; 2],
+    log: &mut Latch<R>,
+    script: &mut Latch<R>,
     out: &str,
     output: &mut Latch<W>,
 ) -> Result<(), Stop> {
-    let mut editor = editor_of(rt.alloc(), name, &mut inputs[0])?;
-    let made = make_all(rt.alloc(), &mut editor, &mut inputs[1])?;
+    let mut editor = editor_of(rt.alloc(), name, log)?;
+    let made = make_all(rt.alloc(), &mut editor, script)?;
     put_out(rt, out, &editor, made, output)
 }
 
@@ -94,8 +95,8 @@ pub(crate) fn run<F: Files + AllocGlobal, W: Write>(
     output: &mut Latch<W>,
 ) -> Result<(), Stop> {
     let name = Replica::read(words.get_str("REPLICA").unwrap_or(""))?;
-    let log = open(rt, 0, words.get_str("LOG").unwrap_or(""))?;
-    let script = open(rt, 1, words.get_str("SCRIPT").unwrap_or(""))?;
+    let mut log = open(rt, 0, words.get_str("LOG").unwrap_or(""))?;
+    let mut script = open(rt, 1, words.get_str("SCRIPT").unwrap_or(""))?;
     let out = words.get_str("OUT").unwrap_or("");
-    put_made(rt, name, &mut [log, script], out, output)
+    put_made(rt, name, &mut log, &mut script, out, output)
 }

@@ -29,19 +29,20 @@ fn take_all<R: Read>(alloc: Global, editor: &mut Editor, ops: &mut Latch<R>) -> 
     Ok(take_ops(alloc, alloc, editor, &bytes)?)
 }
 
-// Writes the log that the first input holds, with the operations that the second one holds.
+// Writes a log with the operations of a message.
 fn put_taken<F: Files + AllocGlobal, R: Read>(
     rt: &F,
-    inputs: &mut [Latch<R>; 2],
+    log: &mut Latch<R>,
+    ops: &mut Latch<R>,
     out: &str,
 ) -> Result<(), Stop> {
-    let mut editor = editor_of(rt.alloc(), NOBODY, &mut inputs[0])?;
-    take_all(rt.alloc(), &mut editor, &mut inputs[1])?;
+    let mut editor = editor_of(rt.alloc(), NOBODY, log)?;
+    take_all(rt.alloc(), &mut editor, ops)?;
     put_editor(rt, out, &editor)
 }
 
 pub(crate) fn run<F: Files + AllocGlobal>(rt: &F, words: &ArgMatches<'_>) -> Result<(), Stop> {
-    let log = open(rt, 0, words.get_str("LOG").unwrap_or(""))?;
-    let ops = open(rt, 1, words.get_str("OPS").unwrap_or(""))?;
-    put_taken(rt, &mut [log, ops], words.get_str("OUT").unwrap_or(""))
+    let mut log = open(rt, 0, words.get_str("LOG").unwrap_or(""))?;
+    let mut ops = open(rt, 1, words.get_str("OPS").unwrap_or(""))?;
+    put_taken(rt, &mut log, &mut ops, words.get_str("OUT").unwrap_or(""))
 }
