@@ -20,3 +20,6 @@ pub mod Standing
 pub mod Whole
 pub mod Rising
 mod Equal
+pub mod Placing
+pub mod Beside
+pub mod Retold

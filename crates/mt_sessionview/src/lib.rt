@@ -5,6 +5,9 @@
 mod build;
 mod by_stamp;
 mod chain;
+mod change_clip;
+mod change_marker;
+mod change_track;
 mod clip;
 mod fault;
 pub mod laws;

@@ -56,7 +56,7 @@ module _ {X : Type 0} (cmp : X → X → Ordering) where
   all_sorted P (x ∷ xs) all = all_insert P x (sort_by cmp xs) all.0 (all_sorted P xs all.1)
 
 module _ {X Y : Type 0} (key : X → Y) (cmp : X → X → Ordering) where
-  differ_insert : (x : X) (ys : List X) → AllByRecursion (λ y. key x ≢ key y) ys → DifferBy key ys → DifferBy key (insert_by cmp x ys)
+  pub differ_insert : (x : X) (ys : List X) → AllByRecursion (λ y. key x ≢ key y) ys → DifferBy key ys → DifferBy key (insert_by cmp x ys)
   differ_insert x [] apart d = (tt, tt)
   differ_insert x (y ∷ ys) apart d = by (cmp x y) (differ_insert x ys apart.1 d.1)
     where

@@ -92,7 +92,7 @@ module _ {X : Type 0} (cmp : X → X → Ordering) (order : IsTotalOrder cmp) wh
   all_less x y [] less all = tt
   all_less x y (z ∷ ys) less all = (order.trans x y z less all.0, all_less x y ys less all.1)
 
-  strict_insert : (x : X) (ys : List X) → AllByRecursion (λ y. cmp x y ≢ Equal) ys → RisesStrictly cmp ys → RisesStrictly cmp (insert_by cmp x ys)
+  pub strict_insert : (x : X) (ys : List X) → AllByRecursion (λ y. cmp x y ≢ Equal) ys → RisesStrictly cmp ys → RisesStrictly cmp (insert_by cmp x ys)
   strict_insert x [] apart rise = (tt, tt)
   strict_insert x (y ∷ ys) apart rise = by (cmp x y) refl (strict_insert x ys apart.1 rise.1)
     where

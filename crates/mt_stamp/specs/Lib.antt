@@ -8,3 +8,4 @@ pub mod Tree
 pub mod TreeLaws
 pub mod TreeExamples
 pub mod Sorting
+pub mod ListLends

@@ -1,11 +1,12 @@
 //! A list inside another type.
 
-ghost use Rattle.std.specs.Prelude.{◌≡◌};
+ghost use Rattle.std.specs.Prelude.{◌≡◌, ◌≤◌, ◌<◌, Some, OnOk, OnErr, length, slice_get, insert, remove};
+ghost use Rattle.std.specs.Borrow.{sem};
 
-use std::alloc::{AllocError, Allocator, Global};
+use std::alloc::{AllocError, AllocFailed, Allocator, Global};
 use std::marker::Model;
 
-/// A list inside another type, kept in a `Vec` and seen as the list of its items. No call but `clone` takes memory.
+/// A list inside another type, kept in a `Vec` and seen as the list of its items. Only `clone` and `insert` take memory.
 #[derive(Drop)]
 #[derive_where(Debug; T)]
 pub struct List<T, A: Allocator = Global> {
@@ -21,6 +22,8 @@ impl<T, A: Allocator> Model for List<T, A> {
 }
 
 impl<T, A: Allocator> List<T, A> {
+    ghost use Rattle.mt_stamp.specs.ListLends.{LendsItem};
+
     /// The list of a vector's items.
     pub fn new(items: Vec<T, A>) -> Self
         ensures { result ≡ items.items }
@@ -41,6 +44,34 @@ impl<T, A: Allocator> List<T, A> {
     {
         let List { items } = self;
         items
+    }
+
+    /// Puts an item in at an index of at most the length, before what stands there. Refused only where memory is, and then
+    /// the list is unchanged and the item comes back. Moves what follows.
+    pub fn insert(&mut self, index: usize, item: T) -> Result<(), AllocFailed<T>>
+        requires { index ≤ length self.old }
+        ensures ok { OnOk result (self.new ≡ insert self.old index item) }
+        ensures err { OnErr result (self.new ≡ self.old) }
+    {
+        self.items.insert(index, item)
+    }
+
+    /// Takes the item at an index out. Moves what follows.
+    pub fn remove(&mut self, index: usize) -> T
+        requires { index < length self.old }
+        ensures value { slice_get self.old index ≡ Some result }
+        ensures rest { self.new ≡ remove self.old index }
+    {
+        self.items.remove(index)
+    }
+
+    /// The item at an index, to change in place.
+    pub fn item_mut(&mut self, index: usize) -> &mut T
+        requires { index < length self.old }
+        ensures* writes_back { sem 𝓛 (LendsItem T.row A.row A.Allocator self.entry index result) }
+        ensures value { slice_get self.old index ≡ Some result.now }
+    {
+        &mut self.items[index]
     }
 }
 

@@ -1,0 +1,95 @@
+//! One clip of a track of a session, put in or taken out.
+
+ghost use Rattle.std.specs.Prelude.{◌≡◌, ◌<◌, false, length, slice_get, Some, IfErr, IfNone, IfSome, OnErr, OnOk, find, option_and_then};
+ghost use Rattle.std.specs.List.{list_any};
+ghost use Rattle.mt_stamp.specs.Sorting.{RisesStrictly};
+ghost use Rattle.mt_sessionview.specs.Content.{Track, clip_cmp};
+ghost use Rattle.mt_sessionview.specs.Changing.{changed_at, is_clip_at, is_placed_by, with_clip, without_clip, clip_beside, IsPlace, StandsAt, IsNowhere};
+
+use crate::fault::SessionFault;
+use crate::session::{ClipView, Session, TrackView};
+use mt_stamp::Stamp;
+use std::alloc::Allocator;
+
+// The place of the first clip that does not come before a position and the stamp of a place.
+fn clip_place(clips: &[ClipView], at: u32, place: Stamp) -> usize
+    requires { RisesStrictly clip_cmp clips.now }
+    ensures { IsPlace (clip_beside at place) clips.now result }
+{
+    clips.partition_point(|view| (view.at, view.place).cmp(&(at, place)).is_lt())
+}
+
+// Whether a clip begins at this position, where the operation of this stamp put it.
+fn is_clip_at(view: &ClipView, at: u32, place: Stamp) -> bool
+    ensures { result ≡ is_clip_at at place view.now }
+{
+    view.at == at && place == view.place
+}
+
+// Where the clip stands that begins at this position, where the operation of this stamp put it.
+fn clip_index(clips: &[ClipView], at: u32, place: Stamp) -> Option<usize>
+    requires { RisesStrictly clip_cmp clips.now }
+    ensures found { IfSome result (StandsAt (is_clip_at at place) clips.now) }
+    ensures absent { IfNone result (IsNowhere (is_clip_at at place) clips.now) }
+{
+    let index = clip_place(clips, at, place);
+    if index == clips.len() {
+        return None;
+    }
+    if is_clip_at(&clips[index], at, place) {
+        return Some(index);
+    }
+    None
+}
+
+impl<A: Allocator> TrackView<A> {
+    // Puts a clip in where its position and the stamp of its place say.
+    fn put_clip(&mut self, clip: ClipView) -> Result<(), SessionFault>
+        requires { list_any (is_placed_by clip.place) self.old.clips ≡ false }
+        ensures ok { OnOk result (self.new ≡ with_clip clip self.old) }
+        ensures err { IfErr result (λ fault. fault ≡ SessionFault.Memory) }
+        ensures kept { OnErr result (self.new ≡ self.old) }
+    {
+        let index = clip_place(self.clips.items(), clip.at, clip.place);
+        self.clips.insert(index, clip)?;
+        Ok(())
+    }
+
+    // Takes the clip out that begins at this position, where the operation of this stamp put it.
+    fn take_clip(&mut self, at: u32, place: Stamp) -> Option<ClipView>
+        ensures taken { result ≡ find (is_clip_at at place) self.old.clips }
+        ensures rest { self.new ≡ without_clip at place self.old }
+    {
+        let index = clip_index(self.clips.items(), at, place)?;
+        Some(self.clips.remove(index))
+    }
+}
+
+impl<A: Allocator> Session<A> {
+    /// Puts a clip in on the track at an index, counted from 0, where its position, in frames, and the stamp of its place
+    /// say. Finding the place takes as many comparisons as the logarithm of how many clips the track has, and what follows
+    /// moves. No clip of the track may have its place already. Refused only as `Memory` (0), where a growth was refused,
+    /// and then the session is unchanged.
+    pub fn put_clip(&mut self, index: usize, clip: ClipView) -> Result<(), SessionFault>
+        requires inside { index < length self.old.tracks }
+        requires new { (t : Track) → slice_get self.old.tracks index ≡ Some t → list_any (is_placed_by clip.place) t.clips ≡ false }
+        ensures ok { OnOk result (self.new ≡ record self.old { tracks = changed_at index (with_clip clip) self.old.tracks }) }
+        ensures err { IfErr result (λ fault. fault ≡ SessionFault.Memory) }
+        ensures kept { OnErr result (self.new ≡ self.old) }
+    {
+        let track = self.tracks.item_mut(index);
+        track.put_clip(clip)
+    }
+
+    /// Takes the clip out of the track at an index, counted from 0, that begins at this position, in frames, where the
+    /// operation of this stamp put it, and gives it back; `None` where there is none. Finding it takes as many comparisons
+    /// as the logarithm of how many clips the track has, and what follows moves. Takes no memory.
+    pub fn take_clip(&mut self, index: usize, at: u32, place: Stamp) -> Option<ClipView>
+        requires { index < length self.old.tracks }
+        ensures taken { result ≡ option_and_then (λ t. find (is_clip_at at place) t.clips) (slice_get self.old.tracks index) }
+        ensures rest { self.new ≡ record self.old { tracks = changed_at index (without_clip at place) self.old.tracks } }
+    {
+        let track = self.tracks.item_mut(index);
+        track.take_clip(at, place)
+    }
+}

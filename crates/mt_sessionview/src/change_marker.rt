@@ -1,0 +1,70 @@
+//! One marker of a session, put in or taken out.
+
+ghost use Rattle.std.specs.Prelude.{◌≡◌, false, IfErr, IfNone, IfSome, OnErr, OnOk, find, filter, not};
+ghost use Rattle.std.specs.List.{list_any};
+ghost use Rattle.mt_stamp.specs.Sorting.{RisesStrictly, insert_by};
+ghost use Rattle.mt_sessionview.specs.Content.{marker_cmp};
+ghost use Rattle.mt_sessionview.specs.Changing.{is_marker_at, marker_beside, IsPlace, StandsAt, IsNowhere};
+
+use crate::fault::SessionFault;
+use crate::session::{MarkerView, Session};
+use mt_stamp::Stamp;
+use std::alloc::Allocator;
+
+// The place of the first marker that does not come before a position and a stamp.
+fn marker_place<A: Allocator>(markers: &[MarkerView<A>], at: u32, marker: Stamp) -> usize
+    requires { RisesStrictly marker_cmp markers.now }
+    ensures { IsPlace (marker_beside at marker) markers.now result }
+{
+    markers.partition_point(|view| (view.at, view.marker).cmp(&(at, marker)).is_lt())
+}
+
+// Whether a marker stands at this position under this stamp.
+fn is_marker_at<A: Allocator>(view: &MarkerView<A>, at: u32, marker: Stamp) -> bool
+    ensures { result ≡ is_marker_at at marker view.now }
+{
+    view.at == at && marker == view.marker
+}
+
+// Where the marker of a stamp stands, if it is at this position.
+fn marker_index<A: Allocator>(markers: &[MarkerView<A>], at: u32, marker: Stamp) -> Option<usize>
+    requires { RisesStrictly marker_cmp markers.now }
+    ensures found { IfSome result (StandsAt (is_marker_at at marker) markers.now) }
+    ensures absent { IfNone result (IsNowhere (is_marker_at at marker) markers.now) }
+{
+    let index = marker_place(markers, at, marker);
+    if index == markers.len() {
+        return None;
+    }
+    if is_marker_at(&markers[index], at, marker) {
+        return Some(index);
+    }
+    None
+}
+
+impl<A: Allocator> Session<A> {
+    /// Puts a marker in where its position, in frames, and its stamp say. Finding the place takes as many comparisons as the
+    /// logarithm of how many markers there are, and what follows moves. No marker with its position and stamp may be there.
+    /// Refused only as `Memory` (0), where a growth was refused, and then the session is unchanged.
+    pub fn put_marker(&mut self, marker: MarkerView<A>) -> Result<(), SessionFault>
+        requires { list_any (is_marker_at marker.at marker.marker) self.old.markers ≡ false }
+        ensures ok { OnOk result (self.new ≡ record self.old { markers = insert_by marker_cmp marker self.old.markers }) }
+        ensures err { IfErr result (λ fault. fault ≡ SessionFault.Memory) }
+        ensures kept { OnErr result (self.new ≡ self.old) }
+    {
+        let place = marker_place(self.markers.items(), marker.at, marker.marker);
+        self.markers.insert(place, marker)?;
+        Ok(())
+    }
+
+    /// Takes the marker of this stamp out that stands at this position, in frames, and gives it back; `None` where there is
+    /// none. Finding it takes as many comparisons as the logarithm of how many markers there are, and what follows moves.
+    /// Takes no memory.
+    pub fn take_marker(&mut self, at: u32, marker: Stamp) -> Option<MarkerView<A>>
+        ensures taken { result ≡ find (is_marker_at at marker) self.old.markers }
+        ensures rest { self.new ≡ record self.old { markers = filter (λ m. not (is_marker_at at marker m)) self.old.markers } }
+    {
+        let index = marker_index(self.markers.items(), at, marker)?;
+        Some(self.markers.remove(index))
+    }
+}
