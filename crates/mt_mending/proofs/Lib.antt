@@ -10,3 +10,4 @@ pub mod Leaving
 pub mod NotedSession
 pub mod Once
 pub mod PlaceOrder
+pub mod Markers

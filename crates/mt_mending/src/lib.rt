@@ -29,5 +29,9 @@
 #![tactic(auto)]
 
 pub mod laws;
+mod marker;
+mod read;
 #[cfg(test)]
 mod tests;
+
+pub use marker::{marker_position, mend_markers};
