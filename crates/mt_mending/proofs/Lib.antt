@@ -11,3 +11,4 @@ pub mod NotedSession
 pub mod Once
 pub mod PlaceOrder
 pub mod Markers
+pub mod Clips

@@ -28,10 +28,12 @@
 //! Operations are noted after what they need, in any order else.
 #![tactic(auto)]
 
+mod clip;
 pub mod laws;
 mod marker;
 mod read;
 #[cfg(test)]
 mod tests;
 
+pub use clip::{PlacedClip, mend_clips, placed_clip};
 pub use marker::{marker_position, mend_markers};
