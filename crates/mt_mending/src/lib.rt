@@ -32,8 +32,10 @@ mod clip;
 pub mod laws;
 mod marker;
 mod read;
+mod subject;
 #[cfg(test)]
 mod tests;
 
 pub use clip::{PlacedClip, mend_clips, placed_clip};
 pub use marker::{marker_position, mend_markers};
+pub use subject::subject_of;
