@@ -35,7 +35,9 @@ mod read;
 mod subject;
 #[cfg(test)]
 mod tests;
+mod track;
 
 pub use clip::{PlacedClip, mend_clips, placed_clip};
 pub use marker::{marker_position, mend_markers};
 pub use subject::subject_of;
+pub use track::{track_clips, whole_track};
