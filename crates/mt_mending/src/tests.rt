@@ -2,6 +2,8 @@ ghost use Rattle.std.specs.Prelude.{◌≡◌, ◌∷◌, IfOk};
 ghost use Rattle.mt_items.specs.Noting.{AreNoted, MayFollow};
 ghost use Rattle.mt_sessionview.specs.Noted.{markers_in};
 
+mod clips;
+
 use crate::{laws, marker_position, mend_markers, subject_of};
 use mt_items::Items;
 use mt_op::{Body, Op, Title};
