@@ -10,3 +10,5 @@ pub mod Leaving
 pub mod NotedSession
 pub mod Once
 pub mod PlaceOrder
+pub mod Markers
+pub mod Clips

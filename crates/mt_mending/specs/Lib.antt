@@ -1,2 +1,3 @@
 pub mod Mending
 pub mod Examples
+pub mod Before

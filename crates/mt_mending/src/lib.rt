@@ -1,5 +1,5 @@
 //! What one operation more changes in a session: the laws by which an editor keeps its session, entry by entry, instead of making
-//! it anew.
+//! it anew, and the calls that do so.
 //!
 //! An operation adds an item or names one, its *subject*, whatever its body. Where it is noted after others, the session that they
 //! show changes at this one item: among the markers, among the clips of each track and among the tracks, the entry of the subject is
@@ -26,8 +26,29 @@
 //! - [`laws::noted_session`] says that all this is of the session of the set.
 //!
 //! Operations are noted after what they need, in any order else.
+//!
+//! The calls that mend a session do what the laws say. Before an operation is noted, [`marker_position`] and [`placed_clip`] tell where its
+//! item ([`subject_of`]) stands; after it, [`mend_markers`] takes the marker out there and puts in the one that is shown now, and [`mend_clips`]
+//! the clip, where the item is no track. [`whole_track`] makes the track that is added or returns, with all its clips.
+//!
+//! ```text
+//! let item = subject_of(&op);
+//! let stood = marker_position(&items, item);
+//! let items = items.note(&op)?;
+//! mend_markers(&mut session, stood, &items, item)?;
+//! ```
 #![tactic(auto)]
 
+mod clip;
 pub mod laws;
+mod marker;
+mod read;
+mod subject;
 #[cfg(test)]
 mod tests;
+mod track;
+
+pub use clip::{PlacedClip, mend_clips, placed_clip};
+pub use marker::{marker_position, mend_markers};
+pub use subject::subject_of;
+pub use track::{track_clips, whole_track};

@@ -1,0 +1,71 @@
+-- The markers of a session, mended by taking one out and putting one in.
+use Rattle.std.proofs.Common.{◌≡◌, ℕ, Bool, true, false, cond, not, eqb, ◌&&◌, ◌||◌, List, [], ◌∷◌, Option, Some, None, refl, sym, ap, ◌∙◌, subst}
+use Rattle.std.specs.Prelude.{option_map, IfSome}
+use Rattle.std.specs.List.{list_any}
+use Rattle.mt_stamp.specs.Moment.{Moment, stamp_eq}
+use Rattle.mt_op.specs.Operation.{Operation}
+use Rattle.mt_items.specs.Noting.{AreNoted}
+use Rattle.mt_items.proofs.Noting.{first_false, rest_false}
+use Rattle.mt_sessionview.specs.Content.{Marker, marker_cmp}
+use Rattle.mt_sessionview.specs.Noted.{markers_in}
+use Rattle.mt_sessionview.specs.Changing.{put, without, is_marker_at}
+use Rattle.mt_mending.specs.Before.{IsOneMore, MarkersStood, marker_position, without_stood}
+use Rattle.mt_mending.specs.Mending.{marker_entry}
+use Rattle.mt_mending.proofs.Found.{entries_are_shown, markers_are_found}
+use Rattle.mt_mending.proofs.Items.{markers_are_mended}
+
+-- what is left has no entry of the stamp
+pub none_left : {X : Type 0} (key : X → Moment) (item : Moment) (xs : List X) → list_any (λ x. stamp_eq item (key x)) (without key item xs) ≡ false
+none_left key item [] = refl
+none_left {X} key item (x ∷ xs) = by (stamp_eq item (key x)) refl (none_left key item xs)
+  where
+    left : List X
+    left = without key item xs
+
+    by : (b : Bool) → stamp_eq item (key x) ≡ b → list_any (λ y. stamp_eq item (key y)) left ≡ false → list_any (λ y. stamp_eq item (key y)) (cond (not b) (x ∷ left) left) ≡ false
+    by true is rest = rest
+    by false is rest = ap (λ (b : Bool). b || list_any (λ y. stamp_eq item (key y)) left) is ∙ rest
+
+-- none of a stamp is none at a position under this stamp
+pub none_at : (at : ℕ) (item : Moment) (ms : List Marker) → list_any (λ (x : Marker). stamp_eq item x.marker) ms ≡ false → list_any (is_marker_at at item) ms ≡ false
+none_at at item [] none = refl
+none_at at item (x ∷ xs) none =
+    (λ i. (eqb x.at at && first_false (stamp_eq item x.marker) (list_any (λ (y : Marker). stamp_eq item y.marker) xs) none i) || none_at at item xs (rest_false (stamp_eq item x.marker) (list_any (λ (y : Marker). stamp_eq item y.marker) xs) none) i)
+    ∙ by (eqb x.at at)
+  where
+    by : (b : Bool) → (b && false || false) ≡ false
+    by true = refl
+    by false = refl
+
+abbrev key : Marker → Moment
+key m = m.marker
+
+-- what stood at the position of the item's marker is this marker
+taken : (r : List Operation) (item : Moment) → AreNoted r → without_stood (marker_position r item) item (markers_in r) ≡ without key item (markers_in r)
+taken r item noted = by (marker_entry r item) refl
+  where
+    by : (e : Option Marker) → marker_entry r item ≡ e → without_stood (option_map (λ (m : Marker). m.at) e) item (markers_in r) ≡ without key item (markers_in r)
+    by None is = sym (markers_are_found.missing r item noted is)
+    by (Some m) is = sym (markers_are_found.there r item m noted is)
+
+pub noted_before : {ops before : List Operation} {item : Moment} → IsOneMore ops before item → AreNoted before
+noted_before one = (subst AreNoted one.are one.noted).1
+
+mends : (ops before : List Operation) (item : Moment) → IsOneMore ops before item → put marker_cmp (marker_entry ops item) (without key item (markers_in before)) ≡ markers_in ops
+mends ops before item one =
+    (λ i. put marker_cmp (marker_entry (one.are i) (one.about i)) (without key (one.about i) (markers_in before)))
+    ∙ sym (markers_are_mended one.last before (subst AreNoted one.are one.noted)) ∙ ap markers_in (sym one.are)
+
+module _ {ops : List Operation} {item : Moment} {stood : Option ℕ} {markers : List Marker} (was : MarkersStood ops item stood markers) where
+  -- what is left where the item's marker is taken out
+  pub left_is : without_stood stood item markers ≡ without key item (markers_in was.before)
+  left_is = (λ i. without_stood (was.stood_at i) item (was.are i)) ∙ taken was.before item (noted_before was.one_more)
+
+  pub is_new : (shown : Option Marker) → shown ≡ marker_entry ops item → IfSome shown (λ m. list_any (λ (x : Marker). stamp_eq m.marker x.marker) (without_stood stood item markers) ≡ false)
+  is_new None is = tt
+  is_new (Some m) is =
+      let its : m.marker ≡ item = (((entries_are_shown ops was.one_more.noted).markers item m).0 (sym is)).1 in
+      (λ i. list_any (λ (x : Marker). stamp_eq (its i) x.marker) (left_is i)) ∙ none_left key item (markers_in was.before)
+
+  pub put_is : put marker_cmp (marker_entry ops item) (without_stood stood item markers) ≡ markers_in ops
+  put_is = ap (put marker_cmp (marker_entry ops item)) left_is ∙ mends ops was.before item was.one_more

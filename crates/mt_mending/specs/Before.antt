@@ -1,0 +1,70 @@
+-- A session before the last of the noted operations, and where the item of this operation stood in it.
+use Rattle.std.specs.Prelude.{◌≡◌, ℕ, List, ◌∷◌, map, filter, not, Option, option_map, Some, None, if◌then◌else◌}
+use Rattle.mt_stamp.specs.Moment.{Moment, stamp_eq}
+use Rattle.mt_op.specs.Operation.{Operation}
+use Rattle.mt_items.specs.Noting.{AreNoted}
+use Rattle.mt_sessionview.specs.Content.{Clip, Track, Marker}
+use Rattle.mt_sessionview.specs.Noted.{markers_in, tracks_in}
+use Rattle.mt_sessionview.specs.Read.{clip_read}
+use Rattle.mt_sessionview.specs.Changing.{is_marker_at, with_clip, without_clip}
+use Rattle.mt_mending.specs.declared.clip.PlacedClip.{PlacedClip}
+use Rattle.mt_mending.specs.Mending.{subject_of, marker_entry}
+
+-- These operations are those before and one more, which is about this item.
+pub record IsOneMore (ops before : List Operation) (item : Moment) : Type 0 where
+  pub last : Operation
+  pub are : ops ≡ last ∷ before
+  pub noted : AreNoted ops
+  pub about : item ≡ subject_of last
+
+-- where the session shows the marker of a stamp, in frames
+abbrev pub marker_position : List Operation → Moment → Option ℕ
+marker_position ops item = option_map (λ (m : Marker). m.at) (marker_entry ops item)
+
+-- The markers are those before the last of these operations, and that of its item stood at this position.
+pub record MarkersStood (ops : List Operation) (item : Moment) (stood : Option ℕ) (markers : List Marker) : Type 0 where
+  pub before : List Operation
+  pub one_more : IsOneMore ops before item
+  pub are : markers ≡ markers_in before
+  pub stood_at : stood ≡ marker_position before item
+
+-- the clip of a stamp with its track, which may be absent
+abbrev pub placed_clip : List Operation → Moment → Option PlacedClip
+placed_clip ops item = option_map (λ f. record { track = f.track; clip = f.clip }) (clip_read ops item)
+
+-- The tracks are those before the last of these operations, and the clip that is its item stood there.
+pub record ClipsStood (ops : List Operation) (item : Moment) (stood : Option PlacedClip) (tracks : List Track) : Type 0 where
+  pub before : List Operation
+  pub one_more : IsOneMore ops before item
+  pub are : tracks ≡ tracks_in before
+  pub stood_at : stood ≡ placed_clip before item
+
+-- ---- working definitions, of which no public function speaks
+
+-- the markers but the one of a stamp that stood at this position
+abbrev pub without_stood : Option ℕ → Moment → List Marker → List Marker
+without_stood None item markers = markers
+without_stood (Some at) item markers = filter (λ m. not (is_marker_at at item m)) markers
+
+-- a clip, where it is on this track
+abbrev pub if_there : Moment → Option PlacedClip → Option Clip
+if_there track None = None
+if_there track (Some found) = if stamp_eq found.track track then Some found.clip else None
+
+-- a track without a clip that stood on it
+abbrev pub clip_off : PlacedClip → Track → Track
+clip_off found t = if stamp_eq found.track t.track then without_clip found.clip.at found.clip.place t else t
+
+-- a track with a clip that comes to it
+abbrev pub clip_to : PlacedClip → Track → Track
+clip_to found t = if stamp_eq found.track t.track then with_clip found.clip t else t
+
+-- the tracks with a clip taken off where it stood
+abbrev pub tracks_without : Option PlacedClip → List Track → List Track
+tracks_without None tracks = tracks
+tracks_without (Some found) tracks = map (clip_off found) tracks
+
+-- the tracks with a clip put where it is
+abbrev pub tracks_with : Option PlacedClip → List Track → List Track
+tracks_with None tracks = tracks
+tracks_with (Some found) tracks = map (clip_to found) tracks

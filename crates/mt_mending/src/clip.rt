@@ -1,0 +1,136 @@
+//! The clips of a session, mended by one operation more.
+
+ghost use Rattle.std.specs.Prelude.{◌≡◌, ℕ, true, false, map, slice_get, Some, IfOk, IfErr, IfSome, OnOk};
+ghost use Rattle.std.specs.List.{list_any};
+ghost use Rattle.mt_stamp.specs.Moment.{stamp_eq};
+ghost use Rattle.mt_stamp.specs.Sorting.{DifferBy};
+ghost use Rattle.mt_op.specs.declared.need.Role.TheVariants.{Track as TrackRole};
+ghost use Rattle.mt_op.specs.Needs.{need_of};
+ghost use Rattle.mt_items.specs.Noting.{is_need_met};
+ghost use Rattle.mt_sessionview.specs.Content.{Track};
+ghost use Rattle.mt_sessionview.specs.Noted.{tracks_in};
+ghost use Rattle.mt_sessionview.specs.Changing.{is_placed_by};
+ghost use Rattle.mt_mending.specs.Before.{ClipsStood, placed_clip, clip_off, clip_to, tracks_without, tracks_with};
+
+use crate::read::value_or;
+use mt_items::Items;
+use mt_op::Gain;
+use mt_sessionview::{ClipView, Session, SessionFault};
+use mt_stamp::Stamp;
+use std::alloc::Allocator;
+
+/// A clip, and the track that it is on.
+#[derive(Clone, Copy, Debug)]
+pub struct PlacedClip {
+    /// The stamp of the track, which may be absent.
+    pub track: Stamp,
+    /// The clip.
+    pub clip: ClipView,
+}
+
+/// The clip of a stamp, where it is present, with its track, which need not be; `None` where no clip of this stamp is. Takes
+/// the logarithm of the number of items, and no memory.
+pub fn placed_clip<A: Allocator>(items: &Items<A>, item: Stamp) -> Option<PlacedClip>
+    ensures { result ≡ placed_clip items.now item }
+{
+    if !items.is_present(item) {
+        return None;
+    }
+    let Some(place) = items.clip_place(item) else {
+        return None;
+    };
+    let Some(trim) = items.trim(item) else {
+        return None;
+    };
+    let Some(source) = items.source(item) else {
+        return None;
+    };
+    let (track, at) = *place.get();
+    let (offset, len) = *trim.get();
+    Some(PlacedClip {
+        track,
+        clip: ClipView {
+            clip: item,
+            place: place.stamp(),
+            at,
+            offset,
+            len,
+            gain: value_or(items.gain(item), Gain::UNCHANGED),
+            mute: value_or(items.mute(item), false),
+            source,
+        },
+    })
+}
+
+// Takes a clip off the track on which it stood, where that is shown.
+fn take_off<A: Allocator>(session: &mut Session<A>, found: PlacedClip)
+    requires once { DifferBy (λ (t : Track). t.track) session.old.tracks }
+    ensures { session.new ≡ record session.old { tracks = map (clip_off found) session.old.tracks } }
+{
+    let (at, place) = (found.clip.at, found.clip.place);
+    match session.index_of_track(found.track) {
+        Some(index) => {
+            let _taken = session.take_clip(index, at, place);
+        }
+        None => {}
+    }
+}
+
+// The same of what stood, if anything did.
+fn take_stood<A: Allocator>(session: &mut Session<A>, stood: Option<PlacedClip>)
+    requires once { DifferBy (λ (t : Track). t.track) session.old.tracks }
+    ensures { session.new ≡ record session.old { tracks = tracks_without stood session.old.tracks } }
+{
+    if let Some(found) = stood {
+        take_off(session, found);
+    }
+}
+
+// Puts a clip on its track, where that is shown.
+fn put_on<A: Allocator>(session: &mut Session<A>, found: PlacedClip) -> Result<(), SessionFault>
+    requires once { DifferBy (λ (t : Track). t.track) session.old.tracks }
+    requires new { (k : ℕ) (t : Track) → slice_get session.old.tracks k ≡ Some t → stamp_eq found.track t.track ≡ true → list_any (is_placed_by found.clip.place) t.clips ≡ false }
+    ensures ok { OnOk result (session.new ≡ record session.old { tracks = map (clip_to found) session.old.tracks }) }
+    ensures err { IfErr result (λ fault. fault ≡ SessionFault.Memory) }
+{
+    match session.index_of_track(found.track) {
+        Some(index) => session.put_clip(index, found.clip),
+        None => Ok(()),
+    }
+}
+
+// The same of what is shown, if anything is.
+fn put_shown<A: Allocator>(
+    session: &mut Session<A>,
+    shown: Option<PlacedClip>,
+) -> Result<(), SessionFault>
+    requires once { DifferBy (λ (t : Track). t.track) session.old.tracks }
+    requires new { IfSome shown (λ f. (k : ℕ) (t : Track) → slice_get session.old.tracks k ≡ Some t → stamp_eq f.track t.track ≡ true → list_any (is_placed_by f.clip.place) t.clips ≡ false) }
+    ensures ok { OnOk result (session.new ≡ record session.old { tracks = tracks_with shown session.old.tracks }) }
+    ensures err { IfErr result (λ fault. fault ≡ SessionFault.Memory) }
+{
+    match shown {
+        Some(found) => put_on(session, found),
+        None => Ok(()),
+    }
+}
+
+/// Mends the clips of a session after one operation more was noted, whose item is no track: takes the clip that is its item
+/// off the track on which it stood before (`placed_clip` of the operations before), where that track is shown, and puts it on
+/// the one on which it is now, where this is shown. Looks at one track after another, and takes as many comparisons as the
+/// logarithm of the number of clips and items; what follows the clip moves. Refused only as `Memory` (0), where a growth was
+/// refused; the session may then lack the clip.
+pub fn mend_clips<A: Allocator>(
+    session: &mut Session<A>,
+    stood: Option<PlacedClip>,
+    items: &Items<A>,
+    item: Stamp,
+) -> Result<(), SessionFault>
+    requires before { ClipsStood items.now item stood session.old.tracks }
+    requires no_track { is_need_met items.now (need_of TrackRole item) ≡ false }
+    ensures ok { OnOk result (session.new ≡ record session.old { tracks = tracks_in items.now }) }
+    ensures err { IfErr result (λ fault. fault ≡ SessionFault.Memory) }
+{
+    take_stood(session, stood);
+    put_shown(session, placed_clip(items, item))
+}

@@ -1,0 +1,113 @@
+//! The markers of a session, mended by one operation more.
+
+ghost use Rattle.std.specs.Prelude.{◌≡◌, false, ◌&&◌, Option, None, option_map, if◌then◌else◌, IfOk, IfErr, IfSome, OnOk};
+ghost use Rattle.std.specs.List.{list_any};
+ghost use Rattle.mt_stamp.specs.Moment.{stamp_eq};
+ghost use Rattle.mt_op.specs.declared.need.Role.TheVariants.{Marker as MarkerRole};
+ghost use Rattle.mt_op.specs.Needs.{need_of};
+ghost use Rattle.mt_op.specs.Presence.{is_present};
+ghost use Rattle.mt_op.specs.Writes.{title_written, last_write};
+ghost use Rattle.mt_items.specs.Fields.{written};
+ghost use Rattle.mt_items.specs.Noting.{is_need_met};
+ghost use Rattle.mt_sessionview.specs.Content.{marker_cmp};
+ghost use Rattle.mt_sessionview.specs.Noted.{markers_in};
+ghost use Rattle.mt_sessionview.specs.Changing.{put};
+ghost use Rattle.mt_mending.specs.Mending.{marker_entry};
+ghost use Rattle.mt_mending.specs.Before.{MarkersStood, marker_position, without_stood};
+
+use crate::read::value_or;
+use mt_cells::Register;
+use mt_items::Items;
+use mt_op::{Need, Role, Title};
+use mt_sessionview::{MarkerView, Session, SessionFault};
+use mt_stamp::Stamp;
+use std::alloc::Allocator;
+
+// The title of a marker, where one of this stamp is present.
+fn marker_title<A: Allocator>(items: &Items<A>, item: Stamp) -> Option<&Register<Title<A>>>
+    ensures { option_map (λ r. written r.now) result ≡ (if is_need_met items.now (need_of MarkerRole item) && is_present items.now item then last_write title_written item items.now else None) }
+{
+    let need = Need {
+        stamp: item,
+        role: Role::Marker,
+    };
+    if items.meets(&need) && items.is_present(item) {
+        return items.title(item);
+    }
+    None
+}
+
+// The marker of a stamp, where one is present.
+fn marker_at<A: Allocator + Clone>(
+    items: &Items<A>,
+    item: Stamp,
+) -> Result<Option<MarkerView<A>>, SessionFault>
+    ensures ok { IfOk result (λ view. view ≡ marker_entry items.now item) }
+    ensures err { IfErr result (λ fault. fault ≡ SessionFault.Memory) }
+{
+    let Some(title) = marker_title(items, item) else {
+        return Ok(None);
+    };
+    let Ok(title) = title.get().try_clone() else {
+        return Err(SessionFault::Memory);
+    };
+    Ok(Some(MarkerView {
+        marker: item,
+        at: value_or(items.position(item), 0),
+        title,
+    }))
+}
+
+/// The position, in frames, at which the session of the noted operations shows the marker of a stamp; `None` where it shows
+/// none. Takes the logarithm of the number of items, and no memory.
+pub fn marker_position<A: Allocator>(items: &Items<A>, item: Stamp) -> Option<u32>
+    ensures { result ≡ marker_position items.now item }
+{
+    match marker_title(items, item) {
+        Some(_) => Some(value_or(items.position(item), 0)),
+        None => None,
+    }
+}
+
+// Takes out the marker of a stamp that stood at a position.
+fn take_stood<A: Allocator>(session: &mut Session<A>, stood: Option<u32>, item: Stamp)
+    ensures { session.new ≡ record session.old { markers = without_stood stood item session.old.markers } }
+{
+    if let Some(at) = stood {
+        let _taken = session.take_marker(at, item);
+    }
+}
+
+// Puts in a marker, where there is one.
+fn put_shown<A: Allocator>(
+    session: &mut Session<A>,
+    shown: Option<MarkerView<A>>,
+) -> Result<(), SessionFault>
+    requires new { IfSome shown (λ m. list_any (λ x. stamp_eq m.marker x.marker) session.old.markers ≡ false) }
+    ensures ok { OnOk result (session.new ≡ record session.old { markers = put marker_cmp shown session.old.markers }) }
+    ensures err { IfErr result (λ fault. fault ≡ SessionFault.Memory) }
+{
+    match shown {
+        Some(view) => session.put_marker(view),
+        None => Ok(()),
+    }
+}
+
+/// Mends the markers of a session after one operation more was noted: takes out the marker that is its item, from the
+/// position at which it stood before (`marker_position` of the operations before), and puts in the one that the operations
+/// show now. Takes as many comparisons as the logarithm of the number of markers and items, and moves what follows. Refused
+/// only as `Memory` (0), where a growth was refused; the session may then lack the marker.
+pub fn mend_markers<A: Allocator + Clone>(
+    session: &mut Session<A>,
+    stood: Option<u32>,
+    items: &Items<A>,
+    item: Stamp,
+) -> Result<(), SessionFault>
+    requires before { MarkersStood items.now item stood session.old.markers }
+    ensures ok { OnOk result (session.new ≡ record session.old { markers = markers_in items.now }) }
+    ensures err { IfErr result (λ fault. fault ≡ SessionFault.Memory) }
+{
+    let shown = marker_at(items, item)?;
+    take_stood(session, stood, item);
+    put_shown(session, shown)
+}

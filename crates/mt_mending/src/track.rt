@@ -1,0 +1,118 @@
+//! The track that a session shows of a stamp, made anew.
+
+ghost use Rattle.std.specs.Prelude.{◌≡◌, true, false, ◌&&◌, Option, None, option_map, if◌then◌else◌, IfOk, IfErr};
+ghost use Rattle.std.specs.List.{filter_map};
+ghost use Rattle.std.specs.List.Sorted.{IsPermutation, IsSorted};
+ghost use Rattle.mt_op.specs.declared.need.Role.TheVariants.{Clip as ClipRole, Track as TrackRole};
+ghost use Rattle.mt_op.specs.Needs.{need_of};
+ghost use Rattle.mt_op.specs.Presence.{is_present};
+ghost use Rattle.mt_items.specs.Cells.{items_of};
+ghost use Rattle.mt_items.specs.Noting.{AreNoted, is_need_met};
+ghost use Rattle.mt_sessionview.specs.Content.{clip_cmp};
+ghost use Rattle.mt_sessionview.specs.Noted.{clips_in};
+ghost use Rattle.mt_sessionview.specs.Read.{clip_on};
+ghost use Rattle.mt_mending.specs.Mending.{track_entry};
+
+use crate::clip::placed_clip;
+use crate::read::value_or;
+use mt_items::Items;
+use mt_op::{Gain, Need, Role};
+use mt_sessionview::{ClipView, SessionFault, TrackView};
+use mt_stamp::{List, Stamp};
+use std::alloc::Allocator;
+
+// The clip of a stamp, where it is present and on a track.
+fn clip_on<A: Allocator>(items: &Items<A>, track: Stamp, clip: Stamp) -> Option<ClipView>
+    ensures { result ≡ clip_on items.now track clip }
+{
+    match placed_clip(items, clip) {
+        Some(found) if found.track == track => Some(found.clip),
+        _ => None,
+    }
+}
+
+// The clips that are on a track, by rising stamp.
+fn clips_on<A: Allocator + Clone>(
+    alloc: A,
+    items: &Items<A>,
+    track: Stamp,
+) -> Result<Vec<ClipView, A>, SessionFault>
+    ensures ok { IfOk result (λ clips. clips.items ≡ filter_map (clip_on items.now track) (items_of ClipRole items.now)) }
+    ensures err { IfErr result (λ fault. fault ≡ SessionFault.Memory) }
+{
+    let mut clips = Vec::new(alloc);
+    for clip in &items.clips()? {
+        if let Some(view) = clip_on(items, track, *clip) {
+            clips.push(view)?;
+        }
+    }
+    Ok(clips)
+}
+
+// Puts clips in order: by position, then by the stamp that gave their place.
+fn sort_clips<A: Allocator>(clips: Vec<ClipView, A>) -> Result<Vec<ClipView, A>, SessionFault>
+    ensures moved { IfOk result (λ sorted. IsPermutation clips.items sorted.items) }
+    ensures sorted { IfOk result (λ sorted. IsSorted clip_cmp sorted.items) }
+    ensures err { IfErr result (λ fault. fault ≡ SessionFault.Memory) }
+{
+    let mut sorted = clips;
+    sorted.sort_by_key(|view| (view.at, view.place))?;
+    Ok(sorted)
+}
+
+/// The clips that are present and on a track, in order: by position, and then by the stamp that gave their place. Looks at
+/// every clip, and takes n log n for the n that are on the track. Refused only as `Memory` (0).
+pub fn track_clips<A: Allocator + Clone>(
+    alloc: A,
+    items: &Items<A>,
+    track: Stamp,
+) -> Result<Vec<ClipView, A>, SessionFault>
+    requires noted { AreNoted items.now }
+    ensures ok { IfOk result (λ clips. clips.items ≡ clips_in items.now track) }
+    ensures err { IfErr result (λ fault. fault ≡ SessionFault.Memory) }
+{
+    let clips = clips_on(alloc, items, track)?;
+    let sorted = sort_clips(clips)?;
+    Ok(sorted)
+}
+
+// Whether the session shows a track of a stamp.
+fn is_shown<A: Allocator>(items: &Items<A>, item: Stamp) -> bool
+    ensures { result ≡ (is_need_met items.now (need_of TrackRole item) && is_present items.now item) }
+{
+    let need = Need {
+        stamp: item,
+        role: Role::Track,
+    };
+    items.meets(&need) && items.is_present(item)
+}
+
+/// The track of a stamp with all its clips, where the session of the noted operations shows one: one that was added or that
+/// returns. Looks at every clip, and takes n log n for the n that are on the track. Refused only as `Memory` (0).
+pub fn whole_track<A: Allocator + Clone>(
+    alloc: A,
+    items: &Items<A>,
+    item: Stamp,
+) -> Result<Option<TrackView<A>>, SessionFault>
+    requires noted { AreNoted items.now }
+    ensures ok { IfOk result (λ view. view ≡ track_entry items.now item) }
+    ensures err { IfErr result (λ fault. fault ≡ SessionFault.Memory) }
+{
+    if !is_shown(items, item) {
+        return Ok(None);
+    }
+    let Some(title) = items.title(item) else {
+        return Ok(None);
+    };
+    let Ok(title) = title.get().try_clone() else {
+        return Err(SessionFault::Memory);
+    };
+    let clips = track_clips(alloc, items, item)?;
+    Ok(Some(TrackView {
+        track: item,
+        title,
+        gain: value_or(items.gain(item), Gain::UNCHANGED),
+        mute: value_or(items.mute(item), false),
+        clips: List::new(clips),
+    }))
+}
