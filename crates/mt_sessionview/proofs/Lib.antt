@@ -16,6 +16,8 @@ pub mod Reading
 pub mod InOrder
 pub mod Refs
 pub mod Passing
+pub mod PlacedOps
+pub mod SameMembers
 pub mod Standing
 pub mod Whole
 pub mod Rising

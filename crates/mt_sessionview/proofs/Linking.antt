@@ -9,14 +9,14 @@ use Rattle.std.specs.declared.cmp.Ordering.{Ordering}
 use Rattle.std.specs.declared.cmp.Ordering.TheVariants.{Less, Equal, Greater}
 use Rattle.std.proofs.lemmas.Bool.{eqb-true, ltb-true, cases_lt, cases_eq}
 use Rattle.std.proofs.lemmas.List.{take_all}
-use Rattle.std.proofs.lemmas.Option.{same_Some, none-some, get_or_from_slice_get, slice_get_within, slice_get_read, slice_get-get_or}
+use Rattle.std.proofs.lemmas.Option.{same_Some, none-some, get_or_from_slice_get, slice_get_within, slice_get-get_or}
 use Rattle.mt_stamp.specs.Moment.{Moment, stamp_cmp, stamp_eq}
 use Rattle.mt_stamp.specs.Sorting.{RisesStrictly, DifferBy}
 use Rattle.mt_stamp.specs.Tree.{TreePlace, stamps_of, IsTree, tree_cmp}
 use Rattle.mt_stamp.proofs.Order.{stamp_cmp_total, stamp_cmp-IsAntisymmetric, stamp_eq-true, stamp_eq-itself}
 use Rattle.mt_stamp.proofs.Members.{member_at}
 use Rattle.mt_stamp.proofs.Tree.{afters_are_older}
-use Rattle.mt_stamp.proofs.Arranging.{insert_after, arrange, arranged, arranged_more, arranged_sorted, Stands, IsUnderWay, under_way_at, after_stands}
+use Rattle.mt_stamp.proofs.Arranging.{insert_after, arranged, arranged_more, arranged_sorted, Stands, IsUnderWay, under_way_at, after_stands}
 use Rattle.mt_op.specs.ByStamp.{stamp_of}
 use Rattle.mt_op.specs.Operation.{Operation}
 use Rattle.mt_sessionview.specs.Read.{tree_place}

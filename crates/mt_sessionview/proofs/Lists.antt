@@ -26,6 +26,16 @@ pub all_true : {X : Type 0} (f : X → Bool) (xs : List X) → list_all f xs ≡
 all_true f [] all = tt
 all_true f (x ∷ xs) all = (and_first _ _ all, all_true f xs (and_second _ _ all))
 
+-- where a member passes, one does
+pub any_of : {X : Type 0} (p : X → Bool) (xs : List X) (x : X) → IsMember x xs → p x ≡ true → list_any p xs ≡ true
+any_of p [] x m passes = absurd m
+any_of p (y ∷ xs) x (inl same) passes = ap (λ (b : Bool). b || list_any p xs) (ap p same ∙ passes)
+any_of p (y ∷ xs) x (inr later) passes = by (p y) (any_of p xs x later passes)
+  where
+    by : (b : Bool) → list_any p xs ≡ true → (b || list_any p xs) ≡ true
+    by true rest = refl
+    by false rest = rest
+
 -- a member that passes
 pub record IsFound {X : Type 0} (p : X → Bool) (xs : List X) : Type 0 where
   pub item : X

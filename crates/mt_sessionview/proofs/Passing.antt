@@ -1,7 +1,7 @@
 -- One pass over operations by rising stamp collects the ready ones.
-use Rattle.std.proofs.Common.{◌≡◌, ℕ, ◌≤◌, true, List, [], ◌∷◌, ◌++◌, length, map, drop, reverse, refl, sym, ap, ◌∙◌, subst}
+use Rattle.std.proofs.Common.{◌≡◌, true, List, [], ◌∷◌, ◌++◌, map, reverse, sym, ap, ◌∙◌, subst}
 use Rattle.std.specs.Prelude.{IsTrue}
-use Rattle.std.proofs.lemmas.List.{drop_all, reverse-reverse, map-append}
+use Rattle.std.proofs.lemmas.List.{reverse-reverse, map-append}
 use mathlib.Core.List.{reverse-cons}
 use Rattle.mt_stamp.specs.Sorting.{RisesStrictly}
 use Rattle.mt_op.specs.Operation.{Operation}

@@ -1,5 +1,5 @@
 -- What is read of the items of operations is what a session shows of them.
-use Rattle.std.proofs.Common.{◌≡◌, ℕ, Bool, true, false, cond, ◌&&◌, List, [], ◌∷◌, Option, Some, None, map, refl, sym, ap, ◌∙◌, subst, true≢false}
+use Rattle.std.proofs.Common.{◌≡◌, ℕ, Bool, true, false, cond, ◌&&◌, List, [], ◌∷◌, Option, Some, None, map, refl, sym, ap, ◌∙◌, subst}
 use Rattle.std.specs.Prelude.{option_map, unwrap_or}
 use Rattle.std.specs.Cmp.{IsTotalOrder}
 use Rattle.std.specs.List.{AllByRecursion, filter, filter_map, cons_option, sum_by}
@@ -9,7 +9,7 @@ use Rattle.std.specs.declared.cmp.Ordering.TheVariants.{Equal}
 use Rattle.std.proofs.lemmas.Cmp.{on_total}
 use Rattle.std.proofs.lemmas.Option.{same_Some}
 use Rattle.std.proofs.lemmas.List.Elements.{All-from_recursion}
-use Rattle.mt_stamp.specs.Moment.{Moment, stamp_cmp, stamp_eq}
+use Rattle.mt_stamp.specs.Moment.{Moment, stamp_eq}
 use Rattle.mt_stamp.specs.Sorting.{sort_by}
 use Rattle.mt_stamp.proofs.Order.{stamp_cmp_total}
 use Rattle.mt_stamp.proofs.Members.{IsMember}
@@ -24,15 +24,14 @@ use Rattle.mt_op.specs.Gain.{unchanged}
 use Rattle.mt_op.specs.Operation.{Act, AddClip, AddMarker, Operation}
 use Rattle.mt_op.specs.Needs.{fits, adds_clip, adds_marker}
 use Rattle.mt_op.specs.Presence.{is_present}
-use Rattle.mt_op.specs.Writes.{Write, Written, title_written, gain_written, mute_written, clip_place_written, trim_written, source_written, position_written, written_by, last_write}
+use Rattle.mt_op.specs.Writes.{Write, Written, title_written, gain_written, mute_written, clip_place_written, trim_written, source_written, position_written, last_write}
 use Rattle.mt_op.proofs.WriteOf.{is_write_of}
 use Rattle.mt_items.specs.Cells.{items_of}
 use Rattle.mt_sessionview.specs.Content.{Clip, Marker, clip_cmp, marker_cmp}
 use Rattle.mt_sessionview.specs.Session.{source_of}
 use Rattle.mt_sessionview.specs.Noted.{value_in, is_shown_in, marker_in, markers_in, clip_place_in, clip_in, is_clip_on_in, clips_in}
-use Rattle.mt_sessionview.specs.Read.{marker_from, marker_read, clip_from, clip_read, if_on, clip_on}
+use Rattle.mt_sessionview.specs.Read.{marker_from, marker_read, clip_from, if_on, clip_on}
 use Rattle.mt_sessionview.specs.declared.clip.OnTrack.{OnTrack}
-use Rattle.mt_sessionview.proofs.Items.{stamp_eq_same}
 use Rattle.mt_sessionview.proofs.Lists.{all_members, all_also}
 use Rattle.mt_sessionview.proofs.Orders.{marker_cmp_total, clip_cmp_total}
 use Rattle.mt_sessionview.proofs.Shown.{IsGiven, given_last, clip_given, IsMarkerIn, one_marker, all_markers, IsClipIn, one_clip, all_clips}

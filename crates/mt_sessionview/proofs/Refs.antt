@@ -1,5 +1,5 @@
 -- References sorted by what they refer to.
-use Rattle.std.proofs.Common.{◌≡◌, ◌≢◌, ℕ, zero, suc, ◌+◌, ◌<◌, List, [], ◌∷◌, map, length, refl, sym, ap, subst, ◌∙◌, arith}
+use Rattle.std.proofs.Common.{◌≡◌, ℕ, zero, suc, ◌+◌, ◌<◌, List, [], ◌∷◌, map, length, refl, sym, ap, subst, ◌∙◌, arith}
 use Rattle.std.specs.Prelude.{slice_index_or}
 use Rattle.std.specs.List.{All, AllByRecursion, sum_by}
 use Rattle.std.specs.List.Sorted.{IsPermutation, IsSorted, IsSortedByKey}
@@ -10,7 +10,7 @@ use Rattle.std.specs.Cmp.{on_total}
 use Rattle.mt_stamp.specs.Moment.{Moment, stamp_cmp}
 use Rattle.mt_stamp.specs.Sorting.{sort_by, insert_by, DifferBy, RisesStrictly}
 use Rattle.mt_stamp.proofs.Order.{stamp_cmp_total, stamp_cmp-IsAntisymmetric}
-use Rattle.mt_stamp.proofs.Members.{IsMember, AreApart, sort_strict}
+use Rattle.mt_stamp.proofs.Members.{IsMember, sort_strict}
 use Rattle.mt_stamp.proofs.SameItems.{SameItems, same_map, all_map}
 use Rattle.mt_stamp.proofs.Sorting.{sorted_is_sort_by, sort_same}
 use Rattle.mt_op.specs.Operation.{Operation}

@@ -1,36 +1,28 @@
 -- Items of operations, no two of which have one stamp.
-use Rattle.std.proofs.Common.{◌≡◌, ℕ, Bool, true, false, ◌&&◌, List, [], ◌∷◌, Option, Some, None, map, refl, sym, ap, ◌∙◌, inl, inr}
+use Rattle.std.proofs.Common.{◌≡◌, ℕ, true, List, Option, Some, None, map, refl, sym, ap, ◌∙◌}
 use Rattle.std.specs.Prelude.{option_map, unwrap_or}
 use Rattle.std.specs.List.{AllByRecursion, filter, filter_map}
-use Rattle.std.specs.Cmp.{IsTotalOrder}
 use Rattle.std.specs.Ordering.{nat_cmp}
 use Rattle.std.specs.declared.cmp.Ordering.TheVariants.{Equal}
-use Rattle.std.proofs.lemmas.Cmp.{on_total}
 use Rattle.std.proofs.lemmas.Option.{same_Some, none-some}
-use Rattle.std.proofs.lemmas.List.Sorted.{sum_by-IsPermutation, All-permutation}
-use Rattle.std.proofs.lemmas.List.Elements.{recursion_from_All, All-from_recursion}
-use Rattle.mt_stamp.specs.Moment.{Moment, stamp_cmp, stamp_eq}
-use Rattle.mt_stamp.specs.Tree.{TreePlace, tree_cmp}
+use Rattle.mt_stamp.specs.Moment.{Moment, stamp_cmp}
+use Rattle.mt_stamp.specs.Tree.{TreePlace}
 use Rattle.mt_stamp.proofs.Order.{stamp_cmp-IsAntisymmetric}
 use Rattle.mt_stamp.proofs.Tree.{trees_are_ordered}
-use Rattle.mt_op.specs.Gain.{unchanged}
 use Rattle.mt_op.specs.Operation.{Act, AddTrack, AddClip, Operation}
-use Rattle.mt_op.specs.Needs.{needs, meets, clock_of, adds_track, adds_clip, adds_marker}
-use Rattle.mt_op.specs.Ready.{is_ready}
-use Rattle.mt_op.specs.Writes.{Write, Written, title_written, gain_written, mute_written, track_place_written, clip_place_written, trim_written, position_written, written_by, last_write}
+use Rattle.mt_op.specs.Needs.{adds_track, adds_clip, adds_marker}
+use Rattle.mt_op.specs.Writes.{Write, Written, track_place_written, clip_place_written, written_by, last_write}
 use Rattle.mt_op.proofs.LastWrite.{latest_is_greatest}
 use Rattle.mt_op.proofs.Needs.{and_first}
 use Rattle.mt_sessionview.specs.Content.{Clip, Marker, clip_cmp, marker_cmp}
-use Rattle.mt_sessionview.specs.Session.{ready_ops, source_of, place_added}
-use Rattle.mt_stamp.specs.Sorting.{sort_by}
-use Rattle.mt_sessionview.specs.Noted.{value_in, is_shown_in, marker_in, markers_in, clip_place_in, clip_in, is_clip_on_in, clips_in, places_in, track_place_in, track_cmp_in, track_in, tracks_in}
+use Rattle.mt_sessionview.specs.Session.{place_added}
+use Rattle.mt_sessionview.specs.Noted.{is_shown_in, marker_in, clip_in, is_clip_on_in, places_in, track_place_in, track_cmp_in}
 use Rattle.mt_sessionview.proofs.Items.{stamp_eq_same}
-use Rattle.mt_sessionview.proofs.Orders.{tied_second, marker_cmp_total, clip_cmp_total, track_cmp_total}
-use Rattle.mt_stamp.proofs.Members.{IsMember, member_stands, member_kept, member_of_kept}
-use Rattle.mt_stamp.proofs.SameItems.{SameItems, GivenBy, same_filter, same_map, same_filter_map, all_passing, all_map, all_filter_map, all_here, member_gives}
-use Rattle.mt_sessionview.proofs.Lists.{all_members, member_all}
+use Rattle.mt_sessionview.proofs.Orders.{tied_second}
+use Rattle.mt_stamp.proofs.Members.{IsMember}
+use Rattle.mt_stamp.proofs.SameItems.{GivenBy, all_passing, all_map, all_filter_map, all_here, member_gives}
+use Rattle.mt_sessionview.proofs.Lists.{all_members}
 use Rattle.mt_op.proofs.SameWrites.{one_write}
-use Rattle.mt_stamp.proofs.Sorting.{sort_same}
 
 module _ (r : List Operation) (one : (a b : Operation) → IsMember a r → IsMember b r → a.stamp ≡ b.stamp → a ≡ b) where
   abbrev pub Among : Operation → Type 0

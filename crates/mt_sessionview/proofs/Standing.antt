@@ -1,46 +1,40 @@
 -- The tracks that stand where operations put them, in the order of those places, are the tracks of a session.
-use Rattle.std.proofs.Common.{◌≡◌, ◌≢◌, ℕ, zero, suc, ◌<◌, Bool, true, false, cond, ◌&&◌, ◌||◌, eqb, List, [], ◌∷◌, Option, Some, None, get_or, length, map, refl, sym, ap, ◌∙◌, subst, arith, inl, inr, true≢false}
-use Rattle.std.specs.Prelude.{option_map, unwrap_or, slice_get, reverse}
+use Rattle.std.proofs.Common.{◌≡◌, ◌≢◌, ℕ, Bool, true, false, cond, ◌&&◌, List, [], ◌∷◌, Option, Some, None, map, refl, sym, ap, ◌∙◌, subst, inl, inr, true≢false}
+use Rattle.std.specs.Prelude.{option_map, unwrap_or}
 use Rattle.std.specs.Cmp.{IsTotalOrder}
 use Rattle.std.specs.List.{AllByRecursion, filter, filter_map, cons_option}
-use Rattle.std.specs.List.Sorted.{IsStrictlySortedBy, IsPermutation}
+use Rattle.std.specs.List.Sorted.{IsPermutation}
 use Rattle.std.specs.declared.cmp.Ordering.{Ordering}
-use Rattle.std.specs.declared.cmp.Ordering.TheVariants.{Less, Equal}
-use Rattle.std.proofs.lemmas.Bool.{eqb-true}
+use Rattle.std.specs.declared.cmp.Ordering.TheVariants.{Equal}
 use Rattle.std.proofs.lemmas.Cmp.{on_total}
-use Rattle.std.proofs.lemmas.Option.{same_Some, none-some, slice_get-get_or, get_or_from_slice_get, slice_get_within}
+use Rattle.std.proofs.lemmas.Option.{same_Some, none-some}
 use Rattle.std.proofs.lemmas.List.Elements.{All-from_recursion, recursion_from_All}
-use Rattle.std.proofs.lemmas.List.Sorted.{All-permutation, IsPermutation-reverse, IsPermutation-sym, sum_by-IsPermutation}
-use Rattle.mt_stamp.specs.Moment.{Moment, stamp_eq}
+use Rattle.std.proofs.lemmas.List.Sorted.{All-permutation}
+use Rattle.mt_stamp.specs.Moment.{Moment}
 use Rattle.mt_stamp.specs.Sorting.{sort_by, RisesStrictly, DifferBy}
-use Rattle.mt_stamp.specs.Tree.{TreePlace, tree_cmp}
-use Rattle.mt_stamp.proofs.Order.{stamp_eq-true, stamp_eq-itself}
+use Rattle.mt_stamp.specs.Tree.{tree_cmp}
+use Rattle.mt_stamp.proofs.Order.{stamp_eq-true}
 use Rattle.mt_stamp.proofs.Tree.{trees_are_ordered}
 use Rattle.mt_stamp.proofs.Differing.{differ_kept}
-use Rattle.mt_stamp.proofs.Members.{IsMember, AreApart, member_at, member_stands, member_kept, member_of_kept, one_list, sort_strict, member_sorted, member_unsorted}
-use Rattle.mt_stamp.proofs.SameItems.{SameItems}
+use Rattle.mt_stamp.proofs.Members.{IsMember, AreApart, member_kept, member_of_kept, one_list, sort_strict, member_sorted, member_unsorted}
 use Rattle.mt_op.specs.declared.need.Role.TheVariants.{Track as TrackRole, Place}
 use Rattle.mt_op.specs.ByStamp.{stamp_of}
 use Rattle.mt_op.specs.Operation.{Act, AddTrack, MoveTrack, Operation}
 use Rattle.mt_op.specs.Needs.{need_of, meets, fits, adds_track, adds_place}
 use Rattle.mt_op.specs.Presence.{is_present}
-use Rattle.mt_op.specs.Writes.{Write, Written, title_written, track_place_written, written_by, last_write}
+use Rattle.mt_op.specs.Writes.{Write, Written, title_written, track_place_written, last_write}
 use Rattle.mt_op.proofs.Needs.{and_first, and_second}
 use Rattle.mt_op.proofs.WriteOf.{is_write_of}
 use Rattle.mt_items.specs.Noting.{AreNoted, is_need_met}
 use Rattle.mt_items.proofs.Roles.{none_written, track_places}
-use Rattle.mt_sessionview.specs.Content.{Track}
-use Rattle.mt_sessionview.specs.Chain.{has, stamp_at}
-use Rattle.mt_sessionview.specs.Noted.{value_in, is_shown_in, clips_in, places_in, track_place_in, track_cmp_in, track_in, tracks_in}
-use Rattle.mt_sessionview.specs.Read.{op_at, ops_at, placed_track, is_writer, stands_at, if_standing, standing, track_from, track_where, track_read, tree_place}
+use Rattle.mt_sessionview.specs.Noted.{is_shown_in, clips_in, places_in, by_place, placed_in, track_place_in, track_cmp_in, track_in, tracks_in}
+use Rattle.mt_sessionview.proofs.PlacedOps.{by_place_total, placed_rise}
+use Rattle.mt_sessionview.specs.Read.{placed_track, is_writer, stands_at, if_standing, standing, track_from, track_where, track_read}
 use Rattle.mt_sessionview.proofs.InOrder.{noted_differ, one_op}
 use Rattle.mt_sessionview.proofs.Items.{stamp_eq_same}
-use Rattle.mt_sessionview.proofs.Lists.{all_members, member_all, all_also, any_member, given_by, member_given, member_map, member_of_map, rises_given, rises_mapped, rises_unmapped}
-use Rattle.mt_sessionview.proofs.Linking.{mapped_length}
+use Rattle.mt_sessionview.proofs.Lists.{all_members, member_all, any_member, given_by, member_given, member_map, member_of_map, rises_given, rises_mapped}
 use Rattle.mt_sessionview.proofs.Orders.{track_cmp_total}
-use Rattle.mt_sessionview.proofs.PlaceTree.{given_places}
-use Rattle.mt_sessionview.proofs.Shown.{IsGiven, given_last, track_given, stands_by, IsTrackIn, one_track}
-use Rattle.mt_sessionview.proofs.SameSession.{tree_same}
+use Rattle.mt_sessionview.proofs.Shown.{IsGiven, given_last, track_given, IsTrackIn, one_track}
 
 -- ---- what is read in the order of places
 
@@ -55,35 +49,6 @@ read_where {X} {Y} {Z} h w none (x ∷ xs) = by (h x) (read_where h w none xs)
 all_given : {V : Type 0} (f : Moment → Option V) (view : Operation → V) (xs : List Operation) → AllByRecursion (λ o. f o.stamp ≡ Some (view o)) xs → filter_map f (map stamp_of xs) ≡ map view xs
 all_given f view [] all = refl
 all_given {V} f view (x ∷ xs) all = (λ i. cons_option (all.0 i) (all_given f view xs all.1 i))
-
--- ---- operations at places
-
-named_at : (ops : List Operation) (k : ℕ) → stamp_at (map stamp_of ops) k ≡ (op_at ops k).stamp
-named_at [] k = refl
-named_at (x ∷ xs) zero = refl
-named_at (x ∷ xs) (suc k) = named_at xs k
-
-names_at : (ops : List Operation) (order : List ℕ) → map (stamp_at (map stamp_of ops)) order ≡ map stamp_of (ops_at ops order)
-names_at ops [] = refl
-names_at ops (k ∷ order) = λ i. named_at ops k i ∷ names_at ops order i
-
-member_ops_at : (ops : List Operation) (order : List ℕ) → ((k p : ℕ) → slice_get order k ≡ Some p → p < length ops) → (v : Operation) → IsMember v (ops_at ops order) → IsMember v ops
-member_ops_at ops [] below v m = absurd m
-member_ops_at ops (p ∷ order) below v (inl same) = subst (λ (o : Operation). IsMember o ops) same (member_at ops p (op_at ops p) (slice_get-get_or ops p (op_at [] 0) (below 0 p refl)))
-member_ops_at ops (p ∷ order) below v (inr later) = member_ops_at ops order (λ k q at. below (suc k) q at) v later
-
-at_ops_had : (ops : List Operation) (order : List ℕ) (p : ℕ) → has order p ≡ true → IsMember (op_at ops p) (ops_at ops order)
-at_ops_had ops [] p had = absurd (true≢false (sym had))
-at_ops_had ops (q ∷ order) p had = by (eqb p q) refl had (at_ops_had ops order p)
-  where
-    by : (b : Bool) → eqb p q ≡ b → (b || has order p) ≡ true → (has order p ≡ true → IsMember (op_at ops p) (ops_at ops order)) → IsMember (op_at ops p) (ops_at ops (q ∷ order))
-    by true same h rest = inl (ap (op_at ops) (sym (eqb-true p q same)))
-    by false other h rest = inr (rest h)
-
-strictly : (cmp : Moment → Moment → Ordering) (xs : List Moment) → IsStrictlySortedBy cmp xs → RisesStrictly cmp xs
-unfolding IsStrictlySortedBy
-strictly cmp [] rise = tt
-strictly cmp (x ∷ xs) rise = (rise.0, strictly cmp xs rise.1)
 
 pub members_moved : {X : Type 0} (xs ys : List X) → IsPermutation xs ys → (v : X) → IsMember v ys → IsMember v xs
 members_moved {X} xs ys moved v m =
@@ -124,11 +89,11 @@ module _ (r : List Operation) (noted : AreNoted r) where
   one = one_op r noted
 
   -- tracks by their places
-  abbrev by_place : Moment → Moment → Ordering
-  by_place a b = tree_cmp (places_in r) (track_place_in r a) (track_place_in r b)
+  abbrev track_order : Moment → Moment → Ordering
+  track_order a b = tree_cmp (places_in r) (track_place_in r a) (track_place_in r b)
 
-  by_place_total : IsTotalOrder by_place
-  by_place_total = on_total (track_place_in r) (trees_are_ordered (places_in r)).total
+  track_order_total : IsTotalOrder track_order
+  track_order_total = on_total (track_place_in r) (trees_are_ordered (places_in r)).total
 
   abbrev shown : List Operation
   shown = filter (is_shown_in r adds_track) r
@@ -147,9 +112,9 @@ module _ (r : List Operation) (noted : AreNoted r) where
   abbrev in_order : List Operation
   in_order = sort_by (track_cmp_in r) shown
 
-  order_rises : RisesStrictly by_place (map stamp_of in_order)
+  order_rises : RisesStrictly track_order (map stamp_of in_order)
   order_rises =
-      rises_mapped by_place stamp_of in_order
+      rises_mapped track_order stamp_of in_order
       (sort_strict (track_cmp_in r) (track_cmp_total r) shown (apart_tracks shown is_track (differ_kept stamp_of (is_shown_in r adds_track) r (noted_differ r noted))))
 
   -- a track that stands somewhere is shown
@@ -187,67 +152,38 @@ module _ (r : List Operation) (noted : AreNoted r) where
         clips = clips_in r o.stamp;
       }))
 
-  module _ (ready : List Operation) (moved : IsPermutation ready r) (order : List ℕ) (below : (k p : ℕ) → slice_get order k ≡ Some p → p < length (filter (fits Place) ready)) (all : (p : ℕ) → p < length (filter (fits Place) ready) → has order p ≡ true)
-      (sorted : IsStrictlySortedBy (tree_cmp (map tree_place (filter (fits Place) ready))) (map (stamp_at (map stamp_of (filter (fits Place) ready))) order)) where
-    abbrev ops : List Operation
-    ops = filter (fits Place) ready
+  abbrev those : List Operation
+  those = placed_in r
 
-    abbrev those : List Operation
-    those = ops_at ops order
+  into : (t : Moment) → IsMember t (filter_map (standing r) those) → IsMember t (map stamp_of in_order)
+  into t m =
+      let from = given_by (standing r) those t m in
+      let found = shown_where from.item.stamp t (stands r from.item.stamp (placed_track from.item.stamp from.item.act) t from.gives) in
+      subst (λ (v : Moment). IsMember v (map stamp_of in_order)) found.2 (member_map stamp_of in_order found.0 found.1)
 
-    same_tree : tree_cmp (map tree_place ops) ≡ tree_cmp (places_in r)
-    same_tree =
-        ap tree_cmp (sym (given_places ready))
-        ∙ sym (tree_same r ready (λ f. sum_by-IsPermutation f ready r moved) (all_members (λ o. IsMember o r) ready (λ o m. members_moved r ready (IsPermutation-sym ready r moved) o m)) one)
+  out_of : (t : Moment) → IsMember t (map stamp_of in_order) → IsMember t (filter_map (standing r) those)
+  out_of t m =
+      let from = member_of_map stamp_of in_order t m in
+      let a = from.0 in
+      let track = is_track a (member_unsorted (track_cmp_in r) (track_cmp_total r) a shown from.1) in
+      let g = track_given r one a track.0 (and_first _ _ track.1) in
+      let x = g.given.0 in
+      let write = is_write_of track_place_written a.stamp x g.write g.given.2 in
+      let places = places_given x.stamp x.act write.write write.made in
+      let in_those : IsMember x those = member_sorted (by_place r) (by_place_total r) x (filter (fits Place) r) (member_kept (fits Place) r x g.given.1 places.0) in
+      let stands_here : standing r x ≡ Some a.stamp =
+      ap (if_standing r x.stamp) (places.1 ∙ ap Some write.item_is)
+      ∙ standing_is r x.stamp a.stamp g.write g.is (ap (λ (w : Written (Option Moment)). w.writer) write.value_is) (and_second _ _ track.1) in
+      subst (λ (v : Moment). IsMember v (filter_map (standing r) those)) from.2 (member_given (standing r) those x a.stamp in_those stands_here)
 
-    those_rise : RisesStrictly (λ a b. tree_cmp (places_in r) a.stamp b.stamp) those
-    those_rise =
-        rises_unmapped (tree_cmp (places_in r)) stamp_of those
-        (strictly (tree_cmp (places_in r)) (map stamp_of those)
-        (subst (λ (l : List Moment). IsStrictlySortedBy (tree_cmp (places_in r)) l) (names_at ops order) (subst (λ (cmp : Moment → Moment → Ordering). IsStrictlySortedBy cmp (map (stamp_at (map stamp_of ops)) order)) same_tree sorted)))
+  standing_rise : RisesStrictly track_order (filter_map (standing r) those)
+  standing_rise =
+      rises_given (tree_cmp (places_in r)) (standing r) stamp_of (track_place_in r)
+      (λ o t is. let s = stands r o.stamp (placed_track o.stamp o.act) t is in ap (λ (l : Option (Written (Option Moment))). unwrap_or (option_map (λ (w : Written (Option Moment)). w.writer) l) t) s.is ∙ s.here) those (placed_rise r (noted_differ r noted))
 
-    into : (t : Moment) → IsMember t (filter_map (standing r) those) → IsMember t (map stamp_of in_order)
-    into t m =
-        let from = given_by (standing r) those t m in
-        let found = shown_where from.item.stamp t (stands r from.item.stamp (placed_track from.item.stamp from.item.act) t from.gives) in
-        subst (λ (v : Moment). IsMember v (map stamp_of in_order)) found.2 (member_map stamp_of in_order found.0 found.1)
-
-    out_of : (t : Moment) → IsMember t (map stamp_of in_order) → IsMember t (filter_map (standing r) those)
-    out_of t m =
-        let from = member_of_map stamp_of in_order t m in
-        let a = from.0 in
-        let track = is_track a (member_unsorted (track_cmp_in r) (track_cmp_total r) a shown from.1) in
-        let g = track_given r one a track.0 (and_first _ _ track.1) in
-        let x = g.given.0 in
-        let write = is_write_of track_place_written a.stamp x g.write g.given.2 in
-        let places = places_given x.stamp x.act write.write write.made in
-        let in_ops : IsMember x ops = member_kept (fits Place) ready x (members_moved ready r moved x g.given.1) places.0 in
-        let at = member_stands ops x in_ops in
-        let had = at_ops_had ops order at.place (all at.place (slice_get_within ops at.place x at.at)) in
-        let in_those : IsMember x those = subst (λ (o : Operation). IsMember o those) (get_or_from_slice_get ops at.place x (op_at [] 0) at.at) had in
-        let stands_here : standing r x ≡ Some a.stamp =
-        ap (if_standing r x.stamp) (places.1 ∙ ap Some write.item_is)
-        ∙ standing_is r x.stamp a.stamp g.write g.is (ap (λ (w : Written (Option Moment)). w.writer) write.value_is) (and_second _ _ track.1) in
-        subst (λ (v : Moment). IsMember v (filter_map (standing r) those)) from.2 (member_given (standing r) those x a.stamp in_those stands_here)
-
-    standing_rise : RisesStrictly by_place (filter_map (standing r) those)
-    standing_rise =
-        rises_given (tree_cmp (places_in r)) (standing r) stamp_of (track_place_in r)
-        (λ o t is. let s = stands r o.stamp (placed_track o.stamp o.act) t is in ap (λ (l : Option (Written (Option Moment))). unwrap_or (option_map (λ (w : Written (Option Moment)). w.writer) l) t) s.is ∙ s.here) those those_rise
-
-    -- the tracks of a session
-    pub tracks_read : filter_map (track_read r) (ops_at (filter (fits Place) ready) order) ≡ tracks_in r
-    tracks_read =
-        read_where (standing r) (track_where r) refl those
-        ∙ ap (filter_map (λ t. track_where r (Some t))) (one_list by_place by_place_total (filter_map (standing r) those) (map stamp_of in_order) standing_rise order_rises into out_of)
-        ∙ all_given (λ t. track_where r (Some t)) (track_in r) in_order (all_members (λ o. track_where r (Some o.stamp) ≡ Some (track_in r o)) in_order track_is)
-
--- the same of references to the operations, and of their stamps
-pub tracks_ordered : {X : Type 0} (f : X → Operation) (r : List Operation) → AreNoted r → (ready : List Operation) → IsPermutation ready r → (refs : List X) → map f refs ≡ filter (fits Place) ready → (stamps : List Moment) → stamps ≡ map stamp_of (filter (fits Place) ready)
-    → (order : List ℕ) → ((k p : ℕ) → slice_get order k ≡ Some p → p < length refs) → ((p : ℕ) → p < length refs → has order p ≡ true) → IsStrictlySortedBy (tree_cmp (map tree_place (map f refs))) (map (stamp_at stamps) order)
-    → filter_map (track_read r) (ops_at (filter (fits Place) ready) order) ≡ tracks_in r
-tracks_ordered f r noted ready moved refs refs_are stamps stamps_are order below all sorted =
-    let long : length (filter (fits Place) ready) ≡ length refs = sym (ap length refs_are) ∙ mapped_length f refs in
-    tracks_read r noted ready moved order (λ k p at. let less = below k p at in omega (arith, less, long)) (λ p less. all p (omega (arith, less, long)))
-    (subst (λ (l : List Moment). IsStrictlySortedBy (tree_cmp (map tree_place (filter (fits Place) ready))) (map (stamp_at l) order)) stamps_are
-    (subst (λ (l : List Operation). IsStrictlySortedBy (tree_cmp (map tree_place l)) (map (stamp_at stamps) order)) refs_are sorted))
+  -- the tracks of a session, read in the order of places
+  pub tracks_read : filter_map (track_read r) (placed_in r) ≡ tracks_in r
+  tracks_read =
+      read_where (standing r) (track_where r) refl those
+      ∙ ap (filter_map (λ t. track_where r (Some t))) (one_list track_order track_order_total (filter_map (standing r) those) (map stamp_of in_order) standing_rise order_rises into out_of)
+      ∙ all_given (λ t. track_where r (Some t)) (track_in r) in_order (all_members (λ o. track_where r (Some o.stamp) ≡ Some (track_in r o)) in_order track_is)

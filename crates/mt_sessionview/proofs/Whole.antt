@@ -1,16 +1,15 @@
 -- The session of operations, of those that are ready by rising stamp.
-use Rattle.std.proofs.Common.{◌≡◌, ℕ, suc, ◌+◌, ◌-◌, Bool, true, false, cond, not, List, [], ◌∷◌, Some, length, map, refl, sym, ap, ◌∙◌, subst, arith}
-use Rattle.std.specs.Prelude.{slice_get, reverse}
+use Rattle.std.proofs.Common.{◌≡◌, ℕ, suc, ◌+◌, ◌-◌, Bool, true, false, cond, not, List, [], ◌∷◌, length, map, refl, sym, ap, ◌∙◌, arith}
+use Rattle.std.specs.Prelude.{reverse}
 use Rattle.std.specs.Cmp.{IsTotalOrder, on_total}
 use Rattle.std.specs.List.{AllByRecursion, filter}
-use Rattle.std.specs.List.Sorted.{IsPermutation}
 use Rattle.std.proofs.lemmas.List.Sorted.{IsPermutation-reverse, sum_by-IsPermutation}
 use Rattle.mt_stamp.specs.Moment.{Moment, stamp_cmp}
-use Rattle.mt_stamp.specs.Sorting.{sort_by, RisesStrictly, DifferBy}
+use Rattle.mt_stamp.specs.Sorting.{sort_by, DifferBy}
 use Rattle.mt_stamp.specs.Tree.{IsTree}
 use Rattle.mt_stamp.proofs.Order.{stamp_cmp_total, stamp_cmp-IsAntisymmetric}
 use Rattle.mt_stamp.proofs.Differing.{all_sorted, differ_sorted}
-use Rattle.mt_stamp.proofs.Members.{IsMember, member_sorted, member_unsorted, member_of_kept}
+use Rattle.mt_stamp.proofs.Members.{IsMember, member_sorted, member_of_kept}
 use Rattle.mt_stamp.proofs.SameItems.{SameItems, same_map}
 use Rattle.mt_stamp.proofs.Sorting.{sorts, sort_same}
 use Rattle.mt_op.specs.ByStamp.{stamp_of, op_cmp}
@@ -19,8 +18,8 @@ use Rattle.mt_op.specs.Needs.{needs, meets, clock_of}
 use Rattle.mt_op.specs.Ready.{is_ready}
 use Rattle.mt_op.specs.Valid.{IsOperation}
 use Rattle.mt_opcodec.specs.LogValue.{AreLogged}
-use Rattle.mt_sessionview.specs.Content.{Content, Track, Marker}
-use Rattle.mt_sessionview.specs.Session.{ready_ops, held_ops, session_of, places, stamps_of}
+use Rattle.mt_sessionview.specs.Content.{Track, Marker}
+use Rattle.mt_sessionview.specs.Session.{ready_ops, held_ops, session_of, stamps_of}
 use Rattle.mt_sessionview.specs.Noted.{markers_in, tracks_in, places_in}
 use Rattle.mt_sessionview.proofs.Lists.{all_members, one_of, rises_kept, rises_mapped}
 use Rattle.mt_sessionview.proofs.PlaceTree.{places_are_a_tree}

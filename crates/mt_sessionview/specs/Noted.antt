@@ -6,7 +6,8 @@ use Rattle.mt_stamp.specs.Moment.{Moment}
 use Rattle.mt_stamp.specs.Tree.{TreePlace, tree_cmp}
 use Rattle.mt_op.specs.Gain.{unchanged}
 use Rattle.mt_op.specs.Operation.{Act, Operation}
-use Rattle.mt_op.specs.Needs.{stamp_eq, adds_track, adds_clip, adds_marker}
+use Rattle.mt_op.specs.declared.need.Role.TheVariants.{Place}
+use Rattle.mt_op.specs.Needs.{stamp_eq, adds_track, adds_clip, adds_marker, fits}
 use Rattle.mt_op.specs.Writes.{Write, Written, title_written, gain_written, mute_written, track_place_written, clip_place_written, trim_written, position_written, last_write}
 use Rattle.mt_op.specs.Presence.{is_present}
 use Rattle.mt_sessionview.specs.Content.{Clip, Track, Marker, clip_cmp, marker_cmp}
@@ -57,6 +58,13 @@ module _ (r : List Operation) where
 
   abbrev pub places_in : List TreePlace
   places_in = filter_map place_added r
+
+  -- the operations that give tracks their places, in the order of these
+  abbrev pub by_place : Operation → Operation → Ordering
+  by_place a b = tree_cmp places_in a.stamp b.stamp
+
+  abbrev pub placed_in : List Operation
+  placed_in = sort_by by_place (filter (fits Place) r)
 
   abbrev pub track_place_in : Moment → Moment
   track_place_in track = unwrap_or (option_map (λ (w : Written (Option Moment)). w.writer) (last_write track_place_written track r)) track

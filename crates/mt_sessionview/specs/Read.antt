@@ -4,7 +4,7 @@ use Rattle.std.specs.BTreeMap.{BTreeMap, get}
 use Rattle.std.specs.List.{filter_map}
 use Rattle.mt_stamp.specs.Moment.{Moment, stamp_cmp, stamp_eq}
 use Rattle.mt_stamp.specs.Tree.{TreePlace}
-use Rattle.mt_op.specs.Gain.{Ratio, unchanged}
+use Rattle.mt_op.specs.Gain.{unchanged}
 use Rattle.mt_op.specs.declared.digest.Digest.{Digest}
 use Rattle.mt_op.specs.declared.need.Role.TheVariants.{Clip as ClipRole}
 use Rattle.mt_op.specs.Operation.{Act, AddTrack, MoveTrack, AddMarker, Operation}

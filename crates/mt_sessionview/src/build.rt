@@ -1,59 +1,85 @@
 //! The session of operations, from nothing.
 
-ghost use Rattle.std.specs.Prelude.{◌≡◌, ◌-◌, ◌≤◌, length, map, reverse, IfOk, IfErr};
+ghost use Rattle.std.specs.Prelude.{◌≡◌, ◌-◌, ◌≤◌, ℕ, length, map, IfOk, IfErr};
+ghost use Rattle.std.specs.List.{sum_by};
 ghost use Rattle.mt_stamp.specs.Sorting.{RisesStrictly};
 ghost use Rattle.mt_stamp.specs.Tree.{IsTree};
 ghost use Rattle.mt_op.specs.ByStamp.{op_cmp};
+ghost use Rattle.mt_op.specs.Operation.{Operation};
 ghost use Rattle.mt_opcodec.specs.LogValue.{operations};
 ghost use Rattle.mt_items.specs.Noting.{AreNoted};
-ghost use Rattle.mt_sessionview.specs.Noted.{markers_in, tracks_in, places_in};
+ghost use Rattle.mt_sessionview.specs.Noted.{markers_in, tracks_in, places_in, placed_in};
 ghost use Rattle.mt_sessionview.specs.Session.{session_of};
 
-use crate::by_stamp::{sorted_ops, stamps_of};
+use crate::by_stamp::sorted_ops;
 use crate::clip::clips_by_track;
 use crate::fault::SessionFault;
 use crate::marker::{markers, sort_markers};
-use crate::place_order::{place_ops, place_order};
-use crate::ready::{Ready, ready_of};
+use crate::placed::placed_ops;
+use crate::ready::ready_of;
 use crate::session::{MarkerView, Session, TrackView};
 use crate::track::tracks;
+use mt_items::Items;
 use mt_op::Op;
 use mt_opcodec::Log;
 use mt_stamp::List;
 use std::alloc::Allocator;
 
-// The tracks that ready operations leave, in the order of their places.
+// The tracks that noted operations leave, in the order of their places, from the operations that gave these, in order.
 fn tracks_of<A: Allocator + Clone>(
     alloc: &A,
-    ready: &Ready<'_, A>,
+    items: &Items<A>,
+    placed: &[&Op<A>],
 ) -> Result<Vec<TrackView<A>, A>, SessionFault>
-    requires noted { AreNoted ready.now.items }
-    requires rising { RisesStrictly op_cmp (map (λ o. o.now) ready.now.ops.items) }
-    requires reversed { ready.now.items ≡ reverse (map (λ o. o.now) ready.now.ops.items) }
-    requires tree { IsTree (places_in (map (λ o. o.now) ready.now.ops.items)) }
-    ensures ok { IfOk result (λ tracks. tracks.items ≡ tracks_in ready.now.items) }
+    requires noted { AreNoted items.now }
+    requires placed { map (λ o. o.now) placed.now ≡ placed_in items.now }
+    ensures ok { IfOk result (λ tracks. tracks.items ≡ tracks_in items.now) }
     ensures err { IfErr result (λ fault. fault ≡ SessionFault.Memory) }
 {
-    let ops = place_ops(alloc, &ready.ops)?;
-    let stamps = stamps_of(alloc.clone()?, &ops)?;
-    let order = place_order(alloc, &ops, &stamps)?;
-    drop(stamps);
-    let clips = clips_by_track(alloc, &ready.items)?;
-    tracks(alloc, &ready.items, &clips, &ops, &order)
+    let clips = clips_by_track(alloc, items)?;
+    tracks(alloc, items, &clips, placed)
 }
 
 // The markers that noted operations leave, by position, then by stamp.
 fn markers_of<A: Allocator + Clone>(
     alloc: &A,
-    ready: &Ready<'_, A>,
+    items: &Items<A>,
 ) -> Result<Vec<MarkerView<A>, A>, SessionFault>
-    requires noted { AreNoted ready.now.items }
-    ensures ok { IfOk result (λ markers. markers.items ≡ markers_in ready.now.items) }
+    requires noted { AreNoted items.now }
+    ensures ok { IfOk result (λ markers. markers.items ≡ markers_in items.now) }
     ensures err { IfErr result (λ fault. fault ≡ SessionFault.Memory) }
 {
-    let mut markers = markers(alloc.clone()?, &ready.items)?;
+    let mut markers = markers(alloc.clone()?, items)?;
     sort_markers(&mut markers)?;
     Ok(markers)
+}
+
+/// The session that ready operations show, from these by rising stamp and the items that they leave, noted in whatever order, with a
+/// number of others held; beside it the operations that give tracks their places, in the order of these. In a time of n log n for
+/// n operations and items. Refused only as `Memory` (0).
+pub fn session_of_ready<'a, A: Allocator + Clone>(
+    alloc: A,
+    ready: &[&'a Op<A>],
+    items: &Items<A>,
+    held: u64,
+) -> Result<(Session<A>, Vec<&'a Op<A>, A>), SessionFault>
+    requires noted { AreNoted items.now }
+    requires same { (f : Operation → ℕ) → sum_by f items.now ≡ sum_by f (map (λ o. o.now) ready.now) }
+    requires rising { RisesStrictly op_cmp (map (λ o. o.now) ready.now) }
+    requires tree { IsTree (places_in (map (λ o. o.now) ready.now)) }
+    ensures session { IfOk result (λ both. both.0 ≡ record { tracks = tracks_in items.now; markers = markers_in items.now; held = held }) }
+    ensures placed { IfOk result (λ both. map (λ o. o.now) both.1.items ≡ placed_in items.now) }
+    ensures err { IfErr result (λ fault. fault ≡ SessionFault.Memory) }
+{
+    let placed = placed_ops(&alloc, ready)?;
+    let tracks = tracks_of(&alloc, items, &placed)?;
+    let markers = markers_of(&alloc, items)?;
+    let session = Session {
+        tracks: List::new(tracks),
+        markers: List::new(markers),
+        held,
+    };
+    Ok((session, placed))
 }
 
 // How many of the operations are not among the ready ones.
@@ -79,11 +105,6 @@ pub(crate) fn session_of_log<A: Allocator + Clone>(
     let ready = ready_of(&alloc, &sorted)?;
     let held = count_held(&sorted, &ready.ops);
     drop(sorted);
-    let tracks = tracks_of(&alloc, &ready)?;
-    let markers = markers_of(&alloc, &ready)?;
-    Ok(Session {
-        tracks: List::new(tracks),
-        markers: List::new(markers),
-        held,
-    })
+    let (session, _placed) = session_of_ready(alloc, &ready.ops, &ready.items, held)?;
+    Ok(session)
 }

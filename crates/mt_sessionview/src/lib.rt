@@ -13,6 +13,7 @@ mod fault;
 pub mod laws;
 mod marker;
 mod place_order;
+mod placed;
 mod read;
 mod readiness;
 mod ready;
@@ -23,6 +24,7 @@ mod tests;
 mod text;
 mod track;
 
+pub use build::session_of_ready;
 pub use by_stamp::sorted_ops;
 pub use fault::SessionFault;
 pub use readiness::ready_stamps;

@@ -1,11 +1,11 @@
 //! Tracks.
 
-ghost use Rattle.std.specs.Prelude.{◌≡◌, ◌<◌, ℕ, length, map, slice_get, Some, IfOk, IfErr};
+ghost use Rattle.std.specs.Prelude.{◌≡◌, map, IfOk, IfErr};
 ghost use Rattle.std.specs.List.{filter_map};
 ghost use Rattle.mt_op.specs.Writes.{title_written, last_write};
 ghost use Rattle.mt_items.specs.Noting.{AreNoted};
 ghost use Rattle.mt_sessionview.specs.Content.{AreClips};
-ghost use Rattle.mt_sessionview.specs.Read.{placed_track, stands_at, standing, track_from, AreTheClips, track_read, op_at, ops_at};
+ghost use Rattle.mt_sessionview.specs.Read.{placed_track, stands_at, standing, track_from, AreTheClips, track_read};
 
 use crate::clip::sorted_clips;
 use crate::fault::SessionFault;
@@ -73,44 +73,40 @@ fn track_with<A: Allocator + Clone>(
     }))
 }
 
-// The present track that stands where the operation at a place put it, with its clips.
+// The present track that stands where an operation put it, with its clips.
 fn track_at<A: Allocator + Clone>(
     alloc: &A,
     items: &Items<A>,
     clips: &BTreeMap<Stamp, List<ClipView, A>, A>,
-    ops: &[&Op<A>],
-    place: usize,
+    op: &Op<A>,
 ) -> Result<Option<TrackView<A>>, SessionFault>
     requires noted { AreNoted items.now }
     requires clips { AreTheClips items.now clips.now }
-    requires inside { place < length ops.now }
-    ensures ok { IfOk result (λ view. view ≡ track_read items.now (op_at (map (λ o. o.now) ops.now) place)) }
+    ensures ok { IfOk result (λ view. view ≡ track_read items.now op.now) }
     ensures err { IfErr result (λ fault. fault ≡ SessionFault.Memory) }
 {
-    let Some(track) = standing(items, ops[place]) else {
+    let Some(track) = standing(items, op) else {
         return Ok(None);
     };
     let sorted = sorted_clips(alloc, clips.get(&track))?;
     track_with(items, track, sorted)
 }
 
-// The present tracks with their clips, in this order of the operations that put them where they stand.
+// The present tracks with their clips, in the order of the operations that put them where they stand.
 pub(crate) fn tracks<A: Allocator + Clone>(
     alloc: &A,
     items: &Items<A>,
     clips: &BTreeMap<Stamp, List<ClipView, A>, A>,
     ops: &[&Op<A>],
-    order: &[usize],
 ) -> Result<Vec<TrackView<A>, A>, SessionFault>
     requires noted { AreNoted items.now }
     requires clips { AreTheClips items.now clips.now }
-    requires below { (k p : ℕ) → slice_get order.now k ≡ Some p → p < length ops.now }
-    ensures ok { IfOk result (λ tracks. tracks.items ≡ filter_map (track_read items.now) (ops_at (map (λ o. o.now) ops.now) order.now)) }
+    ensures ok { IfOk result (λ tracks. tracks.items ≡ filter_map (track_read items.now) (map (λ o. o.now) ops.now)) }
     ensures err { IfErr result (λ fault. fault ≡ SessionFault.Memory) }
 {
     let mut tracks = Vec::new(alloc.clone()?);
-    for place in order {
-        if let Some(view) = track_at(alloc, items, clips, ops, *place)? {
+    for op in ops {
+        if let Some(view) = track_at(alloc, items, clips, op)? {
             tracks.push(view)?;
         }
     }

@@ -1,16 +1,16 @@
-use Rattle.std.proofs.Common.{◌≡◌, ◌≤◌, ◌∙◌, ℕ, List, length, map, reverse, refl, sym, ap, subst, arith, Bor}
-use Rattle.mt_stamp.specs.Sorting.{sort_by, RisesStrictly, DifferBy}
-use Rattle.mt_stamp.specs.Tree.{TreePlace, IsTree}
+use Rattle.std.proofs.Common.{◌≡◌, ◌∙◌, List, length, map, reverse, refl, sym, ap, subst, arith, Bor}
+use Rattle.std.specs.List.{sum_by}
+use Rattle.std.proofs.lemmas.List.Sorted.{sum_by-IsPermutation, IsPermutation-reverse}
+use Rattle.mt_stamp.specs.Sorting.{sort_by, RisesStrictly}
+use Rattle.mt_stamp.specs.Tree.{IsTree}
 use Rattle.mt_op.specs.declared.op.Op.{Op}
 use Rattle.mt_op.specs.ByStamp.{op_cmp}
 use Rattle.mt_op.specs.Needs.{needs, meets, clock_of}
 use Rattle.mt_op.specs.Ready.{is_ready}
 use Rattle.mt_op.specs.Operation.{Operation}
 use Rattle.mt_opcodec.specs.LogValue.{operations}
-use Rattle.mt_sessionview.specs.Content.{Track, Marker, marker_cmp}
 use Rattle.mt_sessionview.specs.Noted.{places_in, tracks_in, markers_in}
 use Rattle.mt_sessionview.specs.Session.{ready_ops}
-use Rattle.mt_sessionview.proofs.InOrder.{tracks_once, markers_rise}
 use Rattle.mt_sessionview.proofs.Linking.{mapped_length}
 use Rattle.mt_sessionview.proofs.Lists.{rises_kept}
 use Rattle.mt_sessionview.proofs.Refs.{rising_ops}
@@ -34,26 +34,24 @@ count_held-held-requires g c =
     let rest = fewer (operations c.args.log.now) c.runs.ensures.logged (length c.deref-2.result.now) (length c.deref-3.result.now) all some in
     omega (arith, rest.1)
 
-pub tracks_of-requires-clause-rising : goal.tracks_of-requires-clause-rising
-tracks_of-requires-clause-rising g c =
+pub session_of_ready-requires-clause-rising : goal.session_of_ready-requires-clause-rising
+session_of_ready-requires-clause-rising g c =
     let now : List (Bor (Op g.row.A.Denot)) → List Operation = λ l. map (λ (o : Bor (Op g.row.A.Denot)). o.now) l in
     let s = sort_by op_cmp (operations c.args.log.now) in
     let sorted : now c.deref.result.now ≡ s = ap now c.deref.ensures.value ∙ c.in_ok-sorted.ensures in
-    subst (RisesStrictly op_cmp) (sym (c.in_ok-ready.ensures.ops ∙ ap ready_ops sorted)) (rises_kept op_cmp (is_ready clock_of needs meets s) s (rising_ops (operations c.args.log.now) (every_stamp (operations c.args.log.now) c.runs.ensures.logged.rise)))
+    subst (RisesStrictly op_cmp) (sym (ap now c.deref-4.ensures.value ∙ c.in_ok-ready.ensures.ops ∙ ap ready_ops sorted)) (rises_kept op_cmp (is_ready clock_of needs meets s) s (rising_ops (operations c.args.log.now) (every_stamp (operations c.args.log.now) c.runs.ensures.logged.rise)))
 
-pub tracks_of-requires-clause-tree : goal.tracks_of-requires-clause-tree
-tracks_of-requires-clause-tree g c =
+pub session_of_ready-requires-clause-tree : goal.session_of_ready-requires-clause-tree
+session_of_ready-requires-clause-tree g c =
     let now : List (Bor (Op g.row.A.Denot)) → List Operation = λ l. map (λ (o : Bor (Op g.row.A.Denot)). o.now) l in
     let sorted : now c.deref.result.now ≡ sort_by op_cmp (operations c.args.log.now) = ap now c.deref.ensures.value ∙ c.in_ok-sorted.ensures in
-    subst (λ (l : List Operation). IsTree (places_in l)) (sym (c.in_ok-ready.ensures.ops ∙ ap ready_ops sorted)) (tree (operations c.args.log.now) c.runs.ensures.logged)
+    subst (λ (l : List Operation). IsTree (places_in l)) (sym (ap now c.deref-4.ensures.value ∙ c.in_ok-ready.ensures.ops ∙ ap ready_ops sorted)) (tree (operations c.args.log.now) c.runs.ensures.logged)
 
-pub invariant_of-result : goal.invariant_of-result
-invariant_of-result g c =
-    let r = c.in_ok-ready.ready.items in
-    record {
-      once = subst (DifferBy (λ (t : Track). t.track)) (sym (c.new.ensures ∙ c.in_ok-tracks.ensures.ok)) (tracks_once r c.in_ok-ready.ensures.noted);
-      rise = subst (RisesStrictly marker_cmp) (sym (c.new-2.ensures ∙ c.in_ok-markers.ensures.ok)) (markers_rise r c.in_ok-ready.ensures.noted);
-    }
+pub session_of_ready-requires-clause-same : goal.session_of_ready-requires-clause-same
+session_of_ready-requires-clause-same g c = λ f.
+    let now : List (Bor (Op g.row.A.Denot)) → List Operation = λ l. map (λ (o : Bor (Op g.row.A.Denot)). o.now) l in
+    let ready = ready_ops (now c.deref.result.now) in
+    ap (sum_by f) c.in_ok-ready.ensures.items ∙ sum_by-IsPermutation f ready (reverse ready) (IsPermutation-reverse ready) ∙ ap (sum_by f) (sym c.in_ok-ready.ensures.ops ∙ sym (ap now c.deref-4.ensures.value))
 
 pub returns-clause-ok : goal.returns-clause-ok
 returns-clause-ok g c =
@@ -64,5 +62,5 @@ returns-clause-ok g c =
     let all : length c.deref-2.result.now ≡ length s = sym (mapped_length (λ (o : Ref). o.now) c.deref-2.result.now) ∙ ap length (ap now c.deref-2.ensures.value ∙ c.in_ok-sorted.ensures) in
     let some : length c.deref-3.result.now ≡ length (ready_ops s) = sym (mapped_length (λ (o : Ref). o.now) c.deref-3.result.now) ∙ ap length (ap now c.deref-3.ensures.value ∙ c.in_ok-ready.ensures.ops ∙ ap ready_ops sorted) in
     let items : c.in_ok-ready.ready.items ≡ reverse (ready_ops s) = c.in_ok-ready.ensures.items ∙ ap (λ (l : List Operation). reverse (ready_ops l)) sorted in
-    whole (operations c.args.log.now) c.runs.ensures.logged c.in_ok-ready.ready.items c.new.result c.new-2.result (length c.deref-2.result.now) (length c.deref-3.result.now) c.count_held-held.result items (c.new.ensures ∙ c.in_ok-tracks.ensures.ok)
-    (c.new-2.ensures ∙ c.in_ok-markers.ensures.ok) all some c.count_held-held.ensures
+    let session = c.in_ok-session.ensures.session in
+    session ∙ whole (operations c.args.log.now) c.runs.ensures.logged c.in_ok-ready.ready.items (tracks_in c.in_ok-ready.ready.items) (markers_in c.in_ok-ready.ready.items) (length c.deref-2.result.now) (length c.deref-3.result.now) c.count_held-held.result items refl refl all some c.count_held-held.ensures

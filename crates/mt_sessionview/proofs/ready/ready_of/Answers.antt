@@ -1,9 +1,8 @@
-use Rattle.std.proofs.Common.{List, [], ◌+◌, map, drop, sym, ap, ◌∙◌, subst, Bor}
+use Rattle.std.proofs.Common.{List, ◌+◌, map, drop, sym, ap, ◌∙◌, subst, Bor}
 use Rattle.std.proofs.lemmas.List.{drop_all}
 use Rattle.mt_op.specs.declared.op.Op.{Op}
 use Rattle.mt_op.specs.Operation.{Operation}
 use Rattle.mt_op.proofs.TagLists.{drop_here}
-use Rattle.mt_items.specs.Noting.{AreNoted}
 use Rattle.mt_items.proofs.Fresh.{next_follows, next_held}
 use Rattle.mt_sessionview.proofs.Passing.{IsCollecting, one_collected, all_collected}
 use Rattle.mt_sessionview.proofs.ready.ready_of.Goals as goal
