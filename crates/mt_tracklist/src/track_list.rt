@@ -60,6 +60,14 @@ impl<A: Allocator> TrackList<A> {
         }
     }
 
+    /// The list of places that stand in the order of their tree already.
+    pub fn from_ordered(places: Vec<Placed, A>) -> Self
+        requires { IsOrdered places.items }
+        ensures { result ≡ places.items }
+    {
+        TrackList { places }
+    }
+
     /// The places in the order of their tree.
     pub fn order(&self) -> &[Placed]
         ensures value { result.now ≡ self.now }
