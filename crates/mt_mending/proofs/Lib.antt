@@ -12,3 +12,5 @@ pub mod Once
 pub mod PlaceOrder
 pub mod Markers
 pub mod Clips
+pub mod PlaceList
+pub mod TrackOrder
