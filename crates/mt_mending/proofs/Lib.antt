@@ -14,3 +14,5 @@ pub mod Markers
 pub mod Clips
 pub mod PlaceList
 pub mod TrackOrder
+pub mod MendTracks
+pub mod MendSession

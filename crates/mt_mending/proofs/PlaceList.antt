@@ -3,6 +3,7 @@ use Rattle.std.proofs.Common.{◌≡◌, ℕ, zero, suc, ◌+◌, ◌<◌, Bool,
 use Rattle.std.specs.Prelude.{slice_get, insert, IsTrue}
 use Rattle.std.specs.List.{AllByRecursion, list_any, position_or_len, cons_option, sum_by}
 use Rattle.std.specs.List.Sorted.{IsStrictlySortedBy}
+use Rattle.std.specs.Cmp.{IsTotalOrder}
 use Rattle.std.specs.declared.cmp.Ordering.{Ordering}
 use Rattle.std.specs.declared.cmp.Ordering.TheVariants.{Less}
 use Rattle.std.proofs.lemmas.Bool.{ltb-true}
@@ -164,7 +165,7 @@ module _ (list : List Placed) (ops : List Operation) (noted : AreNoted ops) (ord
       cmp : Moment → Moment → Ordering
       cmp = tree_cmp (places_in ops)
 
-      total : _
+      total : IsTotalOrder (tree_cmp (places_in ops))
       total = (trees_are_ordered (places_in ops)).total
 
       there : (p : Moment) → IsMember p (stamps_of (tree_of list)) → IsMember p (places_in_order ops)

@@ -5,6 +5,7 @@ ghost use Rattle.std.specs.List.{sum_by};
 ghost use Rattle.mt_stamp.specs.Tree.{TreePlace};
 ghost use Rattle.mt_tracklist.specs.Ordered.{IsNewer, has_place, tree_of, tree_place};
 ghost use Rattle.mt_tracklist.specs.Skipping.{IsReferenceThere};
+ghost use Rattle.mt_op.specs.Valid.{IsOperation};
 ghost use Rattle.mt_items.specs.Noting.{AreNoted};
 ghost use Rattle.mt_sessionview.specs.Session.{place_added};
 ghost use Rattle.mt_mending.specs.Before.{ArePlacesOf};
@@ -17,7 +18,8 @@ use std::alloc::Allocator;
 
 // The place that an operation gives a track, if it gives one.
 fn placed_by<A: Allocator>(op: &Op<A>) -> Option<Placed>
-    ensures { option_map tree_place result ≡ place_added op.now }
+    ensures place { option_map tree_place result ≡ place_added op.now }
+    ensures valid { IsOperation op.now }
 {
     let place = op.stamp();
     match op.body() {
