@@ -1,18 +1,19 @@
 -- A session, mended by the kind of the item that an operation is about.
-use Rattle.std.proofs.Common.{◌≡◌, false, List, ◌∷◌, Option, map, refl, sym, ap, ◌∙◌, subst}
+use Rattle.std.proofs.Common.{◌≡◌, true, false, List, ◌∷◌, Option, sym, ap, ◌∙◌, subst}
 use Rattle.mt_stamp.specs.Moment.{Moment}
 use Rattle.mt_op.specs.declared.need.Role.TheVariants.{Clip as ClipRole, Marker as MarkerRole, Track as TrackRole}
 use Rattle.mt_op.specs.Operation.{Operation}
 use Rattle.mt_op.specs.Needs.{need_of}
 use Rattle.mt_items.specs.Noting.{AreNoted, is_need_met}
-use Rattle.mt_sessionview.specs.Content.{Track, Content}
+use Rattle.mt_sessionview.specs.Content.{Track, Marker, Content}
 use Rattle.mt_sessionview.specs.Noted.{markers_in, tracks_in}
 use Rattle.mt_sessionview.specs.Changing.{put, without}
 use Rattle.mt_mending.specs.declared.before.Stood.{Stood}
 use Rattle.mt_mending.specs.Before.{SessionStood, TracksStood, MarkersStood, ClipsStood}
-use Rattle.mt_mending.specs.Mending.{subject_of, track_order}
+use Rattle.mt_mending.specs.Mending.{subject_of, track_order, session_in}
 use Rattle.mt_mending.proofs.Found.{tracks_left}
 use Rattle.mt_mending.proofs.Leaving.{before, no_track, items_are_of_a_kind}
+use Rattle.mt_mending.proofs.MendTracks.{track_no_marker, marker_no_clip}
 
 -- an operation about neither a track nor a clip leaves the tracks
 tracks_as_before : (o : Operation) (r : List Operation) → AreNoted (o ∷ r) → is_need_met (o ∷ r) (need_of TrackRole (subject_of o)) ≡ false → is_need_met (o ∷ r) (need_of ClipRole (subject_of o)) ≡ false → tracks_in (o ∷ r) ≡ tracks_in r
@@ -45,3 +46,13 @@ module _ {ops : List Operation} {item : Moment} {stood : Stood} {content : Conte
       was.tracks_are
       ∙ sym (tracks_as_before was.one_more.last was.before last_noted ((λ i. is_need_met (sym was.one_more.are i) (need_of TrackRole (sym was.one_more.about i))) ∙ none) ((λ i. is_need_met (sym was.one_more.are i) (need_of ClipRole (sym was.one_more.about i))) ∙ no_clip))
       ∙ ap tracks_in (sym was.one_more.are)
+
+  -- by the kind of its item, one of the three lists alone changes, or the clips of tracks
+  pub a_track : is_need_met ops (need_of TrackRole item) ≡ true → record content { tracks = tracks_in ops } ≡ session_in ops content.held
+  a_track met = ap (λ (ms : List Marker). record content { tracks = tracks_in ops; markers = ms }) (markers_stay (track_no_marker ops was.one_more.noted item met))
+
+  pub a_marker : is_need_met ops (need_of TrackRole item) ≡ false → is_need_met ops (need_of MarkerRole item) ≡ true → record content { markers = markers_in ops } ≡ session_in ops content.held
+  a_marker none met = ap (λ (ts : List Track). record content { tracks = ts; markers = markers_in ops }) (tracks_stay none (marker_no_clip ops was.one_more.noted item met))
+
+  pub neither : is_need_met ops (need_of MarkerRole item) ≡ false → record content { tracks = tracks_in ops } ≡ session_in ops content.held
+  neither none = ap (λ (ms : List Marker). record content { tracks = tracks_in ops; markers = ms }) (markers_stay none)

@@ -1,9 +1,9 @@
 -- The tracks of a session, mended by taking one out and putting one in.
-use Rattle.std.proofs.Common.{◌≡◌, ◌≢◌, ℕ, zero, suc, Bool, true, false, cond, not, List, [], ◌∷◌, Option, Some, None, refl, sym, ap, ◌∙◌, subst, true≢false}
+use Rattle.std.proofs.Common.{◌≡◌, ℕ, Bool, true, false, cond, not, List, [], ◌∷◌, Option, Some, None, refl, sym, ap, ◌∙◌, subst}
 use Rattle.std.specs.Prelude.{slice_get, IfSome}
 use Rattle.std.specs.List.{AllByRecursion, filter, find, list_any, position, position_or_len, remove}
 use Rattle.std.proofs.lemmas.List.Folds.{find_at}
-use Rattle.std.proofs.lemmas.Option.{same_Some, none-some, slice_get_past}
+use Rattle.std.proofs.lemmas.Option.{none-some, slice_get_past}
 use Rattle.mt_stamp.specs.Moment.{Moment, stamp_eq}
 use Rattle.mt_stamp.specs.Sorting.{RisesStrictly, DifferBy}
 use Rattle.mt_stamp.proofs.Order.{stamp_eq-true}
@@ -20,9 +20,9 @@ use Rattle.mt_sessionview.specs.Content.{Track}
 use Rattle.mt_sessionview.specs.Noted.{is_shown_in, clips_in, track_in, tracks_in}
 use Rattle.mt_sessionview.specs.Changing.{put, without, is_track_of}
 use Rattle.mt_sessionview.proofs.InOrder.{tracks_once}
-use Rattle.mt_sessionview.proofs.Lists.{all_also, any_member, member_all}
+use Rattle.mt_sessionview.proofs.Lists.{any_member, member_all}
 use Rattle.mt_sessionview.proofs.Placing.{found_passes}
-use Rattle.mt_mending.specs.Before.{IsOneMore, TracksStood, ArePlacesOf, index_order}
+use Rattle.mt_mending.specs.Before.{TracksStood, ArePlacesOf, index_order}
 use Rattle.mt_mending.specs.Mending.{subject_of, track_entry, track_order}
 use Rattle.mt_mending.proofs.Clips.{found_at, not_found, passes_there}
 use Rattle.mt_mending.proofs.Entries.{IsOf}

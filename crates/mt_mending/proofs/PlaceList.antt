@@ -1,7 +1,7 @@
 -- A list of places that has the places of noted operations.
-use Rattle.std.proofs.Common.{◌≡◌, ℕ, zero, suc, ◌+◌, ◌<◌, Bool, true, false, cond, not, ◌||◌, List, [], ◌∷◌, Option, Some, None, map, refl, sym, ap, ◌∙◌, subst, lt-ltb, ltb, arith}
-use Rattle.std.specs.Prelude.{slice_get, insert, IsTrue}
-use Rattle.std.specs.List.{AllByRecursion, list_any, position_or_len, cons_option, sum_by}
+use Rattle.std.proofs.Common.{◌≡◌, ℕ, zero, suc, ◌+◌, ◌<◌, Bool, true, false, cond, not, ◌||◌, List, [], ◌∷◌, Option, Some, None, refl, sym, ap, ◌∙◌, subst, lt-ltb, ltb, arith}
+use Rattle.std.specs.Prelude.{slice_get, insert}
+use Rattle.std.specs.List.{list_any, cons_option, sum_by}
 use Rattle.std.specs.List.Sorted.{IsStrictlySortedBy}
 use Rattle.std.specs.Cmp.{IsTotalOrder}
 use Rattle.std.specs.declared.cmp.Ordering.{Ordering}

@@ -1,4 +1,4 @@
-use Rattle.std.proofs.Common.{◌≡◌, ◌≢◌, false, List, Option, ap, sym, subst, ◌∙◌}
+use Rattle.std.proofs.Common.{◌≡◌, false, List, Option, ap, sym, subst, ◌∙◌}
 use Rattle.std.specs.Prelude.{IfSome}
 use Rattle.std.specs.List.{list_any}
 use Rattle.std.proofs.lemmas.Result.{on_ok_weaker}

@@ -1,4 +1,4 @@
-use Rattle.std.proofs.Common.{◌≡◌, ap, ◌∙◌}
+use Rattle.std.proofs.Common.{ap, ◌∙◌}
 use Rattle.std.specs.Ordering.{nat_cmp, is_lt}
 use Rattle.mt_sessionview.specs.Content.{Track}
 use Rattle.mt_mending.specs.Before.{place_index}

@@ -1,4 +1,4 @@
-use Rattle.std.proofs.Common.{◌≡◌, List, ap, sym, ◌∙◌}
+use Rattle.std.proofs.Common.{List, ap, sym, ◌∙◌}
 use Rattle.mt_sessionview.specs.Content.{Track}
 use Rattle.mt_sessionview.specs.Changing.{is_track_of}
 use Rattle.mt_mending.proofs.MendTracks.{found_is, none_is, without_found, without_none}

@@ -1,9 +1,7 @@
-use Rattle.std.proofs.Common.{◌≡◌, Option, Some, None, ap, sym, ◌∙◌}
+use Rattle.std.proofs.Common.{ap, sym, ◌∙◌}
 use Rattle.std.specs.Prelude.{option_map}
-use Rattle.std.proofs.lemmas.Result.{on_ok_weaker}
-use Rattle.mt_tracklist.specs.declared.track_list.Placed.{Placed}
 use Rattle.mt_tracklist.specs.Ordered.{tree_place}
-use Rattle.mt_mending.proofs.PlaceList.{is_newer, is_new, reference_there, has_more, has_same}
+use Rattle.mt_mending.proofs.PlaceList.{is_newer, is_new, reference_there}
 use Rattle.mt_mending.proofs.place.add_place.Goals as goal
 
 pub put_place-requires-clause-new : goal.put_place-requires-clause-new

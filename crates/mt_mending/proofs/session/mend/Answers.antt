@@ -1,18 +1,14 @@
-use Rattle.std.proofs.Common.{◌≡◌, List, ap, sym, ◌∙◌}
+use Rattle.std.proofs.Common.{sym, ◌∙◌}
 use Rattle.std.proofs.lemmas.Result.{on_ok_weaker}
-use Rattle.mt_sessionview.specs.Content.{Content, Track, Marker}
-use Rattle.mt_mending.proofs.MendSession.{tracks, markers, clips, markers_stay, tracks_stay}
-use Rattle.mt_mending.proofs.MendTracks.{track_no_marker, marker_no_clip}
+use Rattle.mt_mending.proofs.MendSession.{a_track, a_marker, neither}
 use Rattle.mt_mending.proofs.session.mend.Goals as goal
 
-pub mend_tracks-requires-then-meets : goal.mend_tracks-requires-then-meets
-mend_tracks-requires-then-meets g c = ?
-
 pub returns-then-meets-clause-ok : goal.returns-then-meets-clause-ok
-returns-then-meets-clause-ok g c = ?
+returns-then-meets-clause-ok g c = on_ok_weaker c.mend_tracks.result (λ mended. mended ∙ a_track c.requires.stood (sym c.meets.ensures ∙ c.if-meets.true)) c.mend_tracks.ensures.ok
 
 pub returns-then-meets-2-clause-ok : goal.returns-then-meets-2-clause-ok
-returns-then-meets-2-clause-ok g c = ?
+returns-then-meets-2-clause-ok g c =
+    on_ok_weaker c.mend_markers.result (λ mended. mended ∙ a_marker c.requires.stood (sym c.meets.ensures ∙ c.if-meets.false) (sym c.meets-2.ensures ∙ c.if-meets-2.true)) c.mend_markers.ensures.ok
 
 pub returns-clause-ok : goal.returns-clause-ok
-returns-clause-ok g c = ?
+returns-clause-ok g c = on_ok_weaker c.mend_clips.result (λ mended. mended ∙ neither c.requires.stood (sym c.meets-2.ensures ∙ c.if-meets-2.false)) c.mend_clips.ensures.ok
