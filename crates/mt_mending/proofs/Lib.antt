@@ -14,5 +14,6 @@ pub mod Markers
 pub mod Clips
 pub mod PlaceList
 pub mod TrackOrder
+pub mod NewTracks
 pub mod MendTracks
 pub mod MendSession

@@ -23,8 +23,8 @@ tracks_as_before o r noted none no_clip =
     ∙ tracks_left r noted.1 (subject_of o) (no_track o r noted r (before o r noted TrackRole none))
 
 module _ {ops : List Operation} {item : Moment} {stood : Stood} {content : Content} (was : SessionStood ops item stood content) where
-  pub tracks : TracksStood ops item content.tracks
-  tracks = record { before = was.before; one_more = was.one_more; are = was.tracks_are }
+  pub tracks : TracksStood ops item stood.known content.tracks
+  tracks = record { before = was.before; one_more = was.one_more; are = was.tracks_are; known_is = ap (λ (s : Stood). s.known) was.stood_is }
 
   pub markers : MarkersStood ops item stood.marker content.markers
   markers = record { before = was.before; one_more = was.one_more; are = was.markers_are; stood_at = ap (λ (s : Stood). s.marker) was.stood_is }

@@ -30,6 +30,7 @@ use Rattle.mt_mending.proofs.Found.{all_tracks, entries_are_shown}
 use Rattle.mt_mending.proofs.Kept.{insert_alike}
 use Rattle.mt_mending.proofs.Leaving.{items_are_of_a_kind}
 use Rattle.mt_mending.proofs.Markers.{none_left, noted_before}
+use Rattle.mt_mending.proofs.NewTracks.{no_clips}
 use Rattle.mt_mending.proofs.Once.{taken_out}
 use Rattle.mt_mending.proofs.Others.{met_is}
 use Rattle.mt_mending.proofs.TrackOrder.{TiesWithNone, all_put, rises_put, rises_alike, ties_alike, IsPlaced, all_placed, order_agrees, tracks_rise, track_order_total}
@@ -99,7 +100,7 @@ marker_no_clip ops noted item = other_kind ops noted MarkerRole ClipRole item (�
 abbrev track_key : Track → Moment
 track_key t = t.track
 
-module _ {ops : List Operation} {item : Moment} {tracks : List Track} (was : TracksStood ops item tracks) where
+module _ {ops : List Operation} {item : Moment} {known : Bool} {tracks : List Track} (was : TracksStood ops item known tracks) where
   abbrev r : List Operation
   r = was.before
 
@@ -134,6 +135,10 @@ module _ {ops : List Operation} {item : Moment} {tracks : List Track} (was : Tra
     pub clips_are : (e : Option Track) → e ≡ find (is_track_of item) tracks → IfSome e (λ t. t.clips ≡ clips_in ops item)
     clips_are None is = tt
     clips_are (Some t) is = clips_stay t (sym is)
+
+    -- one that was not known before has none
+    pub clips_none : known ≡ false → clips_in ops item ≡ []
+    clips_none unknown = sym same_clips ∙ no_clips r (noted_before was.one_more) item (sym was.known_is ∙ unknown)
 
     -- the tracks are what is left and the one that is shown now
     mended : put (track_order ops) (track_entry ops item) left ≡ tracks_in ops

@@ -9,4 +9,6 @@ pub struct Stood {
     pub marker: Option<u32>,
     /// The clip of this stamp that is present, with its track.
     pub clip: Option<PlacedClip>,
+    /// Whether an item of this stamp was added, present or not.
+    pub known: bool,
 }

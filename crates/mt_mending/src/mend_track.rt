@@ -1,6 +1,6 @@
 //! The tracks of a session, mended by one operation more.
 
-ghost use Rattle.std.specs.Prelude.{◌≡◌, ◌≢◌, true, false, ◌&&◌, find, IfOk, IfErr, IfSome, OnOk};
+ghost use Rattle.std.specs.Prelude.{◌≡◌, ◌≢◌, [], true, false, ◌&&◌, find, IfOk, IfErr, IfSome, OnOk};
 ghost use Rattle.std.specs.List.{AllByRecursion, list_any};
 ghost use Rattle.std.specs.Ordering.{nat_cmp, is_lt};
 ghost use Rattle.std.specs.declared.cmp.Ordering.TheVariants.{Equal};
@@ -18,7 +18,7 @@ ghost use Rattle.mt_mending.specs.Before.{ArePlacesOf, TracksStood, place_index,
 use crate::track::{shown_with, whole_track};
 use mt_items::Items;
 use mt_sessionview::{Session, SessionFault, TrackView};
-use mt_stamp::Stamp;
+use mt_stamp::{List, Stamp};
 use mt_tracklist::{Placed, TrackList};
 use std::alloc::Allocator;
 
@@ -34,15 +34,18 @@ fn take_out<A: Allocator>(session: &mut Session<A>, item: Stamp) -> Option<Track
     }
 }
 
-// The track of a stamp, where it is shown: with the clips of the one that was taken out, or else with all its clips.
+// The track of a stamp, where it is shown: with the clips of the one that was taken out, or else with all its clips, of which one that
+// was not known before has none.
 fn track_now<A: Allocator + Clone>(
     alloc: &A,
     items: &Items<A>,
     item: Stamp,
+    known: bool,
     taken: Option<TrackView<A>>,
 ) -> Result<Option<TrackView<A>>, SessionFault>
     requires noted { AreNoted items.now }
     requires clips { IfSome taken (λ t. t.clips ≡ clips_in items.now item) }
+    requires none { known ≡ false → clips_in items.now item ≡ [] }
     ensures ok { IfOk result (λ view. view ≡ track_entry items.now item) }
     ensures err { IfErr result (λ fault. fault ≡ SessionFault.Memory) }
 {
@@ -53,7 +56,10 @@ fn track_now<A: Allocator + Clone>(
         }
         None => {
             let alloc = alloc.clone()?;
-            whole_track(alloc, items, item)
+            if known {
+                return whole_track(alloc, items, item);
+            }
+            shown_with(items, item, List::new(Vec::new(alloc)))
         }
     }
 }
@@ -143,17 +149,18 @@ fn put_shown<A: Allocator>(
 pub fn mend_tracks<A: Allocator + Clone>(
     alloc: &A,
     session: &mut Session<A>,
+    known: bool,
     items: &Items<A>,
     list: &TrackList<A>,
     item: Stamp,
 ) -> Result<(), SessionFault>
-    requires before { TracksStood items.now item session.old.tracks }
+    requires before { TracksStood items.now item known session.old.tracks }
     requires track { is_need_met items.now (need_of TrackRole item) ≡ true }
     requires places { ArePlacesOf list.now items.now }
     ensures ok { OnOk result (session.new ≡ record session.old { tracks = tracks_in items.now }) }
     ensures err { IfErr result (λ fault. fault ≡ SessionFault.Memory) }
 {
     let taken = take_out(session, item);
-    let shown = track_now(alloc, items, item, taken)?;
+    let shown = track_now(alloc, items, item, known, taken)?;
     put_shown(session, items, list.order(), shown)
 }

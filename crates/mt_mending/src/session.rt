@@ -19,9 +19,14 @@ use std::alloc::Allocator;
 pub fn stood<A: Allocator>(items: &Items<A>, item: Stamp) -> Stood
     ensures { result ≡ stood_in items.now item }
 {
+    let added = Need {
+        stamp: item,
+        role: Role::Item,
+    };
     Stood {
         marker: marker_position(items, item),
         clip: placed_clip(items, item),
+        known: items.meets(&added),
     }
 }
 
@@ -44,7 +49,7 @@ pub fn mend<A: Allocator + Clone>(
         role: Role::Track,
     };
     if items.meets(&track) {
-        return mend_tracks(alloc, session, items, list, item);
+        return mend_tracks(alloc, session, stood.known, items, list, item);
     }
     let marker = Need {
         stamp: item,

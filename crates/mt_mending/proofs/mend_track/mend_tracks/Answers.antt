@@ -8,7 +8,7 @@ use Rattle.mt_tracklist.specs.Ordered.{IsOrdered}
 use Rattle.mt_sessionview.specs.Content.{Content, Track}
 use Rattle.mt_sessionview.specs.Changing.{put, without, is_track_of}
 use Rattle.mt_mending.specs.Before.{ArePlacesOf, index_order}
-use Rattle.mt_mending.proofs.MendTracks.{once, clips_are, new, rise, apart, mends}
+use Rattle.mt_mending.proofs.MendTracks.{once, clips_are, clips_none, new, rise, apart, mends}
 use Rattle.mt_mending.proofs.TrackOrder.{TiesWithNone}
 use Rattle.mt_mending.proofs.mend_track.mend_tracks.Goals as goal
 
@@ -17,6 +17,9 @@ take_out-taken-requires g c = record { once = once c.requires.before }
 
 pub track_now-requires-clause-clips : goal.track_now-requires-clause-clips
 track_now-requires-clause-clips g c = clips_are c.requires.before c.requires.track c.take_out-taken.result c.take_out-taken.ensures.taken
+
+pub track_now-requires-clause-none : goal.track_now-requires-clause-none
+track_now-requires-clause-none g c = clips_none c.requires.before c.requires.track
 
 pub put_shown-requires-clause-rise : goal.put_shown-requires-clause-rise
 put_shown-requires-clause-rise g c =
