@@ -64,7 +64,7 @@ module _ {X : Type 0} (cmp : X → X → Ordering) (order : IsTotalOrder cmp) (p
 
 -- orders that agree on the items of a list sort it alike
 module _ {X : Type 0} (cmp other : X → X → Ordering) (P : X → Type 0) (agree : (a b : X) → P a → P b → cmp a b ≡ other a b) where
-  insert_alike : (x : X) (ys : List X) → P x → AllByRecursion P ys → insert_by cmp x ys ≡ insert_by other x ys
+  pub insert_alike : (x : X) (ys : List X) → P x → AllByRecursion P ys → insert_by cmp x ys ≡ insert_by other x ys
   insert_alike x [] here all = refl
   insert_alike x (y ∷ ys) here all = λ i. match_ordering (agree x y here all.0 i) (x ∷ y ∷ ys) (x ∷ y ∷ ys) (y ∷ insert_alike x ys here all.1 i)
 

@@ -30,7 +30,7 @@ module _ (o : Operation) (r : List Operation) (noted : AreNoted (o ∷ r)) where
   item = subject_of o
 
   -- what is no item of a kind was none before
-  before : (kind : Role) → is_need_met (o ∷ r) (need_of kind item) ≡ false → is_need_met r (need_of kind item) ≡ false
+  pub before : (kind : Role) → is_need_met (o ∷ r) (need_of kind item) ≡ false → is_need_met r (need_of kind item) ≡ false
   before kind none = rest_false (stamp_eq item o.stamp && fits kind o) (is_need_met r (need_of kind item)) none
 
   pub clips_stay : (track : Moment) → clip_on r track item ≡ None → clip_on (o ∷ r) track item ≡ None → clips_in (o ∷ r) track ≡ clips_in r track
@@ -68,7 +68,7 @@ module _ (o : Operation) (r : List Operation) (noted : AreNoted (o ∷ r)) where
         ∙ ap (put (track_order (o ∷ r)) (track_entry (o ∷ r) item)) (map_same (track_mended (o ∷ r) item) (without (λ (t : Track). t.track) item (tracks_in r))
         (all_kept (λ t. track_mended (o ∷ r) item t ≡ t) (λ (t : Track). not (stamp_eq item t.track)) (tracks_in r) (all_also IsShown (λ t. track_mended (o ∷ r) item t ≡ t) same_track (tracks_in r) (all_tracks r noted.1))))
 
-  no_track : (ops : List Operation) → is_need_met ops (need_of TrackRole item) ≡ false → track_entry ops item ≡ None
+  pub no_track : (ops : List Operation) → is_need_met ops (need_of TrackRole item) ≡ false → track_entry ops item ≡ None
   no_track ops none = ap (λ (b : Bool). cond (b && is_present ops item) (track_where ops (Some item)) None) none
 
   only_clips : is_need_met (o ∷ r) (need_of TrackRole item) ≡ false → tracks_in (o ∷ r) ≡ map (track_mended (o ∷ r) item) (tracks_in r)

@@ -12,3 +12,8 @@ pub mod Once
 pub mod PlaceOrder
 pub mod Markers
 pub mod Clips
+pub mod PlaceList
+pub mod TrackOrder
+pub mod NewTracks
+pub mod MendTracks
+pub mod MendSession

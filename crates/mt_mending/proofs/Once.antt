@@ -24,7 +24,7 @@ use Rattle.mt_mending.proofs.Entries.{filter_all}
 use Rattle.mt_mending.proofs.Found.{tracks_left}
 
 -- what differs by its stamp is taken out at its index
-taken_out : {X : Type 0} (key : X → Moment) (xs : List X) → DifferBy key xs → (k : ℕ) (x : X) → slice_get xs k ≡ Some x → without key (key x) xs ≡ remove xs k
+pub taken_out : {X : Type 0} (key : X → Moment) (xs : List X) → DifferBy key xs → (k : ℕ) (x : X) → slice_get xs k ≡ Some x → without key (key x) xs ≡ remove xs k
 taken_out key [] differ k x at = absurd (none-some x at)
 taken_out {X} key (y ∷ xs) differ zero x at =
     let same : y ≡ x = same_Some y x at in

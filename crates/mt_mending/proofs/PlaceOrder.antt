@@ -13,7 +13,8 @@ use Rattle.mt_stamp.specs.Tree.{TreePlace, stamps_of, tree_cmp}
 use Rattle.mt_stamp.proofs.Differing.{differ_mapped}
 use Rattle.mt_stamp.proofs.Members.{member_at, sort_strict}
 use Rattle.mt_stamp.proofs.Tree.{trees_are_ordered}
-use Rattle.mt_items.specs.Noting.{is_noted}
+use Rattle.mt_op.specs.Operation.{Operation}
+use Rattle.mt_items.specs.Noting.{AreNoted, is_noted}
 use Rattle.mt_sessionview.specs.Session.{place_added}
 use Rattle.mt_sessionview.specs.Noted.{places_in}
 use Rattle.mt_sessionview.specs.Changing.{put}
@@ -63,14 +64,20 @@ module _ {X : Type 0} (cmp : X → X → Ordering) (order : IsTotalOrder cmp) wh
   by_index (x ∷ xs) rises (suc i) (suc j) a b at_i at_j = both_later (cmp a b) i j (by_index xs rises.1 i j a b at_i at_j)
 
 -- places that grew differ
-differ_grew : (places : List TreePlace) → Grew places → DifferBy (λ (t : TreePlace). t.place) places
+pub differ_grew : (places : List TreePlace) → Grew places → DifferBy (λ (t : TreePlace). t.place) places
 differ_grew [] grew = tt
 differ_grew (t ∷ places) grew = (all_members (λ s. t.place ≢ s.place) places (λ s m same. grew.0 (s, m, sym same)), differ_grew places grew.2)
+
+-- the places in order rise, each once
+pub places_rise : (ops : List Operation) → AreNoted ops → RisesStrictly (tree_cmp (places_in ops)) (places_in_order ops)
+places_rise ops noted =
+    let cmp = tree_cmp (places_in ops) in
+    let total = (trees_are_ordered (places_in ops)).total in
+    let differ = differ_mapped (λ (t : TreePlace). t.place) (λ (p : Moment). p) (places_in ops) (differ_grew (places_in ops) (grew_in ops noted)) in
+    sort_strict cmp total (stamps_of (places_in ops)) (apart_by cmp total (λ (p : Moment). p) (trees_are_ordered (places_in ops)).apart (stamps_of (places_in ops)) differ)
 
 pub indexes_tell_the_order : IndexesTellTheOrder
 indexes_tell_the_order ops a b i j noted at_i at_j =
     let cmp = tree_cmp (places_in ops) in
     let total = (trees_are_ordered (places_in ops)).total in
-    let differ = differ_mapped (λ (t : TreePlace). t.place) (λ (p : Moment). p) (places_in ops) (differ_grew (places_in ops) (grew_in ops noted)) in
-    let rises = sort_strict cmp total (stamps_of (places_in ops)) (apart_by cmp total (λ (p : Moment). p) (trees_are_ordered (places_in ops)).apart (stamps_of (places_in ops)) differ) in
-    nat_cmp_is i j _ (by_index cmp total (places_in_order ops) rises i j _ _ at_i at_j)
+    nat_cmp_is i j _ (by_index cmp total (places_in_order ops) (places_rise ops noted) i j _ _ at_i at_j)

@@ -1,12 +1,22 @@
 -- A session before the last of the noted operations, and where the item of this operation stood in it.
-use Rattle.std.specs.Prelude.{◌≡◌, ℕ, List, ◌∷◌, map, filter, not, Option, option_map, Some, None, if◌then◌else◌}
+use Rattle.std.specs.Prelude.{◌≡◌, ℕ, Bool, List, ◌∷◌, map, filter, not, Option, option_map, Some, None, if◌then◌else◌}
+use Rattle.std.specs.List.{sum_by}
+use Rattle.std.specs.Ordering.{nat_cmp}
+use Rattle.std.specs.declared.cmp.Ordering.{Ordering}
 use Rattle.mt_stamp.specs.Moment.{Moment, stamp_eq}
+use Rattle.mt_stamp.specs.Tree.{TreePlace}
+use Rattle.mt_tracklist.specs.declared.track_list.Placed.{Placed}
+use Rattle.mt_tracklist.specs.Ordered.{tree_of}
+use Rattle.mt_tracklist.specs.Skipping.{index_in}
 use Rattle.mt_op.specs.Operation.{Operation}
-use Rattle.mt_items.specs.Noting.{AreNoted}
-use Rattle.mt_sessionview.specs.Content.{Clip, Track, Marker}
-use Rattle.mt_sessionview.specs.Noted.{markers_in, tracks_in}
+use Rattle.mt_op.specs.declared.need.Role.TheVariants.{Item as ItemRole}
+use Rattle.mt_op.specs.Needs.{need_of}
+use Rattle.mt_items.specs.Noting.{AreNoted, is_need_met}
+use Rattle.mt_sessionview.specs.Content.{Clip, Track, Marker, Content}
+use Rattle.mt_sessionview.specs.Noted.{markers_in, tracks_in, places_in, track_place_in}
 use Rattle.mt_sessionview.specs.Read.{clip_read}
 use Rattle.mt_sessionview.specs.Changing.{is_marker_at, with_clip, without_clip}
+use Rattle.mt_mending.specs.declared.before.Stood.{Stood}
 use Rattle.mt_mending.specs.declared.clip.PlacedClip.{PlacedClip}
 use Rattle.mt_mending.specs.Mending.{subject_of, marker_entry}
 
@@ -39,6 +49,35 @@ pub record ClipsStood (ops : List Operation) (item : Moment) (stood : Option Pla
   pub are : tracks ≡ tracks_in before
   pub stood_at : stood ≡ placed_clip before item
 
+-- whether one of these operations added the item of a stamp
+abbrev pub is_known : List Operation → Moment → Bool
+is_known ops item = is_need_met ops (need_of ItemRole item)
+
+-- The tracks are those before the last of these operations, and it is known whether its item was added before it.
+pub record TracksStood (ops : List Operation) (item : Moment) (known : Bool) (tracks : List Track) : Type 0 where
+  pub before : List Operation
+  pub one_more : IsOneMore ops before item
+  pub are : tracks ≡ tracks_in before
+  pub known_is : known ≡ is_known before item
+
+-- ---- all that an operation changes
+
+-- The list has the places that these operations gave: whatever is counted of each place adds up to the same.
+abbrev pub ArePlacesOf : List Placed → List Operation → Type 0
+ArePlacesOf list ops = (f : TreePlace → ℕ) → sum_by f (tree_of list) ≡ sum_by f (places_in ops)
+
+-- where an item stands in a session: the position of a marker, a clip with its track, and whether it was added at all
+abbrev pub stood_in : List Operation → Moment → Stood
+stood_in ops item = record { marker = marker_position ops item; clip = placed_clip ops item; known = is_known ops item }
+
+-- The session is that before the last of these operations, and its item stood there.
+pub record SessionStood (ops : List Operation) (item : Moment) (stood : Stood) (content : Content) : Type 0 where
+  pub before : List Operation
+  pub one_more : IsOneMore ops before item
+  pub tracks_are : content.tracks ≡ tracks_in before
+  pub markers_are : content.markers ≡ markers_in before
+  pub stood_is : stood ≡ stood_in before item
+
 -- ---- working definitions, of which no public function speaks
 
 -- the markers but the one of a stamp that stood at this position
@@ -68,3 +107,11 @@ tracks_without (Some found) tracks = map (clip_off found) tracks
 abbrev pub tracks_with : Option PlacedClip → List Track → List Track
 tracks_with None tracks = tracks
 tracks_with (Some found) tracks = map (clip_to found) tracks
+
+-- where the place of a track stands among the places of a list; the list's length where it is not there
+abbrev pub place_index : List Placed → List Operation → Moment → ℕ
+place_index list ops track = index_in list (track_place_in ops track)
+
+-- tracks by where their places stand in a list
+abbrev pub index_order : List Placed → List Operation → Track → Track → Ordering
+index_order list ops a b = nat_cmp (place_index list ops a.track) (place_index list ops b.track)

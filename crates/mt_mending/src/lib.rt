@@ -39,16 +39,24 @@
 //! ```
 #![tactic(auto)]
 
+mod before;
 mod clip;
 pub mod laws;
 mod marker;
+mod mend_track;
+mod place;
 mod read;
+mod session;
 mod subject;
 #[cfg(test)]
 mod tests;
 mod track;
 
+pub use before::Stood;
 pub use clip::{PlacedClip, mend_clips, placed_clip};
 pub use marker::{marker_position, mend_markers};
+pub use mend_track::mend_tracks;
+pub use place::add_place;
+pub use session::{mend, stood};
 pub use subject::subject_of;
 pub use track::{track_clips, whole_track};

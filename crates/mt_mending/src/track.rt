@@ -87,6 +87,35 @@ fn is_shown<A: Allocator>(items: &Items<A>, item: Stamp) -> bool
     items.meets(&need) && items.is_present(item)
 }
 
+// The track of a stamp with these clips, where the session shows one.
+pub(crate) fn shown_with<A: Allocator + Clone>(
+    items: &Items<A>,
+    item: Stamp,
+    clips: List<ClipView, A>,
+) -> Result<Option<TrackView<A>>, SessionFault>
+    requires clips { clips ≡ clips_in items.now item }
+    requires noted { AreNoted items.now }
+    ensures ok { IfOk result (λ view. view ≡ track_entry items.now item) }
+    ensures err { IfErr result (λ fault. fault ≡ SessionFault.Memory) }
+{
+    if !is_shown(items, item) {
+        return Ok(None);
+    }
+    let Some(title) = items.title(item) else {
+        return Ok(None);
+    };
+    let Ok(title) = title.get().try_clone() else {
+        return Err(SessionFault::Memory);
+    };
+    Ok(Some(TrackView {
+        track: item,
+        title,
+        gain: value_or(items.gain(item), Gain::UNCHANGED),
+        mute: value_or(items.mute(item), false),
+        clips,
+    }))
+}
+
 /// The track of a stamp with all its clips, where the session of the noted operations shows one: one that was added or that
 /// returns. Looks at every clip, and takes n log n for the n that are on the track. Refused only as `Memory` (0).
 pub fn whole_track<A: Allocator + Clone>(
@@ -101,18 +130,6 @@ pub fn whole_track<A: Allocator + Clone>(
     if !is_shown(items, item) {
         return Ok(None);
     }
-    let Some(title) = items.title(item) else {
-        return Ok(None);
-    };
-    let Ok(title) = title.get().try_clone() else {
-        return Err(SessionFault::Memory);
-    };
     let clips = track_clips(alloc, items, item)?;
-    Ok(Some(TrackView {
-        track: item,
-        title,
-        gain: value_or(items.gain(item), Gain::UNCHANGED),
-        mute: value_or(items.mute(item), false),
-        clips: List::new(clips),
-    }))
+    shown_with(items, item, List::new(clips))
 }

@@ -1,0 +1,70 @@
+//! The list of the places of tracks, with the place that one operation more gives.
+
+ghost use Rattle.std.specs.Prelude.{◌≡◌, ◌∷◌, ◌+◌, false, option_map, IfErr, OnOk, ℕ};
+ghost use Rattle.std.specs.List.{sum_by};
+ghost use Rattle.mt_stamp.specs.Tree.{TreePlace};
+ghost use Rattle.mt_tracklist.specs.Ordered.{IsNewer, has_place, tree_of, tree_place};
+ghost use Rattle.mt_tracklist.specs.Skipping.{IsReferenceThere};
+ghost use Rattle.mt_op.specs.Valid.{IsOperation};
+ghost use Rattle.mt_items.specs.Noting.{AreNoted};
+ghost use Rattle.mt_sessionview.specs.Session.{place_added};
+ghost use Rattle.mt_mending.specs.Before.{ArePlacesOf};
+
+use mt_items::Items;
+use mt_op::{Body, Op};
+use mt_sessionview::SessionFault;
+use mt_tracklist::{Placed, TrackList, TrackListFault};
+use std::alloc::Allocator;
+
+// The place that an operation gives a track, if it gives one.
+fn placed_by<A: Allocator>(op: &Op<A>) -> Option<Placed>
+    ensures place { option_map tree_place result ≡ place_added op.now }
+    ensures valid { IsOperation op.now }
+{
+    let place = op.stamp();
+    match op.body() {
+        Body::AddTrack { after, .. } => Some(Placed {
+            place,
+            after: *after,
+            track: place,
+        }),
+        Body::MoveTrack { track, after } => Some(Placed {
+            place,
+            after: *after,
+            track: *track,
+        }),
+        _ => None,
+    }
+}
+
+// Puts a new place into a list that has what it was put after.
+fn put_place<A: Allocator>(list: &mut TrackList<A>, placed: Placed) -> Result<(), SessionFault>
+    requires new { has_place list.old placed.place ≡ false }
+    requires reference { IsReferenceThere list.old placed.after }
+    requires newer { IsNewer placed.place placed.after }
+    ensures ok { OnOk result ((f : TreePlace → ℕ) → sum_by f (tree_of list.new) ≡ f (tree_place placed) + sum_by f (tree_of list.old)) }
+    ensures err { IfErr result (λ fault. fault ≡ SessionFault.Memory) }
+{
+    match list.insert(placed.place, placed.after, placed.track) {
+        Ok(()) => Ok(()),
+        Err(TrackListFault::Memory) => Err(SessionFault::Memory),
+        Err(_) => unreachable!(),
+    }
+}
+
+/// Puts the place that an operation gives a track, if it gives one, into the list of places.
+pub fn add_place<A: Allocator>(
+    list: &mut TrackList<A>,
+    items: &Items<A>,
+    op: &Op<A>,
+) -> Result<(), SessionFault>
+    requires follows { AreNoted (op.now ∷ items.now) }
+    requires places { ArePlacesOf list.old items.now }
+    ensures ok { OnOk result (ArePlacesOf list.new (op.now ∷ items.now)) }
+    ensures err { IfErr result (λ fault. fault ≡ SessionFault.Memory) }
+{
+    match placed_by(op) {
+        Some(placed) => put_place(list, placed),
+        None => Ok(()),
+    }
+}
