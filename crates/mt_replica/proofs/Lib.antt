@@ -10,4 +10,5 @@ pub mod HeldBack
 pub mod Keeping
 pub mod Taking
 pub mod NextOne
+pub mod ShownPlaces
 pub mod EqualEditors

@@ -1,6 +1,6 @@
 -- Lists of operations in which no stamp stands twice, as what is counted of them tells.
 use Rattle.std.proofs.Common.{◌≡◌, ◌≢◌, ℕ, ◌+◌, ◌≤◌, Bool, true, false, cond, ◌||◌, List, [], ◌∷◌, ◌++◌, refl, sym, ap, ◌∙◌, arith}
-use Rattle.std.specs.List.{AllByRecursion, list_any}
+use Rattle.std.specs.List.{AllByRecursion, list_any, sum_by}
 use Rattle.std.proofs.lemmas.List.Sums.{sum_by-cons, sum_by-append}
 use Rattle.mt_stamp.specs.Moment.{Moment, stamp_eq}
 use Rattle.mt_stamp.specs.Sorting.{DifferBy}
@@ -10,6 +10,8 @@ use Rattle.mt_op.specs.ByStamp.{stamp_of}
 use Rattle.mt_op.specs.Presence.{is_listed}
 use Rattle.mt_items.specs.Noting.{is_noted}
 use Rattle.mt_sessionview.specs.Session.{stamps_of}
+use Rattle.mt_sessionview.proofs.Items.{stamp_eq_same}
+use Rattle.mt_sessionview.proofs.Lists.{all_members, any_of}
 use Rattle.mt_replica.specs.Holding.{stamp_count, HaveOwnStamps}
 use Rattle.mt_replica.proofs.Bridging.{not_true}
 
@@ -69,3 +71,20 @@ own_stamps (x ∷ xs) differ s = by (stamp_eq s x.stamp) refl (own_stamps xs dif
 pub listed_is : (xs : List Operation) (s : Moment) → is_listed (stamps_of xs) s ≡ is_noted xs s
 listed_is [] s = refl
 listed_is (x ∷ xs) s = ap (λ (b : Bool). stamp_eq s x.stamp || b) (listed_is xs s)
+
+-- operations whose stamps are their own differ by them
+pub differ_own : (xs : List Operation) → HaveOwnStamps xs → DifferBy stamp_of xs
+differ_own [] own = tt
+differ_own (x ∷ xs) own = (
+  all_members (λ y. stamp_of x ≢ stamp_of y) xs (λ y m same.
+      let there : is_noted xs x.stamp ≡ true = any_of (λ (o : Operation). stamp_eq x.stamp o.stamp) xs y m (stamp_eq_same x.stamp y.stamp same) in
+      let some = count_noted x.stamp xs there in
+      let once = own x.stamp in
+      let one = count_own x xs in
+      absurd (omega (arith, some, once, one))),
+  differ_own xs (λ s. let all = own s in let split = count_cons s x xs in omega (arith, all, split)),
+)
+
+-- of the same operations the stamps are their own too
+pub own_as : (xs ys : List Operation) → ((f : Operation → ℕ) → sum_by f xs ≡ sum_by f ys) → DifferBy stamp_of xs → HaveOwnStamps ys
+own_as xs ys same differ s = let once = own_stamps xs differ s in let both = same (λ (o : Operation). cond (stamp_eq s o.stamp) 1 0) in omega (arith, once, both)

@@ -1,12 +1,14 @@
 -- By what values are told apart, where a contract compares them.
-use Rattle.std.specs.Prelude.{ℕ, Option, refl}
-use Rattle.std.specs.Coded.{Coded, code_by, coded×, coded_ℕ, coded_option}
+use Rattle.std.specs.Prelude.{ℕ, Bool, List, Option, refl}
+use Rattle.std.specs.Coded.{Coded, code_by, coded×, coded_ℕ, coded_bool, coded_list, coded_option}
 use Rattle.std.specs.FinMap as map
 use Rattle.mt_stamp.specs.Codes.{dot_code}
+use Rattle.mt_op.specs.Operation.{Operation}
 use Rattle.mt_op.specs.Codes.{operation_code}
 use Rattle.mt_opcodec.specs.LogValue.{LogMap}
 use Rattle.mt_replica.specs.Kept.{Kept}
-use Rattle.mt_replica.specs.State.{Named}
+use Rattle.mt_replica.specs.State.{Named, Stated}
+use Rattle.mt_replica.specs.Viewed.{Viewed, Desk}
 
 abbrev pub log_code : Coded LogMap
 log_code = map.code dot_code operation_code
@@ -16,3 +18,12 @@ named_code = code_by (ℕ × LogMap) (coded× coded_ℕ log_code) (λ n. (n.name
 
 abbrev pub kept_code : Coded Kept
 kept_code = code_by (ℕ × Option LogMap) (coded× coded_ℕ (coded_option log_code)) (λ k. (k.name.0, k.log)) (λ p. record { name = record { 0 = p.0 }; log = p.1 }) (λ _. refl)
+
+abbrev pub stated_code : Coded Stated
+stated_code = code_by (Named × Bool) (coded× named_code coded_bool) (λ s. (s.named, s.shown)) (λ p. record { named = p.0; shown = p.1 }) (λ _. refl)
+
+abbrev pub viewed_code : Coded Viewed
+viewed_code = code_by (List Operation × Option ℕ) (coded× (coded_list operation_code) (coded_option coded_ℕ)) (λ v. (v.ops, v.held)) (λ p. record { ops = p.0; held = p.1 }) (λ _. refl)
+
+abbrev pub desk_code : Coded Desk
+desk_code = code_by (Kept × Bool) (coded× kept_code coded_bool) (λ d. (d.kept, d.shown)) (λ p. record { kept = p.0; shown = p.1 }) (λ _. refl)

@@ -5,6 +5,7 @@ pub mod Made
 pub mod Kept
 pub mod Holding
 pub mod State
+pub mod Viewed
 pub mod Codes
 pub mod Laws
 pub mod Equal

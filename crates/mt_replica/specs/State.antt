@@ -8,7 +8,7 @@ use Rattle.mt_op.specs.Operation.{Act, Operation, Remove}
 use Rattle.mt_op.specs.Tags.{greatest_tag_count}
 use Rattle.mt_holdback.specs.State as holding
 use Rattle.mt_opcodec.specs.LogValue.{LogMap, operations}
-use Rattle.mt_sessionview.specs.Session.{ready_ops}
+use Rattle.mt_sessionview.specs.Session.{ready_ops, held_ops}
 use Rattle.mt_replica.specs.Edit.{Edit}
 use Rattle.mt_replica.specs.Holding.{all_offered}
 use Rattle.mt_replica.specs.Kept.{Kept}
@@ -21,6 +21,11 @@ pub record Named : Type 0 where
   pub name : Replica
   pub log : LogMap
 
+-- the same, and whether its session is kept beside it
+pub record Stated : Type 0 where
+  pub named : Named
+  pub shown : Bool
+
 -- What is in the log was offered to what holds operations back, which has not failed; noted are the ready operations of the log, and the
 -- greatest clock and number are known.
 pub record IsState (state : Named) (waiting : holding.State Operation) (items : List Operation) (clock seq : ℕ) : Type 0 where
@@ -29,6 +34,11 @@ pub record IsState (state : Named) (waiting : holding.State Operation) (items : 
   pub noted : (f : Operation → ℕ) → sum_by f items ≡ sum_by f (ready_ops (operations state.log))
   pub clock_is : clock ≡ greatest_clock (operations state.log)
   pub seq_is : seq ≡ greatest_seq state.name (operations state.log)
+
+-- The number of held operations that is kept, if one is, is that of the log.
+abbrev pub IsHeldOf : LogMap → Option ℕ → Type 0
+IsHeldOf log None = Unit {0}
+IsHeldOf log (Some held) = held ≡ length (held_ops (operations log))
 
 -- a change made the operation of the log
 abbrev pub IsMade : Named → Operation → Type 0

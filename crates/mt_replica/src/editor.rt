@@ -1,17 +1,17 @@
 //! The editor.
 
-ghost use Rattle.std.specs.Prelude.{◌≡◌, ◌≢◌, ◌↔◌, IfOk, IfErr, OnOk, IsErrOf, None, Some, option_map};
+ghost use Rattle.std.specs.Prelude.{◌≡◌, ◌≢◌, ◌↔◌, IfOk, IfErr, IsErrOf, None, Some};
 ghost use Rattle.std.specs.Option.{option_copied};
 ghost use Rattle.mt_replica.specs.Changes.{edit_of};
-ghost use Rattle.mt_replica.specs.Kept.{session_in, failed};
 
 use crate::change::Change;
+use crate::desk::Desk;
 use crate::draft::Draft;
 use crate::fault::EditorFault;
 use crate::taken::Taken;
 use mt_op::Op;
 use mt_opcodec::Log;
-use mt_sessionview::{Session, from_scratch};
+use mt_sessionview::Session;
 use mt_stamp::Replica;
 use std::alloc::{Allocator, Global};
 use std::marker::Model;
@@ -21,22 +21,21 @@ use std::marker::Model;
 /// it has neither log nor session any more, and every call that can be refused answers `Failed` (20).
 #[derive(Drop)]
 pub struct Editor<A: Allocator = Global> {
-    draft: Draft<A>,
-    session: Option<Session<A>>,
+    desk: Desk<A>,
 }
 
 impl<A: Allocator> Model for Editor<A> {
-    ghost use Rattle.std.specs.Prelude.{◌≡◌};
-    ghost use Rattle.mt_replica.specs.Kept.{Kept, session_in};
+    ghost use Rattle.std.specs.Prelude.{◌≡◌, true};
+    ghost use Rattle.mt_replica.specs.Kept.{Kept};
     ghost use Rattle.mt_replica.specs.Codes.{kept_code};
 
     ghost Value = { Kept };
 
     ghost coded = { kept_code };
 
-    ghost view = { λ e. e.draft };
+    ghost view = { λ e. e.desk.kept };
 
-    ghost invariant = { λ e. e.session ≡ session_in e.draft };
+    ghost invariant = { λ e. e.desk.shown ≡ true };
 }
 
 impl<A: Allocator> Editor<A> {
@@ -44,8 +43,7 @@ impl<A: Allocator> Editor<A> {
     pub fn log(&self) -> Option<&Log<A>>
         ensures { option_copied result ≡ self.now.log }
     {
-        let _ = &self.session;
-        self.draft.log()
+        self.desk.log()
     }
 }
 
@@ -66,27 +64,22 @@ impl<A: Allocator + Clone> Editor<A> {
         ensures ok { IfOk result (λ editor. editor ≡ draft) }
         ensures err { IfErr result (λ fault. fault ≡ EditorFault.Memory) }
     {
-        let session = draft.session()?;
-        Ok(Editor { draft, session })
+        let desk = draft.into_desk().show()?;
+        Ok(Editor { desk })
     }
 
     /// Its name.
     pub fn name(&self) -> Replica
         ensures { result ≡ self.now.name }
     {
-        let _ = &self.session;
-        self.draft.name()
+        self.desk.name()
     }
 
     /// The session of the operations in its log; `None` where it has failed.
     pub fn session(&self) -> Option<&Session<A>>
         ensures { option_copied result ≡ session_in self.now }
     {
-        let _ = &self.draft;
-        match &self.session {
-            Some(session) => Some(session),
-            None => None,
-        }
+        self.desk.session()
     }
 
     /// A draft of its name with a copy of its log: for many edits between which nobody looks at the session. Refused as `Failed`
@@ -96,8 +89,8 @@ impl<A: Allocator + Clone> Editor<A> {
         ensures failed { IsErrOf result EditorFault.Failed ↔ (self.now.log ≡ None) }
         ensures err { IfErr result (λ fault. fault ≢ EditorFault.Failed → fault ≡ EditorFault.Memory) }
     {
-        let _ = &self.session;
-        self.draft.try_clone()
+        let desk = self.desk.try_clone()?;
+        Ok(Draft::of(desk))
     }
 
     /// An equal editor of the same name. Refused as `Failed` (20) where the editor has failed, and as `Memory` (0), which leaves it
@@ -116,8 +109,7 @@ impl<A: Allocator + Clone> Editor<A> {
     pub fn fail(&mut self)
         ensures { self.new ≡ failed self.old }
     {
-        self.draft.fail();
-        self.session = None;
+        self.desk.fail();
     }
 
     /// Makes the operation of a change, takes it, and gives a copy. Its clock is 1 above the greatest in the log, held operations
@@ -133,17 +125,7 @@ impl<A: Allocator + Clone> Editor<A> {
         ensures gives { EditGives self.old (edit_of change.now) result }
         ensures holds { self.new ≡ after_edit self.old result }
     {
-        match self.draft.edit(change) {
-            Ok(op) => {
-                renew(&mut self.draft, &mut self.session)?;
-                Ok(op)
-            }
-            Err(EditorFault::Memory) => {
-                self.session = None;
-                Err(EditorFault::Memory)
-            }
-            Err(fault) => Err(fault),
-        }
+        self.desk.edit(change)
     }
 
     /// Takes an operation, of this replica or of another, into the log: `Already` where the same one is there, `Held` where it
@@ -155,18 +137,7 @@ impl<A: Allocator + Clone> Editor<A> {
         ensures gives { TakeGives self.old.log op result }
         ensures holds { self.new ≡ after_take self.old op result }
     {
-        match self.draft.take(op) {
-            Ok(Taken::Already) => Ok(Taken::Already),
-            Ok(taken) => {
-                renew(&mut self.draft, &mut self.session)?;
-                Ok(taken)
-            }
-            Err(EditorFault::Memory) => {
-                self.session = None;
-                Err(EditorFault::Memory)
-            }
-            Err(fault) => Err(fault),
-        }
+        self.desk.take(op)
     }
 }
 
@@ -182,7 +153,7 @@ impl<A: Allocator> PartialEq for Editor<A> {
     ghost laws = { on_per kept_word (partial_equiv_from_equiv nat_list_eq_equiv) };
 
     fn eq(&self, other: &Self) -> bool {
-        self.draft == other.draft
+        self.desk.is_like(&other.desk)
     }
 }
 
@@ -192,28 +163,4 @@ impl<A: Allocator> Eq for Editor<A> {
     ghost use Rattle.mt_replica.specs.Equal.{kept_word};
 
     ghost laws = { on_equiv kept_word nat_list_eq_equiv };
-}
-
-// Works the session out anew, or lets the draft fail where a growth is refused.
-fn renew<A: Allocator + Clone>(
-    draft: &mut Draft<A>,
-    session: &mut Option<Session<A>>,
-) -> Result<(), EditorFault>
-    ensures same { OnOk result (draft.new ≡ draft.old) }
-    ensures renewed { OnOk result (session.new ≡ session_in draft.old) }
-    ensures err { IfErr result (λ fault. fault ≡ EditorFault.Memory) }
-    ensures failed { IfErr result (λ fault. draft.new ≡ failed draft.old) }
-    ensures none { IfErr result (λ fault. session.new ≡ None) }
-{
-    match draft.session() {
-        Ok(fresh) => {
-            *session = fresh;
-            Ok(())
-        }
-        Err(fault) => {
-            draft.fail();
-            *session = None;
-            Err(fault)
-        }
-    }
 }

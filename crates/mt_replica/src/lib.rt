@@ -20,6 +20,7 @@
 mod body;
 mod by_stamp;
 mod change;
+mod desk;
 mod draft;
 mod editor;
 mod fault;
@@ -28,8 +29,10 @@ mod holding;
 pub mod laws;
 mod names;
 mod newly;
+mod shown;
 mod state;
 mod taken;
+mod view;
 #[cfg(test)]
 mod tests;
 

@@ -1,47 +1,32 @@
 //! What became of an operation that was offered, and of the operations that became ready by it.
 
-ghost use Rattle.std.specs.Prelude.{◌≡◌, ◌∷◌, IfOk, IfErr};
-ghost use Rattle.mt_items.specs.Noting.{MayFollow};
+ghost use Rattle.std.specs.Prelude.{◌≡◌, IfOk, IfErr};
 ghost use Rattle.mt_sessionview.specs.Session.{stamps_of};
 ghost use Rattle.mt_replica.specs.Holding.{MayAllFollow, noted_after, TakenGives};
 
 use crate::fault::EditorFault;
 use crate::taken::Taken;
+use crate::view::View;
 use mt_holdback::Offered;
-use mt_items::Items;
 use mt_op::Op;
 use mt_stamp::{List, Stamp};
 use std::alloc::{AllocError, Allocator};
 
-/// The items with an operation noted.
-pub(crate) fn noted<A: Allocator + Clone>(
-    items: Items<A>,
-    op: &Op<A>,
-) -> Result<Items<A>, EditorFault>
-    requires follows { MayFollow items op.now }
-    ensures ok { IfOk result (λ after. after ≡ op.now ∷ items) }
-    ensures err { IfErr result (λ fault. fault ≡ EditorFault.Memory) }
-{
-    match items.note(op) {
-        Ok(items) => Ok(items),
-        Err(_) => Err(EditorFault::Memory),
-    }
-}
-
-/// The items with these operations noted, one after another.
+/// What is noted with these operations, one after another.
 pub(crate) fn all_noted<A: Allocator + Clone>(
-    items: Items<A>,
+    alloc: &A,
+    view: View<A>,
     ops: &[Op<A>],
-) -> Result<Items<A>, EditorFault>
-    requires follow { MayAllFollow items ops.now }
-    ensures ok { IfOk result (λ after. after ≡ noted_after items ops.now) }
+) -> Result<View<A>, EditorFault>
+    requires follow { MayAllFollow view.ops ops.now }
+    ensures ok { IfOk result (λ after. after ≡ record { ops = noted_after view.ops ops.now; held = view.held }) }
     ensures err { IfErr result (λ fault. fault ≡ EditorFault.Memory) }
 {
-    let mut items = items;
+    let mut view = view;
     for op in ops {
-        items = noted(items, op)?;
+        view = view.note(alloc, op)?;
     }
-    Ok(items)
+    Ok(view)
 }
 
 // The stamps of operations, in their order.

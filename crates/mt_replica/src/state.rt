@@ -1,6 +1,7 @@
 //! A log, and what an editor keeps beside it.
 
-ghost use Rattle.std.specs.Prelude.{◌≡◌, ◌⊎◌, IfOk, IfErr, OnOk, None, Some, Ok, Err};
+ghost use Rattle.std.specs.Prelude.{◌≡◌, ◌⊎◌, IfOk, IfErr, OnOk, None, Some, Ok, Err, true, false, if◌then◌else◌};
+ghost use Rattle.std.specs.Option.{option_copied};
 ghost use Rattle.std.specs.FinMap as map;
 ghost use Rattle.mt_op.specs.Dots.{op_dot};
 ghost use Rattle.mt_op.specs.Bodies.{act_of};
@@ -9,7 +10,7 @@ ghost use Rattle.mt_replica.specs.Changes.{edit_of};
 ghost use Rattle.mt_replica.specs.Made.{made, made_act, made_stamp, stamp_refused, or_made};
 ghost use Rattle.mt_replica.specs.Kept.{with_op, TakeOf};
 ghost use Rattle.mt_replica.specs.State.{IsMade, Found, body_refused};
-ghost use Rattle.mt_sessionview.specs.Session.{ready_ops};
+ghost use Rattle.mt_sessionview.specs.Session.{ready_ops, session_of};
 
 use crate::body::{body_of, lists_few, plays};
 use crate::by_stamp::beside_log;
@@ -18,56 +19,68 @@ use crate::fault::EditorFault;
 use crate::greatest::{greater, greatest_clock, greatest_seq, own_seq};
 use crate::holding::{copied, offer_new, released_from};
 use crate::names::names_refused;
-use crate::newly::{all_noted, noted, taken_as};
+use crate::newly::{all_noted, taken_as};
 use crate::taken::Taken;
+use crate::view::View;
 use mt_holdback::HoldBack;
-use mt_items::Items;
 use mt_op::laws::equal_ops;
 use mt_op::{Body, Op};
 use mt_opcodec::{Log, LogFault};
+use mt_sessionview::Session;
 use mt_stamp::{Replica, Stamp};
 use std::alloc::Allocator;
 use std::marker::Model;
 
-// A log with the name of its editor, its operations held back until they are ready, the items that the ready ones leave, its greatest
-// clock, and the greatest number of that replica's operations. Seen as the name and the log.
+// A log with the name of its editor, its operations held back until they are ready, the items that the ready ones leave, where it is
+// kept the session that they show, its greatest clock, and the greatest number of that replica's operations. Seen as the name, the log,
+// and whether the session is kept.
 #[derive(Drop)]
 pub(crate) struct State<A: Allocator> {
     name: Replica,
     log: Log<A>,
     waiting: HoldBack<Op<A>, A>,
-    items: Items<A>,
+    view: View<A>,
     clock: u64,
     seq: u64,
 }
 
 impl<A: Allocator> Model for State<A> {
-    ghost use Rattle.mt_replica.specs.State.{Named, IsState};
-    ghost use Rattle.mt_replica.specs.Codes.{named_code};
+    ghost use Rattle.std.specs.Prelude.{is_some};
+    ghost use Rattle.mt_replica.specs.State.{Stated, IsState, IsHeldOf};
+    ghost use Rattle.mt_replica.specs.Codes.{stated_code};
 
-    ghost Value = { Named };
+    ghost Value = { Stated };
 
-    ghost coded = { named_code };
+    ghost coded = { stated_code };
 
-    ghost view = { λ s. record { name = s.name; log = s.log } };
+    ghost view = { λ s. record { named = record { name = s.name; log = s.log }; shown = is_some s.view.held } };
 
-    ghost invariant = { λ s. IsState (record { name = s.name; log = s.log }) s.waiting s.items s.clock s.seq };
+    ghost invariant = { λ s. IsState (record { name = s.name; log = s.log }) s.waiting s.view.ops s.clock s.seq × IsHeldOf s.log s.view.held };
 }
 
 impl<A: Allocator> State<A> {
     /// The log.
     pub fn log(&self) -> &Log<A>
-        ensures { result.now ≡ self.now.log }
+        ensures { result.now ≡ self.now.named.log }
     {
-        let _ = &self.items;
+        let _ = &self.view;
         &self.log
+    }
+
+    /// The session of its log, where it is kept.
+    pub fn session(&self) -> Option<&Session<A>>
+        ensures { option_copied result ≡ (if self.now.shown then Some (session_of (operations self.now.named.log)) else None) }
+    {
+        // brings that what was released is what is ready
+        let (_log, _released) = (self.log.runs(), self.waiting.released());
+        self.view.session()
     }
 }
 
 impl<A: Allocator + Clone> State<A> {
     /// The state of a log. Refused as `Memory` (0) where a growth was refused.
     pub fn of(alloc: &A, name: Replica, log: Log<A>) -> Result<Self, EditorFault>
-        ensures ok { IfOk result (λ state. state ≡ record { name = name; log = log }) }
+        ensures ok { IfOk result (λ state. state ≡ record { named = record { name = name; log = log }; shown = false }) }
         ensures err { IfErr result (λ fault. fault ≡ EditorFault.Memory) }
     {
         let (waiting, items) = beside_log(alloc, &log)?;
@@ -77,7 +90,32 @@ impl<A: Allocator + Clone> State<A> {
             name,
             log,
             waiting,
-            items,
+            view: View::plain(items),
+            clock,
+            seq,
+        })
+    }
+
+    /// The same with its session kept. Refused as `Memory` (0) where a growth was refused.
+    pub fn show(self, alloc: &A) -> Result<Self, EditorFault>
+        ensures ok { IfOk result (λ state. state ≡ record { named = self.named; shown = true }) }
+        ensures err { IfErr result (λ fault. fault ≡ EditorFault.Memory) }
+    {
+        let State {
+            name,
+            log,
+            waiting,
+            view,
+            clock,
+            seq,
+        } = self;
+        let _ = log.runs();
+        let view = view.show(alloc, waiting.released(), waiting.held())?;
+        Ok(State {
+            name,
+            log,
+            waiting,
+            view,
             clock,
             seq,
         })
@@ -85,9 +123,9 @@ impl<A: Allocator + Clone> State<A> {
 
     // The stamp of the next operation.
     fn next_stamp(&self) -> Result<Stamp, EditorFault>
-        ensures { result ≡ or_made (stamp_refused (operations self.now.log) self.now.name) (made_stamp (operations self.now.log) self.now.name) }
+        ensures { result ≡ or_made (stamp_refused (operations self.now.named.log) self.now.named.name) (made_stamp (operations self.now.named.log) self.now.named.name) }
     {
-        let (_items, _replica) = (&self.items, self.name.0);
+        let (_view, _replica) = (&self.view, self.name.0);
         if self.clock >= Stamp::GREATEST {
             return Err(EditorFault::ClockFull);
         }
@@ -99,18 +137,18 @@ impl<A: Allocator + Clone> State<A> {
 
     // The body that a change makes.
     fn made_body(&self, change: &Change<A>) -> Result<Body<A>, EditorFault>
-        ensures passes { IfOk result (λ body. body_refused (operations self.now.log) (edit_of change.now) ≡ None) }
-        ensures ok { IfOk result (λ body. act_of body ≡ made_act (ready_ops (operations self.now.log)) (edit_of change.now)) }
-        ensures err { IfErr result (λ fault. (fault ≡ EditorFault.Memory) ⊎ (body_refused (operations self.now.log) (edit_of change.now) ≡ Some fault)) }
+        ensures passes { IfOk result (λ body. body_refused (operations self.now.named.log) (edit_of change.now) ≡ None) }
+        ensures ok { IfOk result (λ body. act_of body ≡ made_act (ready_ops (operations self.now.named.log)) (edit_of change.now)) }
+        ensures err { IfErr result (λ fault. (fault ≡ EditorFault.Memory) ⊎ (body_refused (operations self.now.named.log) (edit_of change.now) ≡ Some fault)) }
     {
         let _ = self.log.runs();
         if !plays(change) {
             return Err(EditorFault::ZeroLength);
         }
-        if let Some(fault) = names_refused(&self.items, change) {
+        if let Some(fault) = names_refused(self.view.items(), change) {
             return Err(fault);
         }
-        let body = body_of(&self.items, change)?;
+        let body = body_of(self.view.items(), change)?;
         if !lists_few(&body) {
             return Err(EditorFault::TooManyTags);
         }
@@ -119,8 +157,8 @@ impl<A: Allocator + Clone> State<A> {
 
     /// The operation that a change makes, or its first refusal; `Memory` (0) where a growth was refused.
     pub fn made(&self, change: &Change<A>) -> Result<Op<A>, EditorFault>
-        ensures ok { IfOk result (λ op. made (operations self.now.log) self.now.name (edit_of change.now) ≡ Ok op) }
-        ensures err { IfErr result (λ fault. (fault ≡ EditorFault.Memory) ⊎ (made (operations self.now.log) self.now.name (edit_of change.now) ≡ Err fault)) }
+        ensures ok { IfOk result (λ op. made (operations self.now.named.log) self.now.named.name (edit_of change.now) ≡ Ok op) }
+        ensures err { IfErr result (λ fault. (fault ≡ EditorFault.Memory) ⊎ (made (operations self.now.named.log) self.now.named.name (edit_of change.now) ≡ Err fault)) }
     {
         let body = self.made_body(change)?;
         let stamp = self.next_stamp()?;
@@ -129,28 +167,30 @@ impl<A: Allocator + Clone> State<A> {
     }
 
     /// The state with an operation that a change made of it. Refused as `Memory` (0) where a growth was refused.
-    pub fn with(self, op: &Op<A>) -> Result<Self, EditorFault>
-        requires made { IsMade self op.now }
-        ensures ok { IfOk result (λ state. state ≡ record { name = self.name; log = with_op self.log op.now }) }
+    pub fn with(self, alloc: &A, op: &Op<A>) -> Result<Self, EditorFault>
+        requires made { IsMade self.named op.now }
+        ensures ok { IfOk result (λ state. state ≡ record { named = record { name = self.named.name; log = with_op self.named.log op.now }; shown = self.shown }) }
         ensures err { IfErr result (λ fault. fault ≡ EditorFault.Memory) }
     {
         let State {
             name,
             mut log,
             mut waiting,
-            items,
+            view,
             ..
         } = self;
         let _ = log.runs();
-        let items = noted(items, op)?;
+        let mut view = view.note(alloc, op)?;
         add_new(&mut log, copied(op)?)?;
         let _ = log.runs();
         offer_new(&mut waiting, copied(op)?)?;
+        let _ = waiting.released();
+        view.set_held(waiting.held());
         Ok(State {
             name,
             log,
             waiting,
-            items,
+            view,
             clock: op.stamp().clock(),
             seq: op.stamp().seq(),
         })
@@ -158,9 +198,9 @@ impl<A: Allocator + Clone> State<A> {
 
     /// What the log has under an operation's dot: nothing, the same operation (`true`), or another one (`false`).
     pub fn found(&self, op: &Op<A>) -> Option<bool>
-        ensures { Found self.now.log op.now result }
+        ensures { Found self.now.named.log op.now result }
     {
-        let _ = &self.items;
+        let _ = &self.view;
         match self.log.get(&op.dot()) {
             Some(there) => Some(equal_ops(there, op)),
             None => None,
@@ -169,16 +209,16 @@ impl<A: Allocator + Clone> State<A> {
 
     /// The state with an operation under a new dot, and what became of it. Refused as `Memory` (0) where a growth was refused.
     pub fn taking(self, alloc: &A, op: Op<A>) -> Result<(Self, Taken<A>), EditorFault>
-        requires new { map.get self.log (op_dot op) ≡ None }
-        ensures state { IfOk result (λ both. both.0 ≡ record { name = self.name; log = with_op self.log op }) }
-        ensures taken { IfOk result (λ both. TakeOf self.log op (Ok both.1)) }
+        requires new { map.get self.named.log (op_dot op) ≡ None }
+        ensures state { IfOk result (λ both. both.0 ≡ record { named = record { name = self.named.name; log = with_op self.named.log op }; shown = self.shown }) }
+        ensures taken { IfOk result (λ both. TakeOf self.named.log op (Ok both.1)) }
         ensures err { IfErr result (λ fault. fault ≡ EditorFault.Memory) }
     {
         let State {
             name,
             mut log,
             mut waiting,
-            items,
+            view,
             clock,
             seq,
         } = self;
@@ -189,13 +229,14 @@ impl<A: Allocator + Clone> State<A> {
         let before = waiting.released().len();
         let offered = offer_new(&mut waiting, op)?;
         let newly = released_from(&waiting, before);
-        let items = all_noted(items, newly)?;
+        let mut view = all_noted(alloc, view, newly)?;
         let taken = taken_as(alloc, offered, newly)?;
+        view.set_held(waiting.held());
         let state = State {
             name,
             log,
             waiting,
-            items,
+            view,
             clock,
             seq,
         };

@@ -36,7 +36,7 @@ code_itself (gcons a b) = rw (code_itself a, code_itself b) refl
 abbrev is_one : Operation → Operation → Bool
 is_one a b = code_eq (operation_code.code a) (operation_code.code b)
 
-member_same : (xs ys : List Operation) → SameItems xs ys → (o : Operation) → IsMember o xs → IsMember o ys
+pub member_same : (xs ys : List Operation) → SameItems xs ys → (o : Operation) → IsMember o xs → IsMember o ys
 member_same xs ys same o m =
     let found = any_member (is_one o) ys (sym (same_any xs ys same (is_one o)) ∙ any_of (is_one o) xs o m (code_itself (operation_code.code o))) in
     subst (λ (x : Operation). IsMember x ys) (sym (operation_code.inj o found.item (code_same _ _ found.passes))) found.member

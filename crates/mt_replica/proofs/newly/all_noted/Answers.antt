@@ -3,13 +3,12 @@ use Rattle.mt_op.proofs.TagLists.{drop_here}
 use Rattle.mt_replica.specs.Holding.{MayAllFollow, noted_after}
 use Rattle.mt_replica.proofs.newly.all_noted.Goals as goal
 
-pub noted-requires : goal.noted-requires
-noted-requires g c =
+pub note-requires : goal.note-requires
+note-requires g c =
     let here = drop_here c.args.ops.now c.loop-op.op-index c.op-item.result c.loop-op-test.true c.op-item.is in
-    record { follows = (subst (MayAllFollow c.loop-op.items) here c.loop-op.invariant.0).0 }
+    record { follows = (subst (MayAllFollow c.loop-op.view.ops) here c.loop-op.invariant.0).0 }
 
 pub loop-op-preserved : goal.loop-op-preserved
 loop-op-preserved g c =
     let here = drop_here c.args.ops.now c.loop-op.op-index c.op-item.result c.loop-op-test.true c.op-item.is in
-    let rest = drop (c.loop-op.op-index + 1) c.args.ops.now in
-    rw c.in_ok-items.ensures.ok ((subst (MayAllFollow c.loop-op.items) here c.loop-op.invariant.0).1, sym (ap (noted_after c.loop-op.items) here) ∙ c.loop-op.invariant.1)
+    rw c.in_ok-view.ensures.ok ((subst (MayAllFollow c.loop-op.view.ops) here c.loop-op.invariant.0).1, sym (ap (noted_after c.loop-op.view.ops) here) ∙ c.loop-op.invariant.1, c.loop-op.invariant.2)

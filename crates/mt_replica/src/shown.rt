@@ -1,0 +1,105 @@
+//! The session that is kept, and the places of tracks beside it.
+
+ghost use Rattle.std.specs.Prelude.{◌≡◌, ℕ, map, IfOk, IfErr};
+ghost use Rattle.std.specs.List.{sum_by};
+ghost use Rattle.mt_stamp.specs.Sorting.{sort_by};
+ghost use Rattle.mt_stamp.specs.Tree.{IsTree};
+ghost use Rattle.mt_tracklist.specs.Ordered.{tree_of};
+ghost use Rattle.mt_op.specs.ByStamp.{op_cmp};
+ghost use Rattle.mt_op.specs.Operation.{Operation};
+ghost use Rattle.mt_items.specs.Noting.{AreNoted};
+ghost use Rattle.mt_sessionview.specs.Noted.{places_in, placed_in};
+ghost use Rattle.mt_sessionview.specs.Read.{tree_place};
+ghost use Rattle.mt_replica.specs.Holding.{HaveOwnStamps};
+ghost use Rattle.mt_replica.specs.Viewed.{AreShown};
+
+use crate::fault::EditorFault;
+use mt_items::Items;
+use mt_op::{Body, Op};
+use mt_sessionview::{Session, session_of_ready};
+use mt_tracklist::{Placed, TrackList};
+use std::alloc::{AllocError, Allocator};
+
+/// The places of tracks in order, and the session.
+#[derive(Drop)]
+pub(crate) struct Shown<A: Allocator> {
+    pub places: TrackList<A>,
+    pub session: Session<A>,
+}
+
+// References to operations, by rising stamp.
+fn by_stamp<'a, A: Allocator, B: Allocator>(
+    alloc: B,
+    ops: &'a [Op<A>],
+) -> Result<Vec<&'a Op<A>, B>, AllocError>
+    requires own { HaveOwnStamps ops.now }
+    ensures { IfOk result (λ sorted. map (λ o. o.now) sorted.items ≡ sort_by op_cmp ops.now) }
+{
+    let mut sorted = Vec::with_capacity(alloc, ops.len())?;
+    for op in ops {
+        sorted.push(op)?;
+    }
+    sorted.sort_by_key(|op| op.stamp())?;
+    Ok(sorted)
+}
+
+// What an operation that gives a track a place puts into the list of places; of another its own stamp at the head.
+fn placed<A: Allocator>(op: &Op<A>) -> Placed
+    ensures { tree_place op.now ≡ record { place = result.place; after = result.after } }
+{
+    let place = op.stamp();
+    match op.body() {
+        Body::AddTrack { after, .. } => Placed {
+            place,
+            after: *after,
+            track: place,
+        },
+        Body::MoveTrack { track, after } => Placed {
+            place,
+            after: *after,
+            track: *track,
+        },
+        _ => Placed {
+            place,
+            after: None,
+            track: place,
+        },
+    }
+}
+
+// The places that operations give, in their order.
+fn places_of<A: Allocator, B: Allocator>(alloc: B, ops: &[&Op<A>]) -> Result<Vec<Placed, B>, AllocError>
+    ensures { IfOk result (λ places. tree_of places.items ≡ map tree_place (map (λ o. o.now) ops.now)) }
+{
+    let mut places = Vec::with_capacity(alloc, ops.len())?;
+    for op in ops {
+        places.push(placed(op))?;
+    }
+    Ok(places)
+}
+
+/// What ready operations show, of which the items noted are the same, with this many others held. Refused as `Memory` (0) where a
+/// growth was refused.
+pub(crate) fn shown_of<A: Allocator + Clone>(
+    alloc: &A,
+    ready: &[Op<A>],
+    items: &Items<A>,
+    held: u64,
+) -> Result<Shown<A>, EditorFault>
+    requires noted { AreNoted items.now }
+    requires same { (f : Operation → ℕ) → sum_by f items.now ≡ sum_by f ready.now }
+    requires tree { IsTree (places_in ready.now) }
+    ensures shown { IfOk result (λ shown. AreShown items.now shown.places shown.session) }
+    ensures held { IfOk result (λ shown. shown.session.held ≡ held) }
+    ensures err { IfErr result (λ fault. fault ≡ EditorFault.Memory) }
+{
+    let refs = by_stamp(alloc.clone()?, ready)?;
+    let Ok((session, placed)) = session_of_ready(alloc.clone()?, &refs, items, held) else {
+        return Err(EditorFault::Memory);
+    };
+    let places = places_of(alloc.clone()?, &placed)?;
+    Ok(Shown {
+        places: TrackList::from_ordered(places),
+        session,
+    })
+}

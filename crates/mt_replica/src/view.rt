@@ -1,0 +1,199 @@
+//! The items that ready operations leave, and the session that they show.
+
+ghost use Rattle.std.specs.Prelude.{◌≡◌, ◌∷◌, ℕ, Some, None, Option, option_map, length, map, IfOk, IfErr, OnOk};
+ghost use Rattle.std.specs.Option.{option_copied};
+ghost use Rattle.std.specs.List.{sum_by};
+ghost use Rattle.mt_stamp.specs.Tree.{IsTree};
+ghost use Rattle.mt_op.specs.Operation.{Operation};
+ghost use Rattle.mt_items.specs.Noting.{AreNoted, MayFollow};
+ghost use Rattle.mt_sessionview.specs.Noted.{places_in};
+ghost use Rattle.mt_mending.specs.Before.{ArePlacesOf, SessionStood};
+ghost use Rattle.mt_mending.specs.Mending.{session_in};
+ghost use Rattle.mt_replica.specs.Viewed.{AreShown};
+
+use crate::fault::EditorFault;
+use crate::shown::{Shown, shown_of};
+use mt_items::Items;
+use mt_mending::{Stood, add_place, mend, stood, subject_of};
+use mt_op::Op;
+use mt_sessionview::Session;
+use mt_stamp::Stamp;
+use mt_tracklist::TrackList;
+use std::alloc::Allocator;
+use std::marker::Model;
+
+/// The items that operations leave which were noted one after another, and beside them, where it is kept, the session that they
+/// show. Seen as the operations, the last one first, and the number held that the session says.
+#[derive(Drop)]
+pub(crate) struct View<A: Allocator> {
+    items: Items<A>,
+    shown: Option<Shown<A>>,
+}
+
+impl<A: Allocator> Model for View<A> {
+    ghost use Rattle.std.specs.Prelude.{IfSome, option_map};
+    ghost use Rattle.mt_items.specs.Noting.{AreNoted};
+    ghost use Rattle.mt_replica.specs.Viewed.{Viewed, AreShown};
+    ghost use Rattle.mt_replica.specs.Codes.{viewed_code};
+
+    ghost Value = { Viewed };
+
+    ghost coded = { viewed_code };
+
+    ghost view = { λ v. record { ops = v.items; held = option_map (λ s. s.session.held) v.shown } };
+
+    ghost invariant = { λ v. AreNoted v.items × IfSome v.shown (λ s. AreShown v.items s.places s.session) };
+}
+
+impl<A: Allocator> View<A> {
+    /// The items alone.
+    pub(crate) fn plain(items: Items<A>) -> Self
+        ensures { result ≡ record { ops = items; held = None } }
+    {
+        View { items, shown: None }
+    }
+
+    /// The items.
+    pub(crate) fn items(&self) -> &Items<A>
+        ensures { result.now ≡ self.now.ops }
+    {
+        let _ = &self.shown;
+        &self.items
+    }
+
+    /// The session, where it is kept.
+    pub(crate) fn session(&self) -> Option<&Session<A>>
+        ensures value { option_copied result ≡ option_map (session_in self.now.ops) self.now.held }
+        ensures noted { AreNoted self.now.ops }
+    {
+        let _ = &self.items;
+        match &self.shown {
+            Some(shown) => Some(&shown.session),
+            None => None,
+        }
+    }
+
+    /// Has the session say, where it is kept, that this many operations are held.
+    pub(crate) fn set_held(&mut self, held: u64)
+        ensures { self.new ≡ record { ops = self.old.ops; held = option_map (λ h. held) self.old.held } }
+    {
+        let _ = &self.items;
+        if let Some(shown) = &mut self.shown {
+            shown.session.set_held(held);
+        }
+    }
+}
+
+impl<A: Allocator + Clone> View<A> {
+    /// With the session kept, of operations noted of which these are the same, and this many others held.
+    pub(crate) fn show(self, alloc: &A, ready: &[Op<A>], held: u64) -> Result<Self, EditorFault>
+        requires same { (f : Operation → ℕ) → sum_by f self.ops ≡ sum_by f ready.now }
+        requires tree { IsTree (places_in ready.now) }
+        ensures ok { IfOk result (λ view. view ≡ record { ops = self.ops; held = Some held }) }
+        ensures err { IfErr result (λ fault. fault ≡ EditorFault.Memory) }
+    {
+        let items = self.items;
+        let shown = shown_of(alloc, ready, &items, held)?;
+        Ok(View {
+            items,
+            shown: Some(shown),
+        })
+    }
+
+    /// With an operation noted, and the session mended by it where it is kept.
+    pub(crate) fn note(self, alloc: &A, op: &Op<A>) -> Result<Self, EditorFault>
+        requires follows { MayFollow self.ops op.now }
+        ensures ok { IfOk result (λ view. view ≡ record { ops = op.now ∷ self.ops; held = self.held }) }
+        ensures err { IfErr result (λ fault. fault ≡ EditorFault.Memory) }
+    {
+        let View { items, shown } = self;
+        match shown {
+            Some(shown) => {
+                let (items, shown) = note_shown(alloc, items, shown, op)?;
+                Ok(View {
+                    items,
+                    shown: Some(shown),
+                })
+            }
+            None => Ok(View {
+                items: noted(items, op)?,
+                shown: None,
+            }),
+        }
+    }
+}
+
+// The items with an operation noted.
+fn noted<A: Allocator + Clone>(items: Items<A>, op: &Op<A>) -> Result<Items<A>, EditorFault>
+    requires follows { MayFollow items op.now }
+    ensures ok { IfOk result (λ after. after ≡ op.now ∷ items) }
+    ensures err { IfErr result (λ fault. fault ≡ EditorFault.Memory) }
+{
+    match items.note(op) {
+        Ok(items) => Ok(items),
+        Err(_) => Err(EditorFault::Memory),
+    }
+}
+
+// Puts the place that an operation gives a track, if it gives one, into the list of those that the items before it have.
+fn with_place<A: Allocator>(
+    places: &mut TrackList<A>,
+    items: &Items<A>,
+    op: &Op<A>,
+) -> Result<(), EditorFault>
+    requires follows { AreNoted (op.now ∷ items.now) }
+    requires places { ArePlacesOf places.old items.now }
+    ensures ok { OnOk result (ArePlacesOf places.new (op.now ∷ items.now)) }
+    ensures err { IfErr result (λ fault. fault ≡ EditorFault.Memory) }
+{
+    match add_place(places, items, op) {
+        Ok(()) => Ok(()),
+        Err(_) => Err(EditorFault::Memory),
+    }
+}
+
+// Mends the session at the item of the operation that was noted last.
+fn mended<A: Allocator + Clone>(
+    alloc: &A,
+    session: &mut Session<A>,
+    stood: Stood,
+    items: &Items<A>,
+    places: &TrackList<A>,
+    item: Stamp,
+) -> Result<(), EditorFault>
+    requires stood { SessionStood items.now item stood session.old }
+    requires places { ArePlacesOf places.now items.now }
+    ensures ok { OnOk result (session.new ≡ session_in items.now session.old.held) }
+    ensures err { IfErr result (λ fault. fault ≡ EditorFault.Memory) }
+{
+    match mend(alloc, session, stood, items, places, item) {
+        Ok(()) => Ok(()),
+        Err(_) => Err(EditorFault::Memory),
+    }
+}
+
+// The items with an operation noted, and what they show.
+fn note_shown<A: Allocator + Clone>(
+    alloc: &A,
+    items: Items<A>,
+    shown: Shown<A>,
+    op: &Op<A>,
+) -> Result<(Items<A>, Shown<A>), EditorFault>
+    requires follows { MayFollow items op.now }
+    requires shown { AreShown items shown.places shown.session }
+    ensures items { IfOk result (λ both. both.0 ≡ op.now ∷ items) }
+    ensures shown { IfOk result (λ both. AreShown both.0 both.1.places both.1.session) }
+    ensures held { IfOk result (λ both. both.1.session.held ≡ shown.session.held) }
+    ensures err { IfErr result (λ fault. fault ≡ EditorFault.Memory) }
+{
+    let item = subject_of(op);
+    let stood = stood(&items, item);
+    let Shown {
+        mut places,
+        mut session,
+    } = shown;
+    with_place(&mut places, &items, op)?;
+    let items = noted(items, op)?;
+    mended(alloc, &mut session, stood, &items, &places, item)?;
+    Ok((items, Shown { places, session }))
+}
