@@ -1,7 +1,7 @@
 -- The places that operations give, in their order, as the list of places has them.
-use Rattle.std.proofs.Common.{◌≡◌, ℕ, zero, suc, ◌+◌, ◌≤◌, Bool, true, false, not, cond, List, [], ◌∷◌, ◌++◌, Option, Some, None, length, map, refl, sym, ap, ◌∙◌, subst, arith, length-append}
+use Rattle.std.proofs.Common.{◌≡◌, ℕ, suc, ◌+◌, Bool, true, false, not, cond, List, [], ◌∷◌, Option, Some, None, length, map, refl, sym, ap, ◌∙◌, subst, arith, length-append}
 use Rattle.std.specs.Prelude.{option_map, is_some, if◌then◌else◌}
-use Rattle.std.specs.List.{AllByRecursion, filter, sum_by}
+use Rattle.std.specs.List.{filter, sum_by}
 use Rattle.std.specs.List.Sorted.{IsStrictlySortedBy}
 use Rattle.std.specs.declared.cmp.Ordering.{Ordering}
 use Rattle.mt_stamp.specs.Moment.{Moment, stamp_eq}
@@ -153,3 +153,11 @@ pub session_kept : (log : LogMap) (items : List Operation) (held : Option ℕ) �
     → option_map (session_in items) held ≡ (if is_some held then Some (session_of (operations log)) else None)
 session_kept log items None noted same is = refl
 session_kept log items (Some held) noted same is = ap Some (ap (session_in items) is ∙ sym (noted_show (operations log) items noted same))
+
+pub held_as : (log : LogMap) (held : Option ℕ) (n : ℕ) → n ≡ length (held_ops (operations log)) → IsHeldOf log (option_map (λ h. n) held)
+held_as log None n is = tt
+held_as log (Some held) n is = is
+
+pub still_some : {X Y : Type 0} (f : X → Y) (o : Option X) → is_some (option_map f o) ≡ is_some o
+still_some f None = refl
+still_some f (Some x) = refl

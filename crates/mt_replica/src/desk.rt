@@ -114,7 +114,10 @@ impl<A: Allocator + Clone> Desk<A> {
         ensures err { IfErr result (λ fault. fault ≡ EditorFault.Memory) }
     {
         let Desk {
-            alloc, name, state, ..
+            alloc,
+            name,
+            state,
+            ..
         } = self;
         let state = match state {
             Some(state) => Some(state.show(&alloc)?),
@@ -220,4 +223,3 @@ impl<A: Allocator + Clone> Desk<A> {
         }
     }
 }
-

@@ -32,9 +32,9 @@ mod newly;
 mod shown;
 mod state;
 mod taken;
-mod view;
 #[cfg(test)]
 mod tests;
+mod view;
 
 pub use change::Change;
 pub use draft::Draft;

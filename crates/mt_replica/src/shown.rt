@@ -68,7 +68,10 @@ fn placed<A: Allocator>(op: &Op<A>) -> Placed
 }
 
 // The places that operations give, in their order.
-fn places_of<A: Allocator, B: Allocator>(alloc: B, ops: &[&Op<A>]) -> Result<Vec<Placed, B>, AllocError>
+fn places_of<A: Allocator, B: Allocator>(
+    alloc: B,
+    ops: &[&Op<A>],
+) -> Result<Vec<Placed, B>, AllocError>
     ensures { IfOk result (λ places. tree_of places.items ≡ map tree_place (map (λ o. o.now) ops.now)) }
 {
     let mut places = Vec::with_capacity(alloc, ops.len())?;

@@ -1,4 +1,4 @@
-use Rattle.std.proofs.Common.{◌+◌, drop, sym, ap, ◌∙◌, subst}
+use Rattle.std.proofs.Common.{sym, ap, ◌∙◌, subst}
 use Rattle.mt_op.proofs.TagLists.{drop_here}
 use Rattle.mt_replica.specs.Holding.{MayAllFollow, noted_after}
 use Rattle.mt_replica.proofs.newly.all_noted.Goals as goal

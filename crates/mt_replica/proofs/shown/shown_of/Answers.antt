@@ -1,7 +1,6 @@
-use Rattle.std.proofs.Common.{◌≡◌, ◌∙◌, List, cond, map, sym, ap, subst, Bor, arith}
-use Rattle.std.specs.Cmp.{IsTotalOrder, on_total}
+use Rattle.std.proofs.Common.{◌≡◌, ◌∙◌, List, map, sym, ap, subst, Bor}
+use Rattle.std.specs.Cmp.{on_total}
 use Rattle.std.specs.List.{sum_by}
-use Rattle.mt_stamp.specs.Moment.{stamp_eq}
 use Rattle.mt_stamp.specs.Sorting.{sort_by, RisesStrictly}
 use Rattle.mt_stamp.specs.Tree.{IsTree}
 use Rattle.mt_stamp.proofs.Differing.{differ_sorted}
@@ -18,7 +17,6 @@ use Rattle.mt_sessionview.specs.Read.{tree_place}
 use Rattle.mt_sessionview.proofs.InOrder.{noted_differ}
 use Rattle.mt_sessionview.proofs.Refs.{rising_ops}
 use Rattle.mt_mending.specs.Mending.{session_in}
-use Rattle.mt_replica.specs.Holding.{HaveOwnStamps}
 use Rattle.mt_replica.proofs.OwnStamps.{differ_own, own_as}
 use Rattle.mt_replica.proofs.ShownPlaces.{tree_of_same, are_ordered, are_places}
 use Rattle.mt_replica.proofs.shown.shown_of.Goals as goal

@@ -7,10 +7,13 @@ use Rattle.mt_replica.proofs.Taking.{all_were_offered}
 use Rattle.mt_replica.proofs.state.State.of.Goals as goal
 
 pub invariant_of-result : goal.invariant_of-result
-invariant_of-result g c = rw c.plain.ensures (record {
-  whole = c.in_ok-waiting.ensures.offered.whole;
-  offered = all_were_offered c.in_ok-waiting.waiting (operations c.args.log) c.in_ok-waiting.ensures.offered;
-  noted = c.in_ok-waiting.ensures.noted;
-  clock_is = c.greatest_clock-clock.ensures ∙ ap greatest_clock c.runs.ensures.value;
-  seq_is = c.greatest_seq-seq.ensures ∙ own_is c.args.name (run_ops c.runs-2.result.now) ∙ ap (greatest_seq c.args.name) c.runs-2.ensures.value;
-}, tt)
+invariant_of-result g c = rw c.plain.ensures (
+  record {
+    whole = c.in_ok-waiting.ensures.offered.whole;
+    offered = all_were_offered c.in_ok-waiting.waiting (operations c.args.log) c.in_ok-waiting.ensures.offered;
+    noted = c.in_ok-waiting.ensures.noted;
+    clock_is = c.greatest_clock-clock.ensures ∙ ap greatest_clock c.runs.ensures.value;
+    seq_is = c.greatest_seq-seq.ensures ∙ own_is c.args.name (run_ops c.runs-2.result.now) ∙ ap (greatest_seq c.args.name) c.runs-2.ensures.value;
+  },
+  tt,
+)

@@ -1,4 +1,4 @@
-use Rattle.std.proofs.Common.{◌∙◌, ap, true, false, Some, None}
+use Rattle.std.proofs.Common.{◌∙◌, ap, Some, None}
 use Rattle.std.specs.Prelude.{if◌then◌else◌}
 use Rattle.mt_opcodec.specs.LogValue.{operations}
 use Rattle.mt_sessionview.specs.Session.{session_of}

@@ -1,4 +1,5 @@
-use Rattle.std.proofs.Common.{◌≡◌, ◌∙◌, ap, subst, false}
+use Rattle.std.specs.Prelude.{is_some}
+use Rattle.std.proofs.Common.{ℕ, ◌≡◌, ◌∙◌, ap, subst, false}
 use Rattle.mt_op.specs.Operation.{Operation}
 use Rattle.mt_opcodec.specs.LogValue.{LogMap, operations, log_of, AreLogged}
 use Rattle.mt_sessionview.specs.Session.{ready_ops}
@@ -7,6 +8,8 @@ use Rattle.mt_replica.specs.Holding.{with_offered}
 use Rattle.mt_replica.specs.Kept.{with_op}
 use Rattle.mt_replica.specs.State.{Stated, Named, IsState}
 use Rattle.mt_replica.proofs.Keeping.{made_follows, made_absent, made_kept}
+use Rattle.mt_replica.specs.Viewed.{Viewed}
+use Rattle.mt_replica.proofs.ShownPlaces.{held_count, held_as, still_some}
 use Rattle.mt_replica.proofs.Taking.{it_is_new}
 use Rattle.mt_replica.proofs.state.State.with.Goals as goal
 
@@ -35,9 +38,18 @@ offer_new-requires-clause-unknown g c =
 
 pub invariant_of-result : goal.invariant_of-result
 invariant_of-result g c =
-    let logged = subst (λ (n : Named). AreLogged (operations n.log)) (ap (λ (s : Stated). s.named) c.self.view_is) c.runs.ensures.logged in
-    let whole = subst (λ (n : Named). log_of (operations n.log) ≡ n.log) (ap (λ (s : Stated). s.named) c.self.view_is) c.runs.ensures.whole in
-    let was = subst (λ (n : Named). IsState n c.self.inside.waiting c.self.inside.view.ops c.self.inside.clock c.self.inside.seq) (ap (λ (s : Stated). s.named) c.self.view_is) c.self.invariant.0 in
+    let named = ap (λ (s : Stated). s.named) c.self.view_is in
+    let logged = subst (λ (n : Named). AreLogged (operations n.log)) named c.runs.ensures.logged in
+    let whole = subst (λ (n : Named). log_of (operations n.log) ≡ n.log) named c.runs.ensures.whole in
+    let was = subst (λ (n : Named). IsState n c.self.inside.waiting c.self.inside.view.ops c.self.inside.clock c.self.inside.seq) named c.self.invariant.0 in
     let offered = c.in_ok-offer_new.ensures.kept ∙ ap (λ (o : Operation). record { kept = with_offered c.self.inside.waiting.kept o; failed = false }) c.in_ok-copied-2.ensures.ok in
-    rw (c.in_ok-add_new.ensures.added, c.in_ok-copied.ensures.ok, c.in_ok-items.ensures.ok, c.clock.ensures.value, c.stamp.ensures.value, c.seq.ensures.value, c.stamp-2.ensures.value, ap (λ (n : Named). n.log) (ap (λ (s : Stated). s.named) c.self.view_is), ap (λ (n : Named). n.name) (ap (λ (s : Stated). s.named) c.self.view_is))
-    (made_kept c.args.self.named c.args.op.now c.requires.made logged whole c.self.inside.waiting c.offer_new.new.waiting c.self.inside.view.ops c.self.inside.clock c.self.inside.seq offered was)
+    let is = made_kept c.args.self.named c.args.op.now c.requires.made logged whole c.self.inside.waiting c.offer_new.new.waiting c.self.inside.view.ops c.self.inside.clock c.self.inside.seq offered was in
+    let held = c.held.ensures ∙ held_count c.offer_new.new.waiting.kept (operations (with_op c.args.self.named.log c.args.op.now)) c.released.ensures.exact is.offered in
+    rw (c.set_held.ensures, c.in_ok-view.ensures.ok, c.in_ok-add_new.ensures.added, c.in_ok-copied.ensures.ok, c.clock.ensures.value, c.stamp.ensures.value, c.seq.ensures.value, c.stamp-2.ensures.value, ap (λ (n : Named). n.log) named, ap (λ (n : Named). n.name) named)
+    (is, held_as (with_op c.args.self.named.log c.args.op.now) c.self.inside.view.held c.held.result held)
+
+pub returns-clause-ok : goal.returns-clause-ok
+returns-clause-ok g c =
+    let log_is = c.in_ok-add_new.ensures.added ∙ (λ i. with_op (c.self.view_is i).named.log (c.in_ok-copied.ensures.ok i)) in
+    let shown_is = ap (λ (v : Viewed). is_some v.held) c.set_held.ensures ∙ still_some (λ (h : ℕ). c.held.result) c.in_ok-view.view.held ∙ ap (λ (v : Viewed). is_some v.held) c.in_ok-view.ensures.ok ∙ ap (λ (s : Stated). s.shown) c.self.view_is in
+    λ i. record { named = record { name = (c.self.view_is i).named.name; log = log_is i }; shown = shown_is i }
