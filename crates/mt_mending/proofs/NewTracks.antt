@@ -17,7 +17,7 @@ use Rattle.mt_op.proofs.WriteOf.{is_write_of}
 use Rattle.mt_items.specs.Noting.{AreNoted, is_need_met}
 use Rattle.mt_items.proofs.Noting.{unmet, either_true, first_false}
 use Rattle.mt_items.proofs.Roles.{mixable_is, item_apart}
-use Rattle.mt_sessionview.specs.Content.{Clip, clip_cmp}
+use Rattle.mt_sessionview.specs.Content.{clip_cmp}
 use Rattle.mt_sessionview.specs.Noted.{is_shown_in, clip_place_in, clip_in, is_clip_on_in, clips_in}
 use Rattle.mt_sessionview.proofs.InOrder.{one_op}
 use Rattle.mt_sessionview.proofs.Lists.{all_also, all_members, all_true}

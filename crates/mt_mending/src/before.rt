@@ -2,7 +2,7 @@
 
 use crate::clip::PlacedClip;
 
-/// Where an item stands in a session before an operation about it is noted.
+/// Where an item stands in a session before an operation about it is noted (`stood`).
 #[derive(Clone, Copy, Debug)]
 pub struct Stood {
     /// The position, in frames, of the marker of this stamp that the session shows.

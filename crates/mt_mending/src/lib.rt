@@ -27,16 +27,21 @@
 //!
 //! Operations are noted after what they need, in any order else.
 //!
-//! The calls that mend a session do what the laws say. Before an operation is noted, [`marker_position`] and [`placed_clip`] tell where its
-//! item ([`subject_of`]) stands; after it, [`mend_markers`] takes the marker out there and puts in the one that is shown now, and [`mend_clips`]
-//! the clip, where the item is no track. [`whole_track`] makes the track that is added or returns, with all its clips.
+//! The calls that mend a session do what the laws say. Before an operation is noted, [`stood`] tells where its item ([`subject_of`]) stands, and
+//! [`add_place`] puts the place that it gives a track, if it gives one, into the list of all places; after it, [`mend`] takes the item's entry out where it
+//! stood, and puts in the one that is shown now. The session is then the one that all noted operations show:
 //!
 //! ```text
 //! let item = subject_of(&op);
-//! let stood = marker_position(&items, item);
+//! let stood = stood(&items, item);
+//! add_place(&mut list, &items, &op)?;
 //! let items = items.note(&op)?;
-//! mend_markers(&mut session, stood, &items, item)?;
+//! mend(&alloc, &mut session, stood, &items, &list, item)?;
 //! ```
+//!
+//! An item is a track, a marker or a clip, and stays one: [`mend`] calls [`mend_tracks`], [`mend_markers`] or [`mend_clips`], and the other lists stay. A
+//! track goes behind those whose places stand before its own in the list, which are found by halving. One that stood there keeps its clips; one that
+//! returns is made anew with all of them ([`whole_track`]), and a new one has none.
 #![tactic(auto)]
 
 mod before;

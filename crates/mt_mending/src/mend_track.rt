@@ -142,10 +142,11 @@ fn put_shown<A: Allocator>(
 }
 
 /// Mends the tracks of a session after one operation more was noted, whose item is a track: takes the track out where it
-/// stood, and puts it in where it stands now, if it is shown. One that stood keeps its clips; one that is added or returns gets all
-/// its clips, which takes a look at every clip. `list` is the list of the places of the noted operations (`add_place`), in which
-/// finding a place takes as many steps as there are places; the index of the track takes as many of these as the logarithm of the number of
-/// tracks, and what follows moves. Refused only as `Memory` (0), where a growth was refused; the session may then lack the track.
+/// stood, and puts it in where it stands now, if it is shown. One that stood there keeps its clips; one that returns gets all
+/// its clips anew, which takes a look at every clip; and one that was not `known` before (whether it was added, as `stood`
+/// tells) has none. `list` has the places of all noted operations (`add_place`). Looks at one track after another, and at one
+/// place after another as many times as the logarithm of the number of tracks; what follows the track moves. Refused only as
+/// `Memory` (0), where a growth was refused; the session may then lack the track.
 pub fn mend_tracks<A: Allocator + Clone>(
     alloc: &A,
     session: &mut Session<A>,

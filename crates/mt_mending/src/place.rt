@@ -52,7 +52,8 @@ fn put_place<A: Allocator>(list: &mut TrackList<A>, placed: Placed) -> Result<()
     }
 }
 
-/// Puts the place that an operation gives a track, if it gives one, into the list of places.
+/// Puts the place that an operation gives a track, if it gives one, into the list of the places of those noted before it. Looks
+/// at one place after another. Refused only as `Memory` (0), where a growth was refused; the list may then lack the place.
 pub fn add_place<A: Allocator>(
     list: &mut TrackList<A>,
     items: &Items<A>,

@@ -15,7 +15,8 @@ use mt_stamp::Stamp;
 use mt_tracklist::TrackList;
 use std::alloc::Allocator;
 
-/// Where the item of a stamp stands in the session of the noted operations.
+/// Where the item of a stamp stands in the session of the noted operations, for `mend` after one operation more about it. Takes
+/// the logarithm of the number of items, and no memory.
 pub fn stood<A: Allocator>(items: &Items<A>, item: Stamp) -> Stood
     ensures { result ≡ stood_in items.now item }
 {
@@ -30,7 +31,10 @@ pub fn stood<A: Allocator>(items: &Items<A>, item: Stamp) -> Stood
     }
 }
 
-/// Mends a session after one operation more was noted.
+/// Mends a session after one operation more was noted: takes the entry of its item out where it stood before (`stood` of the
+/// operations before), and puts in the one that they show now. `list` has the places of all of them (`add_place`), and the
+/// number held stays. Takes as long as `mend_tracks`, `mend_markers` or `mend_clips`, by what the item is. Refused only as
+/// `Memory` (0), where a growth was refused; the session may then lack the entry.
 pub fn mend<A: Allocator + Clone>(
     alloc: &A,
     session: &mut Session<A>,

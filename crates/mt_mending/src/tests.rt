@@ -3,6 +3,7 @@ ghost use Rattle.mt_items.specs.Noting.{AreNoted, MayFollow};
 ghost use Rattle.mt_sessionview.specs.Noted.{markers_in};
 
 mod clips;
+mod session;
 
 use crate::{laws, marker_position, mend_markers, subject_of};
 use mt_items::Items;
