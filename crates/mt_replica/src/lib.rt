@@ -14,7 +14,7 @@
 //! what is made.
 //!
 //! A take looks at the operation, at those that it makes ready, and at what these name, whatever else is in the log: the editor
-//! keeps its operations in a hold-back, and notes what that releases in the state of items. The session is worked out anew.
+//! keeps its operations in a hold-back, notes what that releases in the state of items, and mends its session at the item of each.
 #![tactic(auto)]
 
 mod body;

@@ -1,3 +1,5 @@
+mod kept;
+
 use crate::{Change, Editor, EditorFault, Taken};
 use mt_op::{Body, Gain, Op, OpFault, Title};
 use mt_opcodec::Log;
