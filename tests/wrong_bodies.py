@@ -22,10 +22,11 @@ TOP = os.path.dirname(os.path.dirname(os.path.abspath(__file__)))
 
 
 class Function:
-    """A function of a source file: its name, and the lines that it and its attributes are on, counted from 1."""
+    """A function of a source file: its name, the lines that it and its attributes are on, counted from 1, and whose method it is, where an
+    `impl` of a type alone has it."""
 
-    def __init__(self, path, name, first, last):
-        self.path, self.name, self.first, self.last = path, name, first, last
+    def __init__(self, path, name, first, last, owner):
+        self.path, self.name, self.first, self.last, self.owner = path, name, first, last, owner
         self.key = (path, name, first)
 
 
@@ -38,7 +39,9 @@ def functions(path, text):
             first = i
             while first > 0 and lines[first - 1].lstrip().startswith("#["):
                 first -= 1
-            found.append(Function(path, head.group(5), first + 1, ends[0] + 1 if ends else len(lines)))
+            around = [line for line in lines[:i] if line.startswith(("impl", "}"))] if head.group(1) else []
+            owner = re.match(r"impl(?:<.*?>)? (\w+)(?:<[^<>]*>)? \{", around[-1]) if around else None
+            found.append(Function(path, head.group(5), first + 1, ends[0] + 1 if ends else len(lines), owner and owner.group(1)))
     return found
 
 
@@ -136,7 +139,9 @@ def refusals(one, report, names):
     module = os.path.splitext(one.path)[0][len("src/") :]
     # an impl of another module's type has its proofs under that type's name: its function's name alone tells it, where it is the only one
     places = [r"proofs/%s/(?:\w+/)*\+?%s/" % (re.escape(module), one.name)]
-    if names.count(one.name) == 1:
+    if one.owner:
+        places.append(r"proofs/(?:\w+/)*%s/\+?%s/" % (one.owner, one.name))
+    elif names.count(one.name) == 1:
         places.append(r"proofs/(?:\w+/)*\+?%s/" % one.name)
     for place in places:
         errors = re.findall(place + r"\w+\.antt:\d+:\d+: error(.*)", report)

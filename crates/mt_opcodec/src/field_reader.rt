@@ -228,6 +228,12 @@ fn tag_of(clock: u64, last: Option<Stamp>, bytes: &[u8]) -> Result<(Stamp, &[u8]
     }
 }
 
+// Up to so many tags get a block of their own size: most removals list one or two.
+const FEW: u16 = 4;
+
+// How many bytes a stamp has.
+const STAMP_LEN: usize = 32;
+
 // This many tags, pushed as they are read: the count alone takes no memory.
 fn stamps_of<A: Allocator>(
     alloc: A,
@@ -237,7 +243,8 @@ fn stamps_of<A: Allocator>(
 ) -> Result<(Vec<Stamp, A>, &[u8]), ReadFault>
     ensures { Gives (λ x. (x.0.items, x.1.now)) result (stamps_at count clock None bytes.now) }
 {
-    let mut tags = Vec::new(alloc);
+    let room = usize::from(count.min(FEW)).min(bytes.len() / STAMP_LEN);
+    let mut tags = Vec::with_capacity(alloc, room)?;
     let mut last = None;
     let mut rest = bytes;
     for index in 0..count {
