@@ -1,9 +1,8 @@
 //! Logs as runs: what adding, joining and walking them leave.
-use super::{A, B, marker};
-use crate::{Log, LogFault};
 use mt_op::Op;
+use mt_opcodec::{Log, LogFault};
 use mt_stamp::{Dot, Replica, Stamp};
-use mt_testalloc::Refusing;
+use mt_testkit::{A, B, Refusing, marker};
 use std::alloc::{Allocator, Global};
 use std::test::Fail;
 

@@ -1,8 +1,6 @@
-mod fakes;
-
-use super::{Latch, LatchFault};
-use fakes::{ChokedWriter, FailingReader, FailingWriter, OneByteForEver};
-use mt_testalloc::Refusing;
+//! Latches round readers and writers that fail.
+use mt_opcodec::{Latch, LatchFault};
+use mt_testkit::{ChokedWriter, FailingReader, FailingWriter, OneByteForEver, Refusing};
 use std::io::ErrorKind;
 use std::test::Fail;
 

@@ -1,5 +1,6 @@
 //! What no clause says: texts that were worked out elsewhere, what each refusal looks at, and that
 //! every call succeeds where there is memory.
+mod latches;
 mod logs;
 mod operations;
 mod refused_growth;
@@ -7,16 +8,12 @@ mod runs;
 mod tags;
 mod tracks_and_clips;
 
-use crate::laws::{log_texts, op_texts, unions};
-use crate::{LogFault, ReadFault};
-use mt_op::{Body, Op, OpFault, Title};
-use mt_stamp::{Dot, List, Replica, Stamp};
+use mt_opcodec::laws::{log_texts, op_texts, unions};
+use mt_opcodec::{LogFault, ReadFault};
+use mt_stamp::Dot;
+use mt_testkit::A;
 use sha2::{Digest, Sha256};
 use std::alloc::{AllocError, Allocator};
-
-pub const A: Replica = Replica(10);
-
-pub const B: Replica = Replica(11);
 
 /// The text of the operation `(1, A, 1)`: a marker at frame 480 with the title `News`.
 pub const NEWS: [u8; 42] = [
@@ -54,23 +51,8 @@ pub const MOVE: [u8; 69] = [
     0, 0, 1, 0, 0, 3, 192,
 ];
 
-/// A marker at frame 480.
-pub fn marker<M: Allocator>(memory: M, stamp: Stamp, title: &str) -> Result<Op<M>, OpFault> {
-    let title = Title::new(memory, title)?;
-    Op::new(stamp, Body::AddMarker { at: 480, title })
-}
-
-/// A Remove of these tags of the item `(1, A, 1)`.
-pub fn removal<M: Allocator>(memory: M, stamp: Stamp, tags: &[Stamp]) -> Result<Op<M>, OpFault> {
-    let Ok(item) = Stamp::new(1, A, 1) else {
-        return Err(OpFault::BadTags);
-    };
-    let tags = List::new(Vec::from_slice(memory, tags)?);
-    Op::new(stamp, Body::Remove { item, tags })
-}
-
 /// The bytes of a log with this count and these records, and with the digest that belongs to them.
-pub fn log_of<M: Allocator>(
+pub fn text_of<M: Allocator>(
     memory: M,
     count: u64,
     records: &[&[u8]],

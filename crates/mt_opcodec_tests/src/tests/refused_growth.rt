@@ -1,10 +1,10 @@
 //! Each growth refused in turn, until a run meets no refusal.
 use super::tracks_and_clips::ADD_TRACK;
-use super::{A, NEWS, log_of, marker, removal};
-use crate::{Log, LogFault, ReadFault, read_op, write_op};
+use super::{NEWS, text_of};
 use mt_op::{Op, OpFault};
+use mt_opcodec::{Log, LogFault, ReadFault, read_op, write_op};
 use mt_stamp::Stamp;
-use mt_testalloc::Refusing;
+use mt_testkit::{A, Refusing, marker, removal};
 use std::alloc::{Allocator, Global};
 use std::test::Fail;
 
@@ -95,7 +95,7 @@ fn removal_of_ten<M: Allocator>(memory: M) -> Result<Op<M>, Fail> {
     for clock in 1..10 {
         tags[clock as usize] = Stamp::new(clock + 1, A, clock + 1)?;
     }
-    Ok(removal(memory, Stamp::new(11, A, 11)?, &tags)?)
+    Ok(removal(memory, Stamp::new(11, A, 11)?, first, &tags)?)
 }
 
 #[test]
@@ -278,7 +278,7 @@ fn of_a_log_that_is_read(rt: HostRuntime) -> Result<(), Fail> {
 /// A count that no log can have is no reason to ask for memory.
 #[test]
 fn of_a_log_with_too_great_a_count(rt: HostRuntime) -> Result<(), Fail> {
-    let text = log_of(rt.alloc(), u64::MAX, &[&NEWS])?;
+    let text = text_of(rt.alloc(), u64::MAX, &[&NEWS])?;
     let memory = Refusing::new(rt.alloc(), 3);
     assert_eq!(rt;
         Log::read(&memory, text.as_slice()).err(),

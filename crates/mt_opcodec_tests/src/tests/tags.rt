@@ -1,9 +1,8 @@
 //! The tags of a Remove as bytes.
-use super::{A, B};
-use crate::{ReadFault, read_op, write_op};
 use mt_op::Body;
+use mt_opcodec::{ReadFault, read_op, write_op};
 use mt_stamp::Replica;
-use mt_testalloc::Refusing;
+use mt_testkit::{A, B, Refusing};
 use std::alloc::{AllocError, Allocator};
 use std::test::Fail;
 

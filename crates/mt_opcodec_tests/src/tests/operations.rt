@@ -1,8 +1,9 @@
 //! Operations as bytes.
-use super::{A, B, MOVE, NEWS, REMOVE, RESTORE, SPORT, marker, removal};
-use crate::{read_op, write_op};
+use super::{MOVE, NEWS, REMOVE, RESTORE, SPORT};
 use mt_op::{Body, Op, Title};
+use mt_opcodec::{read_op, write_op};
 use mt_stamp::Stamp;
+use mt_testkit::{A, B, marker, removal};
 use std::test::Fail;
 
 // operation_bytes
@@ -51,7 +52,7 @@ fn writes_and_reads_the_other_bodies(rt: HostRuntime) -> Result<(), Fail> {
     };
     for (op, text) in [
         (
-            removal(rt.alloc(), Stamp::new(3, A, 2)?, &[item, restored])?,
+            removal(rt.alloc(), Stamp::new(3, A, 2)?, item, &[item, restored])?,
             REMOVE.as_slice(),
         ),
         (

@@ -1,62 +1,6 @@
-//! Readers and writers that fail where a test says, and count how often they were asked.
+//! Writers that fail where a test says, and count how often they were asked.
 use std::alloc::Allocator;
-use std::io::{Error, ErrorKind, Read, Result, Write};
-
-/// Gives a byte at each of its first `good` reads, and then fails.
-#[derive(Drop)]
-pub struct FailingReader {
-    good: usize,
-    kind: ErrorKind,
-    asked: usize,
-}
-
-impl FailingReader {
-    pub fn new(good: usize, kind: ErrorKind) -> FailingReader {
-        FailingReader {
-            good,
-            kind,
-            asked: 0,
-        }
-    }
-
-    pub fn asked(&self) -> usize {
-        self.asked
-    }
-}
-
-impl Read for FailingReader {
-    fn read(&mut self, buf: &mut [u8]) -> Result<usize> {
-        let number = self.asked;
-        self.asked = number.wrapping_add(1);
-        if number >= self.good {
-            return Err(Error::from(self.kind));
-        }
-        Ok(buf.len().min(1))
-    }
-}
-
-/// Gives one byte at each read, and never ends.
-#[derive(Drop)]
-pub struct OneByteForEver {
-    asked: usize,
-}
-
-impl OneByteForEver {
-    pub fn new() -> OneByteForEver {
-        OneByteForEver { asked: 0 }
-    }
-
-    pub fn asked(&self) -> usize {
-        self.asked
-    }
-}
-
-impl Read for OneByteForEver {
-    fn read(&mut self, buf: &mut [u8]) -> Result<usize> {
-        self.asked = self.asked.wrapping_add(1);
-        Ok(buf.len().min(1))
-    }
-}
+use std::io::{Error, ErrorKind, Result, Write};
 
 /// Takes one byte at each of its first `good` writes, and then fails.
 #[derive(Drop)]

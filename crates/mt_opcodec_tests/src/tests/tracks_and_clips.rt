@@ -1,8 +1,8 @@
 //! Acts on tracks, on clips and on what sounds, as bytes.
-use super::{A, B};
-use crate::{read_op, write_op};
 use mt_op::{Body, Digest, Gain, Op, Title};
+use mt_opcodec::{read_op, write_op};
 use mt_stamp::Stamp;
+use mt_testkit::{A, B};
 use std::alloc::Allocator;
 use std::test::Fail;
 

@@ -2,9 +2,10 @@
 use super::tracks_and_clips::{
     ADD_CLIP, ADD_TRACK, MOVE_CLIP, MOVE_TRACK, MUTE, SET_GAIN, TRIM_CLIP,
 };
-use super::{A, MOVE, NEWS, REMOVE, RESTORE, SPORT, log_of, marker};
-use crate::{Log, read_op};
+use super::{MOVE, NEWS, REMOVE, RESTORE, SPORT, text_of};
+use mt_opcodec::{Log, read_op};
 use mt_stamp::{Dot, Stamp};
+use mt_testkit::{A, marker};
 use std::test::Fail;
 
 /// The log of no operation.
@@ -79,7 +80,7 @@ fn writes_and_reads_a_log_of_each_body(rt: HostRuntime) -> Result<(), Fail> {
     for text in texts.iter().rev() {
         assert!(rt; log.add(read_op(rt.alloc(), text)?.0)?);
     }
-    let wanted = log_of(rt.alloc(), 12, &texts)?;
+    let wanted = text_of(rt.alloc(), 12, &texts)?;
     assert_eq!(rt; log.write()?.as_slice(), wanted.as_slice());
     let read = Log::read(rt.alloc(), wanted.as_slice())?;
     assert_eq!(rt; read.len(), 12);
