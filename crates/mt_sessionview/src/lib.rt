@@ -18,8 +18,6 @@ mod readiness;
 mod ready;
 mod scratch;
 mod session;
-#[cfg(test)]
-mod tests;
 mod text;
 mod track;
 

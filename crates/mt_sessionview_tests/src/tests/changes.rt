@@ -2,10 +2,11 @@
 
 ghost use Rattle.std.specs.Prelude.{◌≡◌, [], IfOk};
 
-use crate::{ClipView, MarkerView, Session, SessionFault, TrackView};
 use mt_op::{Digest, Gain, Title};
-use mt_stamp::{List, Replica, Stamp};
-use mt_testalloc::Refusing;
+use mt_opcodec::Latch;
+use mt_sessionview::{ClipView, MarkerView, Session, SessionFault, TrackView, write_text};
+use mt_stamp::{List, Stamp};
+use mt_testkit::{A, Refusing};
 use std::alloc::Allocator;
 use std::test::Fail;
 
@@ -121,7 +122,7 @@ fn mends<M: Allocator + Clone>(memory: &M, which: u8, stamp: Stamp) -> Result<bo
 
 #[test]
 fn mends_a_session(rt: HostRuntime) -> Result<(), Fail> {
-    let stamp = Stamp::new(3, Replica(10), 3)?;
+    let stamp = Stamp::new(3, A, 3)?;
     for which in 0..3 {
         assert_eq!(rt; mends(&rt.alloc(), which, stamp), Ok(true));
     }
@@ -130,7 +131,7 @@ fn mends_a_session(rt: HostRuntime) -> Result<(), Fail> {
 
 #[test]
 fn refuses_each_growth_of_a_session(rt: HostRuntime) -> Result<(), Fail> {
-    let stamp = Stamp::new(3, Replica(10), 3)?;
+    let stamp = Stamp::new(3, A, 3)?;
     for which in 0..3 {
         for at in 0..3 {
             let memory = Refusing::new(rt.alloc(), at);
@@ -144,4 +145,44 @@ fn refuses_each_growth_of_a_session(rt: HostRuntime) -> Result<(), Fail> {
         }
     }
     Ok(())
+}
+
+// A session of one marker, and of three operations that wait.
+fn of_one_marker<M: Allocator + Clone>(
+    memory: &M,
+    marker: Stamp,
+) -> Result<Session<M>, SessionFault> {
+    let mut session = nothing(memory)?;
+    session.put_marker(marker_with(title(memory, "News")?, marker))?;
+    session.set_held(3);
+    Ok(session)
+}
+
+// Whether the line of a marker and that of what is held are these.
+fn is_text_of<M: Allocator, N: Allocator>(
+    memory: M,
+    output: Vec<u8>,
+    session: &Session<N>,
+    wanted: &str,
+) -> Result<bool, SessionFault> {
+    let mut output = Latch::new(output);
+    write_text(memory, session, &mut output)?;
+    Ok(output.into_inner().as_slice() == wanted.as_bytes())
+}
+
+#[test]
+fn refuses_each_growth_of_a_text(rt: HostRuntime) -> Result<(), Fail> {
+    let session = of_one_marker(&rt.alloc(), Stamp::new(1, A, 1)?)?;
+    let wanted = "marker 1.1.00000000-0000-0000-0000-00000000000a at 480 title News\nheld 3\n";
+    for at in 0..20 {
+        let memory = Refusing::new(rt.alloc(), at);
+        let made = is_text_of(&memory, Vec::new(rt.alloc()), &session, wanted);
+        assert_eq!(rt; made.is_err(), memory.has_refused(), "at {at}");
+        if let Ok(is_wanted) = made {
+            assert!(rt; is_wanted);
+            assert!(rt; at > 0, "it grew");
+            return Ok(());
+        }
+    }
+    Err(Fail::from("each run met a refusal"))
 }

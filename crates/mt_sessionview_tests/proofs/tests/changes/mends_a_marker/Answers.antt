@@ -4,7 +4,7 @@ use Rattle.mt_stamp.specs.Sorting.{insert_by}
 use Rattle.mt_sessionview.specs.Content.{Content, Marker, marker_cmp}
 use Rattle.mt_sessionview.specs.Changing.{is_marker_at}
 use Rattle.mt_sessionview.proofs.Beside.{same_both}
-use Rattle.mt_sessionview.proofs.tests.changes.mends_a_marker.Goals as goal
+use Rattle.mt_sessionview_tests.proofs.tests.changes.mends_a_marker.Goals as goal
 
 -- the only marker is the one that was put in
 pub set_marker-requires : goal.set_marker-requires

@@ -1,41 +1,24 @@
-mod changes;
+//! Sessions of a few operations.
 
-use crate::laws::{
+mod changes;
+mod texts;
+
+use mt_op::{Body, Digest, Op};
+use mt_opcodec::Log;
+use mt_sessionview::laws::{
     any_listing, equal_clips, equal_markers, equal_sessions, equal_tracks, held_operation,
     places_tree, sorted_clips, sorted_markers, sorted_stamps, sorted_tracks,
 };
-use crate::text::{append_held_line, append_marker_line};
-use crate::{MarkerView, Session, SessionFault, from_scratch, ready_stamps};
-use mt_op::{Body, Digest, Op, OpFault, Title};
-use mt_opcodec::Log;
-use mt_stamp::{Replica, Stamp};
-use mt_testalloc::Refusing;
-use std::alloc::{AllocError, Allocator};
+use mt_sessionview::{Session, SessionFault, from_scratch, ready_stamps};
+use mt_stamp::Stamp;
+use mt_testkit::{A, B, Refusing, add_track, marker, retitle};
+use std::alloc::Allocator;
 use std::test::Fail;
-
-const A: Replica = Replica(10);
-
-const B: Replica = Replica(11);
-
-fn marker<M: Allocator>(memory: M, stamp: Stamp, at: u32, title: &str) -> Result<Op<M>, OpFault> {
-    let title = Title::new(memory, title)?;
-    Op::new(stamp, Body::AddMarker { at, title })
-}
-
-fn retitle<M: Allocator>(
-    memory: M,
-    stamp: Stamp,
-    item: Stamp,
-    title: &str,
-) -> Result<Op<M>, OpFault> {
-    let title = Title::new(memory, title)?;
-    Op::new(stamp, Body::Retitle { item, title })
-}
 
 // The session of one marker, and of a retitle that names another.
 fn news<M: Allocator + Clone>(memory: M, is_late: bool) -> Result<Session<M>, Fail> {
     let mut log = Log::new(memory.clone()?);
-    let _new = log.add(marker(memory.clone()?, Stamp::new(1, A, 1)?, 480, "News")?)?;
+    let _new = log.add(marker(memory.clone()?, Stamp::new(1, A, 1)?, "News")?)?;
     if is_late {
         let item = Stamp::new(2, A, 1)?;
         let _new = log.add(retitle(memory.clone()?, Stamp::new(5, B, 1)?, item, "Late")?)?;
@@ -73,8 +56,7 @@ fn holds_one_operation(rt: HostRuntime) -> Result<(), Fail> {
 fn muting<M: Allocator + Clone>(memory: M, item: Option<Stamp>) -> Result<Log<M>, Fail> {
     let track = Stamp::new(1, A, 1)?;
     let mut log = Log::new(memory.clone()?);
-    let title = Title::new(memory, "Voice")?;
-    let _new = log.add(Op::new(track, Body::AddTrack { after: None, title })?)?;
+    let _new = log.add(add_track(memory, track, None)?)?;
     let clip = Body::AddClip {
         source: Digest([1; 32]),
         track,
@@ -125,39 +107,6 @@ fn tells_tracks_and_clips_apart(rt: HostRuntime) -> Result<(), Fail> {
     Ok(())
 }
 
-// Whether the line of a marker and that of what is held are these.
-fn is_text_of<M: Allocator, N: Allocator>(
-    memory: M,
-    view: &MarkerView<N>,
-    wanted: &str,
-) -> Result<bool, AllocError> {
-    let mut text = String::new(memory);
-    append_marker_line(&mut text, view)?;
-    append_held_line(&mut text, 3)?;
-    Ok(text.as_str() == wanted)
-}
-
-#[test]
-fn refuses_each_growth_of_a_text(rt: HostRuntime) -> Result<(), Fail> {
-    let view = MarkerView {
-        marker: Stamp::new(1, A, 1)?,
-        at: 480,
-        title: Title::new(rt.alloc(), "News")?,
-    };
-    let wanted = "marker 1.1.00000000-0000-0000-0000-00000000000a at 480 title News\nheld 3\n";
-    for at in 0..20 {
-        let memory = Refusing::new(rt.alloc(), at);
-        let made = is_text_of(&memory, &view, wanted);
-        assert_eq!(rt; made.is_err(), memory.has_refused(), "at {at}");
-        if let Ok(is_wanted) = made {
-            assert!(rt; is_wanted);
-            assert!(rt; at > 0, "it grew");
-            return Ok(());
-        }
-    }
-    Err(Fail::from("each run met a refusal"))
-}
-
 #[test]
 fn numbers_its_refusals(rt: HostRuntime) -> Result<(), Fail> {
     assert_eq!(rt; SessionFault::Memory.number(), 0);
@@ -181,7 +130,7 @@ fn early_retitle<M: Allocator + Clone>(
     let mut log = Log::new(memory.clone()?);
     let (Ok(early), Ok(late)) = (
         retitle(memory.clone()?, own, item, "Late"),
-        marker(memory, item, 480, "News"),
+        marker(memory, item, "News"),
     ) else {
         return Err(SessionFault::Memory);
     };

@@ -1,11 +1,11 @@
-use super::{from_scratch, write_text};
-use crate::{Session, SessionFault};
-use mt_op::{Body, Digest, Op, Title};
+//! The text of a log's session.
+use mt_op::{Body, Digest, Op};
 use mt_opcodec::{Latch, Log};
+use mt_sessionview::{Session, SessionFault, from_scratch, write_text};
 use mt_stamp::{Replica, Stamp};
-use mt_testalloc::Refusing;
-use std::alloc::Allocator;
-use std::io::{Error, ErrorKind, Result as IoResult, Write};
+use mt_testkit::{A, B, FailingWriter, Refusing, add_track, marker, retitle};
+use std::alloc::{Allocator, Global};
+use std::io::ErrorKind;
 use std::test::Fail;
 
 const TEXT: &str = "\
@@ -15,35 +15,11 @@ marker 1.1.00000000-0000-0000-0000-00000000000a at 480 title News
 held 1
 ";
 
-/// Takes one byte at each write, and fails at the write of this number, counted from 0.
-#[derive(Drop)]
-struct Narrow {
-    fails_at: usize,
-    written: Vec<u8>,
-}
-
-impl Write for Narrow {
-    fn write(&mut self, buf: &[u8]) -> IoResult<usize> {
-        if self.written.len() == self.fails_at {
-            return Err(Error::from(ErrorKind::Other));
-        }
-        let count = buf.len().min(1);
-        self.written.extend_from_slice(&buf[..count])?;
-        Ok(count)
-    }
-
-    fn flush(&mut self) -> IoResult<()> {
-        Ok(())
-    }
-}
-
 /// Adds a track that is moved, if there is memory for it.
-fn add_track<M: Allocator + Clone>(memory: M, log: &mut Log<M>, track: Stamp) -> Option<()> {
-    let title = Title::new(memory, "Voice").ok()?;
-    let added = Body::AddTrack { after: None, title };
-    let _new = log.add(Op::new(track, added).ok()?).ok()?;
+fn add_moved_track<M: Allocator + Clone>(memory: M, log: &mut Log<M>, track: Stamp) -> Option<()> {
+    let _new = log.add(add_track(memory, track, None).ok()?).ok()?;
     let after = Some(track);
-    let moved = Stamp::new(4, Replica(10), 4).ok()?;
+    let moved = Stamp::new(4, A, 4).ok()?;
     let moved = Op::new(moved, Body::MoveTrack { track, after }).ok()?;
     let _new = log.add(moved).ok()?;
     Some(())
@@ -58,7 +34,7 @@ fn add_clip<M: Allocator + Clone>(log: &mut Log<M>, track: Stamp) -> Option<()> 
         offset: 4,
         len: 8,
     };
-    let own = Stamp::new(3, Replica(10), 3).ok()?;
+    let own = Stamp::new(3, A, 3).ok()?;
     let _new = log.add(Op::new(own, clip).ok()?).ok()?;
     Some(())
 }
@@ -66,18 +42,16 @@ fn add_clip<M: Allocator + Clone>(log: &mut Log<M>, track: Stamp) -> Option<()> 
 /// A marker, a retitle of another one that is not there, and a track with a clip, if there is memory for them.
 fn log<M: Allocator + Clone>(memory: M) -> Option<Log<M>> {
     let mut log = Log::new(memory.clone().ok()?);
-    let track = Stamp::new(2, Replica(10), 2).ok()?;
-    add_track(memory.clone().ok()?, &mut log, track)?;
+    let track = Stamp::new(2, A, 2).ok()?;
+    add_moved_track(memory.clone().ok()?, &mut log, track)?;
     add_clip(&mut log, track)?;
-    let title = Title::new(memory.clone().ok()?, "News").ok()?;
-    let marker = Stamp::new(1, Replica(10), 1).ok()?;
-    let marker = Op::new(marker, Body::AddMarker { at: 480, title }).ok()?;
-    let _new = log.add(marker).ok()?;
-    let title = Title::new(memory, "Late").ok()?;
+    let stamp = Stamp::new(1, A, 1).ok()?;
+    let _new = log
+        .add(marker(memory.clone().ok()?, stamp, "News").ok()?)
+        .ok()?;
     let item = Stamp::new(1, Replica(12), 1).ok()?;
-    let retitle = Stamp::new(2, Replica(11), 1).ok()?;
-    let retitle = Op::new(retitle, Body::Retitle { item, title }).ok()?;
-    let _new = log.add(retitle).ok()?;
+    let stamp = Stamp::new(2, B, 1).ok()?;
+    let _new = log.add(retitle(memory, stamp, item, "Late").ok()?).ok()?;
     Some(log)
 }
 
@@ -88,19 +62,36 @@ fn session(rt: &HostRuntime) -> Result<Session, Fail> {
     }
 }
 
+// How many tracks and markers a session shows, and how many operations it holds.
+fn counts<M: Allocator>(session: &Session<M>) -> (usize, usize, u64) {
+    (
+        session.tracks.items().len(),
+        session.markers.items().len(),
+        session.held,
+    )
+}
+
+fn text_of(alloc: Global, session: &Session) -> Result<Vec<u8>, SessionFault> {
+    let mut output = Latch::new(Vec::new(alloc));
+    write_text(alloc, session, &mut output)?;
+    Ok(output.into_inner())
+}
+
+// The text of the session of no operation.
+fn text_of_none(alloc: Global) -> Result<Vec<u8>, SessionFault> {
+    let session = from_scratch(alloc, &Log::new(alloc))?;
+    text_of(alloc, &session)
+}
+
 #[test]
 fn shows_a_log(rt: HostRuntime) -> Result<(), Fail> {
     let session = session(&rt)?;
-    assert_eq!(rt; session.tracks.items().len(), 1);
-    assert_eq!(rt; session.markers.items().len(), 1);
-    assert_eq!(rt; session.held, 1);
-    let mut output = Latch::new(Vec::new(rt.alloc()));
-    write_text(rt.alloc(), &session, &mut output)?;
-    assert_eq!(rt; output.into_inner().as_slice(), TEXT.as_bytes());
-    let empty = from_scratch(rt.alloc(), &Log::new(rt.alloc()))?;
-    let mut output = Latch::new(Vec::new(rt.alloc()));
-    write_text(rt.alloc(), &empty, &mut output)?;
-    assert_eq!(rt; output.into_inner().as_slice(), b"held 0\n".as_slice());
+    assert_eq!(rt; counts(&session), (1, 1, 1));
+    assert_eq!(rt; text_of(rt.alloc(), &session)?.as_slice(), TEXT.as_bytes());
+    assert_eq!(rt;
+        text_of_none(rt.alloc())?.as_slice(),
+        b"held 0\n".as_slice()
+    );
     Ok(())
 }
 
@@ -108,10 +99,7 @@ fn shows_a_log(rt: HostRuntime) -> Result<(), Fail> {
 fn writes_a_front_where_the_output_fails(rt: HostRuntime) -> Result<(), Fail> {
     let session = session(&rt)?;
     for fails_at in 0..TEXT.len() {
-        let mut output = Latch::new(Narrow {
-            fails_at,
-            written: Vec::new(rt.alloc()),
-        });
+        let mut output = Latch::new(FailingWriter::new(rt.alloc(), fails_at, ErrorKind::Other));
         for _ in 0..2 {
             assert_eq!(rt;
                 write_text(rt.alloc(), &session, &mut output),
@@ -120,10 +108,7 @@ fn writes_a_front_where_the_output_fails(rt: HostRuntime) -> Result<(), Fail> {
             );
         }
         assert!(rt; output.failed());
-        assert_eq!(rt;
-            output.into_inner().written.as_slice(),
-            &TEXT.as_bytes()[..fails_at]
-        );
+        assert_eq!(rt; output.into_inner().written(), &TEXT.as_bytes()[..fails_at]);
     }
     Ok(())
 }
@@ -148,24 +133,31 @@ fn writes_nothing_without_memory(rt: HostRuntime) -> Result<(), Fail> {
     Err(Fail::from("each run met a refusal"))
 }
 
+// What the session of the log counts; none where there was no memory for the log.
+fn counts_of<M: Allocator + Clone + Copy>(
+    memory: M,
+) -> Option<Result<(usize, usize, u64), SessionFault>> {
+    let log = log(memory)?;
+    match from_scratch(memory, &log) {
+        Ok(session) => Some(Ok(counts(&session))),
+        Err(fault) => Some(Err(fault)),
+    }
+}
+
 #[test]
 fn makes_no_session_without_memory(rt: HostRuntime) -> Result<(), Fail> {
     let mut refused = false;
     for at in 0..100 {
         let memory = Refusing::new(rt.alloc(), at);
-        let Some(log) = log(&memory) else {
+        let Some(made) = counts_of(&memory) else {
             continue;
         };
-        let made = from_scratch(&memory, &log);
         if !memory.has_refused() {
-            let session = made?;
-            assert_eq!(rt; session.tracks.items().len(), 1);
-            assert_eq!(rt; session.markers.items().len(), 1);
-            assert_eq!(rt; session.held, 1);
+            assert_eq!(rt; made, Ok((1, 1, 1)));
             assert!(rt; refused, "a growth of the session was refused");
             return Ok(());
         }
-        assert!(rt; matches!(made, Err(SessionFault::Memory)), "at {at}");
+        assert_eq!(rt; made, Err(SessionFault::Memory), "at {at}");
         refused = true;
     }
     Err(Fail::from("each run met a refusal"))
