@@ -5,15 +5,12 @@ ghost use Rattle.mt_op.specs.ByStamp.{op_cmp};
 mod answers;
 mod growth;
 
-use crate::{Items, ItemsFault, items_of_ready};
+use mt_items::{Items, ItemsFault, items_of_ready};
 use mt_op::{Body, Digest, Gain, Op, OpFault, Title};
-use mt_stamp::{List, Replica, Stamp, StampFault};
+use mt_stamp::{List, Stamp, StampFault};
+use mt_testkit::{A, B};
 use std::alloc::{AllocError, AllocFailed, Allocator};
 use std::collections::BTreeSet;
-
-const A: Replica = Replica(10);
-
-const B: Replica = Replica(11);
 
 // The operations of a test could not be made.
 #[derive(Clone, Copy, Debug, PartialEq, Eq)]

@@ -1,7 +1,7 @@
 // What is answered of noted operations.
 
 use super::{NoFixture, left_by, op, ops, ready, stamp};
-use crate::Items;
+use mt_items::Items;
 use mt_op::{Digest, Gain, Need, Role};
 use mt_stamp::Stamp;
 use std::alloc::Allocator;

@@ -5,7 +5,7 @@ use Rattle.mt_stamp.specs.Sorting.{RisesStrictly}
 use Rattle.mt_op.specs.ByStamp.{op_cmp}
 use Rattle.mt_op.proofs.TagLists.{drop_here}
 use Rattle.mt_items.proofs.Fresh.{rises_before, is_less, last_rises}
-use Rattle.mt_items.proofs.tests.is_before_next.Goals as goal
+use Rattle.mt_items_tests.proofs.tests.is_before_next.Goals as goal
 
 pub returns-then-i-ops : goal.returns-then-i-ops
 returns-then-i-ops g c = λ less rises.

@@ -1,10 +1,10 @@
 // Each growth refused in turn.
 
 use super::{NoFixture, noted, ops, ready, stamp};
-use crate::{Items, ItemsFault};
+use mt_items::{Items, ItemsFault};
 use mt_op::Op;
 use mt_stamp::Stamp;
-use mt_testalloc::Refusing;
+use mt_testkit::Refusing;
 use std::alloc::Allocator;
 use std::test::Fail;
 

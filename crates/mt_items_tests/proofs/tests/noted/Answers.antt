@@ -3,7 +3,7 @@ use Rattle.std.specs.BTreeSet.{contains}
 use Rattle.mt_stamp.specs.Moment.{stamp_cmp, stamp_eq}
 use Rattle.mt_items.specs.Noting.{is_noted}
 use Rattle.mt_items.proofs.Fresh.{one_more_known}
-use Rattle.mt_items.proofs.tests.noted.Goals as goal
+use Rattle.mt_items_tests.proofs.tests.noted.Goals as goal
 
 pub note-requires : goal.note-requires
 note-requires g c =

@@ -1,7 +1,7 @@
 use Rattle.std.proofs.Common.{◌≤◌, length, map, drop}
 use Rattle.mt_stamp.specs.Sorting.{RisesStrictly}
 use Rattle.mt_op.specs.ByStamp.{op_cmp}
-use Rattle.mt_items.proofs.tests.rises.Given as goal
+use Rattle.mt_items_tests.proofs.tests.rises.Given as goal
 
 abbrev pub invariant-loop-i : goal.invariant-loop-i
 invariant-loop-i g l = record {
