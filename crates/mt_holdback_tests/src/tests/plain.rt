@@ -1,15 +1,15 @@
 //! The definition's own program, for the tests: at each offer one pass over all that waits.
 
-use crate::waits::Waits;
+use mt_holdback::Waits;
 use mt_stamp::Stamp;
 use std::alloc::{AllocError, AllocFailed, Allocator};
 use std::test::Fail;
 
 // What was released, and what waits, by rising key.
 #[derive(Drop)]
-pub(crate) struct Plain<T: Waits, A: Allocator> {
-    pub(crate) released: Vec<T, A>,
-    pub(crate) waiting: Vec<T, A>,
+pub struct Plain<T: Waits, A: Allocator> {
+    pub released: Vec<T, A>,
+    pub waiting: Vec<T, A>,
 }
 
 // Where an item with this key goes among those that wait: behind the smaller keys.
@@ -37,7 +37,7 @@ fn is_met<T: Waits>(released: &[T], item: &T) -> bool {
 }
 
 impl<T: Waits + Drop, A: Allocator + Clone> Plain<T, A> {
-    pub(crate) fn new(alloc: A) -> Result<Self, Fail> {
+    pub fn new(alloc: A) -> Result<Self, Fail> {
         Ok(Plain {
             waiting: Vec::new(alloc.clone()?),
             released: Vec::new(alloc),
@@ -45,7 +45,7 @@ impl<T: Waits + Drop, A: Allocator + Clone> Plain<T, A> {
     }
 
     // Offers an item whose key is new.
-    pub(crate) fn offer(&mut self, item: T) -> Result<(), Fail> {
+    pub fn offer(&mut self, item: T) -> Result<(), Fail> {
         let mut queue = Vec::new(self.released.allocator().clone()?);
         queue.append(&mut self.waiting)?;
         let place = place_of(&queue, item.key()).min(queue.len());

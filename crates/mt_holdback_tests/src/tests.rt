@@ -1,32 +1,12 @@
-use crate::plain::Plain;
-use crate::{HoldBack, HoldBackFault, Offered, Waits};
-use mt_op::{Body, Gain, Op, OpFault, Title};
-use mt_stamp::{List, Replica, Stamp};
-use mt_testalloc::Refusing;
+mod plain;
+
+use mt_holdback::{HoldBack, HoldBackFault, Offered, Waits};
+use mt_op::{Body, Gain, Op, OpFault};
+use mt_stamp::Stamp;
+use mt_testkit::{A, B, Refusing, add_track, marker, removal, retitle};
+use plain::Plain;
 use std::alloc::Allocator;
 use std::test::Fail;
-
-const A: Replica = Replica(10);
-
-const B: Replica = Replica(11);
-
-// An AddMarker of this stamp, the item of the tests.
-fn marker<M: Allocator>(memory: M, stamp: Stamp) -> Result<Op<M>, OpFault> {
-    let title = Title::new(memory, "News")?;
-    Op::new(stamp, Body::AddMarker { at: 480, title })
-}
-
-// A Retitle of an item.
-fn retitle<M: Allocator>(memory: M, stamp: Stamp, item: Stamp) -> Result<Op<M>, OpFault> {
-    let title = Title::new(memory, "Late")?;
-    Op::new(stamp, Body::Retitle { item, title })
-}
-
-// An AddTrack that is put after another one.
-fn track<M: Allocator>(memory: M, stamp: Stamp, after: Option<Stamp>) -> Result<Op<M>, OpFault> {
-    let title = Title::new(memory, "Voice")?;
-    Op::new(stamp, Body::AddTrack { after, title })
-}
 
 // A SetGain of an item.
 fn louder<M: Allocator>(stamp: Stamp, item: Stamp) -> Result<Op<M>, OpFault> {
@@ -73,8 +53,8 @@ fn is_first_need_met<T: Waits>(item: &T, other: &T) -> bool {
 #[test]
 fn needs_what_an_operation_names(rt: HostRuntime) -> Result<(), Fail> {
     let item = Stamp::new(1, A, 1)?;
-    let first = marker(rt.alloc(), item)?;
-    let later = retitle(rt.alloc(), Stamp::new(2, B, 1)?, item)?;
+    let first = marker(rt.alloc(), item, "News")?;
+    let later = retitle(rt.alloc(), Stamp::new(2, B, 1)?, item, "Late")?;
     assert!(rt; is_first_need_met(&later, &first));
     assert!(rt; !is_first_need_met(&first, &later));
     assert_eq!(rt; Waits::need_count(&later), 1);
@@ -84,8 +64,13 @@ fn needs_what_an_operation_names(rt: HostRuntime) -> Result<(), Fail> {
 
 #[test]
 fn needs_the_whole_stamp(rt: HostRuntime) -> Result<(), Fail> {
-    let named = marker(rt.alloc(), Stamp::new(2, A, 1)?)?;
-    let later = retitle(rt.alloc(), Stamp::new(3, B, 1)?, Stamp::new(1, A, 1)?)?;
+    let named = marker(rt.alloc(), Stamp::new(2, A, 1)?, "News")?;
+    let later = retitle(
+        rt.alloc(),
+        Stamp::new(3, B, 1)?,
+        Stamp::new(1, A, 1)?,
+        "Late",
+    )?;
     assert!(rt; !is_first_need_met(&later, &named));
     Ok(())
 }
@@ -94,7 +79,7 @@ fn needs_the_whole_stamp(rt: HostRuntime) -> Result<(), Fail> {
 #[test]
 fn needs_the_role(rt: HostRuntime) -> Result<(), Fail> {
     let item = Stamp::new(1, A, 1)?;
-    let first = marker(rt.alloc(), item)?;
+    let first = marker(rt.alloc(), item, "News")?;
     let later = louder(Stamp::new(2, B, 1)?, item)?;
     assert!(rt; !is_first_need_met(&later, &first));
     Ok(())
@@ -107,14 +92,14 @@ fn holds_an_early_retitle(rt: HostRuntime) -> Result<(), Fail> {
     let later = Stamp::new(2, B, 1)?;
     let mut hold = HoldBack::new(rt.alloc());
     assert_eq!(rt;
-        offer_new(&mut hold, retitle(rt.alloc(), later, item)?),
+        offer_new(&mut hold, retitle(rt.alloc(), later, item, "Late")?),
         Ok(Offered::Held)
     );
     assert_eq!(rt; counts(&hold), (1, 0));
     assert!(rt; hold.knows(&later));
     assert!(rt; !hold.knows(&item));
     assert_eq!(rt;
-        offer_new(&mut hold, marker(rt.alloc(), item)?),
+        offer_new(&mut hold, marker(rt.alloc(), item, "News")?),
         Ok(Offered::Ready(0))
     );
     assert_eq!(rt; counts(&hold), (0, 2));
@@ -132,9 +117,9 @@ fn offer_tracks<M: Allocator + Clone>(
     let p = Stamp::new(1, A, 1)?;
     let q = Stamp::new(2, A, 2)?;
     let op = match name {
-        'p' => track(memory.clone()?, p, None)?,
-        'q' => track(memory.clone()?, q, Some(p))?,
-        _ => track(memory.clone()?, Stamp::new(3, A, 3)?, Some(q))?,
+        'p' => add_track(memory.clone()?, p, None)?,
+        'q' => add_track(memory.clone()?, q, Some(p))?,
+        _ => add_track(memory.clone()?, Stamp::new(3, A, 3)?, Some(q))?,
     };
     Ok(offer_new(hold, op)?)
 }
@@ -183,7 +168,7 @@ fn holds_what_needs_another_role(rt: HostRuntime) -> Result<(), Fail> {
         Ok(Offered::Held)
     );
     assert_eq!(rt;
-        offer_new(&mut hold, marker(rt.alloc(), item)?),
+        offer_new(&mut hold, marker(rt.alloc(), item, "News")?),
         Ok(Offered::Ready(0))
     );
     assert_eq!(rt; counts(&hold), (1, 1));
@@ -210,8 +195,8 @@ where
     let item = Stamp::new(1, A, 1)?;
     let later = Stamp::new(2, B, 1)?;
     let mut hold = HoldBack::new(over);
-    let retitle = offer_new(&mut hold, retitle(memory.clone()?, later, item)?);
-    let marker = offer_new(&mut hold, marker(memory.clone()?, item)?);
+    let retitle = offer_new(&mut hold, retitle(memory.clone()?, later, item, "Late")?);
+    let marker = offer_new(&mut hold, marker(memory.clone()?, item, "News")?);
     let knows = hold.knows(&item) || hold.knows(&later);
     Ok(Left {
         retitle,
@@ -257,21 +242,6 @@ fn numbers_its_refusals(rt: HostRuntime) -> Result<(), Fail> {
     Ok(())
 }
 
-// A Remove of an item, with these tags.
-fn remove<M: Allocator>(
-    memory: M,
-    stamp: Stamp,
-    item: Stamp,
-    tags: &[Stamp],
-) -> Result<Op<M>, Fail> {
-    let mut listed = Vec::new(memory);
-    for tag in tags {
-        listed.push(*tag)?;
-    }
-    let tags = List::new(listed);
-    Ok(Op::new(stamp, Body::Remove { item, tags })?)
-}
-
 // One of seven items: a marker, its Restore, a Remove that needs both, a chain of three tracks, and a SetGain that no order releases.
 fn one_of_seven<M: Allocator + Clone>(memory: &M, which: usize) -> Result<Op<M>, Fail> {
     let item = Stamp::new(1, A, 1)?;
@@ -279,17 +249,17 @@ fn one_of_seven<M: Allocator + Clone>(memory: &M, which: usize) -> Result<Op<M>,
     let first = Stamp::new(1, B, 1)?;
     let second = Stamp::new(2, B, 2)?;
     let op = match which {
-        0 => marker(memory.clone()?, item)?,
+        0 => marker(memory.clone()?, item, "News")?,
         1 => Op::new(restored, Body::Restore { item })?,
-        2 => remove(
+        2 => removal(
             memory.clone()?,
             Stamp::new(3, A, 3)?,
             item,
             &[item, restored],
         )?,
-        3 => track(memory.clone()?, first, None)?,
-        4 => track(memory.clone()?, second, Some(first))?,
-        5 => track(memory.clone()?, Stamp::new(3, B, 3)?, Some(second))?,
+        3 => add_track(memory.clone()?, first, None)?,
+        4 => add_track(memory.clone()?, second, Some(first))?,
+        5 => add_track(memory.clone()?, Stamp::new(3, B, 3)?, Some(second))?,
         _ => louder(Stamp::new(4, B, 4)?, item)?,
     };
     Ok(op)
@@ -306,6 +276,18 @@ fn agree<M: Allocator>(hold: &HoldBack<Op<M>, M>, plain: &Plain<Op<M>, M>) -> bo
             .all(|(item, other)| item.key() == other.key())
 }
 
+// Offers one of the seven to both, and tells whether they agree then.
+fn agree_after<M: Allocator + Clone>(
+    memory: &M,
+    hold: &mut HoldBack<Op<M>, M>,
+    plain: &mut Plain<Op<M>, M>,
+    which: usize,
+) -> Result<bool, Fail> {
+    let _ = offer_new(hold, one_of_seven(memory, which)?)?;
+    plain.offer(one_of_seven(memory, which)?)?;
+    Ok(agree(hold, plain))
+}
+
 // How often both agree while the seven are offered from one on, in steps.
 fn agreements<M: Allocator + Clone>(memory: &M, from: usize, step: usize) -> Result<u64, Fail> {
     let mut hold = HoldBack::new(memory.clone()?);
@@ -313,9 +295,7 @@ fn agreements<M: Allocator + Clone>(memory: &M, from: usize, step: usize) -> Res
     let mut agreed = 0u64;
     for turn in 0..7usize {
         let which = from.wrapping_add(turn.wrapping_mul(step)) % 7;
-        let _ = offer_new(&mut hold, one_of_seven(memory, which)?)?;
-        plain.offer(one_of_seven(memory, which)?)?;
-        if agree(&hold, &plain) {
+        if agree_after(memory, &mut hold, &mut plain, which)? {
             agreed = agreed.saturating_add(1);
         }
     }
@@ -333,24 +313,24 @@ fn releases_what_the_plain_program_does(rt: HostRuntime) -> Result<(), Fail> {
     Ok(())
 }
 
+// What offering one of the seven answers.
+fn offer_one<M: Allocator + Clone>(
+    memory: &M,
+    hold: &mut HoldBack<Op<M>, M>,
+    which: usize,
+) -> Result<Offered, Fail> {
+    Ok(offer_new(hold, one_of_seven(memory, which)?)?)
+}
+
 // An item that lacks two needs is held once.
 #[test]
 fn holds_a_remove_until_its_last_tag(rt: HostRuntime) -> Result<(), Fail> {
     let mut hold = HoldBack::new(rt.alloc());
-    assert_eq!(rt;
-        offer_new(&mut hold, one_of_seven(&rt.alloc(), 2)?),
-        Ok(Offered::Held)
-    );
+    assert_eq!(rt; offer_one(&rt.alloc(), &mut hold, 2)?, Offered::Held);
     assert_eq!(rt; counts(&hold), (1, 0));
-    assert_eq!(rt;
-        offer_new(&mut hold, one_of_seven(&rt.alloc(), 1)?),
-        Ok(Offered::Held)
-    );
+    assert_eq!(rt; offer_one(&rt.alloc(), &mut hold, 1)?, Offered::Held);
     assert_eq!(rt; counts(&hold), (2, 0));
-    assert_eq!(rt;
-        offer_new(&mut hold, one_of_seven(&rt.alloc(), 0)?),
-        Ok(Offered::Ready(0))
-    );
+    assert_eq!(rt; offer_one(&rt.alloc(), &mut hold, 0)?, Offered::Ready(0));
     assert_eq!(rt; counts(&hold), (0, 3));
     assert!(rt; is_released_at(&hold, 2, Stamp::new(3, A, 3)?));
     Ok(())
@@ -370,7 +350,7 @@ fn offer_chain<M: Allocator + Clone>(
         } else {
             None
         };
-        let op = track(memory.clone()?, Stamp::new(at, A, at)?, after)?;
+        let op = add_track(memory.clone()?, Stamp::new(at, A, at)?, after)?;
         if let Offered::Held = offer_new(hold, op)? {
             held = held.saturating_add(1);
         }
