@@ -1,14 +1,11 @@
 //! What operations need, in the order of their fields.
 
-use crate::tests::bodies::{add_marker, add_track, remove, retitle};
-use crate::{Body, Digest, Gain, Need, Op, Role};
-use mt_stamp::{Replica, Stamp};
+use super::bodies::{add_marker, add_track, remove, retitle};
+use super::{A, B};
+use mt_op::{Body, Digest, Gain, Need, Op, Role};
+use mt_stamp::Stamp;
 use std::alloc::Allocator;
 use std::test::Fail;
-
-const A: Replica = Replica(10);
-
-const B: Replica = Replica(11);
 
 // Whether an operation of this body needs these stamps in these roles, in this order, and nothing else.
 fn needs_just<M: Allocator>(

@@ -1,14 +1,11 @@
 //! In which roles operations may be named.
 
-use crate::tests::bodies::twelve;
-use crate::{Body, Op, Role};
-use mt_stamp::{Replica, Stamp};
+use super::bodies::twelve;
+use super::{A, B};
+use mt_op::{Body, Op, Role};
+use mt_stamp::Stamp;
 use std::alloc::Allocator;
 use std::test::Fail;
-
-const A: Replica = Replica(10);
-
-const B: Replica = Replica(11);
 
 fn act_name<M: Allocator>(body: &Body<M>) -> &'static str {
     match body {

@@ -1,7 +1,7 @@
-use crate::laws::{
+use mt_op::laws::{
     compare_digests, compare_titles, equal_titles, last_write, last_writer, readiness, writes,
 };
-use crate::{Body, Digest, Need, Op, OpFault, Role, Title, find_op};
+use mt_op::{Body, Digest, Need, Op, OpFault, Role, Title, find_op};
 use mt_stamp::{Dot, Replica, Stamp};
 use mt_testalloc::Refusing;
 use std::alloc::Allocator;
@@ -17,15 +17,21 @@ mod roles;
 
 use bodies::retitle;
 
-const A: Replica = Replica(10);
+pub const A: Replica = Replica(10);
 
-const B: Replica = Replica(11);
+pub const B: Replica = Replica(11);
 
 fn marker<M: Allocator>(memory: M, title: &str) -> Result<Body<M>, OpFault> {
     Ok(Body::AddMarker {
         at: 48_000,
         title: Title::new(memory, title)?,
     })
+}
+
+// Whether a text is a title, and a copy of it is the same.
+fn is_title<M: Allocator + Clone>(memory: M, text: &str) -> Result<bool, OpFault> {
+    let title = Title::new(memory, text)?;
+    Ok(title.text() == text && title.try_clone()? == title)
 }
 
 // small_values: titles
@@ -43,9 +49,7 @@ fn makes_titles_of_at_most_255_plain_bytes(rt: HostRuntime) -> Result<(), Fail> 
         "one\u{85}two",
         longest.as_str(),
     ] {
-        let title = Title::new(rt.alloc(), text)?;
-        assert_eq!(rt; title.text(), text);
-        assert!(rt; title.try_clone()? == title);
+        assert!(rt; is_title(rt.alloc(), text)?, "{text}");
     }
     for text in [
         "one\ntwo",
@@ -146,11 +150,19 @@ fn refuses_a_name_that_is_as_old(rt: HostRuntime) -> Result<(), Fail> {
     Ok(())
 }
 
+fn retitle_op<M: Allocator>(memory: M, own: Stamp, item: Stamp) -> Result<Op<M>, OpFault> {
+    Op::new(own, retitle(memory, item, "News")?)
+}
+
+fn is_retitle_of<M: Allocator>(memory: M, op: &Op<M>, item: Stamp) -> Result<bool, OpFault> {
+    Ok(*op.body() == retitle(memory, item, "News")?)
+}
+
 #[test]
 fn makes_operations_that_name_older_ones(rt: HostRuntime) -> Result<(), Fail> {
     let own = Stamp::new(2, A, 2)?;
     let item = Stamp::new(1, B, 1)?;
-    let op = Op::new(own, retitle(rt.alloc(), item, "News")?)?;
+    let op = retitle_op(rt.alloc(), own, item)?;
     assert_eq!(rt; op.stamp(), own);
     assert_eq!(rt; op.dot(), Dot { replica: A, seq: 2 });
     assert_eq!(rt; op.need_count(), 1);
@@ -161,7 +173,7 @@ fn makes_operations_that_name_older_ones(rt: HostRuntime) -> Result<(), Fail> {
     assert_eq!(rt; op.need(0), Some(need));
     assert_eq!(rt; op.need(1), None);
     assert!(rt; !op.fits(&Role::Titled));
-    assert!(rt; *op.body() == retitle(rt.alloc(), item, "News")?);
+    assert!(rt; is_retitle_of(rt.alloc(), &op, item)?);
     Ok(())
 }
 

@@ -1,6 +1,6 @@
 //! Bodies that the tests are made of.
 
-use crate::{Body, Digest, Gain, OpFault, Title};
+use mt_op::{Body, Digest, Gain, OpFault, Title};
 use mt_stamp::{List, Stamp};
 use std::alloc::Allocator;
 use std::test::Fail;

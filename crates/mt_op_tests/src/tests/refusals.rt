@@ -1,14 +1,11 @@
 //! Which bodies `Op::new` refuses, and for what.
 
-use crate::tests::bodies::{add_track, remove, retitle, twelve};
-use crate::{Body, Digest, Gain, Need, Op, OpFault, Role};
-use mt_stamp::{Replica, Stamp};
+use super::bodies::{add_track, remove, retitle, twelve};
+use super::{A, B};
+use mt_op::{Body, Digest, Gain, Need, Op, OpFault, Role};
+use mt_stamp::Stamp;
 use std::alloc::Allocator;
 use std::test::Fail;
-
-const A: Replica = Replica(10);
-
-const B: Replica = Replica(11);
 
 fn add_clip<M: Allocator>(_memory: M, track: Stamp, len: u32) -> Body<M> {
     Body::AddClip {
@@ -68,25 +65,25 @@ fn on_items<M: Allocator + Copy>(
     memory: M,
     old: Stamp,
     name: Stamp,
-) -> Result<[Body<M>; 7], OpFault> {
-    Ok([
-        Body::SetGain {
-            item: name,
-            gain: Gain::UNCHANGED,
-        },
-        Body::SetMute {
-            item: name,
-            on: true,
-        },
-        remove(memory, name, &[old])?,
-        remove(memory, old, &[old, name])?,
-        Body::Restore { item: name },
-        Body::MoveMarker {
-            marker: name,
-            at: 1,
-        },
-        retitle(memory, name, "News")?,
-    ])
+) -> Result<Vec<Body<M>, M>, Fail> {
+    let mut bodies = Vec::new(memory);
+    bodies.push(Body::SetGain {
+        item: name,
+        gain: Gain::UNCHANGED,
+    })?;
+    bodies.push(Body::SetMute {
+        item: name,
+        on: true,
+    })?;
+    bodies.push(remove(memory, name, &[old])?)?;
+    bodies.push(remove(memory, old, &[old, name])?)?;
+    bodies.push(Body::Restore { item: name })?;
+    bodies.push(Body::MoveMarker {
+        marker: name,
+        at: 1,
+    })?;
+    bodies.push(retitle(memory, name, "News")?)?;
+    Ok(bodies)
 }
 
 // The place of the first body that is not refused for its names at clock 1 and at clock 2, or is refused at clock 3.
@@ -131,33 +128,31 @@ fn names_nothing_in_a_marker_and_at_the_head(rt: HostRuntime) -> Result<(), Fail
     Ok(())
 }
 
+// Why an operation of this body is refused, if it is.
+fn refusal<M: Allocator>(own: Stamp, body: Body<M>) -> Option<OpFault> {
+    Op::new(own, body).err()
+}
+
 // refused_operations: lengths
 #[test]
 fn refuses_clips_of_no_frame(rt: HostRuntime) -> Result<(), Fail> {
     let item = Stamp::new(1, A, 1)?;
     let as_old = Stamp::new(3, B, 1)?;
     let own = Stamp::new(3, A, 3)?;
-    let none = trim_clip(rt.alloc(), item, 0);
-    assert_eq!(rt; Op::new(own, none).err(), Some(OpFault::ZeroLength));
-    let none_and_as_old = trim_clip(rt.alloc(), as_old, 0);
-    assert_eq!(rt;
-        Op::new(own, none_and_as_old).err(),
-        Some(OpFault::NameNotOlder)
-    );
-    let none = add_clip(rt.alloc(), item, 0);
-    assert_eq!(rt; Op::new(own, none).err(), Some(OpFault::ZeroLength));
-    let none_and_as_old = add_clip(rt.alloc(), as_old, 0);
-    assert_eq!(rt;
-        Op::new(own, none_and_as_old).err(),
-        Some(OpFault::NameNotOlder)
-    );
-    for len in [1, u32::MAX] {
-        assert!(rt;
-            Op::new(own, trim_clip(rt.alloc(), item, len)).is_ok(),
+    for (name, len, wanted) in [
+        (item, 0, Some(OpFault::ZeroLength)),
+        (as_old, 0, Some(OpFault::NameNotOlder)),
+        (item, 1, None),
+        (item, u32::MAX, None),
+    ] {
+        assert_eq!(rt;
+            refusal(own, trim_clip(rt.alloc(), name, len)),
+            wanted,
             "{len}"
         );
-        assert!(rt;
-            Op::new(own, add_clip(rt.alloc(), item, len)).is_ok(),
+        assert_eq!(rt;
+            refusal(own, add_clip(rt.alloc(), name, len)),
+            wanted,
             "{len}"
         );
     }
@@ -173,6 +168,16 @@ fn rising<M: Allocator>(memory: M, count: u64) -> Result<Vec<Stamp, M>, Fail> {
     Ok(tags)
 }
 
+// Why a Remove that lists these tags is refused, if it is.
+fn refusal_of<M: Allocator>(
+    memory: M,
+    own: Stamp,
+    item: Stamp,
+    tags: &[Stamp],
+) -> Result<Option<OpFault>, OpFault> {
+    Ok(refusal(own, remove(memory, item, tags)?))
+}
+
 // refused_operations: tags
 #[test]
 fn refuses_tags_that_are_none_or_do_not_rise(rt: HostRuntime) -> Result<(), Fail> {
@@ -180,30 +185,39 @@ fn refuses_tags_that_are_none_or_do_not_rise(rt: HostRuntime) -> Result<(), Fail
     let item = Stamp::new(1, A, 1)?;
     let second = Stamp::new(2, A, 2)?;
     let other = Stamp::new(2, B, 1)?;
-    let none = remove(rt.alloc(), item, &[])?;
-    assert_eq!(rt; Op::new(own, none).err(), Some(OpFault::BadTags));
-    let twice = remove(rt.alloc(), item, &[item, item])?;
-    assert_eq!(rt; Op::new(own, twice).err(), Some(OpFault::BadTags));
-    let falling = remove(rt.alloc(), item, &[item, other, second])?;
-    assert_eq!(rt; Op::new(own, falling).err(), Some(OpFault::BadTags));
-    let young_tag = remove(rt.alloc(), item, &[item, own])?;
-    assert_eq!(rt; Op::new(own, young_tag).err(), Some(OpFault::NameNotOlder));
-    let young_item = remove(rt.alloc(), own, &[])?;
-    assert_eq!(rt; Op::new(own, young_item).err(), Some(OpFault::NameNotOlder));
-    let rising = remove(rt.alloc(), item, &[item, second, other])?;
-    assert!(rt; Op::new(own, rising).is_ok());
+    let none = refusal_of(rt.alloc(), own, item, &[])?;
+    assert_eq!(rt; none, Some(OpFault::BadTags));
+    let twice = refusal_of(rt.alloc(), own, item, &[item, item])?;
+    assert_eq!(rt; twice, Some(OpFault::BadTags));
+    let falling = refusal_of(rt.alloc(), own, item, &[item, other, second])?;
+    assert_eq!(rt; falling, Some(OpFault::BadTags));
+    let young_tag = refusal_of(rt.alloc(), own, item, &[item, own])?;
+    assert_eq!(rt; young_tag, Some(OpFault::NameNotOlder));
+    let young_item = refusal_of(rt.alloc(), own, own, &[])?;
+    assert_eq!(rt; young_item, Some(OpFault::NameNotOlder));
+    let rising = refusal_of(rt.alloc(), own, item, &[item, second, other])?;
+    assert_eq!(rt; rising, None);
     Ok(())
+}
+
+// A Remove that lists this many tags.
+fn removal_of<M: Allocator + Copy>(
+    memory: M,
+    own: Stamp,
+    item: Stamp,
+    count: u64,
+) -> Result<Result<Op<M>, OpFault>, Fail> {
+    let tags = rising(memory, count)?;
+    Ok(Op::new(own, remove(memory, item, &tags)?))
 }
 
 #[test]
 fn lists_at_most_65535_tags(rt: HostRuntime) -> Result<(), Fail> {
     let own = Stamp::new(70_000, B, 1)?;
     let item = Stamp::new(1, A, 1)?;
-    let tags = rising(rt.alloc(), 65_536)?;
-    let too_many = remove(rt.alloc(), item, &tags)?;
-    assert_eq!(rt; Op::new(own, too_many).err(), Some(OpFault::BadTags));
-    let tags = rising(rt.alloc(), 65_535)?;
-    let most = Op::new(own, remove(rt.alloc(), item, &tags)?)?;
+    let too_many = removal_of(rt.alloc(), own, item, 65_536)?;
+    assert_eq!(rt; too_many.err(), Some(OpFault::BadTags));
+    let most = removal_of(rt.alloc(), own, item, 65_535)??;
     assert_eq!(rt; most.need_count(), 65_536);
     assert_eq!(rt;
         most.need(65_535),

@@ -1,16 +1,13 @@
 //! Copies of bodies and operations, and which bodies are equal.
 
-use crate::laws::{equal_bodies, equal_ops};
-use crate::tests::bodies::{add_marker, add_track, remove, retitle, twelve};
-use crate::{Body, Op, OpFault};
-use mt_stamp::{Replica, Stamp};
+use super::bodies::{add_marker, add_track, remove, retitle, twelve};
+use super::{A, B};
+use mt_op::laws::{equal_bodies, equal_ops};
+use mt_op::{Body, Op, OpFault};
+use mt_stamp::Stamp;
 use mt_testalloc::Refusing;
 use std::alloc::Allocator;
 use std::test::Fail;
-
-const A: Replica = Replica(10);
-
-const B: Replica = Replica(11);
 
 // The first two places where the copy of one body equals another body, or a copy does not equal its own.
 fn first_mistake<M: Allocator + Clone>(
@@ -53,23 +50,33 @@ fn marker_op<M: Allocator>(memory: M, stamp: Stamp, title: &str) -> Result<Op<M>
     Op::new(stamp, add_marker(memory, 7, title)?)
 }
 
-#[test]
-fn copies_operations(rt: HostRuntime) -> Result<(), Fail> {
+// Operations of which no two are equal.
+fn four_ops<M: Allocator + Copy>(memory: M) -> Result<Vec<Op<M>, M>, Fail> {
     let first = Stamp::new(1, B, 1)?;
     let second = Stamp::new(2, A, 1)?;
-    let mut ops = Vec::new(rt.alloc());
+    let mut ops = Vec::new(memory);
     for (stamp, title) in [(first, "News"), (first, "Sport"), (second, "News")] {
-        ops.push(marker_op(rt.alloc(), stamp, title)?)?;
+        ops.push(marker_op(memory, stamp, title)?)?;
     }
-    ops.push(Op::new(second, retitle(rt.alloc(), first, "News")?)?)?;
+    ops.push(Op::new(second, retitle(memory, first, "News")?)?)?;
+    Ok(ops)
+}
+
+#[test]
+fn copies_operations(rt: HostRuntime) -> Result<(), Fail> {
+    let ops = four_ops(rt.alloc())?;
     assert!(rt; first_mistaken_op(&ops)?.is_none());
     Ok(())
 }
 
+fn track_op<M: Allocator>(memory: M, stamp: Stamp) -> Result<Op<M>, OpFault> {
+    Op::new(stamp, add_track(memory, None, "News")?)
+}
+
 #[test]
 fn compares_bodies_without_their_stamps(rt: HostRuntime) -> Result<(), Fail> {
-    let first = Op::new(Stamp::new(1, B, 1)?, add_track(rt.alloc(), None, "News")?)?;
-    let second = Op::new(Stamp::new(2, A, 1)?, add_track(rt.alloc(), None, "News")?)?;
+    let first = track_op(rt.alloc(), Stamp::new(1, B, 1)?)?;
+    let second = track_op(rt.alloc(), Stamp::new(2, A, 1)?)?;
     assert!(rt; first.body() == second.body());
     assert!(rt; first != second);
     Ok(())
