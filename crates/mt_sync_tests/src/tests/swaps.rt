@@ -1,13 +1,13 @@
 //! Two editors that swap what they lack.
-use super::fakes::{Narrow, Slow};
-use super::{A, ANSWERER, B, CALLER, editor_of, held, log_of};
-use crate::laws::{conversations, cuts, fronts};
-use crate::{Side, SyncFault, TalkFault, converse, exchange, have_bytes, lack_bytes, take_ops};
+use super::{ANSWERER, CALLER, editor_of, held, log_with};
 use mt_opcodec::Latch;
 use mt_replica::Editor;
 use mt_stamp::Stamp;
-use mt_testalloc::Refusing;
+use mt_sync::laws::{conversations, cuts, fronts};
+use mt_sync::{Side, SyncFault, TalkFault, converse, exchange, have_bytes, lack_bytes, take_ops};
+use mt_testkit::{A, B, FailingWriter, Refusing, SlowReader, log_of};
 use std::alloc::{Allocator, Global};
+use std::io::ErrorKind;
 use std::test::Fail;
 
 // What an exchange leaves.
@@ -114,7 +114,7 @@ fn refuses_each_growth_of_an_exchange(rt: HostRuntime) -> Result<(), Fail> {
 
 // The Have of markers of these stamps.
 fn have_of<M: Allocator + Clone>(memory: &M, stamps: &[Stamp]) -> Result<Vec<u8, M>, TalkFault> {
-    let log = log_of(memory, stamps)?;
+    let log = log_with(memory, stamps)?;
     match have_bytes(memory.clone()?, &log) {
         Ok(have) => Ok(have),
         Err(_) => Err(TalkFault::Memory),
@@ -127,7 +127,7 @@ fn ops_for<M: Allocator + Clone>(
     stamps: &[Stamp],
     have: &[u8],
 ) -> Result<Vec<u8, M>, TalkFault> {
-    let log = log_of(memory, stamps)?;
+    let log = log_with(memory, stamps)?;
     match lack_bytes(memory.clone()?, &log, have) {
         Ok(ops) => Ok(ops),
         Err(_) => Err(TalkFault::Memory),
@@ -203,8 +203,8 @@ fn refuses_each_growth_of_what_is_carried(rt: HostRuntime) -> Result<(), Fail> {
 fn speak<'a>(
     global: Global,
     editor: &mut Editor,
-    input: &mut Latch<Slow<'a>>,
-    output: &mut Latch<Narrow>,
+    input: &mut Latch<SlowReader<'a>>,
+    output: &mut Latch<FailingWriter<Global>>,
 ) -> u8 {
     match converse(global, global, editor, Side::Caller, input, output) {
         Ok(()) => 255,
@@ -236,8 +236,8 @@ fn calls_in(
     (stream, read_fails): (&[u8], usize),
     write_fails: usize,
 ) -> Spoken {
-    let mut input = Latch::new(Slow::new(stream, read_fails));
-    let mut output = Latch::new(Narrow::new(Vec::new(global), write_fails));
+    let mut input = Latch::new(SlowReader::new(stream, read_fails));
+    let mut output = Latch::new(FailingWriter::new(global, write_fails, ErrorKind::Other));
     let number = speak(global, editor, &mut input, &mut output);
     Spoken {
         number,

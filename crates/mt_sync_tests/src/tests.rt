@@ -1,22 +1,16 @@
 //! What no clause says: bytes that were written out by hand, and that every call succeeds where there is memory.
-mod fakes;
 mod streams;
 mod swaps;
 
-use crate::{Side, Talk, TalkFault};
-use mt_op::{Body, Op, OpFault, Title};
 use mt_opcodec::Log;
 use mt_replica::Editor;
 use mt_stamp::{Replica, Stamp};
-use mt_testalloc::Refusing;
+use mt_sync::{Side, Talk, TalkFault};
+use mt_testkit::{A, B, Refusing, log_of};
 use std::alloc::{Allocator, Global};
 use std::test::Fail;
 
 const NOBODY: Replica = Replica(0);
-
-const A: Replica = Replica(10);
-
-const B: Replica = Replica(11);
 
 // All that the caller of the log of one marker sends: its Have, 37 bytes, the marker, 51 bytes, and Bye.
 const CALLER: &[u8] =
@@ -25,29 +19,17 @@ const CALLER: &[u8] =
 // All that the answerer of the empty log sends: its Have and Bye.
 const ANSWERER: &[u8] = b"\0\0\0\x05\x01\0\0\0\0\0\0\0\x01\x03";
 
-// A marker of this stamp.
-fn marker<M: Allocator>(memory: M, stamp: Stamp) -> Result<Op<M>, OpFault> {
-    let title = Title::new(memory, "News")?;
-    Op::new(stamp, Body::AddMarker { at: 480, title })
-}
-
-// The log of markers of these stamps.
-fn log_of<M: Allocator + Clone>(memory: &M, stamps: &[Stamp]) -> Result<Log<M>, TalkFault> {
-    let mut log = Log::new(memory.clone()?);
-    for stamp in stamps {
-        let Ok(op) = marker(memory.clone()?, *stamp) else {
-            return Err(TalkFault::Memory);
-        };
-        if log.add(op).is_err() {
-            return Err(TalkFault::Memory);
-        }
+// The log of markers of these stamps. A refused growth is refused as a talk refuses it.
+fn log_with<M: Allocator + Clone>(memory: &M, stamps: &[Stamp]) -> Result<Log<M>, TalkFault> {
+    match log_of(memory, stamps) {
+        Ok(log) => Ok(log),
+        Err(_) => Err(TalkFault::Memory),
     }
-    Ok(log)
 }
 
 // An editor who has taken markers of these stamps.
 fn editor_of<M: Allocator + Clone>(memory: &M, stamps: &[Stamp]) -> Result<Editor<M>, TalkFault> {
-    let log = log_of(memory, stamps)?;
+    let log = log_with(memory, stamps)?;
     match Editor::from_log(memory.clone()?, NOBODY, log) {
         Ok(editor) => Ok(editor),
         Err(_) => Err(TalkFault::Memory),

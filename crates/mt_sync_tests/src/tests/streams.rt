@@ -1,8 +1,8 @@
 //! Streams that a talk refuses.
 use super::{ANSWERER, CALLER, editor_of, held};
-use crate::{Talk, TalkFault, take_ops};
 use mt_replica::Editor;
-use mt_testalloc::Refusing;
+use mt_sync::{Talk, TalkFault, take_ops};
+use mt_testkit::Refusing;
 use std::alloc::{Allocator, Global};
 use std::test::Fail;
 
