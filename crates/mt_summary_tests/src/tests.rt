@@ -1,34 +1,11 @@
 //! What no clause says: bodies that were written out by hand, and that every call succeeds where there is memory.
-use crate::laws::{packs, runs, texts};
-use crate::{Message, MessageFault, Summary, lacking};
-use mt_op::{Body, Op, OpFault, Title};
-use mt_opcodec::{Log, LogFault};
-use mt_stamp::{Dot, Replica, Stamp};
-use mt_testalloc::Refusing;
+use mt_op::Op;
+use mt_stamp::{Dot, Stamp};
+use mt_summary::laws::{packs, runs, texts};
+use mt_summary::{Message, MessageFault, Summary, lacking};
+use mt_testkit::{A, B, Refusing, log_of};
 use std::alloc::Allocator;
 use std::test::Fail;
-
-const A: Replica = Replica(10);
-
-const B: Replica = Replica(11);
-
-// A marker of this stamp.
-fn marker<M: Allocator>(memory: M, stamp: Stamp) -> Result<Op<M>, OpFault> {
-    let title = Title::new(memory, "News")?;
-    Op::new(stamp, Body::AddMarker { at: 480, title })
-}
-
-// The log of markers of these stamps.
-fn log_of<M: Allocator + Clone>(memory: &M, stamps: &[Stamp]) -> Result<Log<M>, LogFault> {
-    let mut log = Log::new(memory.clone()?);
-    for stamp in stamps {
-        let Ok(op) = marker(memory.clone()?, *stamp) else {
-            return Err(LogFault::Memory);
-        };
-        let _ = log.add(op)?;
-    }
-    Ok(log)
-}
 
 // How many of a log's markers the summary of another one lacks, and the places of the first and the last of them.
 fn lacks<M: Allocator + Clone>(
