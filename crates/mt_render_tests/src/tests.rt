@@ -1,21 +1,20 @@
 //! Programmes of a few samples, worked out by hand.
 
-use crate::{Catalogue, Format, FormatFault, Mix, MixFault, SourceFault};
-use mt_bwfread::WaveFault;
-use mt_op::{Body, Digest, Gain, Op, Title};
+mod blocks;
+mod limits;
+mod refusals;
+
+use mt_op::{Body, Digest, Gain, Op};
 use mt_opcodec::Log;
+use mt_render::{Catalogue, Format, Mix};
 use mt_sessionview::{Session, from_scratch};
-use mt_stamp::{Replica, Stamp};
-use mt_testalloc::Refusing;
+use mt_stamp::Stamp;
+use mt_testkit::{A, B};
 use std::alloc::{Allocator, Global};
 use std::test::Fail;
 
-pub(crate) const A: Replica = Replica(10);
-
-pub(crate) const B: Replica = Replica(11);
-
 // A wave file of PCM with this content of its `data`.
-pub(crate) fn wave(
+pub fn wave(
     alloc: Global,
     rate: u8,
     channels: u8,
@@ -37,19 +36,18 @@ pub(crate) fn wave(
 }
 
 // A log that begins with a track, the operation (1, A, 1).
-pub(crate) fn log_of_a_track(alloc: Global) -> Result<Log, Fail> {
+pub fn log_of_a_track(alloc: Global) -> Result<Log, Fail> {
     let mut log = Log::new(alloc);
     add_track(&mut log, alloc, Stamp::new(1, A, 1)?)?;
     Ok(log)
 }
 
-pub(crate) fn add_track(log: &mut Log, alloc: Global, stamp: Stamp) -> Result<(), Fail> {
-    let title = Title::new(alloc, "Voice")?;
-    let _new = log.add(Op::new(stamp, Body::AddTrack { after: None, title })?)?;
+pub fn add_track(log: &mut Log, alloc: Global, stamp: Stamp) -> Result<(), Fail> {
+    let _new = log.add(mt_testkit::add_track(alloc, stamp, None)?)?;
     Ok(())
 }
 
-pub(crate) fn add_clip(
+pub fn add_clip(
     log: &mut Log,
     stamp: Stamp,
     track: Stamp,
@@ -67,7 +65,7 @@ pub(crate) fn add_clip(
     Ok(())
 }
 
-pub(crate) fn change(log: &mut Log, stamp: Stamp, body: Body) -> Result<(), Fail> {
+pub fn change(log: &mut Log, stamp: Stamp, body: Body) -> Result<(), Fail> {
     let _new = log.add(Op::new(stamp, body)?)?;
     Ok(())
 }
@@ -104,7 +102,7 @@ fn heard(
 }
 
 // What a programme of two frames on one channel sounds like; none of one of another length.
-pub(crate) fn two_frames(
+pub fn two_frames(
     alloc: Global,
     log: &Log,
     sources: &[&[u8]],
@@ -118,7 +116,7 @@ pub(crate) fn two_frames(
 }
 
 // The log of one clip of two frames, played at a gain.
-pub(crate) fn one_clip(alloc: Global, source: Digest, num: u16, den: u16) -> Result<Log, Fail> {
+pub fn one_clip(alloc: Global, source: Digest, num: u16, den: u16) -> Result<Log, Fail> {
     let mut log = log_of_a_track(alloc)?;
     let item = Stamp::new(2, A, 2)?;
     add_clip(&mut log, item, Stamp::new(1, A, 1)?, source, (0, 0, 2))?;
@@ -187,7 +185,7 @@ fn cuts_the_sum(rt: HostRuntime) -> Result<(), Fail> {
 }
 
 // The log of two clips of two frames on one track, the second placed later, from these offsets on.
-fn two_clips(alloc: Global, first: Digest, second: Digest, offset: u32) -> Result<Log, Fail> {
+pub fn two_clips(alloc: Global, first: Digest, second: Digest, offset: u32) -> Result<Log, Fail> {
     let mut log = log_of_a_track(alloc)?;
     let track = Stamp::new(1, A, 1)?;
     add_clip(&mut log, Stamp::new(2, A, 2)?, track, first, (0, 0, 2))?;
@@ -282,210 +280,4 @@ fn puts_the_left_channel_out_alone(rt: HostRuntime) -> Result<(), Fail> {
     assert_eq!(rt; whole, [1, 2, 3, 4]);
     assert_eq!(rt; single, whole);
     Ok(())
-}
-
-// The fault of a mix at 256 frames a second, 16 bits and one channel, over these recordings; none where it is made.
-pub(crate) fn fault(alloc: Global, log: &Log, sources: &[&[u8]]) -> Result<Option<MixFault>, Fail> {
-    let session = from_scratch(alloc, log)?;
-    let mut catalogue = Catalogue::new(alloc);
-    for bytes in sources {
-        let _digest = catalogue.add(bytes)?;
-    }
-    Ok(Mix::new(alloc, &session, &catalogue, Format::new(256, 16, 1)?).err())
-}
-
-// missing_sources: covered clips count, muted ones do not
-#[test]
-fn misses_recordings_before_it_looks_at_rates(rt: HostRuntime) -> Result<(), Fail> {
-    let other = wave(rt.alloc(), 2, 1, 16, &[100, 0, 100, 0])?;
-    let (absent, of_other) = (Digest([9; 32]), Digest::of(&other));
-    let mut log = two_clips(rt.alloc(), of_other, absent, 0)?;
-    assert_eq!(rt;
-        fault(rt.alloc(), &log, &[&other])?,
-        Some(MixFault::MissingSource(absent))
-    );
-    let item = Stamp::new(6, B, 1)?;
-    change(
-        &mut log,
-        Stamp::new(7, A, 3)?,
-        Body::SetMute { item, on: true },
-    )?;
-    assert_eq!(rt;
-        fault(rt.alloc(), &log, &[&other])?,
-        Some(MixFault::RateDiffers(of_other))
-    );
-    let item = Stamp::new(1, A, 1)?;
-    change(
-        &mut log,
-        Stamp::new(8, A, 4)?,
-        Body::SetMute { item, on: true },
-    )?;
-    assert_eq!(rt; fault(rt.alloc(), &log, &[])?, None);
-    Ok(())
-}
-
-// missing_sources: a muted clip has no length
-#[test]
-fn has_no_length_where_all_is_muted(rt: HostRuntime) -> Result<(), Fail> {
-    let mut log = one_clip(rt.alloc(), Digest([9; 32]), 1, 1)?;
-    let item = Stamp::new(2, A, 2)?;
-    change(
-        &mut log,
-        Stamp::new(7, A, 4)?,
-        Body::SetMute { item, on: true },
-    )?;
-    let session = from_scratch(rt.alloc(), &log)?;
-    let catalogue = Catalogue::new(rt.alloc());
-    let mix = Mix::new(rt.alloc(), &session, &catalogue, Format::new(256, 16, 1)?)?;
-    assert_eq!(rt; mix.length(), 0);
-    assert_eq!(rt; mix.format(), Format::new(256, 16, 1)?);
-    Ok(())
-}
-
-// refused_formats
-#[test]
-fn is_too_long_past_4000000000_bytes(rt: HostRuntime) -> Result<(), Fail> {
-    let bytes = wave(rt.alloc(), 1, 1, 16, &[100, 0])?;
-    for (at, wanted) in [
-        (4294967295, Some(MixFault::TooLong)),
-        (2000000000, Some(MixFault::TooLong)),
-        (1999999999, None),
-    ] {
-        let mut log = log_of_a_track(rt.alloc())?;
-        let track = Stamp::new(1, A, 1)?;
-        add_clip(
-            &mut log,
-            Stamp::new(2, A, 2)?,
-            track,
-            Digest::of(&bytes),
-            (at, 0, 1),
-        )?;
-        assert_eq!(rt; fault(rt.alloc(), &log, &[&bytes])?, wanted, "{at}");
-    }
-    Ok(())
-}
-
-// refused_formats
-#[test]
-fn refuses_formats(rt: HostRuntime) -> Result<(), Fail> {
-    for (rate, bits, channels) in [
-        (0, 16, 1),
-        (384001, 16, 1),
-        (48000, 32, 1),
-        (48000, 8, 1),
-        (48000, 16, 0),
-        (48000, 16, 3),
-    ] {
-        assert_eq!(rt;
-            Format::new(rate, bits, channels),
-            Err(FormatFault::BadFormat),
-            "{rate}"
-        );
-    }
-    let format = Format::new(384000, 24, 2)?;
-    assert_eq!(rt; format.rate(), 384000);
-    assert_eq!(rt; format.bits(), 24);
-    assert_eq!(rt; format.channels(), 2);
-    Ok(())
-}
-
-// smallest_wave
-#[test]
-fn keeps_the_first_bytes_of_a_digest(rt: HostRuntime) -> Result<(), Fail> {
-    let bytes = wave(rt.alloc(), 1, 1, 8, &[0])?;
-    let mut catalogue = Catalogue::new(rt.alloc());
-    assert_eq!(rt; catalogue.add(&bytes), Ok(Digest::of(&bytes)));
-    assert_eq!(rt; catalogue.add(&bytes), Ok(Digest::of(&bytes)));
-    assert_eq!(rt;
-        catalogue.add(b"RIFX"),
-        Err(SourceFault::Wave(WaveFault::NotRiff))
-    );
-    assert!(rt; catalogue.find(&Digest::of(b"RIFX")).is_none());
-    assert!(rt;
-        catalogue
-            .find(&Digest::of(&bytes))
-            .is_some_and(|found| found.frames() == 1)
-    );
-    Ok(())
-}
-
-#[test]
-fn numbers_its_refusals(rt: HostRuntime) {
-    let digest = Digest([0; 32]);
-    assert_eq!(rt; SourceFault::Memory.number(), 0);
-    assert_eq!(rt; SourceFault::Wave(WaveFault::NoData).number(), 32);
-    assert_eq!(rt; FormatFault::BadFormat.number(), 47);
-    assert_eq!(rt; MixFault::Memory.number(), 0);
-    assert_eq!(rt; MixFault::MissingSource(digest).number(), 33);
-    assert_eq!(rt; MixFault::RateDiffers(digest).number(), 34);
-    assert_eq!(rt; MixFault::TooLong.number(), 35);
-}
-
-// The session of a track with one clip.
-fn session_of_a_clip<M: Allocator + Clone>(
-    memory: M,
-    track: Stamp,
-    clip: Stamp,
-    source: Digest,
-) -> Result<Session<M>, MixFault> {
-    let mut log = Log::new(memory.clone()?);
-    let Ok(title) = Title::new(memory.clone()?, "Voice") else {
-        return Err(MixFault::Memory);
-    };
-    let added = Body::AddTrack { after: None, title };
-    let placed = Body::AddClip {
-        source,
-        track,
-        at: 5,
-        offset: 0,
-        len: 2,
-    };
-    let (Ok(added), Ok(placed)) = (Op::new(track, added), Op::new(clip, placed)) else {
-        return Err(MixFault::Memory);
-    };
-    if log.add(added).is_err() || log.add(placed).is_err() {
-        return Err(MixFault::Memory);
-    }
-    from_scratch(memory, &log).map_err(|_| MixFault::Memory)
-}
-
-// How long the mix of a session is.
-fn length_of<M: Allocator + Clone>(
-    memory: M,
-    session: &Session<M>,
-    bytes: &[u8],
-    format: Format,
-) -> Result<u64, MixFault> {
-    let mut catalogue = Catalogue::new(memory.clone()?);
-    if catalogue.add(bytes).is_err() {
-        return Err(MixFault::Memory);
-    }
-    Ok(Mix::new(memory, session, &catalogue, format)?.length())
-}
-
-#[test]
-fn refuses_each_growth(rt: HostRuntime) -> Result<(), Fail> {
-    let bytes = wave(rt.alloc(), 1, 1, 16, &[1, 0, 2, 0])?;
-    let (track, clip) = (Stamp::new(1, A, 1)?, Stamp::new(2, A, 2)?);
-    let format = Format::new(256, 16, 1)?;
-    let mut made_with = 0;
-    for at in 0..200u64 {
-        let memory = Refusing::new(rt.alloc(), at);
-        let Ok(session) = session_of_a_clip(&memory, track, clip, Digest::of(&bytes)) else {
-            made_with = at;
-            continue;
-        };
-        let length = length_of(&memory, &session, &bytes, format);
-        assert_eq!(rt; length.is_err(), memory.has_refused(), "at {at}");
-        if !memory.has_refused() {
-            assert_eq!(rt; length, Ok(7));
-            assert!(rt;
-                at.saturating_sub(made_with) > 3,
-                "catalogue, segments and parts grew"
-            );
-            return Ok(());
-        }
-        assert_eq!(rt; length, Err(MixFault::Memory));
-    }
-    Err(Fail::from("each run met a refusal"))
 }

@@ -1,17 +1,18 @@
 //! Frames, lengths and sizes at their limits, and memory that is refused to many recordings.
 
-use crate::tests::{A, add_clip, change, fault, log_of_a_track, one_clip, two_frames, wave};
-use crate::{Catalogue, Format, Mix, MixFault};
+use super::refusals::fault;
+use super::{add_clip, change, log_of_a_track, one_clip, two_frames, wave};
 use mt_op::{Body, Digest};
 use mt_opcodec::Log;
+use mt_render::{Catalogue, Format, Mix, MixFault};
 use mt_sessionview::from_scratch;
 use mt_stamp::Stamp;
-use mt_testalloc::Refusing;
+use mt_testkit::{A, Refusing};
 use std::alloc::Global;
 use std::test::Fail;
 
 // The log of one clip of a track, at a frame, from an offset on, as long as this.
-fn placed(alloc: Global, source: Digest, place: (u32, u32, u32)) -> Result<Log, Fail> {
+pub fn placed(alloc: Global, source: Digest, place: (u32, u32, u32)) -> Result<Log, Fail> {
     let mut log = log_of_a_track(alloc)?;
     let track = Stamp::new(1, A, 1)?;
     add_clip(&mut log, Stamp::new(2, A, 2)?, track, source, place)?;

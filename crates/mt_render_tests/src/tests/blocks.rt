@@ -1,16 +1,17 @@
 //! Blocks of any sizes, and the two ways to them.
 
-use crate::tests::{A, add_clip, add_track, change, log_of_a_track, wave};
-use crate::{Catalogue, Format, Mix};
+use super::{add_clip, add_track, change, log_of_a_track, wave};
 use mt_op::{Body, Digest, Gain};
 use mt_opcodec::Log;
+use mt_render::{Catalogue, Format, Mix};
 use mt_sessionview::{Session, from_scratch};
 use mt_stamp::Stamp;
+use mt_testkit::A;
 use std::alloc::{Allocator, Global};
 use std::test::Fail;
 
-// Fills a block where it lies in the programme, by the plain way or as it is filled.
-fn fill<M: Allocator>(mix: &Mix<'_, '_, M>, plain: bool, first: u64, samples: &mut [i32]) {
+// Fills a block where it lies in the programme.
+fn fill<M: Allocator>(mix: &Mix<'_, '_, M>, first: u64, samples: &mut [i32]) {
     let channels = usize::from(mix.format().channels());
     if channels == 0 || samples.len() % channels != 0 {
         return;
@@ -19,11 +20,7 @@ fn fill<M: Allocator>(mix: &Mix<'_, '_, M>, plain: bool, first: u64, samples: &m
     if mix.length() < frames || mix.length() - frames < first {
         return;
     }
-    if plain {
-        mix.block_plain(first, samples);
-    } else {
-        mix.block(first, samples);
-    }
+    mix.block(first, samples);
 }
 
 // A number that each sample and its place changes.
@@ -38,7 +35,7 @@ fn sum_up(before: u64, samples: &[i32]) -> u64 {
 }
 
 // The first 10,000 frames on two channels, in blocks of so many frames, as such a number.
-fn in_blocks<M: Allocator>(mix: &Mix<'_, '_, M>, plain: bool, frames: usize) -> u64 {
+fn in_blocks<M: Allocator>(mix: &Mix<'_, '_, M>, frames: usize) -> u64 {
     let mut samples = [7; 20000];
     let mut sum = 0;
     let mut done = 0;
@@ -46,24 +43,23 @@ fn in_blocks<M: Allocator>(mix: &Mix<'_, '_, M>, plain: bool, frames: usize) -> 
         let count = frames.min(10000usize.saturating_sub(done));
         let end = (2 * count).min(samples.len());
         let piece = &mut samples[..end];
-        fill(mix, plain, done as u64, piece);
+        fill(mix, done as u64, piece);
         sum = sum_up(sum, piece);
         done = done.saturating_add(count);
     }
     sum
 }
 
-// The same in blocks of 1, 7 and 4,096 frames, in one, and in one by the plain way.
-fn in_all_blocks(alloc: Global, session: &Session, bytes: &[u8]) -> Result<[u64; 5], Fail> {
+// The same in blocks of 1, 7 and 4,096 frames, and in one.
+fn in_all_blocks(alloc: Global, session: &Session, bytes: &[u8]) -> Result<[u64; 4], Fail> {
     let mut catalogue = Catalogue::new(alloc);
     let _digest = catalogue.add(bytes)?;
     let mix = Mix::new(alloc, session, &catalogue, Format::new(256, 24, 2)?)?;
     Ok([
-        in_blocks(&mix, false, 1),
-        in_blocks(&mix, false, 7),
-        in_blocks(&mix, false, 4096),
-        in_blocks(&mix, false, 10000),
-        in_blocks(&mix, true, 10000),
+        in_blocks(&mix, 1),
+        in_blocks(&mix, 7),
+        in_blocks(&mix, 4096),
+        in_blocks(&mix, 10000),
     ])
 }
 
@@ -127,25 +123,53 @@ fn recording(alloc: Global) -> Result<Vec<u8>, Fail> {
     wave(alloc, 1, 2, 16, &bytes)
 }
 
-// The session of the clips at gains of every kind, with the first track at a gain.
-fn session_of_gains(alloc: Global, source: Digest, num: u16) -> Result<Session, Fail> {
-    let mut log = log_of_gains(alloc, source)?;
+// Gives an item a gain over 1.
+fn set_gain(log: &mut Log, clock: u64, item: Stamp, num: u16) -> Result<(), Fail> {
     let gain = Gain::new(num, 1)?;
-    let item = Stamp::new(1, A, 1)?;
     change(
-        &mut log,
-        Stamp::new(900, A, 900)?,
+        log,
+        Stamp::new(clock, A, clock)?,
         Body::SetGain { item, gain },
-    )?;
+    )
+}
+
+// A third track with a clip past the recording's end, both at the greatest gain: it adds nothing to any sample, but takes the mix the wide way.
+fn add_silence(log: &mut Log, alloc: Global, source: Digest) -> Result<(), Fail> {
+    let track = Stamp::new(901, A, 901)?;
+    let clip = Stamp::new(902, A, 902)?;
+    add_track(log, alloc, track)?;
+    add_clip(log, clip, track, source, (0, 55, 110))?;
+    set_gain(log, 903, track, 65535)?;
+    set_gain(log, 904, clip, 65535)
+}
+
+// The session of the clips at gains of every kind, with the first track at a gain, and perhaps with a silent track that takes the wide way.
+fn session_of_gains(
+    alloc: Global,
+    source: Digest,
+    num: u16,
+    is_wide: bool,
+) -> Result<Session, Fail> {
+    let mut log = log_of_gains(alloc, source)?;
+    set_gain(&mut log, 900, Stamp::new(1, A, 1)?, num)?;
+    if is_wide {
+        add_silence(&mut log, alloc, source)?;
+    }
     Ok(from_scratch(alloc, &log)?)
 }
 
-// The same whatever the blocks: at a gain of the first track that leaves the mix narrow, and at one that does not.
-fn blocks_agree(alloc: Global, num: u16) -> Result<bool, Fail> {
+// The blocks of that session as numbers.
+fn blocks_of_gains(alloc: Global, num: u16, is_wide: bool) -> Result<[u64; 4], Fail> {
     let bytes = recording(alloc)?;
-    let session = session_of_gains(alloc, Digest::of(&bytes), num)?;
-    let sums = in_all_blocks(alloc, &session, &bytes)?;
-    Ok(sums == [sums[0]; 5] && sums[0] != 0)
+    let session = session_of_gains(alloc, Digest::of(&bytes), num, is_wide)?;
+    in_all_blocks(alloc, &session, &bytes)
+}
+
+// The same whatever the blocks, and by the wide way: at a gain of the first track that leaves the mix narrow, and at one that does not.
+fn blocks_agree(alloc: Global, num: u16) -> Result<bool, Fail> {
+    let sums = blocks_of_gains(alloc, num, false)?;
+    let wide = blocks_of_gains(alloc, num, true)?;
+    Ok(sums == [sums[0]; 4] && wide == sums && sums[0] != 0)
 }
 
 #[test]
@@ -189,7 +213,7 @@ fn two_frames(alloc: Global, log: &Log, bytes: &[u8]) -> Result<[i32; 2], Fail> 
     let _digest = catalogue.add(bytes)?;
     let mix = Mix::new(alloc, &session, &catalogue, Format::new(256, 16, 1)?)?;
     let mut samples = [7; 2];
-    fill(&mix, false, 0, &mut samples);
+    fill(&mix, 0, &mut samples);
     Ok(samples)
 }
 
