@@ -20,11 +20,7 @@ mod hold_back;
 pub mod laws;
 mod offer;
 mod op;
-#[cfg(test)]
-mod plain;
 mod queue;
-#[cfg(test)]
-mod tests;
 mod waits;
 
 pub use fault::HoldBackFault;

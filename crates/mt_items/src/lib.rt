@@ -34,8 +34,6 @@ mod marker;
 mod marks;
 mod place;
 mod ready;
-#[cfg(test)]
-mod tests;
 mod track;
 
 pub use fault::ItemsFault;

@@ -10,8 +10,6 @@ pub mod laws;
 mod need;
 mod op;
 mod tags;
-#[cfg(test)]
-mod tests;
 mod title;
 
 pub use body::Body;

@@ -29,9 +29,6 @@ use std::io::{Read, Write};
 use std::marker::Model;
 use thiserror::Error;
 
-#[cfg(test)]
-mod tests;
-
 /// How many reads a latch allows: 16,777,216.
 const READS_ALLOWED: u32 = 16_777_216;
 

@@ -40,8 +40,6 @@ mod op_writer;
 mod run;
 mod run_list;
 mod seen;
-#[cfg(test)]
-mod tests;
 
 pub use fault::{LogFault, ReadFault};
 pub use latch::{Latch, LatchFault};

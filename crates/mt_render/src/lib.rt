@@ -22,23 +22,17 @@
 #![tactic(auto)]
 
 mod block;
-#[cfg(test)]
-mod block_tests;
 mod catalogue;
 mod fault;
 mod format;
 mod lane;
 pub mod laws;
-#[cfg(test)]
-mod limit_tests;
 mod mix;
 mod part;
 mod scale;
 mod search;
 mod step;
 mod sum;
-#[cfg(test)]
-mod tests;
 mod track;
 
 pub use catalogue::Catalogue;

@@ -120,14 +120,4 @@ impl<'c, 'a, A: Allocator> Mix<'c, 'a, A> {
             fill_wide(lanes, self.format, first, samples);
         }
     }
-
-    // The same by the plain way, whatever the gains: a second reading, for the tests.
-    #[cfg(test)]
-    pub(crate) fn block_plain(&self, first: u64, samples: &mut [i32])
-        requires whole { length samples.old % self.now.layout.channels ≡ 0 }
-        requires within { first + length samples.old / self.now.layout.channels ≤ length_of self.now.tracks }
-        ensures { (k : ℕ) → k < length samples.new → slice_index_or samples.new k (pos 0) ≡ mixed_sample self.now (first + k / self.now.layout.channels) (k % self.now.layout.channels) }
-    {
-        fill_wide(self.lanes.as_slice(), self.format, first, samples);
-    }
 }

@@ -19,8 +19,6 @@ mod readiness;
 mod ready;
 mod scratch;
 mod session;
-#[cfg(test)]
-mod tests;
 mod text;
 mod track;
 

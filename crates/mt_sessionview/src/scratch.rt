@@ -15,9 +15,6 @@ use mt_opcodec::{Latch, Log};
 use std::alloc::Allocator;
 use std::io::Write;
 
-#[cfg(test)]
-mod tests;
-
 /// The session of a log's operations, in a time of n log n for n of them and of the tags that they list. Refused only
 /// as `Memory` (0).
 pub fn from_scratch<A: Allocator + Clone>(

@@ -9,8 +9,6 @@ mod numbers;
 mod packs;
 mod reader;
 mod summary;
-#[cfg(test)]
-mod tests;
 mod writer;
 
 pub use fault::MessageFault;

@@ -10,8 +10,6 @@ pub mod laws;
 mod replying;
 mod taking;
 mod talk;
-#[cfg(test)]
-mod tests;
 mod turn;
 
 pub use conversing::converse;

@@ -1,0 +1,75 @@
+//! Writers that fail where a test says, and count how often they were asked.
+use std::alloc::Allocator;
+use std::io::{Error, ErrorKind, Result, Write};
+
+/// Takes one byte at each of its first `good` writes, and then fails.
+#[derive(Drop)]
+pub struct FailingWriter<A: Allocator> {
+    good: usize,
+    kind: ErrorKind,
+    asked: usize,
+    written: Vec<u8, A>,
+}
+
+impl<A: Allocator> FailingWriter<A> {
+    pub fn new(alloc: A, good: usize, kind: ErrorKind) -> FailingWriter<A> {
+        FailingWriter {
+            good,
+            kind,
+            asked: 0,
+            written: Vec::new(alloc),
+        }
+    }
+
+    pub fn asked(&self) -> usize {
+        self.asked
+    }
+
+    pub fn written(&self) -> &[u8] {
+        self.written.as_slice()
+    }
+}
+
+impl<A: Allocator> Write for FailingWriter<A> {
+    fn write(&mut self, buf: &[u8]) -> Result<usize> {
+        let number = self.asked;
+        self.asked = number.wrapping_add(1);
+        if number >= self.good {
+            return Err(Error::from(self.kind));
+        }
+        let count = buf.len().min(1);
+        self.written.extend_from_slice(&buf[..count])?;
+        Ok(count)
+    }
+
+    fn flush(&mut self) -> Result<()> {
+        Ok(())
+    }
+}
+
+/// Takes no byte.
+#[derive(Drop)]
+pub struct ChokedWriter {
+    asked: usize,
+}
+
+impl ChokedWriter {
+    pub fn new() -> ChokedWriter {
+        ChokedWriter { asked: 0 }
+    }
+
+    pub fn asked(&self) -> usize {
+        self.asked
+    }
+}
+
+impl Write for ChokedWriter {
+    fn write(&mut self, _buf: &[u8]) -> Result<usize> {
+        self.asked = self.asked.wrapping_add(1);
+        Ok(0)
+    }
+
+    fn flush(&mut self) -> Result<()> {
+        Ok(())
+    }
+}
