@@ -25,8 +25,6 @@ mod forms;
 pub mod laws;
 mod lines;
 mod script;
-#[cfg(test)]
-mod tests;
 mod words;
 
 pub use fault::ScriptFault;

@@ -1,11 +1,10 @@
 //! Whole scripts.
-use super::A;
-use crate::{ScriptFault, run};
 use mt_opcodec::{Latch, Log};
 use mt_replica::{Editor, EditorFault};
+use mt_script::{ScriptFault, run};
 use mt_sessionview::write_text;
 use mt_stamp::Stamp;
-use mt_testalloc::Refusing;
+use mt_testkit::{A, Refusing};
 use std::alloc::{Allocator, Global};
 use std::test::Fail;
 

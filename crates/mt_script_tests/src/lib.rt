@@ -1,0 +1,5 @@
+//! Tests of mt_script: whole scripts.
+#![tactic(auto)]
+
+#[cfg(test)]
+mod tests;
