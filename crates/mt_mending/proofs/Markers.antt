@@ -1,5 +1,5 @@
 -- The markers of a session, mended by taking one out and putting one in.
-use Rattle.std.proofs.Common.{◌≡◌, ℕ, Bool, true, false, cond, not, eqb, ◌&&◌, ◌||◌, List, [], ◌∷◌, Option, Some, None, refl, sym, ap, ◌∙◌, subst}
+use Rattle.std.proofs.Common.{◌≡◌, ℕ, Bool, true, false, cond, not, eqb, ◌&&◌, ◌||◌, List, [], ◌∷◌, Option, Some, None, refl, sym, ap, ◌∙◌, subst, eq-eqb}
 use Rattle.std.specs.Prelude.{option_map, IfSome}
 use Rattle.std.specs.List.{list_any}
 use Rattle.mt_stamp.specs.Moment.{Moment, stamp_eq}
@@ -11,6 +11,10 @@ use Rattle.mt_sessionview.specs.Noted.{markers_in}
 use Rattle.mt_sessionview.specs.Changing.{put, without, is_marker_at}
 use Rattle.mt_mending.specs.Before.{IsOneMore, MarkersStood, marker_position, without_stood}
 use Rattle.mt_mending.specs.Mending.{marker_entry}
+use Rattle.mt_stamp.proofs.Members.{member_at}
+use Rattle.mt_stamp.proofs.Order.{stamp_eq-itself}
+use Rattle.std.proofs.lemmas.Option.{same_Some, none-some}
+use Rattle.mt_sessionview.proofs.Lists.{any_of}
 use Rattle.mt_mending.proofs.Found.{entries_are_shown, markers_are_found}
 use Rattle.mt_mending.proofs.Items.{markers_are_mended}
 
@@ -66,6 +70,22 @@ module _ {ops : List Operation} {item : Moment} {stood : Option ℕ} {markers : 
   is_new (Some m) is =
       let its : m.marker ≡ item = (((entries_are_shown ops was.one_more.noted).markers item m).0 (sym is)).1 in
       (λ i. list_any (λ (x : Marker). stamp_eq (its i) x.marker) (left_is i)) ∙ none_left key item (markers_in was.before)
+
+  pub its_stamp : (m : Marker) → Some m ≡ marker_entry ops item → m.marker ≡ item
+  its_stamp m is = (((entries_are_shown ops was.one_more.noted).markers item m).0 (sym is)).1
+
+  -- the item's marker is there where it stood
+  pub stood_there : IfSome stood (λ at. list_any (is_marker_at at item) markers ≡ true)
+  stood_there = by (marker_entry was.before item) refl stood was.stood_at
+    where
+      by : (e : Option Marker) → marker_entry was.before item ≡ e → (s : Option ℕ) → s ≡ option_map (λ (m : Marker). m.at) (marker_entry was.before item) → IfSome s (λ at. list_any (is_marker_at at item) markers ≡ true)
+      by e is None none = tt
+      by None is (Some at) none = absurd (none-some at (sym (none ∙ ap (option_map (λ (m : Marker). m.at)) is)))
+      by (Some m) is (Some at) some =
+          let here : at ≡ m.at = same_Some at m.at (some ∙ ap (option_map (λ (n : Marker). n.at)) is) in
+          let shown = ((entries_are_shown was.before (noted_before was.one_more)).markers item m).0 is in
+          let passes : is_marker_at at item m ≡ true = (λ i. eqb m.at (here i) && stamp_eq item (shown.1 i)) ∙ (λ i. eq-eqb m.at m.at refl i && stamp_eq item item) ∙ stamp_eq-itself item in
+          ap (list_any (is_marker_at at item)) was.are ∙ any_of (is_marker_at at item) (markers_in was.before) m (member_at (markers_in was.before) shown.0.0 m shown.0.1) passes
 
   pub put_is : put marker_cmp (marker_entry ops item) (without_stood stood item markers) ≡ markers_in ops
   put_is = ap (put marker_cmp (marker_entry ops item)) left_is ∙ mends ops was.before item was.one_more

@@ -1,6 +1,6 @@
 //! The markers of a session, mended by one operation more.
 
-ghost use Rattle.std.specs.Prelude.{◌≡◌, false, ◌&&◌, Option, None, option_map, if◌then◌else◌, IfOk, IfErr, IfSome, OnOk};
+ghost use Rattle.std.specs.Prelude.{◌≡◌, true, false, ◌&&◌, Option, None, option_map, if◌then◌else◌, IfOk, IfErr, IfSome, OnOk};
 ghost use Rattle.std.specs.List.{list_any};
 ghost use Rattle.mt_stamp.specs.Moment.{stamp_eq};
 ghost use Rattle.mt_op.specs.declared.need.Role.TheVariants.{Marker as MarkerRole};
@@ -11,7 +11,8 @@ ghost use Rattle.mt_items.specs.Fields.{written};
 ghost use Rattle.mt_items.specs.Noting.{is_need_met};
 ghost use Rattle.mt_sessionview.specs.Content.{marker_cmp};
 ghost use Rattle.mt_sessionview.specs.Noted.{markers_in};
-ghost use Rattle.mt_sessionview.specs.Changing.{put};
+ghost use Rattle.mt_stamp.specs.Sorting.{insert_by};
+ghost use Rattle.mt_sessionview.specs.Changing.{is_marker_at};
 ghost use Rattle.mt_mending.specs.Mending.{marker_entry};
 ghost use Rattle.mt_mending.specs.Before.{MarkersStood, marker_position, without_stood};
 
@@ -78,24 +79,29 @@ fn take_stood<A: Allocator>(session: &mut Session<A>, stood: Option<u32>, item: 
     }
 }
 
-// Puts in a marker, where there is one.
-fn put_shown<A: Allocator>(
+// Puts a marker in: in the place of the one that stood, where it stays there, and else in its new place, after that one was taken out.
+fn put_in<A: Allocator>(
     session: &mut Session<A>,
-    shown: Option<MarkerView<A>>,
+    stood: Option<u32>,
+    view: MarkerView<A>,
 ) -> Result<(), SessionFault>
-    requires new { IfSome shown (λ m. list_any (λ x. stamp_eq m.marker x.marker) session.old.markers ≡ false) }
-    ensures ok { OnOk result (session.new ≡ record session.old { markers = put marker_cmp shown session.old.markers }) }
+    requires there { IfSome stood (λ at. list_any (is_marker_at at view.marker) session.old.markers ≡ true) }
+    requires new { list_any (λ x. stamp_eq view.marker x.marker) (without_stood stood view.marker session.old.markers) ≡ false }
+    ensures ok { OnOk result (session.new ≡ record session.old { markers = insert_by marker_cmp view (without_stood stood view.marker session.old.markers) }) }
     ensures err { IfErr result (λ fault. fault ≡ SessionFault.Memory) }
 {
-    match shown {
-        Some(view) => session.put_marker(view),
-        None => Ok(()),
+    if stood == Some(view.at) {
+        session.set_marker(view);
+        return Ok(());
     }
+    take_stood(session, stood, view.marker);
+    session.put_marker(view)
 }
 
 /// Mends the markers of a session after one operation more was noted: takes out the marker that is its item, from the
 /// position at which it stood before (`marker_position` of the operations before), and puts in the one that the operations
-/// show now. Takes as many comparisons as the logarithm of the number of markers and items, and moves what follows. Refused
+/// show now; where that stands at the same position it takes its place, and nothing moves. Takes as many comparisons as the
+/// logarithm of the number of markers and items, and moves what follows else. Refused
 /// only as `Memory` (0), where a growth was refused; the session may then lack the marker.
 pub fn mend_markers<A: Allocator + Clone>(
     session: &mut Session<A>,
@@ -107,7 +113,11 @@ pub fn mend_markers<A: Allocator + Clone>(
     ensures ok { OnOk result (session.new ≡ record session.old { markers = markers_in items.now }) }
     ensures err { IfErr result (λ fault. fault ≡ SessionFault.Memory) }
 {
-    let shown = marker_at(items, item)?;
-    take_stood(session, stood, item);
-    put_shown(session, shown)
+    match marker_at(items, item)? {
+        Some(view) => put_in(session, stood, view),
+        None => {
+            take_stood(session, stood, item);
+            Ok(())
+        }
+    }
 }

@@ -1,21 +1,38 @@
-use Rattle.std.proofs.Common.{◌≡◌, ◌∙◌, false, List, ap, sym, subst}
+use Rattle.std.proofs.Common.{◌≡◌, ◌∙◌, true, false, List, Option, Some, None, ap, sym, subst}
 use Rattle.std.specs.Prelude.{IfSome}
 use Rattle.std.specs.List.{list_any}
 use Rattle.std.proofs.lemmas.Result.{on_ok_weaker}
-use Rattle.mt_stamp.specs.Moment.{stamp_eq}
-use Rattle.mt_sessionview.specs.Content.{Content, Marker, marker_cmp}
-use Rattle.mt_sessionview.specs.Changing.{put}
-use Rattle.mt_mending.proofs.Markers.{is_new, put_is}
+use Rattle.mt_stamp.specs.Moment.{Moment, stamp_eq}
+use Rattle.mt_stamp.specs.Sorting.{insert_by}
+use Rattle.mt_sessionview.specs.Content.{Marker, marker_cmp}
+use Rattle.mt_sessionview.specs.Changing.{put, is_marker_at}
+use Rattle.mt_mending.specs.Before.{without_stood}
+use Rattle.mt_mending.proofs.Markers.{is_new, its_stamp, put_is, stood_there}
 use Rattle.mt_mending.proofs.marker.mend_markers.Goals as goal
 
-pub put_shown-requires : goal.put_shown-requires
-put_shown-requires g c =
-    let shown = c.in_ok-shown.shown in
-    record { new = subst (λ (s : Content). IfSome shown (λ m. list_any (λ (x : Marker). stamp_eq m.marker x.marker) s.markers ≡ false)) (sym c.take_stood.ensures) (is_new c.requires.before shown c.in_ok-shown.ensures.ok) }
+pub put_in-requires-clause-there : goal.put_in-requires-clause-there
+put_in-requires-clause-there g c =
+    let its = its_stamp c.requires.before c.in-Some.view (sym c.in-Some.is ∙ c.in_ok-view.ensures.ok) in
+    subst (λ (s : Moment). IfSome c.args.stood (λ at. list_any (is_marker_at at s) c.args.session.now.markers ≡ true)) (sym its) (stood_there c.requires.before)
 
-pub returns-clause-ok : goal.returns-clause-ok
-returns-clause-ok g c =
+pub put_in-requires-clause-new : goal.put_in-requires-clause-new
+put_in-requires-clause-new g c =
+    let view = c.in-Some.view in
+    let shown = sym c.in-Some.is ∙ c.in_ok-view.ensures.ok in
+    let its = its_stamp c.requires.before view shown in
+    subst (λ (s : Moment). list_any (λ (x : Marker). stamp_eq view.marker x.marker) (without_stood c.args.stood s c.args.session.now.markers) ≡ false) (sym its) (is_new c.requires.before (Some view) shown)
+
+pub returns-in-Some-clause-ok : goal.returns-in-Some-clause-ok
+returns-in-Some-clause-ok g c =
     let old = c.args.session.now in
-    on_ok_weaker c.put_shown.result
-    (λ put_in. put_in ∙ (λ i. record (c.take_stood.ensures i) { markers = put marker_cmp (c.in_ok-shown.ensures.ok i) (c.take_stood.ensures i).markers })
-    ∙ ap (λ (ms : List Marker). record old { markers = ms }) (put_is c.requires.before)) c.put_shown.ensures.ok
+    let view = c.in-Some.view in
+    let shown = sym c.in-Some.is ∙ c.in_ok-view.ensures.ok in
+    let its = its_stamp c.requires.before view shown in
+    let is = ap (λ (s : Moment). insert_by marker_cmp view (without_stood c.args.stood s old.markers)) its ∙ ap (λ (e : Option Marker). put marker_cmp e (without_stood c.args.stood c.args.item old.markers)) shown ∙ put_is c.requires.before in
+    on_ok_weaker c.put_in.result (λ put_in. put_in ∙ ap (λ (ms : List Marker). record old { markers = ms }) is) c.put_in.ensures.ok
+
+pub returns-in-None-clause-ok : goal.returns-in-None-clause-ok
+returns-in-None-clause-ok g c =
+    let old = c.args.session.now in
+    let none : None ≡ _ = sym c.in-None.is ∙ c.in_ok-view.ensures.ok in
+    c.take_stood.ensures ∙ ap (λ (ms : List Marker). record old { markers = ms }) (ap (λ (e : Option Marker). put marker_cmp e (without_stood c.args.stood c.args.item old.markers)) none ∙ put_is c.requires.before)
