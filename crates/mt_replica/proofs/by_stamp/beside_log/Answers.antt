@@ -6,7 +6,8 @@ use Rattle.mt_opcodec.specs.LogValue.{operations}
 use Rattle.mt_stamp.specs.Sorting.{sort_by, RisesStrictly}
 use Rattle.mt_sessionview.proofs.TrackSorting.{every_stamp}
 use Rattle.mt_replica.proofs.OwnStamps.{own_stamps}
-use Rattle.mt_replica.proofs.Refs.{rising_ops, noted_same, sorted_own, sorted_offered}
+use Rattle.mt_sessionview.proofs.Refs.{rising_ops}
+use Rattle.mt_replica.proofs.Refs.{noted_same, sorted_own, sorted_offered}
 use Rattle.mt_replica.proofs.by_stamp.beside_log.Goals as goal
 
 pub all_offered-requires : goal.all_offered-requires
