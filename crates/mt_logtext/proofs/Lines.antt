@@ -19,7 +19,7 @@ use Rattle.mt_sessionview.specs.Session.{ready_ops, stamps_of}
 use Rattle.mt_sessionview.proofs.TrackSorting.{every_stamp}
 use Rattle.mt_replica.proofs.Bridging.{listed_member, member_listed}
 use Rattle.mt_replica.proofs.Making.{mapped_member}
-use Rattle.mt_replica.proofs.Refs.{one_of}
+use Rattle.mt_sessionview.proofs.Lists.{one_of}
 use Rattle.mt_logtext.specs.LogText.{line_of, op_line, count_line, log_text}
 
 -- what is written of what each item gives

@@ -4,7 +4,7 @@ use Rattle.std.specs.String.{string_bytes}
 use Rattle.mt_op.specs.declared.op.Op.{Op}
 use Rattle.mt_op.specs.Operation.{Operation}
 use Rattle.mt_op.specs.Presence.{is_listed}
-use Rattle.mt_replica.proofs.Refs.{take_all}
+use Rattle.std.proofs.lemmas.List.{take_all}
 use Rattle.mt_sessionview.proofs.SessionText.{one_more_text}
 use Rattle.mt_logtext.specs.LogText.{line_of}
 use Rattle.mt_logtext.proofs.Lines.{of_each}
@@ -22,5 +22,5 @@ returns g c =
     let L : Operation → List ℕ = λ o. line_of (is_listed c.args.ready.now o.stamp) o in
     let F : Bor (Op g.row.C.Denot) → List ℕ = λ o. L o.now in
     c.loop-op.invariant
-    ∙ ap (λ (l : List (Bor (Op g.row.C.Denot))). string_bytes c.args.text.now ++ flat_map F l) (take_all c.args.ops.now c.loop-op.op-index c.loop-op-test.false)
+    ∙ ap (λ (l : List (Bor (Op g.row.C.Denot))). string_bytes c.args.text.now ++ flat_map F l) (take_all c.loop-op.op-index c.args.ops.now c.loop-op-test.false)
     ∙ ap (λ (t : List ℕ). string_bytes c.args.text.now ++ t) (sym (of_each L (λ (o : Bor (Op g.row.C.Denot)). o.now) c.args.ops.now))
