@@ -131,7 +131,8 @@ impl<A: Allocator + Clone> Desk<A> {
         })
     }
 
-    /// A copy of its log under its name, without its session. Refused as `Failed` (20) where it has failed, and as `Memory` (0), which leaves it unchanged.
+    /// A copy of its log under its name, without its session. Refused as `Failed` (20) where it has failed, and as `Memory` (0),
+    /// which leaves it unchanged.
     pub fn try_clone(&self) -> Result<Self, EditorFault>
         ensures ok { IfOk result (λ copy. copy ≡ record { kept = self.now.kept; shown = false }) }
         ensures failed { IsErrOf result EditorFault.Failed ↔ (self.now.kept.log ≡ None) }

@@ -81,8 +81,8 @@ fn places_of<A: Allocator, B: Allocator>(
     Ok(places)
 }
 
-/// What ready operations show, of which the items noted are the same, with this many others held. Refused as `Memory` (0) where a
-/// growth was refused.
+/// What ready operations show, from the items that they leave, noted in whatever order, with this many others held: in n log n for n
+/// operations and items. Refused as `Memory` (0) where a growth was refused.
 pub(crate) fn shown_of<A: Allocator + Clone>(
     alloc: &A,
     ready: &[Op<A>],

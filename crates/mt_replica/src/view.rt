@@ -85,7 +85,8 @@ impl<A: Allocator> View<A> {
 }
 
 impl<A: Allocator + Clone> View<A> {
-    /// With the session kept, of operations noted of which these are the same, and this many others held.
+    /// The same with the session kept, which is read off the items: of these operations, noted in whatever order, with this many
+    /// others held. Refused as `Memory` (0) where a growth was refused.
     pub(crate) fn show(self, alloc: &A, ready: &[Op<A>], held: u64) -> Result<Self, EditorFault>
         requires same { (f : Operation → ℕ) → sum_by f self.ops ≡ sum_by f ready.now }
         requires tree { IsTree (places_in ready.now) }
@@ -100,7 +101,8 @@ impl<A: Allocator + Clone> View<A> {
         })
     }
 
-    /// With an operation noted, and the session mended by it where it is kept.
+    /// The same with an operation noted, and the session mended by it where it is kept. Refused as `Memory` (0) where a growth was
+    /// refused.
     pub(crate) fn note(self, alloc: &A, op: &Op<A>) -> Result<Self, EditorFault>
         requires follows { MayFollow self.ops op.now }
         ensures ok { IfOk result (λ view. view ≡ record { ops = op.now ∷ self.ops; held = self.held }) }
