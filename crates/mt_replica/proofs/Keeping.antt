@@ -1,5 +1,5 @@
 -- What an editor keeps after an edit.
-use Rattle.std.proofs.Common.{◌≡◌, ◌≢◌, ℕ, suc, ◌+◌, ◌≤◌, Bool, true, false, cond, List, [], ◌∷◌, map, refl, sym, ap, ◌∙◌, subst, inl, inr, arith}
+use Rattle.std.proofs.Common.{◌≡◌, ◌≢◌, ℕ, suc, ◌+◌, ◌≤◌, Bool, true, false, cond, List, [], ◌∷◌, ◌++◌, map, refl, sym, ap, ◌∙◌, subst, inl, inr, arith}
 use Rattle.std.specs.Prelude.{Option, Some, None, Result, Ok, Err, IsTrue, IsOk, IsErrOf, IfErr, ◌⊎◌}
 use Rattle.std.specs.List.{AllByRecursion, filter, list_all, sum_by}
 use Rattle.std.specs.FinMap as fin
@@ -8,16 +8,18 @@ use Rattle.std.specs.Ordering.{is_eq}
 use Rattle.std.specs.declared.cmp.Ordering.{Ordering}
 use Rattle.std.specs.declared.cmp.Ordering.TheVariants.{Less, Equal, Greater}
 use Rattle.std.proofs.lemmas.Bool.{eq-eqb, true≢false}
-use Rattle.std.proofs.lemmas.List.Sums.{sum_by-cons}
+use Rattle.std.proofs.lemmas.List.Sums.{sum_by-cons, sum_by-append}
 use Rattle.std.proofs.Math.Nat.{max-eq_left}
 use Rattle.mt_stamp.specs.declared.name.Dot.{Dot}
 use Rattle.mt_stamp.specs.declared.name.Replica.{Replica}
 use Rattle.mt_stamp.specs.Moment.{Moment, stamp_eq, dot_cmp}
 use Rattle.mt_stamp.proofs.Order.{dot_cmp-IsAntisymmetric}
+use Rattle.mt_stamp.proofs.Differing.{differ_kept}
 use Rattle.mt_stamp.proofs.Members.{IsMember, member_kept, member_of_kept}
 use Rattle.mt_stamp.proofs.SameItems.{SameItems, same_any}
 use Rattle.mt_op.specs.declared.need.Need.{Need}
 use Rattle.mt_op.specs.Operation.{Act, Operation}
+use Rattle.mt_op.specs.ByStamp.{stamp_of}
 use Rattle.mt_op.specs.Dots.{op_dot, entry_of}
 use Rattle.mt_op.specs.Needs.{needs, meets, clock_of, names_are_older}
 use Rattle.mt_op.specs.Ready.{is_ready}
@@ -28,10 +30,12 @@ use Rattle.mt_opcodec.proofs.Logs.{entries-log_of}
 use Rattle.mt_items.specs.Noting.{MayFollow, is_noted, is_need_met}
 use Rattle.mt_sessionview.specs.Session.{ready_ops}
 use Rattle.mt_sessionview.proofs.SameReady.{ready_same}
+use Rattle.mt_sessionview.proofs.TrackSorting.{every_stamp}
 use Rattle.mt_holdback.specs.State.{State}
 use Rattle.mt_replica.specs.Edit.{Edit}
 use Rattle.mt_replica.specs.Holding.{all_offered, with_offered}
-use Rattle.mt_replica.specs.Kept.{with_op}
+use Rattle.mt_replica.specs.Joins.{joins_of}
+use Rattle.mt_replica.specs.Kept.{with_op, joins_by}
 use Rattle.mt_replica.specs.Made.{is_by, greatest_of, greatest_clock, greatest_seq, plays, names_of, names_present, names_refused, tags_fit, unless, or_else, stamp_refused, refused, or_made, made, made_act, made_stamp, made_op}
 use Rattle.mt_replica.specs.State.{Named, IsState, IsMade, body_refused}
 use Rattle.mt_replica.specs.declared.fault.EditorFault.{EditorFault}
@@ -48,6 +52,7 @@ use Rattle.mt_replica.proofs.Gaining.{ready_gains}
 use Rattle.mt_replica.proofs.HeldBack.{offered_same}
 use Rattle.mt_replica.proofs.Inserted.{insert_same}
 use Rattle.mt_replica.proofs.Numbers.{clock_same, seq_same}
+use Rattle.mt_replica.proofs.Taking.{newly_same}
 
 abbrev is_made : {X : Type 0} → Result X EditorFault → Bool
 is_made (Ok x) = true
@@ -189,3 +194,15 @@ module _ (state : Named) (o : Operation) (made_it : IsMade state o) (logged : Ar
       let it : Operation = made_op (operations state.log) state.name made_it.0 in
       subst (λ (p : Operation). IsState (record { name = state.name; log = with_op state.log p }) now (p ∷ items) p.stamp.clock p.stamp.seq) parts.1
       (kept state.name state.log made_it.0 logged whole parts.0 was now items clock seq (offered ∙ ap (λ (p : Operation). record { kept = with_offered was.kept p; failed = false }) (sym parts.1)) is)
+
+  -- nothing else becomes ready by it
+  pub made_alone : AreLogged (operations (with_op state.log o)) → joins_by (Some state.log) o ≡ joins_of o
+  made_alone logged_with =
+      let parts = unmade (refused (operations state.log) state.name made_it.0) (made_op (operations state.log) state.name made_it.0) o made_it.1 in
+      let old : List Operation = ready_ops (operations state.log) in
+      let ready : List Operation = ready_ops (operations (with_op state.log o)) in
+      let more : SameItems ready (o ∷ old) = subst (λ (p : Operation). SameItems (ready_ops (operations (with_op state.log p))) (p ∷ old)) parts.1 (ready_more state.name state.log made_it.0 logged whole parts.0) in
+      let differ = differ_kept stamp_of (is_ready clock_of needs meets (operations (with_op state.log o))) (operations (with_op state.log o)) (every_stamp (operations (with_op state.log o)) logged_with.rise) in
+      let all : SameItems (old ++ o ∷ []) ready = λ f. omega (arith, sum_by-append f old (o ∷ []), sum_by-cons f o [], sum_by-cons f o old, more f) in
+      let one = newly_same old (o ∷ []) old ready differ (λ f. refl) all joins_of in
+      omega (arith, one, sum_by-cons joins_of o [])

@@ -12,13 +12,14 @@ use Rattle.std.proofs.lemmas.List.Sorted.{searchable_from_sorted}
 use Rattle.std.proofs.Math.Seq.{drop-append_seam}
 use Rattle.std.proofs.lemmas.List.{length-append}
 use Rattle.std.proofs.lemmas.List.Sums.{sum_by-cons}
+use Rattle.std.proofs.lemmas.List.Elements.{filter-append}
 use Rattle.mt_stamp.specs.Moment.{Moment, stamp_cmp, stamp_eq}
 use Rattle.mt_stamp.specs.Sorting.{sort_by, Rises, RisesStrictly, DifferBy}
 use Rattle.mt_stamp.proofs.Order.{stamp_cmp_total, stamp_cmp-IsAntisymmetric}
 use Rattle.mt_stamp.proofs.Sorting.{sorts}
-use Rattle.mt_stamp.proofs.Differing.{all_kept, differ_kept, differ_mapped}
+use Rattle.mt_stamp.proofs.Differing.{differ_kept, differ_mapped}
 use Rattle.mt_stamp.proofs.Members.{IsMember, one_list, sort_strict, member_kept, member_of_kept, member_sorted, member_unsorted}
-use Rattle.mt_stamp.proofs.SameItems.{SameItems, same_any, all_map}
+use Rattle.mt_stamp.proofs.SameItems.{SameItems, same_any, same_filter, all_map}
 use Rattle.mt_op.specs.Operation.{Operation}
 use Rattle.mt_op.specs.ByStamp.{stamp_of}
 use Rattle.mt_op.specs.Dots.{op_dot}
@@ -35,10 +36,12 @@ use Rattle.mt_holdback.specs.Ops.{op_key, op_needs}
 use Rattle.mt_sessionview.specs.Session.{ready_ops, stamps_of}
 use Rattle.mt_sessionview.proofs.Items.{stamp_eq_same}
 use Rattle.mt_sessionview.proofs.TrackSorting.{every_stamp}
+use Rattle.mt_sessionview.proofs.Lists.{any_of}
 use Rattle.mt_replica.specs.declared.taken.Taken.{Taken}
 use Rattle.mt_replica.specs.declared.taken.Taken.TheVariants.{Already, Held, Applied}
 use Rattle.mt_replica.specs.Holding.{all_offered, is_offered, newly_released, with_offered, offer_gives, is_held, StampsRise, HaveOwnStamps, AreOffered, noted_after, MayAllFollow, TakenGives}
-use Rattle.mt_replica.specs.Kept.{with_op, TakeOf, newly_ready}
+use Rattle.mt_replica.specs.Joins.{joins_of}
+use Rattle.mt_replica.specs.Kept.{with_op, joins_by, TakeOf, newly_ready}
 use Rattle.mt_replica.specs.Made.{greatest_clock, greatest_seq}
 use Rattle.mt_replica.specs.State.{Named, IsState, Found, own_seq}
 use Rattle.mt_replica.proofs.Bridging.{listed_member, member_listed, not_true}
@@ -125,43 +128,24 @@ still_released was now o before is before_is =
 
 -- ---- the stamps of what became ready
 
-strict_kept : (p : Moment → Bool) (xs : List Moment) → RisesStrictly stamp_cmp xs → RisesStrictly stamp_cmp (filter p xs)
-strict_kept p [] rise = tt
-strict_kept p (x ∷ xs) rise = by (p x) (strict_kept p xs rise.1)
-  where
-    by : (b : Bool) → RisesStrictly stamp_cmp (filter p xs) → RisesStrictly stamp_cmp (cond b (x ∷ filter p xs) (filter p xs))
-    by true rest = (all_kept (λ y. stamp_cmp x y ≡ Less) p xs rise.0, rest)
-    by false rest = rest
-
 strict_stamps : (xs : List Operation) → StampsRise xs → RisesStrictly stamp_cmp (stamps_of xs)
 strict_stamps [] rise = tt
 strict_stamps (x ∷ xs) rise = (all_map (λ (y : Operation). stamp_cmp x.stamp y.stamp ≡ Less) (λ s. stamp_cmp x.stamp s ≡ Less) (λ (y : Operation). y.stamp) (λ y less. less) xs rise.0, strict_stamps xs rise.1)
 
-either_is : (a b c : Bool) → (a || b) ≡ c → c ≡ true → not a ≡ true → b ≡ true
-either_is true b c is there other = absurd (false≢true other)
-either_is false b c is there other = is ∙ there
+none_left : (p : Operation → Bool) (xs : List Operation) → ((x : Operation) → IsMember x xs → p x ≡ false) → filter p xs ≡ []
+none_left p [] none = refl
+none_left p (x ∷ xs) none = rw (none x (inl refl)) (none_left p xs (λ y m. none y (inr m)))
 
-or_second : (a b : Bool) → b ≡ true → (a || b) ≡ true
-or_second true b is = refl
-or_second false b is = is
+all_left : (p : Operation → Bool) (xs : List Operation) → ((x : Operation) → IsMember x xs → p x ≡ true) → filter p xs ≡ xs
+all_left p [] all = refl
+all_left p (x ∷ xs) all = rw (all x (inl refl)) (ap (λ (l : List Operation). x ∷ l) (all_left p xs (λ y m. all y (inr m))))
 
-noted_append : (s : Moment) (xs ys : List Operation) → is_noted (xs ++ ys) s ≡ (is_noted xs s || is_noted ys s)
-noted_append s [] ys = refl
-noted_append s (x ∷ xs) ys = by (stamp_eq s x.stamp) (noted_append s xs ys)
-  where
-    by : (b : Bool) → is_noted (xs ++ ys) s ≡ (is_noted xs s || is_noted ys s) → (b || is_noted (xs ++ ys) s) ≡ ((b || is_noted xs s) || is_noted ys s)
-    by true rest = refl
-    by false rest = rest
-
-module _ (first newly old ready : List Operation) (rise : StampsRise newly) (differ : DifferBy stamp_of ready) (were : SameItems first old) (are : SameItems (first ++ newly) ready) where
+module _ (first newly old ready : List Operation) (differ : DifferBy stamp_of ready) (were : SameItems first old) (are : SameItems (first ++ newly) ready) where
   abbrev is_other : Moment → Bool
   is_other s = not (is_listed (stamps_of old) s)
 
   was_listed : (s : Moment) → is_listed (stamps_of old) s ≡ is_noted first s
   was_listed s = listed_is old s ∙ sym (same_any first old were (λ (x : Operation). stamp_eq s x.stamp))
-
-  now_listed : (s : Moment) → is_listed (stamps_of ready) s ≡ (is_noted first s || is_noted newly s)
-  now_listed s = listed_is ready s ∙ sym (same_any (first ++ newly) ready are (λ (x : Operation). stamp_eq s x.stamp)) ∙ noted_append s first newly
 
   apart : (s : Moment) → is_noted newly s ≡ true → is_noted first s ≡ false
   apart s there =
@@ -171,23 +155,39 @@ module _ (first newly old ready : List Operation) (rise : StampsRise newly) (dif
       let some = count_noted s newly there in
       none_noted s first (omega (arith, once, sum, parts, some))
 
-  there : (s : Moment) → IsMember s (stamps_of newly) → IsMember s (filter is_other (sort_by stamp_cmp (stamps_of ready)))
+  -- whether an operation was not ready before
+  abbrev pub is_new : Operation → Bool
+  is_new o = is_other o.stamp
+
+  own_noted : (xs : List Operation) (x : Operation) → IsMember x xs → is_noted xs x.stamp ≡ true
+  own_noted xs x m = any_of (λ (o : Operation). stamp_eq x.stamp o.stamp) xs x m (stamp_eq_same x.stamp x.stamp refl)
+
+  left : filter is_new (first ++ newly) ≡ newly
+  left =
+      filter-append is_new first newly
+      ∙ (λ i. none_left is_new first (λ x m. ap not (was_listed x.stamp ∙ own_noted first x m)) i ++ all_left is_new newly (λ x m. ap not (was_listed x.stamp ∙ apart x.stamp (own_noted newly x m))) i)
+
+  -- what became ready is what is ready and was not
+  pub newly_same : SameItems newly (filter is_new ready)
+  newly_same f = ap (sum_by f) (sym left) ∙ same_filter (first ++ newly) ready are is_new f
+
+  as_noted : (s : Moment) → is_noted newly s ≡ is_noted (filter is_new ready) s
+  as_noted s = same_any newly (filter is_new ready) newly_same (λ (x : Operation). stamp_eq s x.stamp)
+
+  there : (s : Moment) → IsMember s (stamps_of newly) → IsMember s (sort_by stamp_cmp (stamps_of (filter is_new ready)))
   there s m =
-      let new : is_noted newly s ≡ true = sym (listed_is newly s) ∙ member_listed (stamps_of newly) s m in
-      member_kept is_other (sort_by stamp_cmp (stamps_of ready)) s
-      (member_sorted stamp_cmp stamp_cmp_total s (stamps_of ready) (listed_member (stamps_of ready) s (now_listed s ∙ or_second (is_noted first s) (is_noted newly s) new)))
-      (ap not (was_listed s ∙ apart s new))
+      member_sorted stamp_cmp stamp_cmp_total s (stamps_of (filter is_new ready))
+      (listed_member (stamps_of (filter is_new ready)) s (listed_is (filter is_new ready) s ∙ sym (as_noted s) ∙ sym (listed_is newly s) ∙ member_listed (stamps_of newly) s m))
 
-  back : (s : Moment) → IsMember s (filter is_other (sort_by stamp_cmp (stamps_of ready))) → IsMember s (stamps_of newly)
+  back : (s : Moment) → IsMember s (sort_by stamp_cmp (stamps_of (filter is_new ready))) → IsMember s (stamps_of newly)
   back s m =
-      let kept = member_of_kept is_other (sort_by stamp_cmp (stamps_of ready)) s m in
-      let listed = member_listed (stamps_of ready) s (member_unsorted stamp_cmp stamp_cmp_total s (stamps_of ready) kept.0) in
-      listed_member (stamps_of newly) s (listed_is newly s ∙ either_is (is_noted first s) (is_noted newly s) (is_listed (stamps_of ready) s) (sym (now_listed s)) listed (ap not (sym (was_listed s)) ∙ kept.1))
+      let listed = member_listed (stamps_of (filter is_new ready)) s (member_unsorted stamp_cmp stamp_cmp_total s (stamps_of (filter is_new ready)) m) in
+      listed_member (stamps_of newly) s (listed_is newly s ∙ as_noted s ∙ sym (listed_is (filter is_new ready) s) ∙ listed)
 
-  pub newly_in_order : stamps_of newly ≡ filter is_other (sort_by stamp_cmp (stamps_of ready))
-  newly_in_order =
-      one_list stamp_cmp stamp_cmp_total (stamps_of newly) (filter is_other (sort_by stamp_cmp (stamps_of ready))) (strict_stamps newly rise)
-      (strict_kept is_other (sort_by stamp_cmp (stamps_of ready)) (sort_strict stamp_cmp stamp_cmp_total (stamps_of ready) (apart_stamps (stamps_of ready) (differ_mapped (λ (x : Operation). x.stamp) (λ (s : Moment). s) ready differ))))
+  pub newly_in_order : StampsRise newly → stamps_of newly ≡ sort_by stamp_cmp (stamps_of (filter is_new ready))
+  newly_in_order rise =
+      one_list stamp_cmp stamp_cmp_total (stamps_of newly) (sort_by stamp_cmp (stamps_of (filter is_new ready))) (strict_stamps newly rise)
+      (sort_strict stamp_cmp stamp_cmp_total (stamps_of (filter is_new ready)) (apart_stamps (stamps_of (filter is_new ready)) (differ_mapped (λ (x : Operation). x.stamp) (λ (s : Moment). s) (filter is_new ready) (differ_kept stamp_of is_new ready differ))))
       there back
 
 -- ---- one operation more
@@ -244,13 +244,23 @@ module _ (state : Named) (o : Operation) (was : State Operation) (items : List O
       seq_is = seq_with;
     }
 
+    ready_differ : DifferBy stamp_of (ready_ops (operations (with_op state.log o)))
+    ready_differ = differ_kept stamp_of (is_ready clock_of needs meets (operations (with_op state.log o))) (operations (with_op state.log o)) differ
+
     newly_told : stamps_of newly ≡ newly_ready state.log o
     newly_told =
         ap stamps_of newly_are
-        ∙ newly_in_order was.kept.released (newly_released was.kept o) (ready_ops (operations state.log)) (ready_ops (operations (with_op state.log o))) rise
-        (differ_kept stamp_of (is_ready clock_of needs meets (operations (with_op state.log o))) (operations (with_op state.log o)) differ)
+        ∙ newly_in_order was.kept.released (newly_released was.kept o) (ready_ops (operations state.log)) (ready_ops (operations (with_op state.log o))) ready_differ
         (released_same was.kept (operations state.log) rule_was is.offered)
-        (released_same (with_offered was.kept o) (operations (with_op state.log o)) rule_with still_offered)
+        (released_same (with_offered was.kept o) (operations (with_op state.log o)) rule_with still_offered) rise
+
+    -- the cells that they join are counted
+    pub joins_told : sum_by joins_of newly ≡ joins_by (Some state.log) o
+    joins_told =
+        ap (sum_by joins_of) newly_are
+        ∙ newly_same was.kept.released (newly_released was.kept o) (ready_ops (operations state.log)) (ready_ops (operations (with_op state.log o))) ready_differ
+        (released_same was.kept (operations state.log) rule_was is.offered)
+        (released_same (with_offered was.kept o) (operations (with_op state.log o)) rule_with still_offered) joins_of
 
     told : (offer : Offered) (b : Bool) → offer ≡ offer_gives was.kept o → is_held offer ≡ b → is_ready clock_of needs meets (operations (with_op state.log o)) o ≡ not b
     told offer b answered held =

@@ -1,5 +1,6 @@
 -- What an editor holds, and what its calls answer and leave.
-use Rattle.std.specs.Prelude.{◌≡◌, ◌≢◌, Bool, true, false, not, List, filter, Option, Some, None, option_map, Result, Ok, Err}
+use Rattle.std.specs.Prelude.{◌≡◌, ◌≢◌, ℕ, Bool, true, false, not, List, filter, Option, Some, None, option_map, Result, Ok, Err}
+use Rattle.std.specs.List.{sum_by}
 use Rattle.std.specs.FinMap as map
 use Rattle.mt_stamp.specs.declared.name.Replica.{Replica}
 use Rattle.mt_stamp.specs.Moment.{Moment, stamp_cmp}
@@ -14,25 +15,40 @@ use Rattle.mt_sessionview.specs.Session.{ready_ops, stamps_of, session_of}
 use Rattle.mt_stamp.specs.Sorting.{sort_by}
 use Rattle.mt_replica.specs.Edit.{Edit}
 use Rattle.mt_replica.specs.Made.{made}
+use Rattle.mt_replica.specs.Joins.{joins_of, raised}
 use Rattle.mt_replica.specs.declared.fault.EditorFault.{EditorFault}
 use Rattle.mt_replica.specs.declared.fault.EditorFault.TheVariants.{Memory, Failed, Conflict, ZeroLength, NoSuchItem, Absent, TooManyTags, ClockFull, SeqFull}
 use Rattle.mt_replica.specs.declared.taken.Taken.{Taken}
 use Rattle.mt_replica.specs.declared.taken.Taken.TheVariants.{Already, Held, Applied}
 
--- its name, and its log unless a growth was refused: then it has failed
+-- its name, its log unless a growth was refused: then it has failed, and how many cells it has joined since it was made
 pub record Kept : Type 0 where
   pub name : Replica
   pub log : Option LogMap
+  pub joins : ℕ
 
 -- a log with an operation under its dot
 abbrev pub with_op : LogMap → Operation → LogMap
 with_op log op = map.insert log (op_dot op) op
 
+-- the operations that become ready by one more: those that are ready with it and were not without it
+abbrev pub newly_ready_ops : LogMap → Operation → List Operation
+newly_ready_ops log op = filter (λ (o : Operation). not (is_listed (stamps_of (ready_ops (operations log))) o.stamp)) (ready_ops (operations (with_op log op)))
+
+-- how many cells these join
+abbrev pub joins_by : Option LogMap → Operation → ℕ
+joins_by None op = 0
+joins_by (Some log) op = sum_by joins_of (newly_ready_ops log op)
+
 abbrev pub kept_with : Kept → Operation → Kept
-kept_with kept op = record { name = kept.name; log = option_map (λ log. with_op log op) kept.log }
+kept_with kept op = record { name = kept.name; log = option_map (λ log. with_op log op) kept.log; joins = raised kept.joins (joins_by kept.log op) }
 
 abbrev pub failed : Kept → Kept
-failed kept = record { name = kept.name; log = None }
+failed kept = record { name = kept.name; log = None; joins = kept.joins }
+
+-- a copy, which counts from its own making
+abbrev pub copied : Kept → Kept
+copied kept = record { name = kept.name; log = kept.log; joins = 0 }
 
 -- ---- the session
 
@@ -67,9 +83,9 @@ after_edit kept (Err _) = kept
 abbrev pub is_ready_in : LogMap → Operation → Bool
 is_ready_in log op = is_ready clock_of needs meets (operations (with_op log op)) op
 
--- the stamps of the operations that become ready by one more, rising: those that are ready with it and were not without it
+-- the stamps of the operations that become ready by one more, rising
 abbrev pub newly_ready : LogMap → Operation → List Moment
-newly_ready log op = filter (λ s. not (is_listed (stamps_of (ready_ops (operations log))) s)) (sort_by stamp_cmp (stamps_of (ready_ops (operations (with_op log op)))))
+newly_ready log op = sort_by stamp_cmp (stamps_of (newly_ready_ops log op))
 
 -- what a take of a log answers
 abbrev pub TakeOf : {A : Type 0} → LogMap → Operation → Result (Taken A) EditorFault → Type 0

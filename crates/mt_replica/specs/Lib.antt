@@ -2,6 +2,7 @@ pub mod Edit
 pub mod Changes
 pub mod Faults
 pub mod Made
+pub mod Joins
 pub mod Kept
 pub mod Holding
 pub mod State

@@ -9,7 +9,8 @@ ghost use Rattle.mt_replica.specs.Equal.{log_word, kept_word};
 
 use crate::change::Change;
 use crate::fault::EditorFault;
-use crate::state::State;
+use crate::joins::joins_of;
+use crate::state::{State, Step};
 use crate::taken::Taken;
 use mt_op::Op;
 use mt_opcodec::Log;
@@ -24,6 +25,7 @@ pub(crate) struct Desk<A: Allocator> {
     alloc: A,
     name: Replica,
     shown: bool,
+    joins: u64,
     state: Option<State<A>>,
 }
 
@@ -37,7 +39,7 @@ impl<A: Allocator> Model for Desk<A> {
 
     ghost coded = { desk_code };
 
-    ghost view = { λ d. record { kept = record { name = d.name; log = option_map (λ (s : Stated). s.named.log) d.state }; shown = d.shown } };
+    ghost view = { λ d. record { kept = record { name = d.name; log = option_map (λ (s : Stated). s.named.log) d.state; joins = d.joins }; shown = d.shown } };
 
     ghost invariant = { λ d. IfSome d.state (λ (s : Stated). (s.named.name ≡ d.name) × (s.shown ≡ d.shown)) };
 }
@@ -61,6 +63,14 @@ impl<A: Allocator> Desk<A> {
         self.name
     }
 
+    /// How many cells it has joined since it was made.
+    pub fn joins(&self) -> u64
+        ensures { result ≡ self.now.kept.joins }
+    {
+        let _ = &self.state;
+        self.joins
+    }
+
     /// Whether another has the same name and an equal log, or both have none.
     pub fn is_like(&self, other: &Self) -> bool
         ensures { result ≡ pointwise nat_eq (kept_word self.now.kept) (kept_word other.now.kept) }
@@ -81,12 +91,12 @@ fn same_logs<A: Allocator>(a: Option<&Log<A>>, b: Option<&Log<A>>) -> bool
 }
 
 impl<A: Allocator + Clone> Desk<A> {
-    ghost use Rattle.mt_replica.specs.Kept.{Kept, session_in, kept_with, failed, EditGives, after_edit, TakeGives, after_take};
+    ghost use Rattle.mt_replica.specs.Kept.{Kept, session_in, kept_with, failed, copied, EditGives, after_edit, TakeGives, after_take};
     ghost use Rattle.mt_replica.specs.State.{IsMadeOf, IsNewTo};
 
     /// A log under this name, without its session. Refused only as `Memory` (0).
     pub fn new(alloc: A, name: Replica, log: Log<A>) -> Result<Self, EditorFault>
-        ensures ok { IfOk result (λ desk. desk ≡ record { kept = record { name = name; log = Some log }; shown = false }) }
+        ensures ok { IfOk result (λ desk. desk ≡ record { kept = record { name = name; log = Some log; joins = 0 }; shown = false }) }
         ensures err { IfErr result (λ fault. fault ≡ EditorFault.Memory) }
     {
         let state = State::of(&alloc, name, log)?;
@@ -94,6 +104,7 @@ impl<A: Allocator + Clone> Desk<A> {
             alloc,
             name,
             shown: false,
+            joins: 0,
             state: Some(state),
         })
     }
@@ -116,6 +127,7 @@ impl<A: Allocator + Clone> Desk<A> {
         let Desk {
             alloc,
             name,
+            joins,
             state,
             ..
         } = self;
@@ -127,14 +139,15 @@ impl<A: Allocator + Clone> Desk<A> {
             alloc,
             name,
             shown: true,
+            joins,
             state,
         })
     }
 
-    /// A copy of its log under its name, without its session. Refused as `Failed` (20) where it has failed, and as `Memory` (0),
+    /// A copy of its log under its name, without its session, which counts its joins from 0. Refused as `Failed` (20) where it has failed, and as `Memory` (0),
     /// which leaves it unchanged.
     pub fn try_clone(&self) -> Result<Self, EditorFault>
-        ensures ok { IfOk result (λ copy. copy ≡ record { kept = self.now.kept; shown = false }) }
+        ensures ok { IfOk result (λ copy. copy ≡ record { kept = copied self.now.kept; shown = false }) }
         ensures failed { IsErrOf result EditorFault.Failed ↔ (self.now.kept.log ≡ None) }
         ensures err { IfErr result (λ fault. fault ≢ EditorFault.Failed → fault ≡ EditorFault.Memory) }
     {
@@ -165,6 +178,7 @@ impl<A: Allocator + Clone> Desk<A> {
         match self.state.take() {
             Some(state) => {
                 self.state = Some(state.with(&self.alloc, &op)?);
+                self.joins = self.joins.saturating_add(joins_of(&op));
                 Ok(op)
             }
             None => unreachable!(),
@@ -200,8 +214,13 @@ impl<A: Allocator + Clone> Desk<A> {
     {
         match self.state.take() {
             Some(state) => {
-                let (state, taken) = state.taking(&self.alloc, op)?;
+                let Step {
+                    state,
+                    taken,
+                    joins,
+                } = state.taking(&self.alloc, op)?;
                 self.state = Some(state);
+                self.joins = self.joins.saturating_add(joins);
                 Ok(taken)
             }
             None => unreachable!(),

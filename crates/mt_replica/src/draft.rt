@@ -45,11 +45,11 @@ impl<A: Allocator> Draft<A> {
 }
 
 impl<A: Allocator + Clone> Draft<A> {
-    ghost use Rattle.mt_replica.specs.Kept.{Kept, EditGives, after_edit, TakeGives, after_take};
+    ghost use Rattle.mt_replica.specs.Kept.{Kept, copied, EditGives, after_edit, TakeGives, after_take};
 
     /// A draft that has taken a log's operations. Refused only as `Memory` (0).
     pub fn new(alloc: A, name: Replica, log: Log<A>) -> Result<Self, EditorFault>
-        ensures ok { IfOk result (λ draft. draft ≡ record { name = name; log = Some log }) }
+        ensures ok { IfOk result (λ draft. draft ≡ record { name = name; log = Some log; joins = 0 }) }
         ensures err { IfErr result (λ fault. fault ≡ EditorFault.Memory) }
     {
         let desk = Desk::new(alloc, name, log)?;
@@ -78,9 +78,9 @@ impl<A: Allocator + Clone> Draft<A> {
         self.desk.name()
     }
 
-    /// An equal draft. Refused as `Failed` (20) where it has failed, and as `Memory` (0), which leaves it unchanged.
+    /// An equal draft, which counts its joins from 0. Refused as `Failed` (20) where it has failed, and as `Memory` (0), which leaves it unchanged.
     pub fn try_clone(&self) -> Result<Self, EditorFault>
-        ensures ok { IfOk result (λ copy. copy ≡ self.now) }
+        ensures ok { IfOk result (λ copy. copy ≡ copied self.now) }
         ensures failed { IsErrOf result EditorFault.Failed ↔ (self.now.log ≡ None) }
         ensures err { IfErr result (λ fault. fault ≢ EditorFault.Failed → fault ≡ EditorFault.Memory) }
     {

@@ -48,11 +48,11 @@ impl<A: Allocator> Editor<A> {
 }
 
 impl<A: Allocator + Clone> Editor<A> {
-    ghost use Rattle.mt_replica.specs.Kept.{Kept, session_in, failed, EditGives, after_edit, TakeGives, after_take};
+    ghost use Rattle.mt_replica.specs.Kept.{Kept, session_in, failed, copied, EditGives, after_edit, TakeGives, after_take};
 
     /// An editor of this name that has taken a log's operations. Refused only as `Memory` (0).
     pub fn from_log(alloc: A, name: Replica, log: Log<A>) -> Result<Self, EditorFault>
-        ensures ok { IfOk result (λ editor. editor ≡ record { name = name; log = Some log }) }
+        ensures ok { IfOk result (λ editor. editor ≡ record { name = name; log = Some log; joins = 0 }) }
         ensures err { IfErr result (λ fault. fault ≡ EditorFault.Memory) }
     {
         Editor::of_draft(Draft::new(alloc, name, log)?)
@@ -75,6 +75,15 @@ impl<A: Allocator + Clone> Editor<A> {
         self.desk.name()
     }
 
+    /// How many cells it has joined since `from_log` or `try_clone` made it: one for each field that an operation writes, each tag that
+    /// it adds and each tag that it lists, of the operations that became ready by a take or an edit. It stands still at the greatest
+    /// `u64`, and where the editor has failed. A session that is mended is not counted, and no comparison looks at it.
+    pub fn joins(&self) -> u64
+        ensures { result ≡ self.now.joins }
+    {
+        self.desk.joins()
+    }
+
     /// The session of the operations in its log; `None` where it has failed.
     pub fn session(&self) -> Option<&Session<A>>
         ensures { option_copied result ≡ session_in self.now }
@@ -85,7 +94,7 @@ impl<A: Allocator + Clone> Editor<A> {
     /// A draft of its name with a copy of its log: for many edits between which nobody looks at the session. Refused as `Failed`
     /// (20) where the editor has failed, and as `Memory` (0), which leaves it unchanged.
     pub fn draft(&self) -> Result<Draft<A>, EditorFault>
-        ensures ok { IfOk result (λ draft. draft ≡ self.now) }
+        ensures ok { IfOk result (λ draft. draft ≡ copied self.now) }
         ensures failed { IsErrOf result EditorFault.Failed ↔ (self.now.log ≡ None) }
         ensures err { IfErr result (λ fault. fault ≢ EditorFault.Failed → fault ≡ EditorFault.Memory) }
     {
@@ -93,10 +102,10 @@ impl<A: Allocator + Clone> Editor<A> {
         Ok(Draft::of(desk))
     }
 
-    /// An equal editor of the same name. Refused as `Failed` (20) where the editor has failed, and as `Memory` (0), which leaves it
+    /// An equal editor of the same name, which counts its joins from 0. Refused as `Failed` (20) where the editor has failed, and as `Memory` (0), which leaves it
     /// unchanged.
     pub fn try_clone(&self) -> Result<Self, EditorFault>
-        ensures ok { IfOk result (λ copy. copy ≡ self.now) }
+        ensures ok { IfOk result (λ copy. copy ≡ copied self.now) }
         ensures failed { IsErrOf result EditorFault.Failed ↔ (self.now.log ≡ None) }
         ensures err { IfErr result (λ fault. fault ≢ EditorFault.Failed → fault ≡ EditorFault.Memory) }
     {

@@ -26,14 +26,13 @@ mod editor;
 mod fault;
 mod greatest;
 mod holding;
+mod joins;
 pub mod laws;
 mod names;
 mod newly;
 mod shown;
 mod state;
 mod taken;
-#[cfg(test)]
-mod tests;
 mod view;
 
 pub use change::Change;

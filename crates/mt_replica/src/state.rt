@@ -8,7 +8,9 @@ ghost use Rattle.mt_op.specs.Bodies.{act_of};
 ghost use Rattle.mt_opcodec.specs.LogValue.{operations};
 ghost use Rattle.mt_replica.specs.Changes.{edit_of};
 ghost use Rattle.mt_replica.specs.Made.{made, made_act, made_stamp, stamp_refused, or_made};
-ghost use Rattle.mt_replica.specs.Kept.{with_op, TakeOf};
+ghost use Rattle.std.specs.Io.Iter.{u64_saturate};
+ghost use Rattle.mt_replica.specs.Joins.{joins_of};
+ghost use Rattle.mt_replica.specs.Kept.{with_op, joins_by, TakeOf};
 ghost use Rattle.mt_replica.specs.State.{IsMade, Found, body_refused};
 ghost use Rattle.mt_sessionview.specs.Session.{ready_ops, session_of};
 
@@ -18,6 +20,7 @@ use crate::change::Change;
 use crate::fault::EditorFault;
 use crate::greatest::{greater, greatest_clock, greatest_seq, own_seq};
 use crate::holding::{copied, offer_new, released_from};
+use crate::joins::joins_of_all;
 use crate::names::names_refused;
 use crate::newly::{all_noted, taken_as};
 use crate::taken::Taken;
@@ -56,6 +59,14 @@ impl<A: Allocator> Model for State<A> {
     ghost view = { λ s. record { named = record { name = s.name; log = s.log }; shown = is_some s.view.held } };
 
     ghost invariant = { λ s. IsState (record { name = s.name; log = s.log }) s.waiting s.view.ops s.clock s.seq × IsHeldOf s.log s.view.held };
+}
+
+// A state after a take, what became of the operation, and how many cells were joined, up to the greatest number.
+#[derive(Drop)]
+pub(crate) struct Step<A: Allocator> {
+    pub state: State<A>,
+    pub taken: Taken<A>,
+    pub joins: u64,
 }
 
 impl<A: Allocator> State<A> {
@@ -166,10 +177,11 @@ impl<A: Allocator + Clone> State<A> {
         Ok(Op::new(stamp, body).unwrap())
     }
 
-    /// The state with an operation that a change made of it. Refused as `Memory` (0) where a growth was refused.
+    /// The state with an operation that a change made of it, by which nothing else becomes ready. Refused as `Memory` (0) where a growth was refused.
     pub fn with(self, alloc: &A, op: &Op<A>) -> Result<Self, EditorFault>
         requires made { IsMade self.named op.now }
         ensures ok { IfOk result (λ state. state ≡ record { named = record { name = self.named.name; log = with_op self.named.log op.now }; shown = self.shown }) }
+        ensures alone { IfOk result (λ state. joins_by (Some self.named.log) op.now ≡ joins_of op.now) }
         ensures err { IfErr result (λ fault. fault ≡ EditorFault.Memory) }
     {
         let State {
@@ -207,11 +219,12 @@ impl<A: Allocator + Clone> State<A> {
         }
     }
 
-    /// The state with an operation under a new dot, and what became of it. Refused as `Memory` (0) where a growth was refused.
-    pub fn taking(self, alloc: &A, op: Op<A>) -> Result<(Self, Taken<A>), EditorFault>
+    /// The state with an operation under a new dot, what became of it, and how many cells that joined. Refused as `Memory` (0) where a growth was refused.
+    pub fn taking(self, alloc: &A, op: Op<A>) -> Result<Step<A>, EditorFault>
         requires new { map.get self.named.log (op_dot op) ≡ None }
-        ensures state { IfOk result (λ both. both.0 ≡ record { named = record { name = self.named.name; log = with_op self.named.log op }; shown = self.shown }) }
-        ensures taken { IfOk result (λ both. TakeOf self.named.log op (Ok both.1)) }
+        ensures state { IfOk result (λ step. step.state ≡ record { named = record { name = self.named.name; log = with_op self.named.log op }; shown = self.shown }) }
+        ensures taken { IfOk result (λ step. TakeOf self.named.log op (Ok step.taken)) }
+        ensures joins { IfOk result (λ step. step.joins ≡ u64_saturate (joins_by (Some self.named.log) op)) }
         ensures err { IfErr result (λ fault. fault ≡ EditorFault.Memory) }
     {
         let State {
@@ -229,6 +242,7 @@ impl<A: Allocator + Clone> State<A> {
         let before = waiting.released().len();
         let offered = offer_new(&mut waiting, op)?;
         let newly = released_from(&waiting, before);
+        let joins = joins_of_all(newly);
         let mut view = all_noted(alloc, view, newly)?;
         let taken = taken_as(alloc, offered, newly)?;
         view.set_held(waiting.held());
@@ -240,7 +254,11 @@ impl<A: Allocator + Clone> State<A> {
             clock,
             seq,
         };
-        Ok((state, taken))
+        Ok(Step {
+            state,
+            taken,
+            joins,
+        })
     }
 }
 

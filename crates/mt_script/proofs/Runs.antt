@@ -19,24 +19,27 @@ use Rattle.mt_script.specs.Running.{line_from, line_in, lines_from, lines_in, on
 
 -- ---- lists of operations
 
-with_ops_more : (log : LogMap) (ops more : List Operation) → with_ops log (ops ++ more) ≡ with_ops (with_ops log ops) more
-with_ops_more log [] more = refl
-with_ops_more log (op ∷ ops) more = with_ops_more (with_op log op) ops more
-
-holds_from : (o : Option LogMap) (ops more : List Operation)
-    → option_map (λ (log : LogMap). with_ops log more) (option_map (λ (log : LogMap). with_ops log ops) o) ≡ option_map (λ (log : LogMap). with_ops log (ops ++ more)) o
-holds_from None ops more = refl
-holds_from (Some log) ops more = ap (λ (l : LogMap). Some l) (sym (with_ops_more log ops more))
-
 holds_more : (kept : Kept) (ops more : List Operation) → kept_with_ops (kept_with_ops kept ops) more ≡ kept_with_ops kept (ops ++ more)
-holds_more kept ops more = ap (λ (o : Option LogMap). record { name = kept.name; log = o }) (holds_from kept.log ops more)
+holds_more kept [] more = refl
+holds_more kept (op ∷ ops) more = holds_more (kept_with kept op) ops more
 
-holds_none_from : (o : Option LogMap) → o ≡ option_map (λ (log : LogMap). with_ops log []) o
-holds_none_from None = refl
-holds_none_from (Some log) = refl
+log_from : (o : Option LogMap) (op : Operation) (ops : List Operation)
+    → option_map (λ (log : LogMap). with_ops log ops) (option_map (λ (log : LogMap). with_op log op) o) ≡ option_map (λ (log : LogMap). with_ops log (op ∷ ops)) o
+log_from None op ops = refl
+log_from (Some log) op ops = refl
 
-holds_none : (kept : Kept) → kept ≡ kept_with_ops kept []
-holds_none kept = ap (λ (o : Option LogMap). record { name = kept.name; log = o }) (holds_none_from kept.log)
+no_more_from : (o : Option LogMap) → o ≡ option_map (λ (log : LogMap). with_ops log []) o
+no_more_from None = refl
+no_more_from (Some log) = refl
+
+-- the log that it holds, and its name
+log_held : (kept : Kept) (ops : List Operation) → (kept_with_ops kept ops).log ≡ option_map (λ (log : LogMap). with_ops log ops) kept.log
+log_held kept [] = no_more_from kept.log
+log_held kept (op ∷ ops) = log_held (kept_with kept op) ops ∙ log_from kept.log op ops
+
+name_held : (kept : Kept) (ops : List Operation) → (kept_with_ops kept ops).name ≡ kept.name
+name_held kept [] = refl
+name_held kept (op ∷ ops) = name_held (kept_with kept op) ops
 
 onto_none : (r : Result (List Operation) ScriptFault) → r ≡ onto [] r
 onto_none (Ok ops) = refl
@@ -53,7 +56,7 @@ there_from None ops there = absurd (there refl)
 there_from (Some log) ops there = λ is. absurd cc
 
 pub still_there : (kept now : Kept) (ops : List Operation) → kept.log ≢ None → now ≡ kept_with_ops kept ops → now.log ≢ None
-still_there kept now ops there is = subst (λ (k : Kept). k.log ≢ None) (sym is) (there_from kept.log ops there)
+still_there kept now ops there is = λ none. there_from kept.log ops there (sym (log_held kept ops) ∙ ap (λ (k : Kept). k.log) (sym is) ∙ none)
 
 -- ---- lines
 
@@ -88,7 +91,7 @@ begins kept text = record {
   ops = [];
   counted = refl;
   few = omega arith;
-  holds = holds_none kept;
+  holds = refl;
   told = scripted_is kept.log kept.name text ∙ onto_none (lines_in kept [] (lines text));
 }
 
@@ -101,6 +104,7 @@ goes_on kept text now items count rest line others new more n there at cut gives
     let still = still_there kept now at.ops there at.holds in
     let left : lines_in now items (lines rest) ≡ onto ops (lines_in new more (lines others)) =
     ap (lines_in now items) cut ∙ line_then now.log now.name items line (lines others) ops still gives.1.0
+    ∙ (λ i. onto ops (lines_from (sym (log_held now ops) i) (sym (name_held now ops) i) (items ++ item_made ops ∷ []) (lines others)))
     ∙ ap (λ (k : Kept). onto ops (lines_in k (items ++ item_made ops ∷ []) (lines others))) (sym made.holds)
     ∙ ap (λ (is : Items). onto ops (lines_in new is (lines others))) (sym made.noted) in
     let longer : length more ≡ length items + 1 = ap (λ (is : Items). length is) made.noted ∙ length-append items (item_made ops ∷ []) in

@@ -1,5 +1,5 @@
 -- What a script makes (profile).
-use Rattle.std.specs.Prelude.{◌≡◌, ◌≢◌, ℕ, suc, List, [], ◌∷◌, ◌++◌, length, Option, Some, None, Result, Ok, Err, option_map, if◌then◌else◌}
+use Rattle.std.specs.Prelude.{◌≡◌, ◌≢◌, ℕ, suc, List, [], ◌∷◌, ◌++◌, length, Option, Some, None, Result, Ok, Err, if◌then◌else◌}
 use Rattle.mt_stamp.specs.declared.name.Replica.{Replica}
 use Rattle.mt_stamp.specs.Moment.{Moment}
 use Rattle.mt_op.specs.Operation.{Operation}
@@ -8,7 +8,7 @@ use Rattle.mt_opcodec.specs.LogValue.{LogMap, operations}
 use Rattle.mt_replica.specs.declared.fault.EditorFault.{EditorFault}
 use Rattle.mt_replica.specs.Edit.{Edit}
 use Rattle.mt_replica.specs.Made.{made}
-use Rattle.mt_replica.specs.Kept.{Kept, with_op}
+use Rattle.mt_replica.specs.Kept.{Kept, with_op, kept_with, copied}
 use Rattle.mt_script.specs.declared.fault.ScriptFault.{ScriptFault}
 use Rattle.mt_script.specs.declared.fault.ScriptFault.TheVariants.{Memory, Failed, BadLine, Refused}
 use Rattle.mt_script.specs.Lines.{lines, is_silent}
@@ -81,13 +81,14 @@ RunGives kept text result = result ≡ counted (scripted_in kept text)
 
 -- what an editor holds with more operations
 abbrev pub kept_with_ops : Kept → List Operation → Kept
-kept_with_ops kept ops = record { name = kept.name; log = option_map (λ log. with_ops log ops) kept.log }
+kept_with_ops kept [] = kept
+kept_with_ops kept (op ∷ ops) = kept_with_ops (kept_with kept op) ops
 
 abbrev pub kept_with_all : Kept → Result (List Operation) ScriptFault → Kept
 kept_with_all kept (Ok ops) = kept_with_ops kept ops
 kept_with_all kept (Err fault) = kept
 
--- What the editor holds after it: all that the script makes, or after a refusal what it held.
+-- What the editor holds after it: a copy with all that the script makes, or after a refusal what it held.
 abbrev pub after_run : Kept → List ℕ → Result ℕ ScriptFault → Kept
-after_run kept text (Ok count) = kept_with_all kept (scripted_in kept text)
+after_run kept text (Ok count) = kept_with_all (copied kept) (scripted_in kept text)
 after_run kept text (Err fault) = kept

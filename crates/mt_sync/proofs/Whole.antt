@@ -129,7 +129,7 @@ joined_whole set list rise agree =
 
 -- what is answered once the log is the union, or memory ran out
 pub whole_joins : (r : Result (Unit {0}) TalkFault) (name : Replica) (set all : LogMap) (list : List Operation) (new : Kept) → joined set list ≡ (all, None)
-    → OnOk r (new ≡ record { name = name; log = Some all }) → IfErr r (λ fault. fault ≡ Memory) → IfErr r (λ fault. new.log ≡ Some set) → JoinsSet (joined set list) set r new.log
+    → OnOk r (new ≡ record { name = name; log = Some all; joins = 0 }) → IfErr r (λ fault. fault ≡ Memory) → IfErr r (λ fault. new.log ≡ Some set) → JoinsSet (joined set list) set r new.log
 whole_joins (Ok u) name set all list new is ok err kept = (ap (λ (j : LogMap × Option Dot). j.1) is, ap (λ (k : Kept). k.log) ok ∙ ap (λ (j : LogMap × Option Dot). Some j.0) (sym is))
 whole_joins (Err Memory) name set all list new is ok err kept = kept
 whole_joins (Err (Conflict dot)) name set all list new is ok err kept = absurd cc
@@ -138,7 +138,7 @@ whole_joins (Err BadMessage) name set all list new is ok err kept = absurd cc
 whole_joins (Err OutOfTurn) name set all list new is ok err kept = absurd cc
 whole_joins (Err FrameTooLong) name set all list new is ok err kept = absurd cc
 
-pub name_stays : (r : Result (Unit {0}) TalkFault) (old new : Kept) (all : LogMap) → OnOk r (new ≡ record { name = old.name; log = Some all }) → IfErr r (λ fault. new ≡ old) → new.name ≡ old.name
+pub name_stays : (r : Result (Unit {0}) TalkFault) (old new : Kept) (all : LogMap) → OnOk r (new ≡ record { name = old.name; log = Some all; joins = 0 }) → IfErr r (λ fault. new ≡ old) → new.name ≡ old.name
 name_stays (Ok u) old new all ok kept = ap (λ (k : Kept). k.name) ok
 name_stays (Err fault) old new all ok kept = ap (λ (k : Kept). k.name) kept
 

@@ -58,7 +58,7 @@ fn replace<A: Allocator + Clone>(
     editor: &mut Editor<A>,
     log: Log<A>,
 ) -> Result<(), TalkFault>
-    ensures ok { OnOk result (editor.new ≡ record { name = editor.old.name; log = Some log }) }
+    ensures ok { OnOk result (editor.new ≡ record { name = editor.old.name; log = Some log; joins = 0 }) }
     ensures err { IfErr result (λ fault. fault ≡ TalkFault.Memory) }
     ensures kept { IfErr result (λ fault. editor.new ≡ editor.old) }
 {

@@ -1,11 +1,12 @@
 use Rattle.std.specs.Prelude.{is_some}
+use Rattle.std.specs.Io.Iter.{u64_saturate}
 use Rattle.std.proofs.Common.{ℕ, ◌∙◌, ap, subst, length}
 use Rattle.mt_opcodec.specs.LogValue.{LogMap, operations, AreLogged}
 use Rattle.mt_replica.specs.Kept.{with_op}
 use Rattle.mt_replica.specs.State.{Stated, Named, IsState}
 use Rattle.mt_replica.specs.Viewed.{Viewed}
 use Rattle.mt_replica.proofs.ShownPlaces.{held_count, held_as, still_some}
-use Rattle.mt_replica.proofs.Taking.{it_is_new, still_released, all_follow, state_with, take_tells}
+use Rattle.mt_replica.proofs.Taking.{it_is_new, still_released, all_follow, state_with, take_tells, joins_told}
 use Rattle.mt_replica.proofs.state.State.taking.Goals as goal
 
 pub offer_new-requires-clause-unknown : goal.offer_new-requires-clause-unknown
@@ -56,3 +57,12 @@ returns-clause-taken g c =
     take_tells c.args.self.named c.args.op c.self.inside.waiting c.self.inside.view.ops c.self.inside.clock c.self.inside.seq c.requires.new logged was c.offer_new.new.waiting c.released_from-newly.result.now (length c.released-before.result.now)
     c.in_ok-offered.ensures.kept c.released-before.ensures.exact c.released_from-newly.ensures.exact c.in_ok-offered.ensures.rising (ap length c.released-before.ensures.value) c.released_from-newly.ensures.value
     c.in_ok-offered.offered c.in_ok-taken.taken c.in_ok-offered.ensures.answered c.in_ok-taken.ensures.ok
+
+pub returns-clause-joins : goal.returns-clause-joins
+returns-clause-joins g c =
+    let was = subst (λ (n : Named). IsState n c.self.inside.waiting c.self.inside.view.ops c.self.inside.clock c.self.inside.seq) (ap (λ (s : Stated). s.named) c.self.view_is) c.self.invariant.0 in
+    let log_is = c.in_ok-add_new.ensures.added ∙ (λ i. with_op (c.self.view_is i).named.log (c.in_ok-copied.ensures.ok i)) in
+    let logged = subst (λ (l : LogMap). AreLogged (operations l)) log_is c.runs.ensures.logged in
+    c.joins_of_all-joins.ensures
+    ∙ ap u64_saturate (joins_told c.args.self.named c.args.op c.self.inside.waiting c.self.inside.view.ops c.self.inside.clock c.self.inside.seq c.requires.new logged was c.offer_new.new.waiting c.released_from-newly.result.now (length c.released-before.result.now)
+    c.in_ok-offered.ensures.kept c.released-before.ensures.exact c.released_from-newly.ensures.exact c.in_ok-offered.ensures.rising (ap length c.released-before.ensures.value) c.released_from-newly.ensures.value)

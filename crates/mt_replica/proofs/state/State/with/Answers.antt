@@ -7,7 +7,7 @@ use Rattle.mt_stamp.proofs.SameItems.{SameItems}
 use Rattle.mt_replica.specs.Holding.{with_offered}
 use Rattle.mt_replica.specs.Kept.{with_op}
 use Rattle.mt_replica.specs.State.{Stated, Named, IsState}
-use Rattle.mt_replica.proofs.Keeping.{made_follows, made_absent, made_kept}
+use Rattle.mt_replica.proofs.Keeping.{made_follows, made_absent, made_kept, made_alone}
 use Rattle.mt_replica.specs.Viewed.{Viewed}
 use Rattle.mt_replica.proofs.ShownPlaces.{held_count, held_as, still_some}
 use Rattle.mt_replica.proofs.Taking.{it_is_new}
@@ -53,3 +53,10 @@ returns-clause-ok g c =
     let log_is = c.in_ok-add_new.ensures.added ∙ (λ i. with_op (c.self.view_is i).named.log (c.in_ok-copied.ensures.ok i)) in
     let shown_is = ap (λ (v : Viewed). is_some v.held) c.set_held.ensures ∙ still_some (λ (h : ℕ). c.held.result) c.in_ok-view.view.held ∙ ap (λ (v : Viewed). is_some v.held) c.in_ok-view.ensures.ok ∙ ap (λ (s : Stated). s.shown) c.self.view_is in
     λ i. record { named = record { name = (c.self.view_is i).named.name; log = log_is i }; shown = shown_is i }
+
+pub returns-clause-alone : goal.returns-clause-alone
+returns-clause-alone g c =
+    let logged = subst (λ (n : Named). AreLogged (operations n.log)) (ap (λ (s : Stated). s.named) c.self.view_is) c.runs.ensures.logged in
+    let whole = subst (λ (n : Named). log_of (operations n.log) ≡ n.log) (ap (λ (s : Stated). s.named) c.self.view_is) c.runs.ensures.whole in
+    let log_is = c.in_ok-add_new.ensures.added ∙ (λ i. with_op ((ap (λ (s : Stated). s.named) c.self.view_is) i).log (c.in_ok-copied.ensures.ok i)) in
+    made_alone c.args.self.named c.args.op.now c.requires.made logged whole (subst (λ (l : LogMap). AreLogged (operations l)) log_is c.runs-2.ensures.logged)

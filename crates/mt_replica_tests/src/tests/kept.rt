@@ -1,14 +1,13 @@
 //! The session that an editor keeps is the one that is made from nothing of its log.
 
-use crate::{Change, Editor, EditorFault};
 use mt_op::{Digest, Gain, Title};
 use mt_opcodec::Log;
+use mt_replica::{Change, Editor, EditorFault};
 use mt_sessionview::from_scratch;
-use mt_stamp::{Replica, Stamp};
+use mt_stamp::Stamp;
+use mt_testkit::A;
 use std::alloc::Allocator;
 use std::test::Fail;
-
-const A: Replica = Replica(10);
 
 fn titled<M: Allocator>(memory: M, text: &str) -> Result<Title<M>, EditorFault> {
     match Title::new(memory, text) {

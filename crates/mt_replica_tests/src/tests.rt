@@ -1,28 +1,13 @@
+mod joins;
 mod kept;
 
-use crate::{Change, Editor, EditorFault, Taken};
-use mt_op::{Body, Gain, Op, OpFault, Title};
+use mt_op::{Body, Gain, Op, Title};
 use mt_opcodec::Log;
+use mt_replica::{Change, Editor, EditorFault, Taken};
 use mt_stamp::{Replica, Stamp};
-use mt_testalloc::Refusing;
+use mt_testkit::{A, B, Refusing, marker, retitle};
 use std::alloc::Allocator;
 use std::test::Fail;
-
-const A: Replica = Replica(10);
-
-const B: Replica = Replica(11);
-
-// An AddMarker of this stamp.
-fn marker<M: Allocator>(memory: M, stamp: Stamp) -> Result<Op<M>, OpFault> {
-    let title = Title::new(memory, "News")?;
-    Op::new(stamp, Body::AddMarker { at: 480, title })
-}
-
-// A Retitle of an item.
-fn retitle<M: Allocator>(memory: M, stamp: Stamp, item: Stamp) -> Result<Op<M>, OpFault> {
-    let title = Title::new(memory, "Late")?;
-    Op::new(stamp, Body::Retitle { item, title })
-}
 
 // An editor of the empty log.
 fn newcomer<M: Allocator + Clone>(memory: &M, name: Replica) -> Result<Editor<M>, EditorFault> {
@@ -62,7 +47,7 @@ fn take_marker<M: Allocator + Clone>(
     memory: &M,
     item: Stamp,
 ) -> Result<(&'static str, usize), EditorFault> {
-    let Ok(op) = marker(memory.clone()?, item) else {
+    let Ok(op) = marker(memory.clone()?, item, "News") else {
         return Err(EditorFault::Memory);
     };
     match editor.take(op) {
@@ -78,7 +63,7 @@ fn take_retitle<M: Allocator + Clone>(
     stamp: Stamp,
     item: Stamp,
 ) -> Result<(&'static str, usize), EditorFault> {
-    let Ok(op) = retitle(memory.clone()?, stamp, item) else {
+    let Ok(op) = retitle(memory.clone()?, stamp, item, "Late") else {
         return Err(EditorFault::Memory);
     };
     match editor.take(op) {
@@ -155,7 +140,7 @@ fn one_marker<M: Allocator + Clone>(
     name: Replica,
     item: Stamp,
 ) -> Result<Editor<M>, EditorFault> {
-    let Ok(op) = marker(memory.clone()?, item) else {
+    let Ok(op) = marker(memory.clone()?, item, "News") else {
         return Err(EditorFault::Memory);
     };
     let mut editor = newcomer(memory, name)?;
@@ -358,7 +343,7 @@ struct Left {
 
 // Takes a marker into an editor, removes it and copies the editor, all over this memory.
 fn takes_and_removes<M: Allocator + Clone>(memory: &M, item: Stamp) -> Result<Left, EditorFault> {
-    let Ok(op) = marker(memory.clone()?, item) else {
+    let Ok(op) = marker(memory.clone()?, item, "News") else {
         return Err(EditorFault::Memory);
     };
     let mut editor = newcomer(memory, B)?;
