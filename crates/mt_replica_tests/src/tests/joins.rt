@@ -121,19 +121,28 @@ fn makes_a_title_at_the_cost_of_one_cell(rt: HostRuntime) -> Result<(), Fail> {
     Ok(())
 }
 
-// Whether the session that is made from nothing is refused where that many growths of it were not.
+// How many growths there are before a session is made from nothing.
+fn growths_of_markers(alloc: Global) -> Result<u64, EditorFault> {
+    let memory = Refusing::new(alloc, u64::MAX);
+    let _editor = crowded(&&memory)?;
+    Ok(memory.allocations())
+}
+
+// Whether a session that is made from nothing of the markers is refused this growth.
 fn from_scratch_is_refused(alloc: Global, at: u64) -> Result<bool, EditorFault> {
-    let editor = crowded(&alloc)?;
+    let memory = Refusing::new(alloc, at);
+    let editor = crowded(&&memory)?;
     let Some(log) = editor.log() else {
         return Ok(false);
     };
-    let memory = Refusing::new(alloc, at);
     Ok(from_scratch(&memory, log).is_err() && memory.has_refused())
 }
 
 #[test]
 fn makes_a_session_from_nothing_with_more_growths(rt: HostRuntime) -> Result<(), Fail> {
-    assert_eq!(rt; from_scratch_is_refused(rt.alloc(), GROWTHS), Ok(true));
+    let before = growths_of_markers(rt.alloc())?;
+    let last = before.saturating_add(GROWTHS);
+    assert_eq!(rt; from_scratch_is_refused(rt.alloc(), last), Ok(true));
     Ok(())
 }
 
