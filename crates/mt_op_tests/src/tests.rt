@@ -1,10 +1,10 @@
 use mt_op::laws::{
     compare_digests, compare_titles, equal_titles, last_write, last_writer, readiness, writes,
 };
-use mt_op::{Body, Digest, Need, Op, OpFault, Role, Title, find_op};
+use mt_op::{Body, Digest, Op, OpFault, Title, find_op};
 use mt_stamp::{Dot, Replica, Stamp};
 use mt_testalloc::Refusing;
-use std::alloc::Allocator;
+use std::alloc::{Allocator, Global};
 use std::cmp::Ordering;
 use std::test::Fail;
 
@@ -15,18 +15,11 @@ mod needs;
 mod refusals;
 mod roles;
 
-use bodies::retitle;
+use bodies::{add_marker, retitle};
 
 pub const A: Replica = Replica(10);
 
 pub const B: Replica = Replica(11);
-
-fn marker<M: Allocator>(memory: M, title: &str) -> Result<Body<M>, OpFault> {
-    Ok(Body::AddMarker {
-        at: 48_000,
-        title: Title::new(memory, title)?,
-    })
-}
 
 // Whether a text is a title, and a copy of it is the same.
 fn is_title<M: Allocator + Clone>(memory: M, text: &str) -> Result<bool, OpFault> {
@@ -36,10 +29,7 @@ fn is_title<M: Allocator + Clone>(memory: M, text: &str) -> Result<bool, OpFault
 
 // small_values: titles
 #[test]
-fn makes_titles_of_at_most_255_plain_bytes(rt: HostRuntime) -> Result<(), Fail> {
-    let longest = format!(in rt.alloc(); "{:a<255}", "")?;
-    let too_long = format!(in rt.alloc(); "{:a<256}", "")?;
-    let two_bytes_each = format!(in rt.alloc(); "{:é<128}", "")?;
+fn makes_titles_of_plain_bytes(rt: HostRuntime) {
     for text in [
         "",
         "News at nine",
@@ -47,84 +37,144 @@ fn makes_titles_of_at_most_255_plain_bytes(rt: HostRuntime) -> Result<(), Fail> 
         "Grüße",
         "one\u{2028}two",
         "one\u{85}two",
-        longest.as_str(),
     ] {
-        assert!(rt; is_title(rt.alloc(), text)?, "{text}");
+        assert_eq!(rt; is_title(rt.alloc(), text), Ok(true), "{text}");
     }
-    for text in [
-        "one\ntwo",
-        "\u{1f}",
-        "\u{7f}",
-        "\0",
-        too_long.as_str(),
-        two_bytes_each.as_str(),
-    ] {
+    for text in ["one\ntwo", "\u{1f}", "\u{7f}", "\0"] {
         assert_eq!(rt;
-            Title::new(rt.alloc(), text).err(),
-            Some(OpFault::BadTitle),
+            is_title(rt.alloc(), text),
+            Err(OpFault::BadTitle),
             "{text}"
         );
     }
-    Ok(())
+}
+
+// The same of the text of this character so many times.
+fn is_title_of<M: Allocator + Copy>(
+    memory: M,
+    character: char,
+    count: usize,
+) -> Result<bool, OpFault> {
+    let mut text = String::new(memory);
+    for _ in 0..count {
+        text.push(character)?;
+    }
+    is_title(memory, text.as_str())
+}
+
+// small_values: titles
+#[test]
+fn makes_titles_of_at_most_255_bytes(rt: HostRuntime) {
+    assert_eq!(rt; is_title_of(rt.alloc(), 'a', 255), Ok(true));
+    assert_eq!(rt; is_title_of(rt.alloc(), 'a', 256), Err(OpFault::BadTitle));
+    assert_eq!(rt; is_title_of(rt.alloc(), 'é', 128), Err(OpFault::BadTitle));
+}
+
+// How the first title is compared to the second, the second to the first, and the first to itself.
+fn orders<M: Allocator + Copy>(
+    memory: M,
+    first: &str,
+    second: &str,
+) -> Result<[Ordering; 3], OpFault> {
+    let first = Title::new(memory, first)?;
+    let second = Title::new(memory, second)?;
+    Ok([
+        compare_titles(&first, &second),
+        compare_titles(&second, &first),
+        compare_titles(&first, &first),
+    ])
+}
+
+// Whether the first title is less than the second, equals the second, and equals itself.
+fn relations<M: Allocator + Copy>(
+    memory: M,
+    first: &str,
+    second: &str,
+) -> Result<[bool; 3], OpFault> {
+    let first = Title::new(memory, first)?;
+    let second = Title::new(memory, second)?;
+    Ok([
+        first < second,
+        equal_titles(&first, &second),
+        equal_titles(&first, &first),
+    ])
+}
+
+/// Titles that are less than others.
+const RISING: [(&str, &str); 5] = [
+    ("", "a"),
+    ("News", "news"),
+    ("b", "ba"),
+    ("az", "b"),
+    ("z", "é"),
+];
+
+#[test]
+fn orders_titles_by_their_bytes(rt: HostRuntime) {
+    let rising = [Ordering::Less, Ordering::Greater, Ordering::Equal];
+    for (low, high) in RISING {
+        assert_eq!(rt; orders(rt.alloc(), low, high), Ok(rising), "{low}");
+    }
 }
 
 #[test]
-fn orders_titles_by_their_bytes(rt: HostRuntime) -> Result<(), Fail> {
-    for (low, high) in [
-        ("", "a"),
-        ("News", "news"),
-        ("b", "ba"),
-        ("az", "b"),
-        ("z", "é"),
-    ] {
-        let low = Title::new(rt.alloc(), low)?;
-        let high = Title::new(rt.alloc(), high)?;
-        assert_eq!(rt; compare_titles(&low, &high), Ordering::Less);
-        assert_eq!(rt; compare_titles(&high, &low), Ordering::Greater);
-        assert_eq!(rt; compare_titles(&low, &low), Ordering::Equal);
-        assert!(rt; low < high);
-        assert!(rt; !equal_titles(&low, &high));
-        assert!(rt; equal_titles(&low, &low));
+fn tells_titles_apart(rt: HostRuntime) {
+    for (low, high) in RISING {
+        assert_eq!(rt;
+            relations(rt.alloc(), low, high),
+            Ok([true, false, true]),
+            "{low}"
+        );
     }
-    Ok(())
 }
 
 // The digest of `abc` (FIPS 180-4).
 const ABC: &str = "ba7816bf8f01cfea414140de5dae2223b00361a396177a9cb410ff61f20015ad";
 
+const CAPITALS: &str = "BA7816BF8F01CFEA414140DE5DAE2223B00361A396177A9CB410FF61F20015AD";
+
 // small_values: digests
 #[test]
-fn reads_digests_of_64_digits(rt: HostRuntime) -> Result<(), Fail> {
+fn reads_digests_of_64_digits(rt: HostRuntime) {
     let abc = Digest::of(b"abc");
-    assert_eq!(rt; abc.text(rt.alloc())?.as_str(), ABC);
-    assert_eq!(rt; Digest::read(ABC)?, abc);
-    let capitals = hex::encode_upper(rt.alloc(), abc.0)?;
-    assert_eq!(rt; Digest::read(capitals.as_str())?, abc);
-    Ok(())
+    assert_eq!(rt; Digest::read(ABC), Ok(abc));
+    assert_eq!(rt; Digest::read(CAPITALS), Ok(abc));
 }
 
 #[test]
-fn reads_no_digest_of_other_texts(rt: HostRuntime) -> Result<(), Fail> {
+fn reads_no_digest_of_other_texts(rt: HostRuntime) {
     const SPACED: &str = " 000000000000000000000000000000000000000000000000000000000000000";
     const OTHER_DIGIT: &str = "ba7816gggggggggggggggggggggggggggggggggggggggggggggggggggggggggg";
-    for text in ["", "ba", SPACED, OTHER_DIGIT] {
+    const NO_END: &str = "ba7816bf8f01cfea414140de5dae2223b00361a396177a9cb410ff61f20015a";
+    const NO_START: &str = "a7816bf8f01cfea414140de5dae2223b00361a396177a9cb410ff61f20015ad";
+    const ONE_MORE: &str = "ba7816bf8f01cfea414140de5dae2223b00361a396177a9cb410ff61f20015ada";
+    const TWO_MORE: &str = "ba7816bf8f01cfea414140de5dae2223b00361a396177a9cb410ff61f20015adad";
+    for text in [
+        "",
+        "ba",
+        SPACED,
+        OTHER_DIGIT,
+        NO_END,
+        NO_START,
+        ONE_MORE,
+        TWO_MORE,
+    ] {
         assert_eq!(rt; Digest::read(text), Err(OpFault::BadDigest), "{text}");
     }
-    for (from, until) in [(0, 63), (1, 64)] {
-        assert_eq!(rt;
-            ABC.get(from..until).map(Digest::read),
-            Some(Err(OpFault::BadDigest))
-        );
+}
+
+// Whether the digest of `abc` is written as it should be.
+fn writes_abc<M: Allocator>(memory: M) -> Result<bool, OpFault> {
+    Ok(Digest::of(b"abc").text(memory)?.as_str() == ABC)
+}
+
+// small_values: digests
+#[test]
+fn writes_digests_and_refuses_their_growth(rt: HostRuntime) {
+    for (at, wanted) in [(0, Err(OpFault::Memory)), (1, Ok(true))] {
+        let memory = Refusing::new(rt.alloc(), at);
+        assert_eq!(rt; writes_abc(&memory), wanted, "at {at}");
     }
-    for more in ["a", "ad"] {
-        let longer = format!(in rt.alloc(); "{ABC}{more}")?;
-        assert_eq!(rt;
-            Digest::read(longer.as_str()),
-            Err(OpFault::BadDigest),
-            "{more}"
-        );
-    }
-    Ok(())
 }
 
 #[test]
@@ -141,48 +191,23 @@ fn orders_digests_by_their_bytes(rt: HostRuntime) {
     assert!(rt; low != high);
 }
 
-// refused_operations: Retitle
-#[test]
-fn refuses_a_name_that_is_as_old(rt: HostRuntime) -> Result<(), Fail> {
-    let own = Stamp::new(2, A, 2)?;
-    let as_old = retitle(rt.alloc(), Stamp::new(2, B, 1)?, "News")?;
-    assert_eq!(rt; Op::new(own, as_old).err(), Some(OpFault::NameNotOlder));
-    Ok(())
-}
-
-fn retitle_op<M: Allocator>(memory: M, own: Stamp, item: Stamp) -> Result<Op<M>, OpFault> {
-    Op::new(own, retitle(memory, item, "News")?)
-}
-
-fn is_retitle_of<M: Allocator>(memory: M, op: &Op<M>, item: Stamp) -> Result<bool, OpFault> {
-    Ok(*op.body() == retitle(memory, item, "News")?)
+// The stamp and the dot of an operation that gives an item a title, and whether that is what its body does.
+fn parts<M: Allocator + Copy>(
+    memory: M,
+    own: Stamp,
+    item: Stamp,
+) -> Result<(Stamp, Dot, bool), OpFault> {
+    let op = Op::new(own, retitle(memory, item, "News")?)?;
+    let is_retitle = *op.body() == retitle(memory, item, "News")?;
+    Ok((op.stamp(), op.dot(), is_retitle))
 }
 
 #[test]
-fn makes_operations_that_name_older_ones(rt: HostRuntime) -> Result<(), Fail> {
+fn makes_operations_of_their_parts(rt: HostRuntime) -> Result<(), Fail> {
     let own = Stamp::new(2, A, 2)?;
     let item = Stamp::new(1, B, 1)?;
-    let op = retitle_op(rt.alloc(), own, item)?;
-    assert_eq!(rt; op.stamp(), own);
-    assert_eq!(rt; op.dot(), Dot { replica: A, seq: 2 });
-    assert_eq!(rt; op.need_count(), 1);
-    let need = Need {
-        stamp: item,
-        role: Role::Titled,
-    };
-    assert_eq!(rt; op.need(0), Some(need));
-    assert_eq!(rt; op.need(1), None);
-    assert!(rt; !op.fits(&Role::Titled));
-    assert!(rt; is_retitle_of(rt.alloc(), &op, item)?);
-    Ok(())
-}
-
-#[test]
-fn makes_operations_that_name_none(rt: HostRuntime) -> Result<(), Fail> {
-    let op = Op::new(Stamp::new(1, B, 1)?, marker(rt.alloc(), "News")?)?;
-    assert_eq!(rt; op.need_count(), 0);
-    assert_eq!(rt; op.need(0), None);
-    assert!(rt; op.fits(&Role::Titled));
+    let dot = Dot { replica: A, seq: 2 };
+    assert_eq!(rt; parts(rt.alloc(), own, item), Ok((own, dot, true)));
     Ok(())
 }
 
@@ -195,23 +220,27 @@ fn calls_the_laws(_rt: HostRuntime) -> Result<(), Fail> {
     Ok(())
 }
 
+fn marker_op<M: Allocator>(memory: M, stamp: Stamp, title: &str) -> Result<Op<M>, OpFault> {
+    Op::new(stamp, add_marker(memory, 7, title)?)
+}
+
+// Where a dot stands beside an operation of this stamp.
+fn place_beside(alloc: Global, stamp: Stamp, dot: Dot) -> Result<Result<usize, usize>, OpFault> {
+    let ops = [marker_op(alloc, stamp, "News")?];
+    Ok(find_op(&ops, dot))
+}
+
 #[test]
 fn finds_operations_by_their_dots(rt: HostRuntime) -> Result<(), Fail> {
-    let ops = [
-        Op::new(Stamp::new(5, A, 2)?, marker(rt.alloc(), "News")?)?,
-        Op::new(Stamp::new(9, A, 4)?, marker(rt.alloc(), "Weather")?)?,
-        Op::new(Stamp::new(1, B, 1)?, marker(rt.alloc(), "Sport")?)?,
-    ];
+    let stamp = Stamp::new(5, A, 2)?;
     for (replica, seq, place) in [
         (A, 1, Err(0)),
         (A, 2, Ok(0)),
         (A, 3, Err(1)),
-        (A, 4, Ok(1)),
-        (A, 5, Err(2)),
-        (B, 1, Ok(2)),
-        (B, 2, Err(3)),
+        (B, 1, Err(1)),
     ] {
-        assert_eq!(rt; find_op(&ops, Dot { replica, seq }), place, "{seq}");
+        let dot = Dot { replica, seq };
+        assert_eq!(rt; place_beside(rt.alloc(), stamp, dot), Ok(place), "{seq}");
     }
     Ok(())
 }
@@ -231,16 +260,10 @@ fn numbers_its_refusals(rt: HostRuntime) {
     }
 }
 
-// An operation that took memory four times: for a title, and for a clone of the title, of a body and of the
-// operation.
-fn cloned_thrice<M: Allocator + Clone>(
-    memory: M,
-    stamp: Stamp,
-    text: &str,
-) -> Result<Op<M>, OpFault> {
+// A body of a title that took memory three times: for the title, and for a clone of it and of the body.
+fn cloned_body<M: Allocator + Clone>(memory: M, text: &str) -> Result<Body<M>, OpFault> {
     let title = Title::new(memory, text)?.try_clone()?;
-    let body = Body::AddMarker { at: 7, title }.try_clone()?;
-    Op::new(stamp, body)?.try_clone()
+    Body::AddMarker { at: 7, title }.try_clone()
 }
 
 fn is_marker_at_7<M: Allocator>(op: &Op<M>, stamp: Stamp, text: &str) -> bool {
@@ -248,32 +271,32 @@ fn is_marker_at_7<M: Allocator>(op: &Op<M>, stamp: Stamp, text: &str) -> bool {
         && matches!(op.body(), Body::AddMarker { at: 7, title } if title.text() == text)
 }
 
-#[test]
-fn refuses_each_growth(rt: HostRuntime) -> Result<(), Fail> {
-    let stamp = Stamp::new(1, A, 1)?;
-    for at in 0..20 {
-        let memory = Refusing::new(rt.alloc(), at);
-        let made = cloned_thrice(&memory, stamp, "News at nine");
-        assert_eq!(rt; made.is_err(), memory.has_refused(), "at {at}");
-        if !memory.has_refused() {
-            assert!(rt; is_marker_at_7(&made?, stamp, "News at nine"));
-            assert_eq!(rt; at, 4, "each of the four was refused");
-            return Ok(());
-        }
-        assert!(rt; matches!(made, Err(OpFault::Memory)), "at {at}");
-    }
-    Err(Fail::from("each run met a refusal"))
+// Whether the clone of an operation of such a body is what it was made of.
+fn clones_a_marker<M: Allocator + Clone>(
+    memory: M,
+    stamp: Stamp,
+    text: &str,
+) -> Result<bool, OpFault> {
+    let op = Op::new(stamp, cloned_body(memory, text)?)?;
+    Ok(is_marker_at_7(&op.try_clone()?, stamp, text))
 }
 
 #[test]
-fn refuses_the_growth_of_a_digests_text(rt: HostRuntime) -> Result<(), Fail> {
-    let abc = Digest::of(b"abc");
-    let refused = Refusing::new(rt.alloc(), 0);
-    assert_eq!(rt; abc.text(&refused).err(), Some(OpFault::Memory));
-    assert!(rt; refused.has_refused());
-    let granted = Refusing::new(rt.alloc(), 1);
-    let text = abc.text(&granted)?;
-    assert_eq!(rt; text.as_str(), ABC);
-    assert!(rt; !granted.has_refused());
+fn refuses_each_growth(rt: HostRuntime) -> Result<(), Fail> {
+    let stamp = Stamp::new(1, A, 1)?;
+    for at in 0..5 {
+        let memory = Refusing::new(rt.alloc(), at);
+        let made = clones_a_marker(&memory, stamp, "News at nine");
+        assert_eq!(rt; made, wanted_after(4, at), "at {at}");
+    }
     Ok(())
+}
+
+// What is answered where the growth number `at` of so many is refused.
+pub fn wanted_after(growths: u64, at: u64) -> Result<bool, OpFault> {
+    if at < growths {
+        Err(OpFault::Memory)
+    } else {
+        Ok(true)
+    }
 }

@@ -6,6 +6,7 @@ mod operations;
 mod refused_growth;
 mod runs;
 mod tags;
+mod texts;
 mod tracks_and_clips;
 
 use mt_opcodec::laws::{log_texts, op_texts, unions};

@@ -37,62 +37,84 @@ pub fn remove<M: Allocator>(memory: M, item: Stamp, tags: &[Stamp]) -> Result<Bo
     })
 }
 
-// A body of each act, in the order of `Body`. All but that of the AddMarker name the item, and none names another
-// stamp.
-pub fn twelve<M: Allocator + Clone>(memory: M, item: Stamp) -> Result<Vec<Body<M>, M>, Fail> {
-    let mut bodies = Vec::new(memory.clone()?);
-    push_acts_on_tracks_and_clips(&mut bodies, memory.clone()?, item)?;
-    push_acts_on_items_and_markers(&mut bodies, memory, item)?;
+/// The acts, in the order of `Body`.
+#[derive(Clone, Copy, Debug, PartialEq, Eq)]
+pub enum Act {
+    AddTrack,
+    MoveTrack,
+    AddClip,
+    MoveClip,
+    TrimClip,
+    SetGain,
+    SetMute,
+    Remove,
+    Restore,
+    AddMarker,
+    MoveMarker,
+    Retitle,
+}
+
+pub const ACTS: [Act; 12] = [
+    Act::AddTrack,
+    Act::MoveTrack,
+    Act::AddClip,
+    Act::MoveClip,
+    Act::TrimClip,
+    Act::SetGain,
+    Act::SetMute,
+    Act::Remove,
+    Act::Restore,
+    Act::AddMarker,
+    Act::MoveMarker,
+    Act::Retitle,
+];
+
+/// A body of an act. All but that of the AddMarker name the item, and none names another stamp.
+pub fn body_of<M: Allocator>(memory: M, act: Act, item: Stamp) -> Result<Body<M>, OpFault> {
+    match act {
+        Act::AddTrack => add_track(memory, Some(item), "News"),
+        Act::MoveTrack => Ok(Body::MoveTrack {
+            track: item,
+            after: Some(item),
+        }),
+        Act::AddClip => Ok(Body::AddClip {
+            source: Digest([1; 32]),
+            track: item,
+            at: 1,
+            offset: 2,
+            len: 3,
+        }),
+        Act::MoveClip => Ok(Body::MoveClip {
+            clip: item,
+            track: item,
+            at: 1,
+        }),
+        Act::TrimClip => Ok(Body::TrimClip {
+            clip: item,
+            offset: 2,
+            len: 3,
+        }),
+        Act::SetGain => Ok(Body::SetGain {
+            item,
+            gain: Gain::UNCHANGED,
+        }),
+        Act::SetMute => Ok(Body::SetMute { item, on: true }),
+        Act::Remove => remove(memory, item, &[item]),
+        Act::Restore => Ok(Body::Restore { item }),
+        Act::AddMarker => add_marker(memory, 1, "News"),
+        Act::MoveMarker => Ok(Body::MoveMarker {
+            marker: item,
+            at: 1,
+        }),
+        Act::Retitle => retitle(memory, item, "News"),
+    }
+}
+
+/// A body of each act.
+pub fn twelve<M: Allocator + Copy>(memory: M, item: Stamp) -> Result<Vec<Body<M>, M>, Fail> {
+    let mut bodies = Vec::new(memory);
+    for act in ACTS {
+        bodies.push(body_of(memory, act, item)?)?;
+    }
     Ok(bodies)
-}
-
-fn push_acts_on_tracks_and_clips<M: Allocator>(
-    bodies: &mut Vec<Body<M>, M>,
-    memory: M,
-    item: Stamp,
-) -> Result<(), Fail> {
-    bodies.push(add_track(memory, Some(item), "News")?)?;
-    bodies.push(Body::MoveTrack {
-        track: item,
-        after: Some(item),
-    })?;
-    bodies.push(Body::AddClip {
-        source: Digest([1; 32]),
-        track: item,
-        at: 1,
-        offset: 2,
-        len: 3,
-    })?;
-    bodies.push(Body::MoveClip {
-        clip: item,
-        track: item,
-        at: 1,
-    })?;
-    bodies.push(Body::TrimClip {
-        clip: item,
-        offset: 2,
-        len: 3,
-    })?;
-    Ok(())
-}
-
-fn push_acts_on_items_and_markers<M: Allocator + Clone>(
-    bodies: &mut Vec<Body<M>, M>,
-    memory: M,
-    item: Stamp,
-) -> Result<(), Fail> {
-    bodies.push(Body::SetGain {
-        item,
-        gain: Gain::UNCHANGED,
-    })?;
-    bodies.push(Body::SetMute { item, on: true })?;
-    bodies.push(remove(memory.clone()?, item, &[item])?)?;
-    bodies.push(Body::Restore { item })?;
-    bodies.push(add_marker(memory.clone()?, 1, "News")?)?;
-    bodies.push(Body::MoveMarker {
-        marker: item,
-        at: 1,
-    })?;
-    bodies.push(retitle(memory, item, "News")?)?;
-    Ok(())
 }

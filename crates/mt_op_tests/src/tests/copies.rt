@@ -1,7 +1,7 @@
 //! Copies of bodies and operations, and which bodies are equal.
 
-use super::bodies::{add_marker, add_track, remove, retitle, twelve};
-use super::{A, B};
+use super::bodies::{add_track, remove, retitle, twelve};
+use super::{A, B, marker_op, wanted_after};
 use mt_op::laws::{equal_bodies, equal_ops};
 use mt_op::{Body, Op, OpFault};
 use mt_stamp::Stamp;
@@ -46,26 +46,28 @@ fn first_mistaken_op<M: Allocator + Clone>(
     Ok(None)
 }
 
-fn marker_op<M: Allocator>(memory: M, stamp: Stamp, title: &str) -> Result<Op<M>, OpFault> {
-    Op::new(stamp, add_marker(memory, 7, title)?)
+fn retitle_op<M: Allocator>(memory: M, own: Stamp, item: Stamp) -> Result<Op<M>, OpFault> {
+    Op::new(own, retitle(memory, item, "News")?)
 }
 
 // Operations of which no two are equal.
-fn four_ops<M: Allocator + Copy>(memory: M) -> Result<Vec<Op<M>, M>, Fail> {
-    let first = Stamp::new(1, B, 1)?;
-    let second = Stamp::new(2, A, 1)?;
+fn four_ops<M: Allocator + Copy>(
+    memory: M,
+    first: Stamp,
+    second: Stamp,
+) -> Result<Vec<Op<M>, M>, Fail> {
     let mut ops = Vec::new(memory);
     for (stamp, title) in [(first, "News"), (first, "Sport"), (second, "News")] {
         ops.push(marker_op(memory, stamp, title)?)?;
     }
-    ops.push(Op::new(second, retitle(memory, first, "News")?)?)?;
+    ops.push(retitle_op(memory, second, first)?)?;
     Ok(ops)
 }
 
 #[test]
 fn copies_operations(rt: HostRuntime) -> Result<(), Fail> {
-    let ops = four_ops(rt.alloc())?;
-    assert!(rt; first_mistaken_op(&ops)?.is_none());
+    let ops = four_ops(rt.alloc(), Stamp::new(1, B, 1)?, Stamp::new(2, A, 1)?)?;
+    assert_eq!(rt; first_mistaken_op(&ops)?, None);
     Ok(())
 }
 
@@ -73,23 +75,37 @@ fn track_op<M: Allocator>(memory: M, stamp: Stamp) -> Result<Op<M>, OpFault> {
     Op::new(stamp, add_track(memory, None, "News")?)
 }
 
+// Whether two tracks have equal bodies, and whether they are equal.
+fn are_equal<M: Allocator + Copy>(
+    memory: M,
+    first: Stamp,
+    second: Stamp,
+) -> Result<(bool, bool), OpFault> {
+    let first = track_op(memory, first)?;
+    let second = track_op(memory, second)?;
+    Ok((first.body() == second.body(), first == second))
+}
+
 #[test]
 fn compares_bodies_without_their_stamps(rt: HostRuntime) -> Result<(), Fail> {
-    let first = track_op(rt.alloc(), Stamp::new(1, B, 1)?)?;
-    let second = track_op(rt.alloc(), Stamp::new(2, A, 1)?)?;
-    assert!(rt; first.body() == second.body());
-    assert!(rt; first != second);
+    let first = Stamp::new(1, B, 1)?;
+    let second = Stamp::new(2, A, 1)?;
+    assert_eq!(rt; are_equal(rt.alloc(), first, second), Ok((true, false)));
     Ok(())
 }
 
-// Whether an operation with a Remove of one tag copies as itself.
-fn copies_a_list_of_an_operation<M: Allocator + Clone>(
+// Whether an operation is as its copy.
+fn is_copied<M: Allocator + Clone>(op: &Op<M>) -> Result<bool, OpFault> {
+    Ok(op.try_clone()? == *op)
+}
+
+// Whether an operation with a Remove of one tag is.
+fn copies_a_list<M: Allocator + Clone>(
     memory: M,
     own: Stamp,
     item: Stamp,
 ) -> Result<bool, OpFault> {
-    let op = Op::new(own, remove(memory, item, &[item])?)?;
-    Ok(op.try_clone()? == op)
+    is_copied(&Op::new(own, remove(memory, item, &[item])?)?)
 }
 
 #[test]
@@ -98,26 +114,15 @@ fn refuses_the_growth_of_a_list_copied_with_its_operation(rt: HostRuntime) -> Re
     let own = Stamp::new(2, B, 1)?;
     for at in 0..3 {
         let memory = Refusing::new(rt.alloc(), at);
-        let wanted = if at < 2 {
-            Err(OpFault::Memory)
-        } else {
-            Ok(true)
-        };
-        assert_eq!(rt;
-            copies_a_list_of_an_operation(&memory, own, item),
-            wanted,
-            "at {at}"
-        );
+        let copied = copies_a_list(&memory, own, item);
+        assert_eq!(rt; copied, wanted_after(2, at), "at {at}");
     }
     Ok(())
 }
 
-fn copies_a_track_of_an_operation<M: Allocator + Clone>(
-    memory: M,
-    own: Stamp,
-) -> Result<bool, OpFault> {
-    let op = Op::new(own, add_track(memory, None, "News")?)?;
-    Ok(op.try_clone()? == op)
+// Whether an operation with a track is.
+fn copies_a_track<M: Allocator + Clone>(memory: M, own: Stamp) -> Result<bool, OpFault> {
+    is_copied(&track_op(memory, own)?)
 }
 
 #[test]
@@ -125,14 +130,9 @@ fn refuses_the_growth_of_a_track_copied_with_its_operation(rt: HostRuntime) -> R
     let own = Stamp::new(2, B, 1)?;
     for at in 0..3 {
         let memory = Refusing::new(rt.alloc(), at);
-        let wanted = if at < 2 {
-            Err(OpFault::Memory)
-        } else {
-            Ok(true)
-        };
         assert_eq!(rt;
-            copies_a_track_of_an_operation(&memory, own),
-            wanted,
+            copies_a_track(&memory, own),
+            wanted_after(2, at),
             "at {at}"
         );
     }

@@ -1,10 +1,10 @@
 //! Which bodies `Op::new` refuses, and for what.
 
-use super::bodies::{add_track, remove, retitle, twelve};
+use super::bodies::{ACTS, Act, add_track, body_of, remove, retitle};
 use super::{A, B};
 use mt_op::{Body, Digest, Gain, Need, Op, OpFault, Role};
 use mt_stamp::Stamp;
-use std::alloc::Allocator;
+use std::alloc::{Allocator, Global};
 use std::test::Fail;
 
 fn add_clip<M: Allocator>(_memory: M, track: Stamp, len: u32) -> Body<M> {
@@ -25,112 +25,166 @@ fn trim_clip<M: Allocator>(_memory: M, clip: Stamp, len: u32) -> Body<M> {
     }
 }
 
-// Bodies that name `name` at one place, and nothing or `old` at the others.
-fn on_tracks_and_clips<M: Allocator + Copy>(
+// Why an operation of this body is refused, if it is.
+fn refusal<M: Allocator>(own: Stamp, body: Body<M>) -> Option<OpFault> {
+    Op::new(own, body).err()
+}
+
+// A body of an act on tracks or clips that names `name` at one place, and nothing or `old` at the others.
+fn on_tracks_and_clips<M: Allocator>(
     memory: M,
+    number: u8,
     old: Stamp,
     name: Stamp,
-) -> Result<[Body<M>; 8], OpFault> {
-    Ok([
-        add_track(memory, Some(name), "News")?,
-        Body::MoveTrack {
+) -> Result<Body<M>, OpFault> {
+    match number {
+        0 => add_track(memory, Some(name), "News"),
+        1 => Ok(Body::MoveTrack {
             track: name,
             after: None,
-        },
-        Body::MoveTrack {
+        }),
+        2 => Ok(Body::MoveTrack {
             track: name,
             after: Some(old),
-        },
-        Body::MoveTrack {
+        }),
+        3 => Ok(Body::MoveTrack {
             track: old,
             after: Some(name),
-        },
-        add_clip(memory, name, 1),
-        Body::MoveClip {
+        }),
+        4 => Ok(add_clip(memory, name, 1)),
+        5 => Ok(Body::MoveClip {
             clip: name,
             track: old,
             at: 1,
-        },
-        Body::MoveClip {
+        }),
+        6 => Ok(Body::MoveClip {
             clip: old,
             track: name,
             at: 1,
-        },
-        trim_clip(memory, name, 1),
-    ])
+        }),
+        _ => Ok(trim_clip(memory, name, 1)),
+    }
 }
 
 // The same of the other acts.
-fn on_items<M: Allocator + Copy>(
+fn on_items<M: Allocator>(
     memory: M,
+    number: u8,
     old: Stamp,
     name: Stamp,
-) -> Result<Vec<Body<M>, M>, Fail> {
-    let mut bodies = Vec::new(memory);
-    bodies.push(Body::SetGain {
-        item: name,
-        gain: Gain::UNCHANGED,
-    })?;
-    bodies.push(Body::SetMute {
-        item: name,
-        on: true,
-    })?;
-    bodies.push(remove(memory, name, &[old])?)?;
-    bodies.push(remove(memory, old, &[old, name])?)?;
-    bodies.push(Body::Restore { item: name })?;
-    bodies.push(Body::MoveMarker {
-        marker: name,
-        at: 1,
-    })?;
-    bodies.push(retitle(memory, name, "News")?)?;
-    Ok(bodies)
+) -> Result<Body<M>, OpFault> {
+    match number {
+        0 => Ok(Body::SetGain {
+            item: name,
+            gain: Gain::UNCHANGED,
+        }),
+        1 => Ok(Body::SetMute {
+            item: name,
+            on: true,
+        }),
+        2 => remove(memory, name, &[old]),
+        3 => remove(memory, old, &[old, name]),
+        4 => Ok(Body::Restore { item: name }),
+        5 => Ok(Body::MoveMarker {
+            marker: name,
+            at: 1,
+        }),
+        _ => retitle(memory, name, "News"),
+    }
 }
 
-// The place of the first body that is not refused for its names at clock 1 and at clock 2, or is refused at clock 3.
-fn first_mistake<M: Allocator + Clone>(bodies: &[Body<M>]) -> Result<Option<usize>, Fail> {
-    for (i, body) in bodies.iter().enumerate() {
-        for clock in 1..4 {
-            let op = Op::new(Stamp::new(clock, A, clock)?, body.try_clone()?);
-            let wanted = if clock < 3 {
-                Some(OpFault::NameNotOlder)
-            } else {
-                None
-            };
-            if op.err() != wanted {
-                return Ok(Some(i));
-            }
+// Why an operation of such a body is refused, if it is.
+fn refusal_on_tracks_and_clips<M: Allocator>(
+    memory: M,
+    own: Stamp,
+    number: u8,
+    old: Stamp,
+    name: Stamp,
+) -> Result<Option<OpFault>, OpFault> {
+    Ok(refusal(own, on_tracks_and_clips(memory, number, old, name)?))
+}
+
+fn refusal_on_items<M: Allocator>(
+    memory: M,
+    own: Stamp,
+    number: u8,
+    old: Stamp,
+    name: Stamp,
+) -> Result<Option<OpFault>, OpFault> {
+    Ok(refusal(own, on_items(memory, number, old, name)?))
+}
+
+/// What a body that names the clock 2 is refused for, by its operation's clock.
+const BY_CLOCK: [(u64, Option<OpFault>); 3] = [
+    (1, Some(OpFault::NameNotOlder)),
+    (2, Some(OpFault::NameNotOlder)),
+    (3, None),
+];
+
+// refused_operations: names
+#[test]
+fn refuses_each_name_on_tracks_and_clips_that_is_as_old(rt: HostRuntime) -> Result<(), Fail> {
+    let old = Stamp::new(1, A, 1)?;
+    let name = Stamp::new(2, B, 1)?;
+    for (clock, wanted) in BY_CLOCK {
+        let own = Stamp::new(clock, A, clock)?;
+        for number in 0..8 {
+            let refused = refusal_on_tracks_and_clips(rt.alloc(), own, number, old, name);
+            assert_eq!(rt; refused, Ok(wanted), "{number} at {clock}");
         }
     }
-    Ok(None)
+    Ok(())
 }
 
 // refused_operations: names
 #[test]
-fn refuses_each_name_that_is_as_old(rt: HostRuntime) -> Result<(), Fail> {
+fn refuses_each_name_on_items_that_is_as_old(rt: HostRuntime) -> Result<(), Fail> {
     let old = Stamp::new(1, A, 1)?;
     let name = Stamp::new(2, B, 1)?;
-    let bodies = on_tracks_and_clips(rt.alloc(), old, name)?;
-    assert_eq!(rt; first_mistake(&bodies)?, None);
-    let bodies = on_items(rt.alloc(), old, name)?;
-    assert_eq!(rt; first_mistake(&bodies)?, None);
+    for (clock, wanted) in BY_CLOCK {
+        let own = Stamp::new(clock, A, clock)?;
+        for number in 0..7 {
+            let refused = refusal_on_items(rt.alloc(), own, number, old, name);
+            assert_eq!(rt; refused, Ok(wanted), "{number} at {clock}");
+        }
+    }
     Ok(())
+}
+
+// Whether a track may be added at the head by an operation of this stamp.
+fn may_be_first<M: Allocator>(memory: M, own: Stamp) -> Result<bool, OpFault> {
+    Ok(refusal(own, add_track(memory, None, "News")?).is_none())
+}
+
+// Whether an operation of this act may have the stamp that its body names.
+fn may_name_itself<M: Allocator>(memory: M, act: Act, own: Stamp) -> Result<bool, OpFault> {
+    Ok(refusal(own, body_of(memory, act, own)?).is_none())
 }
 
 #[test]
 fn names_nothing_in_a_marker_and_at_the_head(rt: HostRuntime) -> Result<(), Fail> {
     let first = Stamp::new(1, A, 1)?;
-    let head = add_track(rt.alloc(), None, "News")?;
-    assert!(rt; Op::new(first, head).is_ok());
-    for (i, body) in twelve(rt.alloc(), first)?.iter().enumerate() {
-        let op = Op::new(first, body.try_clone()?);
-        assert_eq!(rt; op.is_ok(), matches!(body, Body::AddMarker { .. }), "{i}");
+    assert_eq!(rt; may_be_first(rt.alloc(), first), Ok(true));
+    for act in ACTS {
+        let is_marker = act == Act::AddMarker;
+        assert_eq!(rt;
+            may_name_itself(rt.alloc(), act, first),
+            Ok(is_marker),
+            "{act:?}"
+        );
     }
     Ok(())
 }
 
-// Why an operation of this body is refused, if it is.
-fn refusal<M: Allocator>(own: Stamp, body: Body<M>) -> Option<OpFault> {
-    Op::new(own, body).err()
+// Why a trim to so many frames and an added clip of so many are refused, if they are.
+fn refusals_of_length(
+    alloc: Global,
+    own: Stamp,
+    name: Stamp,
+    len: u32,
+) -> (Option<OpFault>, Option<OpFault>) {
+    let trimmed = refusal(own, trim_clip(alloc, name, len));
+    (trimmed, refusal(own, add_clip(alloc, name, len)))
 }
 
 // refused_operations: lengths
@@ -145,27 +199,10 @@ fn refuses_clips_of_no_frame(rt: HostRuntime) -> Result<(), Fail> {
         (item, 1, None),
         (item, u32::MAX, None),
     ] {
-        assert_eq!(rt;
-            refusal(own, trim_clip(rt.alloc(), name, len)),
-            wanted,
-            "{len}"
-        );
-        assert_eq!(rt;
-            refusal(own, add_clip(rt.alloc(), name, len)),
-            wanted,
-            "{len}"
-        );
+        let refused = refusals_of_length(rt.alloc(), own, name, len);
+        assert_eq!(rt; refused, (wanted, wanted), "{len}");
     }
     Ok(())
-}
-
-// This many stamps of one replica, rising from clock 1.
-fn rising<M: Allocator>(memory: M, count: u64) -> Result<Vec<Stamp, M>, Fail> {
-    let mut tags = Vec::new(memory);
-    for i in 0..count {
-        tags.push(Stamp::new(i + 1, A, i + 1)?)?;
-    }
-    Ok(tags)
 }
 
 // Why a Remove that lists these tags is refused, if it is.
@@ -180,52 +217,80 @@ fn refusal_of<M: Allocator>(
 
 // refused_operations: tags
 #[test]
-fn refuses_tags_that_are_none_or_do_not_rise(rt: HostRuntime) -> Result<(), Fail> {
+fn refuses_tags_that_are_none_or_repeat(rt: HostRuntime) -> Result<(), Fail> {
+    let bad = Ok(Some(OpFault::BadTags));
     let own = Stamp::new(3, A, 3)?;
     let item = Stamp::new(1, A, 1)?;
-    let second = Stamp::new(2, A, 2)?;
-    let other = Stamp::new(2, B, 1)?;
-    let none = refusal_of(rt.alloc(), own, item, &[])?;
-    assert_eq!(rt; none, Some(OpFault::BadTags));
-    let twice = refusal_of(rt.alloc(), own, item, &[item, item])?;
-    assert_eq!(rt; twice, Some(OpFault::BadTags));
-    let falling = refusal_of(rt.alloc(), own, item, &[item, other, second])?;
-    assert_eq!(rt; falling, Some(OpFault::BadTags));
-    let young_tag = refusal_of(rt.alloc(), own, item, &[item, own])?;
-    assert_eq!(rt; young_tag, Some(OpFault::NameNotOlder));
-    let young_item = refusal_of(rt.alloc(), own, own, &[])?;
-    assert_eq!(rt; young_item, Some(OpFault::NameNotOlder));
-    let rising = refusal_of(rt.alloc(), own, item, &[item, second, other])?;
-    assert_eq!(rt; rising, None);
+    assert_eq!(rt; refusal_of(rt.alloc(), own, item, &[]), bad);
+    assert_eq!(rt; refusal_of(rt.alloc(), own, item, &[item, item]), bad);
     Ok(())
 }
 
-// A Remove that lists this many tags.
-fn removal_of<M: Allocator + Copy>(
+// refused_operations: tags
+#[test]
+fn refuses_tags_that_fall(rt: HostRuntime) -> Result<(), Fail> {
+    let own = Stamp::new(3, A, 3)?;
+    let item = Stamp::new(1, A, 1)?;
+    let low = Stamp::new(2, A, 2)?;
+    let high = Stamp::new(2, B, 1)?;
+    let falling = refusal_of(rt.alloc(), own, item, &[item, high, low]);
+    assert_eq!(rt; falling, Ok(Some(OpFault::BadTags)));
+    assert_eq!(rt;
+        refusal_of(rt.alloc(), own, item, &[item, low, high]),
+        Ok(None)
+    );
+    Ok(())
+}
+
+// refused_operations: tags
+#[test]
+fn refuses_names_before_tags(rt: HostRuntime) -> Result<(), Fail> {
+    let young = Ok(Some(OpFault::NameNotOlder));
+    let own = Stamp::new(3, A, 3)?;
+    let item = Stamp::new(1, A, 1)?;
+    assert_eq!(rt; refusal_of(rt.alloc(), own, item, &[item, own]), young);
+    assert_eq!(rt; refusal_of(rt.alloc(), own, own, &[]), young);
+    Ok(())
+}
+
+// This many stamps of one replica, rising from clock 1.
+fn rising<M: Allocator>(memory: M, count: u64) -> Result<Vec<Stamp, M>, Fail> {
+    let mut tags = Vec::new(memory);
+    for i in 0..count {
+        tags.push(Stamp::new(i + 1, A, i + 1)?)?;
+    }
+    Ok(tags)
+}
+
+// How many needs a Remove has that lists so many tags, and its last one, where nothing is after it.
+fn last_need<M: Allocator + Copy>(
     memory: M,
     own: Stamp,
     item: Stamp,
-    count: u64,
-) -> Result<Result<Op<M>, OpFault>, Fail> {
-    let tags = rising(memory, count)?;
-    Ok(Op::new(own, remove(memory, item, &tags)?))
+    tags: &[Stamp],
+) -> Result<(usize, Option<Need>, Option<Need>), OpFault> {
+    let op = Op::new(own, remove(memory, item, tags)?)?;
+    let count = op.need_count();
+    Ok((count, op.need(tags.len()), op.need(count)))
 }
 
 #[test]
 fn lists_at_most_65535_tags(rt: HostRuntime) -> Result<(), Fail> {
     let own = Stamp::new(70_000, B, 1)?;
     let item = Stamp::new(1, A, 1)?;
-    let too_many = removal_of(rt.alloc(), own, item, 65_536)?;
-    assert_eq!(rt; too_many.err(), Some(OpFault::BadTags));
-    let most = removal_of(rt.alloc(), own, item, 65_535)??;
-    assert_eq!(rt; most.need_count(), 65_536);
+    let last = Need {
+        stamp: Stamp::new(65_535, A, 65_535)?,
+        role: Role::TagOf(item),
+    };
+    let too_many = rising(rt.alloc(), 65_536)?;
     assert_eq!(rt;
-        most.need(65_535),
-        Some(Need {
-            stamp: Stamp::new(65_535, A, 65_535)?,
-            role: Role::TagOf(item)
-        })
+        refusal_of(rt.alloc(), own, item, &too_many),
+        Ok(Some(OpFault::BadTags))
     );
-    assert_eq!(rt; most.need(65_536), None);
+    let most = rising(rt.alloc(), 65_535)?;
+    assert_eq!(rt;
+        last_need(rt.alloc(), own, item, &most),
+        Ok((65_536, Some(last), None))
+    );
     Ok(())
 }

@@ -1,75 +1,77 @@
 //! In which roles operations may be named.
 
-use super::bodies::twelve;
+use super::bodies::{ACTS, Act, body_of};
 use super::{A, B};
-use mt_op::{Body, Op, Role};
+use mt_op::{Op, OpFault, Role};
 use mt_stamp::Stamp;
 use std::alloc::Allocator;
 use std::test::Fail;
 
-fn act_name<M: Allocator>(body: &Body<M>) -> &'static str {
-    match body {
-        Body::AddTrack { .. } => "AddTrack",
-        Body::MoveTrack { .. } => "MoveTrack",
-        Body::AddClip { .. } => "AddClip",
-        Body::MoveClip { .. } => "MoveClip",
-        Body::TrimClip { .. } => "TrimClip",
-        Body::SetGain { .. } => "SetGain",
-        Body::SetMute { .. } => "SetMute",
-        Body::Remove { .. } => "Remove",
-        Body::Restore { .. } => "Restore",
-        Body::AddMarker { .. } => "AddMarker",
-        Body::MoveMarker { .. } => "MoveMarker",
-        Body::Retitle { .. } => "Retitle",
-    }
-}
-
-// The names of the acts that fit a role, each after a space, where these bodies have the stamp `own`.
-fn fitting<M: Allocator + Clone>(
+// Whether an operation of an act fits a role, where it has the stamp `own`.
+fn fits<M: Allocator>(
     memory: M,
-    bodies: &[Body<M>],
+    act: Act,
+    item: Stamp,
     own: Stamp,
     role: Role,
-) -> Result<String<M>, Fail> {
-    let mut names = String::new(memory);
-    for body in bodies {
-        let op = Op::new(own, body.try_clone()?)?;
-        if op.fits(&role) {
-            names.push_str(" ")?;
-            names.push_str(act_name(body))?;
+) -> Result<bool, OpFault> {
+    Ok(Op::new(own, body_of(memory, act, item)?)?.fits(&role))
+}
+
+// The first act that fits a role and is none of these, or does not fit it and is one of them.
+fn first_mistake<M: Allocator + Copy>(
+    memory: M,
+    (item, own): (Stamp, Stamp),
+    role: Role,
+    fitting: &[Act],
+) -> Result<Option<Act>, OpFault> {
+    for act in ACTS {
+        if fits(memory, act, item, own, role)? != fitting.contains(&act) {
+            return Ok(Some(act));
         }
     }
-    Ok(names)
+    Ok(None)
 }
 
 #[test]
-fn fits_the_roles_of_the_table(rt: HostRuntime) -> Result<(), Fail> {
+fn fits_the_roles_of_tracks_clips_and_markers(rt: HostRuntime) -> Result<(), Fail> {
+    let stamps = (Stamp::new(3, A, 3)?, Stamp::new(5, A, 5)?);
+    for (role, acts) in [
+        (Role::Track, [Act::AddTrack, Act::AddTrack]),
+        (Role::Place, [Act::AddTrack, Act::MoveTrack]),
+        (Role::Clip, [Act::AddClip, Act::AddClip]),
+        (Role::Marker, [Act::AddMarker, Act::AddMarker]),
+        (Role::Mixable, [Act::AddTrack, Act::AddClip]),
+        (Role::Titled, [Act::AddTrack, Act::AddMarker]),
+    ] {
+        assert_eq!(rt;
+            first_mistake(rt.alloc(), stamps, role, &acts),
+            Ok(None),
+            "{role:?}"
+        );
+    }
+    Ok(())
+}
+
+const ITEMS: [Act; 3] = [Act::AddTrack, Act::AddClip, Act::AddMarker];
+
+#[test]
+fn fits_the_roles_of_items_and_tags(rt: HostRuntime) -> Result<(), Fail> {
     let item = Stamp::new(3, A, 3)?;
     let own = Stamp::new(5, A, 5)?;
-    let bodies = twelve(rt.alloc(), item)?;
-    for (role, acts) in [
-        (Role::Track, " AddTrack"),
-        (Role::Place, " AddTrack MoveTrack"),
-        (Role::Clip, " AddClip"),
-        (Role::Marker, " AddMarker"),
-        (Role::Mixable, " AddTrack AddClip"),
-        (Role::Titled, " AddTrack AddMarker"),
-        (Role::Item, " AddTrack AddClip AddMarker"),
-        (Role::TagOf(own), " AddTrack AddClip AddMarker"),
-        (Role::TagOf(item), " Restore"),
-    ] {
-        let names = fitting(rt.alloc(), &bodies, own, role)?;
-        assert_eq!(rt; names.as_str(), acts, "{role:?}");
+    for role in [Role::Item, Role::TagOf(own)] {
+        let mistake = first_mistake(rt.alloc(), (item, own), role, &ITEMS);
+        assert_eq!(rt; mistake, Ok(None), "{role:?}");
     }
+    let of_the_item = first_mistake(rt.alloc(), (item, own), Role::TagOf(item), &[Act::Restore]);
+    assert_eq!(rt; of_the_item, Ok(None));
     Ok(())
 }
 
 // Tags of stamps that differ from the item's or the operation's own in one part.
 #[test]
 fn fits_no_tag_of_another_stamp(rt: HostRuntime) -> Result<(), Fail> {
-    let item = Stamp::new(3, A, 3)?;
-    let own = Stamp::new(5, A, 5)?;
-    let bodies = twelve(rt.alloc(), item)?;
+    let stamps = (Stamp::new(3, A, 3)?, Stamp::new(5, A, 5)?);
     for (clock, replica, seq) in [
         (3, A, 5),
         (3, B, 3),
@@ -80,9 +82,9 @@ fn fits_no_tag_of_another_stamp(rt: HostRuntime) -> Result<(), Fail> {
         (6, A, 5),
         (5, A, 6),
     ] {
-        let other = Stamp::new(clock, replica, seq)?;
-        let names = fitting(rt.alloc(), &bodies, own, Role::TagOf(other))?;
-        assert_eq!(rt; names.as_str(), "", "{clock} {seq}");
+        let role = Role::TagOf(Stamp::new(clock, replica, seq)?);
+        let mistake = first_mistake(rt.alloc(), stamps, role, &[]);
+        assert_eq!(rt; mistake, Ok(None), "{clock} {seq}");
     }
     Ok(())
 }

@@ -3,9 +3,10 @@ use super::tracks_and_clips::{
     ADD_CLIP, ADD_TRACK, MOVE_CLIP, MOVE_TRACK, MUTE, SET_GAIN, TRIM_CLIP,
 };
 use super::{MOVE, NEWS, REMOVE, RESTORE, SPORT, text_of};
-use mt_opcodec::{Log, read_op};
+use mt_opcodec::{Log, LogFault, read_op};
 use mt_stamp::{Dot, Stamp};
 use mt_testkit::{A, marker};
+use std::alloc::{Allocator, Global};
 use std::test::Fail;
 
 /// The log of no operation.
@@ -15,46 +16,78 @@ const EMPTY: [u8; 45] = [
     0x85, 0xe1, 0x33, 0x6e, 0x1a, 0x3e, 0x85, 0x23, 0x51,
 ];
 
-/// The SHA-256 of the log of the one operation `NEWS`, up to the digest.
-const DIGEST: [u8; 32] = [
-    0x56, 0xbc, 0xa5, 0xd5, 0x94, 0x11, 0xf1, 0x8b, 0x25, 0xd0, 0x4b, 0x6a, 0xc5, 0xc7, 0x79, 0x3d,
-    0x90, 0x66, 0x2b, 0xb3, 0x7a, 0x2c, 0x84, 0x27, 0x2b, 0x33, 0x07, 0x4f, 0x78, 0x0e, 0x8f, 0x0c,
+/// The log of the one operation `NEWS`: 13 bytes, the operation, and the digest of both.
+const ONE_MARKER: [u8; 87] = [
+    0x52, 0x4d, 0x54, 0x53, 1, 0, 0, 0, 0, 0, 0, 0, 1, 0, 0, 0, 0, 0, 0, 0, 1, 0, 0, 0, 0, 0, 0, 0,
+    0, 0, 0, 0, 0, 0, 0, 0, 0x0a, 0, 0, 0, 0, 0, 0, 0, 1, 0x0a, 0, 0, 1, 0xe0, 4, 0x4e, 0x65, 0x77,
+    0x73, 0x56, 0xbc, 0xa5, 0xd5, 0x94, 0x11, 0xf1, 0x8b, 0x25, 0xd0, 0x4b, 0x6a, 0xc5, 0xc7, 0x79,
+    0x3d, 0x90, 0x66, 0x2b, 0xb3, 0x7a, 0x2c, 0x84, 0x27, 0x2b, 0x33, 7, 0x4f, 0x78, 0x0e, 0x8f,
+    0x0c,
 ];
 
 // empty_log
+fn writes_the_empty_log<M: Allocator + Clone>(memory: M) -> Result<bool, LogFault> {
+    Ok(Log::new(memory).write()?.as_slice() == EMPTY.as_slice())
+}
+
+// The length of a log that is read, whether it is empty, and whether its first place is.
+fn ends_of<M: Allocator + Clone>(memory: M, text: &[u8]) -> Result<(usize, bool, bool), LogFault> {
+    let log = Log::read(memory, text)?;
+    Ok((log.len(), log.is_empty(), log.op_at(0).is_none()))
+}
+
+// empty_log
 #[test]
-fn writes_and_reads_the_empty_log(rt: HostRuntime) -> Result<(), Fail> {
-    let log = Log::new(rt.alloc());
-    assert_eq!(rt; log.write()?.as_slice(), EMPTY.as_slice());
-    let log = Log::read(rt.alloc(), &EMPTY)?;
-    assert_eq!(rt; log.len(), 0);
-    assert!(rt; log.is_empty());
-    assert!(rt; log.op_at(0).is_none());
-    assert!(rt; log.is_empty());
-    Ok(())
+fn writes_and_reads_the_empty_log(rt: HostRuntime) {
+    assert_eq!(rt; writes_the_empty_log(rt.alloc()), Ok(true));
+    assert_eq!(rt; ends_of(rt.alloc(), &EMPTY), Ok((0, true, true)));
+    assert_eq!(rt; ends_of(rt.alloc(), &ONE_MARKER), Ok((1, false, false)));
+}
+
+// Whether a marker is added as new, and the log is then written as this text.
+fn is_written(alloc: Global, stamp: Stamp, text: &[u8]) -> Result<(bool, bool), Fail> {
+    let mut log = Log::new(alloc);
+    let is_new = log.add(marker(alloc, stamp, "News")?)?;
+    Ok((is_new, log.write()?.as_slice() == text))
+}
+
+// Whether a text is read as a log with this marker at its dot and at its first place, and with nothing at the next ones.
+fn is_read(alloc: Global, stamp: Stamp, text: &[u8]) -> Result<[bool; 4], Fail> {
+    let op = marker(alloc, stamp, "News")?;
+    let log = Log::read(alloc, text)?;
+    Ok([
+        log.get(&stamp.dot()) == Some(&op),
+        log.get(&Dot { replica: A, seq: 2 }).is_none(),
+        log.op_at(0) == Some(&op),
+        log.op_at(1).is_none(),
+    ])
 }
 
 // one_marker
 #[test]
 fn writes_and_reads_a_log_of_one_marker(rt: HostRuntime) -> Result<(), Fail> {
     let stamp = Stamp::new(1, A, 1)?;
-    let mut log = Log::new(rt.alloc());
-    assert!(rt; log.add(marker(rt.alloc(), stamp, "News")?)?);
-    let text = log.write()?;
-    let mut wanted = b"RMTS\x01\0\0\0\0\0\0\0\x01".to_vec(rt.alloc())?;
-    wanted.extend_from_slice(&NEWS)?;
-    wanted.extend_from_slice(&DIGEST)?;
-    assert_eq!(rt; text.len(), 87);
-    assert_eq!(rt; text.as_slice(), wanted.as_slice());
-    let op = marker(rt.alloc(), stamp, "News")?;
-    let log = Log::read(rt.alloc(), text.as_slice())?;
-    assert_eq!(rt; log.len(), 1);
-    assert!(rt; !log.is_empty());
-    assert!(rt; log.get(&stamp.dot()) == Some(&op));
-    assert!(rt; log.get(&Dot { replica: A, seq: 2 }).is_none());
-    assert!(rt; log.op_at(0) == Some(&op));
-    assert!(rt; log.op_at(1).is_none());
+    let (is_new, is_same) = is_written(rt.alloc(), stamp, &ONE_MARKER)?;
+    assert!(rt; is_new);
+    assert!(rt; is_same);
+    assert_eq!(rt; is_read(rt.alloc(), stamp, &ONE_MARKER)?, [true; 4]);
     Ok(())
+}
+
+// A log of the operations of these texts, the last one added first.
+fn log_of_texts(alloc: Global, texts: &[&[u8]]) -> Result<Log, Fail> {
+    let mut log = Log::new(alloc);
+    for text in texts.iter().rev() {
+        let _new = log.add(read_op(alloc, text)?.0)?;
+    }
+    Ok(log)
+}
+
+// Whether such a log is written as this text, and read from it.
+fn is_log_of_texts(alloc: Global, texts: &[&[u8]], wanted: &[u8]) -> Result<(bool, bool), Fail> {
+    let log = log_of_texts(alloc, texts)?;
+    let is_written = log.write()?.as_slice() == wanted;
+    Ok((is_written, Log::read(alloc, wanted)? == log))
 }
 
 // Their dots are (A, 1) to (A, 6), (B, 1) to (B, 5) and (C, 1).
@@ -76,14 +109,10 @@ fn writes_and_reads_a_log_of_each_body(rt: HostRuntime) -> Result<(), Fail> {
         SET_GAIN.as_slice(),
         sport.as_slice(),
     ];
-    let mut log = Log::new(rt.alloc());
-    for text in texts.iter().rev() {
-        assert!(rt; log.add(read_op(rt.alloc(), text)?.0)?);
-    }
     let wanted = text_of(rt.alloc(), 12, &texts)?;
-    assert_eq!(rt; log.write()?.as_slice(), wanted.as_slice());
-    let read = Log::read(rt.alloc(), wanted.as_slice())?;
-    assert_eq!(rt; read.len(), 12);
-    assert!(rt; read == log);
+    let (is_written, is_read) = is_log_of_texts(rt.alloc(), &texts, &wanted)?;
+    assert!(rt; is_written);
+    assert!(rt; is_read);
+    assert_eq!(rt; ends_of(rt.alloc(), &wanted)?, (12, false, false));
     Ok(())
 }

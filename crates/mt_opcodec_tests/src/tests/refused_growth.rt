@@ -3,20 +3,21 @@ use super::tracks_and_clips::ADD_TRACK;
 use super::{NEWS, text_of};
 use mt_op::{Op, OpFault};
 use mt_opcodec::{Log, LogFault, ReadFault, read_op, write_op};
-use mt_stamp::Stamp;
+use mt_stamp::{Stamp, StampFault};
 use mt_testkit::{A, Refusing, marker, removal};
-use std::alloc::{Allocator, Global};
+use std::alloc::{AllocError, Allocator, Global};
 use std::test::Fail;
 
 /// How many operations the logs have: enough that the vector of them grows more than once.
 const MANY: u64 = 10;
 
-// Whether an operation is written behind other bytes as this text; None where it is refused, and those bytes are as they were.
-fn is_written<M: Allocator + Clone, N: Allocator>(
+// How an operation is written behind other bytes: whether as this text, or None where it is refused and those bytes are as
+// they were.
+fn written_as<M: Allocator + Clone, N: Allocator>(
     memory: M,
     op: &Op<N>,
     text: &[u8],
-) -> Result<Option<bool>, Fail> {
+) -> Result<Option<bool>, AllocError> {
     let mut out = b"before".to_vec(memory)?;
     match write_op(op, &mut out) {
         Ok(()) => Ok(Some(out.strip_prefix(b"before") == Some(text))),
@@ -25,36 +26,35 @@ fn is_written<M: Allocator + Clone, N: Allocator>(
     }
 }
 
-// Writes an operation with each growth refused in turn but for the first, of the bytes before it, and gives how many were.
-fn refusals_of_writing<N: Allocator>(alloc: Global, op: &Op<N>, text: &[u8]) -> Result<u64, Fail> {
-    for at in 1..50 {
-        let memory = Refusing::new(alloc, at);
-        match is_written(&memory, op, text)? {
-            Some(true) if !memory.has_refused() => return Ok(at - 1),
-            None if memory.has_refused() => {}
-            _ => return Err(Fail::from("other bytes were written")),
+// The same of the operation that a text is read as.
+fn written_again(
+    alloc: Global,
+    memory: &Refusing<Global>,
+    text: &[u8],
+) -> Result<Option<bool>, Fail> {
+    Ok(written_as(memory, &read_op(alloc, text)?.0, text)?)
+}
+
+// The growth number 0 is of the bytes before the operation.
+#[test]
+fn of_written_operations(rt: HostRuntime) -> Result<(), Fail> {
+    let removal = removal_of_ten(rt.alloc())?;
+    for (text, least) in [
+        (NEWS.as_slice(), 3),
+        (ADD_TRACK.as_slice(), 3),
+        (removal.as_slice(), 4),
+    ] {
+        let granted = Refusing::new(rt.alloc(), u64::MAX);
+        assert_eq!(rt; written_again(rt.alloc(), &granted, text)?, Some(true));
+        assert!(rt;
+            granted.allocations() >= least,
+            "several growths are refused"
+        );
+        for at in 1..granted.allocations() {
+            let memory = Refusing::new(rt.alloc(), at);
+            assert_eq!(rt; written_again(rt.alloc(), &memory, text)?, None, "at {at}");
         }
     }
-    Err(Fail::from("each run met a refusal"))
-}
-
-#[test]
-fn of_a_written_operation(rt: HostRuntime) -> Result<(), Fail> {
-    let op = marker(rt.alloc(), Stamp::new(1, A, 1)?, "News")?;
-    assert!(rt;
-        refusals_of_writing(rt.alloc(), &op, &NEWS)? > 1,
-        "several growths were refused"
-    );
-    Ok(())
-}
-
-#[test]
-fn of_a_written_track(rt: HostRuntime) -> Result<(), Fail> {
-    let (op, _) = read_op(rt.alloc(), &ADD_TRACK)?;
-    assert!(rt;
-        refusals_of_writing(rt.alloc(), &op, &ADD_TRACK)? > 1,
-        "several growths were refused"
-    );
     Ok(())
 }
 
@@ -62,65 +62,44 @@ fn read_len<M: Allocator + Clone>(memory: M, bytes: &[u8]) -> Result<usize, Read
     Ok(read_op(memory, bytes)?.1)
 }
 
-// Reads an operation with each growth refused in turn, and gives how many were.
-fn refusals_of_reading(alloc: Global, bytes: &[u8]) -> Result<u64, Fail> {
-    for at in 0..50 {
-        let memory = Refusing::new(alloc, at);
-        match read_len(&memory, bytes) {
-            Ok(len) if len == bytes.len() && !memory.has_refused() => return Ok(at),
-            Err(ReadFault::Memory) if memory.has_refused() => {}
-            _ => return Err(Fail::from("another length or refusal")),
+#[test]
+fn of_operations_that_are_read(rt: HostRuntime) -> Result<(), Fail> {
+    let removal = removal_of_ten(rt.alloc())?;
+    for (text, len, least) in [
+        (NEWS.as_slice(), 42, 1),
+        (ADD_TRACK.as_slice(), 71, 1),
+        (removal.as_slice(), 387, 3),
+    ] {
+        let granted = Refusing::new(rt.alloc(), u64::MAX);
+        assert_eq!(rt; read_len(&granted, text), Ok(len));
+        assert!(rt;
+            granted.allocations() >= least,
+            "the title or the tags are refused memory"
+        );
+        for at in 0..granted.allocations() {
+            let memory = Refusing::new(rt.alloc(), at);
+            assert_eq!(rt; read_len(&memory, text), Err(ReadFault::Memory), "at {at}");
         }
     }
-    Err(Fail::from("each run met a refusal"))
-}
-
-#[test]
-fn of_an_operation_that_is_read(rt: HostRuntime) -> Result<(), Fail> {
-    assert!(rt;
-        refusals_of_reading(rt.alloc(), &NEWS)? > 0,
-        "the title was refused memory"
-    );
-    assert!(rt;
-        refusals_of_reading(rt.alloc(), &ADD_TRACK)? > 0,
-        "the title was refused memory"
-    );
     Ok(())
 }
 
-/// A Remove of ten tags.
-fn removal_of_ten<M: Allocator>(memory: M) -> Result<Op<M>, Fail> {
-    let first = Stamp::new(1, A, 1)?;
-    let mut tags = [first; 10];
+/// The stamps of one replica from clock 1 on.
+fn ten_stamps() -> Result<[Stamp; 10], StampFault> {
+    let mut stamps = [Stamp::new(1, A, 1)?; 10];
     for clock in 1..10 {
-        tags[clock as usize] = Stamp::new(clock + 1, A, clock + 1)?;
+        stamps[clock as usize] = Stamp::new(clock + 1, A, clock + 1)?;
     }
-    Ok(removal(memory, Stamp::new(11, A, 11)?, first, &tags)?)
+    Ok(stamps)
 }
 
-#[test]
-fn of_a_written_removal(rt: HostRuntime) -> Result<(), Fail> {
-    let op = removal_of_ten(rt.alloc())?;
-    let mut text = Vec::new(rt.alloc());
+/// The text of a Remove of ten tags.
+fn removal_of_ten<M: Allocator + Copy>(memory: M) -> Result<Vec<u8, M>, Fail> {
+    let tags = ten_stamps()?;
+    let op = removal(memory, Stamp::new(11, A, 11)?, tags[0], &tags)?;
+    let mut text = Vec::new(memory);
     write_op(&op, &mut text)?;
-    assert!(rt;
-        refusals_of_writing(rt.alloc(), &op, &text)? > 2,
-        "several growths were refused"
-    );
-    Ok(())
-}
-
-#[test]
-fn of_a_removal_that_is_read(rt: HostRuntime) -> Result<(), Fail> {
-    let op = removal_of_ten(rt.alloc())?;
-    let mut text = Vec::new(rt.alloc());
-    write_op(&op, &mut text)?;
-    assert_eq!(rt; text.len(), 387);
-    assert!(rt;
-        refusals_of_reading(rt.alloc(), &text)? > 2,
-        "each growth of the tags was refused memory"
-    );
-    Ok(())
+    Ok(text)
 }
 
 /// A marker with this number. `Trailing` stands for what no marker here is refused as.
@@ -141,138 +120,121 @@ fn fill<M: Allocator + Copy>(log: &mut Log<M>, memory: M) -> Result<(), LogFault
     Ok(())
 }
 
-// How many operations a log has once it was filled, and, where that was refused, once it was filled again.
+// The first refusal where a log is filled, whether operations are then missing, and how many there are once it was filled
+// again where it was refused.
 fn filled_twice<M: Allocator + Copy>(
     memory: M,
-) -> Result<(Result<(), LogFault>, usize, usize), LogFault> {
+) -> Result<(Result<(), LogFault>, bool, usize), LogFault> {
     let mut log = Log::new(memory);
     let filled = fill(&mut log, memory);
-    let before = log.len();
+    let are_missing = log.len() < 10;
     if filled.is_err() {
         fill(&mut log, memory)?;
     }
-    Ok((filled, before, log.len()))
+    Ok((filled, are_missing, log.len()))
 }
 
 #[test]
-fn of_a_log_that_grows(rt: HostRuntime) -> Result<(), Fail> {
-    for at in 0..50 {
+fn of_a_log_that_grows(rt: HostRuntime) {
+    let granted = Refusing::new(rt.alloc(), u64::MAX);
+    assert_eq!(rt; filled_twice(&granted), Ok((Ok(()), false, 10)));
+    assert!(rt;
+        granted.allocations() > 11,
+        "titles and the log are refused memory"
+    );
+    for at in 0..granted.allocations() {
         let memory = Refusing::new(rt.alloc(), at);
-        let (filled, before, after) = filled_twice(&memory)?;
-        assert_eq!(rt; after, 10, "after the refusal at {at}");
-        if filled.is_ok() {
-            assert_eq!(rt; before, 10);
-            assert!(rt; at > 11, "titles and the log were refused memory");
-            return Ok(());
-        }
-        assert_eq!(rt; filled, Err(LogFault::Memory), "at {at}");
-        assert!(rt; before < 10 && memory.has_refused(), "at {at}");
+        assert_eq!(rt;
+            filled_twice(&memory),
+            Ok((Err(LogFault::Memory), true, 10)),
+            "at {at}"
+        );
     }
-    Err(Fail::from("each run met a refusal"))
 }
 
-// Whether a log that was filled is written as this text.
-fn is_written_log<M: Allocator + Copy>(memory: M, text: &[u8]) -> Result<bool, LogFault> {
+fn filled<M: Allocator + Copy>(memory: M) -> Result<Log<M>, LogFault> {
     let mut log = Log::new(memory);
     fill(&mut log, memory)?;
-    Ok(log.write()?.as_slice() == text)
-}
-
-#[test]
-fn of_a_written_log(rt: HostRuntime) -> Result<(), Fail> {
-    let text = text_of_many(rt.alloc())?;
-    for at in 0..50 {
-        let memory = Refusing::new(rt.alloc(), at);
-        let written = is_written_log(&memory, &text);
-        assert_eq!(rt; written.is_err(), memory.has_refused(), "at {at}");
-        if !memory.has_refused() {
-            assert_eq!(rt; written, Ok(true));
-            assert!(rt; at > 13, "titles, the log and its text were refused memory");
-            return Ok(());
-        }
-        assert_eq!(rt; written, Err(LogFault::Memory), "at {at}");
-    }
-    Err(Fail::from("each run met a refusal"))
-}
-
-/// A log of `MANY` markers, and one of a further one.
-fn two_logs<M: Allocator + Copy>(memory: M) -> Result<(Log<M>, Log<M>), LogFault> {
-    let mut many = Log::new(memory);
-    fill(&mut many, memory)?;
-    let mut one = Log::new(memory);
-    let _new = one.add(numbered(memory, MANY + 1)?)?;
-    Ok((many, one))
-}
-
-fn merged_len<M: Allocator + Copy>(memory: M) -> Result<usize, LogFault> {
-    let (many, one) = two_logs(memory)?;
-    Ok(Log::merge(memory, &many, &one)?.len())
-}
-
-#[test]
-fn of_merged_logs(rt: HostRuntime) -> Result<(), Fail> {
-    for at in 0..100 {
-        let memory = Refusing::new(rt.alloc(), at);
-        let merged = merged_len(&memory);
-        assert_eq!(rt; merged.is_err(), memory.has_refused(), "at {at}");
-        if !memory.has_refused() {
-            assert_eq!(rt; merged, Ok(11));
-            assert!(rt; at > 25, "titles and the logs were refused memory");
-            return Ok(());
-        }
-        assert_eq!(rt; merged, Err(LogFault::Memory), "at {at}");
-    }
-    Err(Fail::from("each run met a refusal"))
-}
-
-// Whether the copy of a log that was filled is that log.
-fn copies_a_log<M: Allocator + Copy>(memory: M) -> Result<bool, LogFault> {
-    let mut log = Log::new(memory);
-    fill(&mut log, memory)?;
-    Ok(log.try_clone()? == log)
-}
-
-#[test]
-fn of_a_copied_log(rt: HostRuntime) -> Result<(), Fail> {
-    for at in 0..100 {
-        let memory = Refusing::new(rt.alloc(), at);
-        let copied = copies_a_log(&memory);
-        assert_eq!(rt; copied.is_err(), memory.has_refused(), "at {at}");
-        if !memory.has_refused() {
-            assert_eq!(rt; copied, Ok(true));
-            assert!(rt; at > 23, "titles and the logs were refused memory");
-            return Ok(());
-        }
-        assert_eq!(rt; copied, Err(LogFault::Memory), "at {at}");
-    }
-    Err(Fail::from("each run met a refusal"))
+    Ok(log)
 }
 
 fn text_of_many<M: Allocator + Copy>(memory: M) -> Result<Vec<u8, M>, LogFault> {
-    let mut log = Log::new(memory);
-    fill(&mut log, memory)?;
-    log.write()
+    filled(memory)?.write()
 }
 
-fn count_of<M: Allocator + Clone>(memory: M, text: &[u8]) -> Result<usize, LogFault> {
-    Ok(Log::read(memory, text)?.len())
-}
-
-#[test]
-fn of_a_log_that_is_read(rt: HostRuntime) -> Result<(), Fail> {
-    let text = text_of_many(rt.alloc())?;
-    for at in 0..50 {
-        let memory = Refusing::new(rt.alloc(), at);
-        let read = count_of(&memory, &text);
-        assert_eq!(rt; read.is_err(), memory.has_refused(), "at {at}");
-        if !memory.has_refused() {
-            assert_eq!(rt; read, Ok(10));
-            assert!(rt; at > 11, "titles and the log were refused memory");
-            return Ok(());
-        }
-        assert_eq!(rt; read, Err(LogFault::Memory), "at {at}");
+// How many bytes the text of a log has, where it is this one.
+fn written_len<M: Allocator + Copy>(memory: M, text: &[u8]) -> Result<usize, LogFault> {
+    let written = text_of_many(memory)?;
+    if written.as_slice() == text {
+        Ok(written.len())
+    } else {
+        Ok(0)
     }
-    Err(Fail::from("each run met a refusal"))
+}
+
+// How many operations a log of `MANY` and one of a further one have together.
+fn merged_len<M: Allocator + Copy>(memory: M) -> Result<usize, LogFault> {
+    let many = filled(memory)?;
+    let mut one = Log::new(memory);
+    let _new = one.add(numbered(memory, MANY + 1)?)?;
+    Ok(Log::merge(memory, &many, &one)?.len())
+}
+
+// How many operations the copy of a log has, where it is that log.
+fn copied_len<M: Allocator + Copy>(memory: M) -> Result<usize, LogFault> {
+    let log = filled(memory)?;
+    let copy = log.try_clone()?;
+    if copy == log { Ok(copy.len()) } else { Ok(0) }
+}
+
+/// What takes memory for a log.
+#[derive(Clone, Copy, Debug)]
+enum Work {
+    Write,
+    Merge,
+    Copy,
+    Read,
+}
+
+// How many bytes or operations it comes to. The text is that of `MANY` operations.
+fn size_of<M: Allocator + Copy>(memory: M, work: Work, text: &[u8]) -> Result<usize, LogFault> {
+    match work {
+        Work::Write => written_len(memory, text),
+        Work::Merge => merged_len(memory),
+        Work::Copy => copied_len(memory),
+        Work::Read => Ok(Log::read(memory, text)?.len()),
+    }
+}
+
+// How often memory is asked for, where this comes to that size and each growth is refused as that.
+fn refusals(alloc: Global, work: Work, text: &[u8], size: usize) -> Option<u64> {
+    let granted = Refusing::new(alloc, u64::MAX);
+    if size_of(&granted, work, text) != Ok(size) {
+        return None;
+    }
+    for at in 0..granted.allocations() {
+        let memory = Refusing::new(alloc, at);
+        if size_of(&memory, work, text) != Err(LogFault::Memory) {
+            return None;
+        }
+    }
+    Some(granted.allocations())
+}
+
+// Of titles, of the logs and of their texts.
+#[test]
+fn of_logs(rt: HostRuntime) -> Result<(), Fail> {
+    let text = text_of_many(rt.alloc())?;
+    for (work, size, least) in [
+        (Work::Write, 465, 14),
+        (Work::Merge, 11, 26),
+        (Work::Copy, 10, 24),
+        (Work::Read, 10, 12),
+    ] {
+        let refused = refusals(rt.alloc(), work, &text, size);
+        assert!(rt; refused >= Some(least), "{work:?}");
+    }
+    Ok(())
 }
 
 /// A count that no log can have is no reason to ask for memory.

@@ -1,32 +1,36 @@
 //! Logs as runs: what adding, joining and walking them leave.
-use mt_op::Op;
+use mt_op::{Op, OpFault};
 use mt_opcodec::{Log, LogFault};
 use mt_stamp::{Dot, Replica, Stamp};
 use mt_testkit::{A, B, Refusing, marker};
 use std::alloc::{Allocator, Global};
-use std::test::Fail;
 
 /// A replica between the two others' neighbours.
 const C: Replica = Replica(12);
 
-/// A marker of this dot at a clock that follows its number.
-fn op_of<M: Allocator>(memory: M, replica: Replica, seq: u64) -> Result<Op<M>, LogFault> {
-    let stamp = Stamp::new(seq, replica, seq).map_err(|_| LogFault::Trailing)?;
+/// A marker of this dot at this clock. `Trailing` stands for what no marker here is refused as.
+fn op_at<M: Allocator>(
+    memory: M,
+    clock: u64,
+    replica: Replica,
+    seq: u64,
+) -> Result<Op<M>, LogFault> {
+    let stamp = Stamp::new(clock, replica, seq).map_err(|_| LogFault::Trailing)?;
     match marker(memory, stamp, "News") {
         Ok(op) => Ok(op),
-        Err(mt_op::OpFault::Memory) => Err(LogFault::Memory),
+        Err(OpFault::Memory) => Err(LogFault::Memory),
         Err(_) => Err(LogFault::Trailing),
     }
 }
 
+/// A marker of this dot at a clock that follows its number.
+fn op_of<M: Allocator>(memory: M, replica: Replica, seq: u64) -> Result<Op<M>, LogFault> {
+    op_at(memory, seq, replica, seq)
+}
+
 /// Another operation of that dot.
 fn other_of<M: Allocator>(memory: M, replica: Replica, seq: u64) -> Result<Op<M>, LogFault> {
-    let stamp = Stamp::new(seq.saturating_add(1), replica, seq).map_err(|_| LogFault::Trailing)?;
-    match marker(memory, stamp, "News") {
-        Ok(op) => Ok(op),
-        Err(mt_op::OpFault::Memory) => Err(LogFault::Memory),
-        Err(_) => Err(LogFault::Trailing),
-    }
+    op_at(memory, seq.saturating_add(1), replica, seq)
 }
 
 /// A log of these dots, added in this order.
@@ -50,6 +54,47 @@ fn has_dots<M: Allocator>(log: &Log<M>, dots: &[(Replica, u64)]) -> bool {
     log.len() == dots.len() && log.op_at(dots.len()).is_none()
 }
 
+const ADDED: [(Replica, u64); 7] = [(B, 2), (B, 1), (C, 1), (A, 3), (B, 4), (A, 1), (B, 3)];
+
+const RISING: [(Replica, u64); 7] = [(A, 1), (A, 3), (B, 1), (B, 2), (B, 3), (B, 4), (C, 1)];
+
+// Whether these dots are kept as those, and in how many runs.
+fn are_kept_as(
+    alloc: Global,
+    added: &[(Replica, u64)],
+    dots: &[(Replica, u64)],
+) -> Result<(bool, usize), LogFault> {
+    let log = log_with(alloc, added)?;
+    Ok((has_dots(&log, dots), log.runs().len()))
+}
+
+// What is answered where an operation is there, and where another one of its dot is, and how many there then are.
+fn answers(
+    alloc: Global,
+    dots: &[(Replica, u64)],
+) -> Result<(Result<bool, LogFault>, Result<bool, LogFault>, usize), LogFault> {
+    let mut log = log_with(alloc, dots)?;
+    let again = log.add(op_of(alloc, B, 3)?);
+    let other = log.add(other_of(alloc, B, 4)?);
+    Ok((again, other, log.len()))
+}
+
+#[test]
+fn adds_before_between_and_after(rt: HostRuntime) {
+    assert_eq!(rt; are_kept_as(rt.alloc(), &ADDED, &RISING), Ok((true, 3)));
+    let conflict = Err(LogFault::Conflict(Dot { replica: B, seq: 4 }));
+    assert_eq!(rt; answers(rt.alloc(), &ADDED), Ok((Ok(false), conflict, 7)));
+}
+
+/// The union of the logs of these dots.
+fn joined(
+    alloc: Global,
+    one: &[(Replica, u64)],
+    other: &[(Replica, u64)],
+) -> Result<Log, LogFault> {
+    log_with(alloc, one)?.join(log_with(alloc, other)?)
+}
+
 /// Whether two logs join to these dots, whichever is moved into the other.
 fn joins(
     alloc: Global,
@@ -57,111 +102,86 @@ fn joins(
     right: &[(Replica, u64)],
     dots: &[(Replica, u64)],
 ) -> Result<bool, LogFault> {
-    let one = log_with(alloc, left)?.join(log_with(alloc, right)?)?;
-    let other = log_with(alloc, right)?.join(log_with(alloc, left)?)?;
+    let one = joined(alloc, left, right)?;
+    let other = joined(alloc, right, left)?;
     Ok(has_dots(&one, dots) && has_dots(&other, dots) && one == other)
 }
 
 #[test]
-fn adds_before_between_and_after(rt: HostRuntime) -> Result<(), Fail> {
-    let dots = [(B, 2), (B, 1), (C, 1), (A, 3), (B, 4), (A, 1), (B, 3)];
-    let mut log = log_with(rt.alloc(), &dots)?;
-    assert!(rt;
-        has_dots(
-            &log,
-            &[(A, 1), (A, 3), (B, 1), (B, 2), (B, 3), (B, 4), (C, 1)]
-        )
+fn joins_runs_of_one_log(rt: HostRuntime) {
+    let both = [(A, 1), (B, 1), (C, 1)];
+    assert_eq!(rt; joins(rt.alloc(), &[], &[], &[]), Ok(true));
+    assert_eq!(rt;
+        joins(rt.alloc(), &[(A, 1), (C, 1)], &[(B, 1)], &both),
+        Ok(true)
     );
-    assert_eq!(rt; log.runs().len(), 3);
-    assert_eq!(rt; log.add(op_of(rt.alloc(), B, 3)?), Ok(false));
-    let fault = LogFault::Conflict(Dot { replica: B, seq: 4 });
-    assert_eq!(rt; log.add(other_of(rt.alloc(), B, 4)?), Err(fault));
-    assert_eq!(rt; log.len(), 7);
-    Ok(())
 }
 
+// One ends where the other begins, they take turns, and both have one.
 #[test]
-fn joins_runs_of_one_log(rt: HostRuntime) -> Result<(), Fail> {
-    assert!(rt; joins(rt.alloc(), &[], &[], &[])?);
-    assert!(rt; joins(rt.alloc(), &[(A, 1)], &[], &[(A, 1)])?);
-    assert!(rt;
-        joins(
-            rt.alloc(),
-            &[(A, 1), (C, 1)],
-            &[(B, 1)],
-            &[(A, 1), (B, 1), (C, 1)]
-        )?
-    );
-    Ok(())
-}
-
-#[test]
-fn joins_runs_of_both(rt: HostRuntime) -> Result<(), Fail> {
-    // one ends where the other begins, they take turns, and both have one
+fn joins_runs_of_both(rt: HostRuntime) {
     let all = [(A, 1), (A, 2), (A, 3), (A, 4)];
-    assert!(rt; joins(rt.alloc(), &[(A, 1), (A, 2)], &[(A, 3), (A, 4)], &all)?);
-    assert!(rt; joins(rt.alloc(), &[(A, 1), (A, 3)], &[(A, 2), (A, 4)], &all)?);
-    assert!(rt;
-        joins(
-            rt.alloc(),
-            &[(A, 1), (A, 2), (A, 3)],
-            &[(A, 3), (A, 4)],
-            &all
-        )?
-    );
-    Ok(())
+    assert_eq!(rt; joins(rt.alloc(), &all[..2], &all[2..], &all), Ok(true));
+    let even = [(A, 2), (A, 4)];
+    assert_eq!(rt; joins(rt.alloc(), &[(A, 1), (A, 3)], &even, &all), Ok(true));
+    assert_eq!(rt; joins(rt.alloc(), &all[..3], &all[2..], &all), Ok(true));
 }
 
-// The first dot that two logs clash at, or none; the refusal of their joining says the same.
-fn clash_of(alloc: Global, seqs: &[u64]) -> Result<Option<Dot>, LogFault> {
-    let left = log_with(alloc, &[(A, 1), (B, 1), (B, 2), (B, 3), (C, 1)])?;
+/// A log, and one that has other operations of B with these numbers.
+fn left(alloc: Global) -> Result<Log, LogFault> {
+    log_with(alloc, &[(A, 1), (B, 1), (B, 2), (B, 3), (C, 1)])
+}
+
+fn right(alloc: Global, seqs: &[u64]) -> Result<Log, LogFault> {
     let mut right = log_with(alloc, &[(A, 1), (A, 2), (C, 1), (C, 2)])?;
     for seq in seqs {
         let _new = right.add(other_of(alloc, B, *seq)?)?;
     }
-    let first = left.clash(&right);
-    assert_same(first, right.clash(&left))?;
-    match left.join(right) {
-        Ok(_) => assert_same(first, None)?,
-        Err(LogFault::Conflict(dot)) => assert_same(first, Some(dot))?,
-        Err(fault) => return Err(fault),
-    }
-    Ok(first)
+    Ok(right)
 }
 
-// `Damaged` stands for two answers that differ.
-fn assert_same(one: Option<Dot>, other: Option<Dot>) -> Result<(), LogFault> {
-    if one == other {
-        Ok(())
-    } else {
-        Err(LogFault::Damaged)
+// The first dots that the two clash at, told by either, and by the refusal of their joining.
+fn clashes(alloc: Global, seqs: &[u64]) -> Result<([Option<Dot>; 2], Option<LogFault>), LogFault> {
+    let left = left(alloc)?;
+    let right = right(alloc, seqs)?;
+    let told = [left.clash(&right), right.clash(&left)];
+    Ok((told, left.join(right).err()))
+}
+
+#[test]
+fn tells_no_clash(rt: HostRuntime) {
+    for seqs in [[].as_slice(), [4].as_slice()] {
+        assert_eq!(rt; clashes(rt.alloc(), seqs), Ok(([None, None], None)));
     }
 }
 
 #[test]
-fn tells_the_least_clash(rt: HostRuntime) -> Result<(), Fail> {
-    assert_eq!(rt; clash_of(rt.alloc(), &[])?, None);
-    assert_eq!(rt; clash_of(rt.alloc(), &[4])?, None);
-    assert_eq!(rt;
-        clash_of(rt.alloc(), &[3, 4])?,
-        Some(Dot { replica: B, seq: 3 })
-    );
-    assert_eq!(rt;
-        clash_of(rt.alloc(), &[2, 3])?,
-        Some(Dot { replica: B, seq: 2 })
-    );
-    Ok(())
+fn tells_the_least_clash(rt: HostRuntime) {
+    for (seqs, seq) in [([3, 4], 3), ([2, 3], 2)] {
+        let dot = Dot { replica: B, seq };
+        let refused = Some(LogFault::Conflict(dot));
+        assert_eq!(rt; clashes(rt.alloc(), &seqs), Ok(([Some(dot); 2], refused)));
+    }
 }
 
-#[test]
-fn refers_to_its_operations_by_rising_dot(rt: HostRuntime) -> Result<(), Fail> {
-    let log = log_with(rt.alloc(), &[(B, 1), (A, 2), (A, 1)])?;
-    let refs = log.refs(rt.alloc())?;
-    assert_eq!(rt; refs.len(), 3);
+// How many references a log gives, and whether each is to the operation at its place.
+fn references(alloc: Global, dots: &[(Replica, u64)]) -> Result<(usize, bool), LogFault> {
+    let log = log_with(alloc, dots)?;
+    let refs = log.refs(alloc)?;
     for i in 0..refs.len() {
-        assert!(rt; log.op_at(i) == Some(refs[i]));
+        if log.op_at(i) != Some(refs[i]) {
+            return Ok((i, false));
+        }
     }
-    Ok(())
+    Ok((refs.len(), true))
+}
+
+#[test]
+fn refers_to_its_operations_by_rising_dot(rt: HostRuntime) {
+    assert_eq!(rt;
+        references(rt.alloc(), &[(B, 1), (A, 2), (A, 1)]),
+        Ok((3, true))
+    );
 }
 
 // ---- each growth refused in turn
@@ -178,71 +198,63 @@ const DOTS: [(Replica, u64); 8] = [
     (A, 4),
 ];
 
-// How many operations stand after one was refused memory: as many as were added before, and all once they are added again.
-fn filled_again<M: Allocator + Copy>(memory: M) -> Result<(bool, bool), LogFault> {
+// Adds operations of these dots until one is refused: how many were added.
+fn added<M: Allocator + Copy>(log: &mut Log<M>, memory: M, dots: &[(Replica, u64)]) -> usize {
+    for (i, (replica, seq)) in dots.iter().enumerate() {
+        let Ok(op) = op_of(memory, *replica, *seq) else {
+            return i;
+        };
+        if log.add(op).is_err() {
+            return i;
+        }
+    }
+    dots.len()
+}
+
+// Whether one was refused memory, whether as many stand as were added before, and how many there are once all
+// were added again.
+fn added_twice<M: Allocator + Copy>(memory: M) -> (bool, bool, usize) {
     let mut log = Log::new(memory);
-    let mut added = 0usize;
-    let mut refused = false;
-    for (replica, seq) in DOTS {
-        match op_of(memory, replica, seq) {
-            Ok(op) => match log.add(op) {
-                Ok(_) => added = added.saturating_add(1),
-                Err(_) => refused = true,
-            },
-            Err(_) => refused = true,
-        }
-        if refused {
-            break;
-        }
-    }
-    let kept = log.len() == added;
-    if !refused {
-        return Ok((false, kept));
-    }
-    for (replica, seq) in DOTS {
-        let _new = log.add(op_of(memory, replica, seq)?)?;
-    }
-    Ok((refused, kept && log.len() == DOTS.len()))
+    let first = added(&mut log, memory, &DOTS);
+    let are_kept = log.len() == first;
+    let _again = added(&mut log, memory, &DOTS);
+    (first < DOTS.len(), are_kept, log.len())
+}
+
+// How many operations are added.
+fn added_once<M: Allocator + Copy>(memory: M) -> usize {
+    added(&mut Log::new(memory), memory, &DOTS)
 }
 
 #[test]
-fn of_a_log_of_two_runs(rt: HostRuntime) -> Result<(), Fail> {
-    for at in 0..60 {
+fn of_a_log_of_two_runs(rt: HostRuntime) {
+    let granted = Refusing::new(rt.alloc(), u64::MAX);
+    assert_eq!(rt; added_once(&granted), 8);
+    assert!(rt;
+        granted.allocations() > 12,
+        "titles, runs and their list are refused memory"
+    );
+    for at in 0..granted.allocations() {
         let memory = Refusing::new(rt.alloc(), at);
-        let (refused, kept) = filled_again(&memory)?;
-        assert_eq!(rt; refused, memory.has_refused(), "at {at}");
-        assert!(rt; kept, "at {at}");
-        if !refused {
-            assert!(rt; at > 12, "titles, runs and their list were refused memory");
-            return Ok(());
-        }
+        assert_eq!(rt; added_twice(&memory), (true, true, 8), "at {at}");
     }
-    Err(Fail::from("each run met a refusal"))
 }
 
-// The lengths of two logs joined, of their union as a merge, and of the references to one.
-fn joined_lens<M: Allocator + Copy>(memory: M) -> Result<[usize; 3], LogFault> {
+// How many operations two logs have together, joined or merged.
+fn joined_len<M: Allocator + Copy>(memory: M, merges: bool) -> Result<usize, LogFault> {
     let left = log_with(memory, &[(A, 1), (A, 3), (B, 1)])?;
     let right = log_with(memory, &[(A, 2), (B, 2), (C, 1)])?;
-    let merged = Log::merge(memory, &left, &right)?;
-    let refs = left.refs(memory)?.len();
-    Ok([left.join(right)?.len(), merged.len(), refs])
+    if merges {
+        Ok(Log::merge(memory, &left, &right)?.len())
+    } else {
+        Ok(left.join(right)?.len())
+    }
 }
 
-#[test]
-fn of_joined_logs(rt: HostRuntime) -> Result<(), Fail> {
-    for at in 0..200 {
-        let memory = Refusing::new(rt.alloc(), at);
-        let lens = joined_lens(&memory);
-        assert_eq!(rt; lens.is_err(), memory.has_refused(), "at {at}");
-        if !memory.has_refused() {
-            assert_eq!(rt; lens, Ok([6, 6, 3]));
-            assert!(rt; at > 30, "copies, runs and their lists were refused memory");
-            return Ok(());
-        }
-        assert_eq!(rt; lens, Err(LogFault::Memory), "at {at}");
-    }
-    Err(Fail::from("each run met a refusal"))
+// How many references a log gives.
+fn count_of_references<M: Allocator + Copy>(memory: M) -> Result<usize, LogFault> {
+    let log = log_with(memory, &[(A, 1), (A, 3), (B, 1)])?;
+    Ok(log.refs(memory)?.len())
 }
 
 // How many operations the union of so many logs has, each with one of its own and one that all have.
@@ -254,21 +266,50 @@ fn len_of_many<M: Allocator + Copy>(memory: M, logs: u64) -> Result<usize, LogFa
     Ok(Log::join_all(memory, many)?.len())
 }
 
-#[test]
-fn of_many_joined_logs(rt: HostRuntime) -> Result<(), Fail> {
-    for at in 0..200 {
-        let memory = Refusing::new(rt.alloc(), at);
-        let len = len_of_many(&memory, 9);
-        assert_eq!(rt; len.is_err(), memory.has_refused(), "at {at}");
-        if !memory.has_refused() {
-            assert_eq!(rt; len, Ok(10));
-            assert!(rt;
-                at > 60,
-                "logs, what was seen and their runs were refused memory"
-            );
-            return Ok(());
-        }
-        assert_eq!(rt; len, Err(LogFault::Memory), "at {at}");
+/// What takes memory for several logs.
+#[derive(Clone, Copy, Debug)]
+enum Work {
+    Join,
+    Merge,
+    Refer,
+    JoinAll,
+}
+
+// How many operations it comes to.
+fn len_of<M: Allocator + Copy>(memory: M, work: Work) -> Result<usize, LogFault> {
+    match work {
+        Work::Join => joined_len(memory, false),
+        Work::Merge => joined_len(memory, true),
+        Work::Refer => count_of_references(memory),
+        Work::JoinAll => len_of_many(memory, 9),
     }
-    Err(Fail::from("each run met a refusal"))
+}
+
+// How often memory is asked for, where this comes to so many and each growth is refused as that.
+fn refusals(alloc: Global, work: Work, len: usize) -> Option<u64> {
+    let granted = Refusing::new(alloc, u64::MAX);
+    if len_of(&granted, work) != Ok(len) {
+        return None;
+    }
+    for at in 0..granted.allocations() {
+        let memory = Refusing::new(alloc, at);
+        if len_of(&memory, work) != Err(LogFault::Memory) {
+            return None;
+        }
+    }
+    Some(granted.allocations())
+}
+
+// Of titles, runs and their lists, and of what was seen.
+#[test]
+fn of_several_logs(rt: HostRuntime) {
+    for (work, len, least) in [
+        (Work::Join, 6, 12),
+        (Work::Merge, 6, 20),
+        (Work::Refer, 3, 6),
+        (Work::JoinAll, 10, 61),
+    ] {
+        let refused = refusals(rt.alloc(), work, len);
+        assert!(rt; refused >= Some(least), "{work:?}");
+    }
 }

@@ -1,6 +1,6 @@
 //! Acts on tracks, on clips and on what sounds, as bytes.
-use mt_op::{Body, Digest, Gain, Op, Title};
-use mt_opcodec::{read_op, write_op};
+use super::texts::{is_read_back, is_text};
+use mt_op::{Body, Digest, Gain, Title};
 use mt_stamp::Stamp;
 use mt_testkit::{A, B};
 use std::alloc::Allocator;
@@ -80,53 +80,44 @@ pub const SOUND: [u8; 66] = [
     0, 0, 0, 1, 0,
 ];
 
-// Whether this is the text of the operation, and is read as it, whatever follows.
-fn is_text_of<M: Allocator + Copy>(memory: M, op: &Op<M>, text: &[u8]) -> Result<bool, Fail> {
-    let mut bytes = Vec::new(memory);
-    write_op(op, &mut bytes)?;
-    let mut same = bytes.as_slice() == text;
-    for after in [b"".as_slice(), b"\0", b"more"] {
-        bytes.truncate(text.len());
-        bytes.extend_from_slice(after)?;
-        let (read, len) = read_op(memory, bytes.as_slice())?;
-        same = same && len == text.len() && read == *op;
-    }
-    Ok(same)
+fn is_track<M: Allocator + Copy>(
+    memory: M,
+    stamp: Stamp,
+    after: Option<Stamp>,
+    title: &str,
+    text: &[u8],
+) -> Result<bool, Fail> {
+    let title = Title::new(memory, title)?;
+    is_text(memory, stamp, Body::AddTrack { after, title }, text)
 }
 
 // operation_bytes
 #[test]
-fn writes_and_reads_acts_on_tracks(rt: HostRuntime) -> Result<(), Fail> {
-    let (first, other, second) = (
-        Stamp::new(1, A, 1)?,
-        Stamp::new(2, B, 1)?,
-        Stamp::new(5, A, 3)?,
-    );
-    let moving = Stamp::new(6, B, 3)?;
-    let voice = Body::AddTrack {
-        after: None,
-        title: Title::new(rt.alloc(), "Voice")?,
-    };
-    let atmo = Body::AddTrack {
-        after: Some(other),
-        title: Title::new(rt.alloc(), "Atmo")?,
-    };
+fn writes_and_reads_added_tracks(rt: HostRuntime) -> Result<(), Fail> {
+    let first = Stamp::new(1, A, 1)?;
+    let second = Stamp::new(5, A, 3)?;
+    let place = Some(Stamp::new(2, B, 1)?);
+    assert!(rt; is_track(rt.alloc(), first, None, "Voice", &ADD_FIRST_TRACK)?);
+    assert!(rt; is_track(rt.alloc(), second, place, "Atmo", &ADD_TRACK)?);
+    Ok(())
+}
+
+// operation_bytes
+#[test]
+fn writes_and_reads_moved_tracks(rt: HostRuntime) -> Result<(), Fail> {
+    let track = Stamp::new(1, A, 1)?;
+    let place = Stamp::new(5, A, 3)?;
+    let stamp = Stamp::new(6, B, 3)?;
     let down = Body::MoveTrack {
-        track: first,
-        after: Some(second),
+        track,
+        after: Some(place),
     };
+    assert!(rt; is_text(rt.alloc(), stamp, down, &MOVE_TRACK)?);
     let up = Body::MoveTrack {
-        track: second,
+        track: place,
         after: None,
     };
-    for (stamp, body, text) in [
-        (first, voice, ADD_FIRST_TRACK.as_slice()),
-        (second, atmo, ADD_TRACK.as_slice()),
-        (moving, down, MOVE_TRACK.as_slice()),
-        (moving, up, MOVE_TRACK_FIRST.as_slice()),
-    ] {
-        assert!(rt; is_text_of(rt.alloc(), &Op::new(stamp, body)?, text)?);
-    }
+    assert!(rt; is_text(rt.alloc(), stamp, up, &MOVE_TRACK_FIRST)?);
     Ok(())
 }
 
@@ -140,8 +131,8 @@ fn source() -> Digest {
 }
 
 #[test]
-fn writes_and_reads_acts_on_clips(rt: HostRuntime) -> Result<(), Fail> {
-    let clip = Stamp::new(7, A, 4)?;
+fn writes_and_reads_an_added_clip(rt: HostRuntime) -> Result<(), Fail> {
+    let stamp = Stamp::new(7, A, 4)?;
     let added = Body::AddClip {
         source: source(),
         track: Stamp::new(1, A, 1)?,
@@ -149,74 +140,74 @@ fn writes_and_reads_acts_on_clips(rt: HostRuntime) -> Result<(), Fail> {
         offset: 0x0102_0304,
         len: 96_000,
     };
+    assert!(rt; is_text(rt.alloc(), stamp, added, &ADD_CLIP)?);
+    Ok(())
+}
+
+#[test]
+fn writes_and_reads_moved_and_trimmed_clips(rt: HostRuntime) -> Result<(), Fail> {
+    let clip = Stamp::new(7, A, 4)?;
+    let track = Stamp::new(5, A, 3)?;
+    let by_b = Stamp::new(9, B, 4)?;
+    let by_a = Stamp::new(10, A, 5)?;
     let moved = Body::MoveClip {
         clip,
-        track: Stamp::new(5, A, 3)?,
+        track,
         at: 0x8000_0001,
     };
+    assert!(rt; is_text(rt.alloc(), by_b, moved, &MOVE_CLIP)?);
     let trimmed = Body::TrimClip {
         clip,
         offset: 256,
         len: 1,
     };
-    let by_b = Stamp::new(9, B, 4)?;
-    let by_a = Stamp::new(10, A, 5)?;
-    assert!(rt; is_text_of(rt.alloc(), &Op::new(clip, added)?, &ADD_CLIP)?);
-    assert!(rt; is_text_of(rt.alloc(), &Op::new(by_b, moved)?, &MOVE_CLIP)?);
-    assert!(rt; is_text_of(rt.alloc(), &Op::new(by_a, trimmed)?, &TRIM_CLIP)?);
+    assert!(rt; is_text(rt.alloc(), by_a, trimmed, &TRIM_CLIP)?);
     Ok(())
 }
 
 #[test]
-fn writes_and_reads_acts_on_what_sounds(rt: HostRuntime) -> Result<(), Fail> {
-    let track = Stamp::new(1, A, 1)?;
-    let gain = Body::SetGain {
+fn writes_and_reads_a_gain(rt: HostRuntime) -> Result<(), Fail> {
+    let stamp = Stamp::new(11, B, 5)?;
+    let louder = Body::SetGain {
         item: Stamp::new(7, A, 4)?,
         gain: Gain::new(3, 258)?,
     };
-    let muting = Stamp::new(12, A, 6)?;
-    let muted = Body::SetMute {
-        item: track,
-        on: true,
-    };
-    let sounding = Body::SetMute {
-        item: track,
-        on: false,
-    };
-    for (stamp, body, text) in [
-        (Stamp::new(11, B, 5)?, gain, SET_GAIN.as_slice()),
-        (muting, muted, MUTE.as_slice()),
-        (muting, sounding, SOUND.as_slice()),
-    ] {
-        assert!(rt; is_text_of(rt.alloc(), &Op::new(stamp, body)?, text)?);
+    assert!(rt; is_text(rt.alloc(), stamp, louder, &SET_GAIN)?);
+    Ok(())
+}
+
+#[test]
+fn writes_and_reads_mutes(rt: HostRuntime) -> Result<(), Fail> {
+    let item = Stamp::new(1, A, 1)?;
+    let stamp = Stamp::new(12, A, 6)?;
+    for (on, text) in [(true, &MUTE), (false, &SOUND)] {
+        assert!(rt; is_text(rt.alloc(), stamp, Body::SetMute { item, on }, text)?);
     }
     Ok(())
 }
 
 // Where a number may be 0, or be the greatest.
 #[test]
-fn reads_numbers_at_their_ends(rt: HostRuntime) -> Result<(), Fail> {
+fn reads_gains_at_their_ends(rt: HostRuntime) -> Result<(), Fail> {
     let item = Stamp::new(1, A, 1)?;
     let own = Stamp::new(2, A, 2)?;
     for (num, den) in [(0, 1), (1, u16::MAX), (u16::MAX, 1), (u16::MAX, u16::MAX)] {
         let gain = Gain::new(num, den)?;
-        let op = Op::new(own, Body::SetGain { item, gain })?;
-        let mut text = Vec::new(rt.alloc());
-        write_op(&op, &mut text)?;
         assert!(rt;
-            read_op(rt.alloc(), text.as_slice())?.0 == op,
+            is_read_back(rt.alloc(), own, Body::SetGain { item, gain })?,
             "{num}/{den}"
         );
     }
+    Ok(())
+}
+
+#[test]
+fn reads_trims_at_their_ends(rt: HostRuntime) -> Result<(), Fail> {
+    let clip = Stamp::new(1, A, 1)?;
+    let own = Stamp::new(2, A, 2)?;
     for (offset, len) in [(0, 1), (u32::MAX, u32::MAX)] {
-        let clip = item;
-        let op = Op::new(own, Body::TrimClip { clip, offset, len })?;
-        let mut text = Vec::new(rt.alloc());
-        write_op(&op, &mut text)?;
-        assert!(rt;
-            read_op(rt.alloc(), text.as_slice())?.0 == op,
-            "{offset}, {len}"
-        );
+        let trim = Body::TrimClip { clip, offset, len };
+        assert!(rt; is_read_back(rt.alloc(), own, trim)?, "{offset}, {len}");
     }
     Ok(())
 }
