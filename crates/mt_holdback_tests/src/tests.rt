@@ -1,179 +1,219 @@
+//! Operations that wait for others.
 mod plain;
 
 use mt_holdback::{HoldBack, HoldBackFault, Offered, Waits};
 use mt_op::{Body, Gain, Op, OpFault};
-use mt_stamp::Stamp;
+use mt_stamp::{Stamp, StampFault};
 use mt_testkit::{A, B, Refusing, add_track, marker, removal, retitle};
 use plain::Plain;
 use std::alloc::Allocator;
 use std::test::Fail;
 
-// A SetGain of an item.
-fn louder<M: Allocator>(stamp: Stamp, item: Stamp) -> Result<Op<M>, OpFault> {
+// An item of the tests: a marker, its Restore, a Remove that needs both, a chain of three tracks, a SetGain of the marker, which no order releases,
+// a Retitle of the marker, and another marker of its dot at a later clock.
+#[derive(Clone, Copy)]
+enum Item {
+    Marker,
+    Restore,
+    Remove,
+    First,
+    Second,
+    Third,
+    Gain,
+    Retitle,
+    Later,
+}
+
+fn stamp_of(item: Item) -> Result<Stamp, StampFault> {
+    match item {
+        Item::Marker => Stamp::new(1, A, 1),
+        Item::Restore => Stamp::new(2, A, 2),
+        Item::Remove => Stamp::new(3, A, 3),
+        Item::First => Stamp::new(1, B, 1),
+        Item::Second => Stamp::new(2, B, 2),
+        Item::Third => Stamp::new(3, B, 3),
+        Item::Gain => Stamp::new(4, B, 4),
+        Item::Retitle => Stamp::new(5, B, 5),
+        Item::Later => Stamp::new(2, A, 1),
+    }
+}
+
+// The track before a track.
+fn before(item: Item) -> Option<Stamp> {
+    match item {
+        Item::Second => stamp_of(Item::First).ok(),
+        Item::Third => stamp_of(Item::Second).ok(),
+        _ => None,
+    }
+}
+
+// The operation of an item with this stamp, which may name the marker and its Restore.
+fn made<M: Allocator>(
+    memory: M,
+    which: Item,
+    own: Stamp,
+    (item, restored): (Stamp, Stamp),
+) -> Result<Op<M>, OpFault> {
     let gain = Gain::UNCHANGED;
-    Op::new(stamp, Body::SetGain { item, gain })
-}
-
-// Offers an item whose key is new; one whose key is known is told as held.
-fn offer_new<T: Waits + Drop, M: Allocator + Clone>(
-    hold: &mut HoldBack<T, M>,
-    item: T,
-) -> Result<Offered, HoldBackFault> {
-    if hold.knows(&item.key()) {
-        return Ok(Offered::Held);
-    }
-    hold.offer(item)
-}
-
-// Whether the item that was released at this index has this stamp.
-fn is_released_at<T: Waits + Drop, M: Allocator>(
-    hold: &HoldBack<T, M>,
-    index: usize,
-    stamp: Stamp,
-) -> bool {
-    match hold.released().get(index) {
-        Some(item) => item.key() == stamp,
-        None => false,
+    match which {
+        Item::Marker | Item::Later => marker(memory, own, "News"),
+        Item::Restore => Op::new(own, Body::Restore { item }),
+        Item::Remove => removal(memory, own, item, &[item, restored]),
+        Item::Gain => Op::new(own, Body::SetGain { item, gain }),
+        Item::Retitle => retitle(memory, own, item, "Late"),
+        _ => add_track(memory, own, before(which)),
     }
 }
 
-// How many wait, and how many were released.
-fn counts<T: Waits + Drop, M: Allocator>(hold: &HoldBack<T, M>) -> (u64, usize) {
-    (hold.held(), hold.released().len())
+fn op_of<M: Allocator + Clone>(memory: &M, which: Item) -> Result<Op<M>, Fail> {
+    let named = (stamp_of(Item::Marker)?, stamp_of(Item::Restore)?);
+    let own = stamp_of(which)?;
+    Ok(made(memory.clone()?, which, own, named)?)
 }
 
-// Whether the first need of one item is met by the other.
-fn is_first_need_met<T: Waits>(item: &T, other: &T) -> bool {
-    match item.need(0) {
+// How many needs an item has, and whether the first of them is met by the other.
+fn first_need<T: Waits>(item: &T, other: &T) -> (usize, bool) {
+    let is_met = match item.need(0) {
         Some((stamp, role)) => other.key() == stamp && other.fits(&role),
         None => false,
-    }
+    };
+    (item.need_count(), is_met)
+}
+
+// The same of two items of the tests.
+fn need_of<M: Allocator + Clone>(
+    memory: &M,
+    item: Item,
+    other: Item,
+) -> Result<(usize, bool), Fail> {
+    let item = op_of(memory, item)?;
+    Ok(first_need(&item, &op_of(memory, other)?))
 }
 
 #[test]
 fn needs_what_an_operation_names(rt: HostRuntime) -> Result<(), Fail> {
-    let item = Stamp::new(1, A, 1)?;
-    let first = marker(rt.alloc(), item, "News")?;
-    let later = retitle(rt.alloc(), Stamp::new(2, B, 1)?, item, "Late")?;
-    assert!(rt; is_first_need_met(&later, &first));
-    assert!(rt; !is_first_need_met(&first, &later));
-    assert_eq!(rt; Waits::need_count(&later), 1);
-    assert_eq!(rt; Waits::need_count(&first), 0);
+    for (item, other, wanted) in [
+        (Item::Retitle, Item::Marker, (1, true)),
+        (Item::Marker, Item::Retitle, (0, false)),
+        // the whole stamp
+        (Item::Retitle, Item::Later, (1, false)),
+        // wrong_role
+        (Item::Gain, Item::Marker, (1, false)),
+    ] {
+        assert_eq!(rt; need_of(&rt.alloc(), item, other)?, wanted);
+    }
     Ok(())
 }
 
-#[test]
-fn needs_the_whole_stamp(rt: HostRuntime) -> Result<(), Fail> {
-    let named = marker(rt.alloc(), Stamp::new(2, A, 1)?, "News")?;
-    let later = retitle(
-        rt.alloc(),
-        Stamp::new(3, B, 1)?,
-        Stamp::new(1, A, 1)?,
-        "Late",
-    )?;
-    assert!(rt; !is_first_need_met(&later, &named));
-    Ok(())
+// Offers an item whose key is new, which is known from then on; one whose key is known is told as held.
+fn offer_new<T: Waits + Drop, M: Allocator + Clone>(
+    hold: &mut HoldBack<T, M>,
+    item: T,
+) -> Result<Offered, HoldBackFault> {
+    let key = item.key();
+    if hold.knows(&key) {
+        return Ok(Offered::Held);
+    }
+    let answer = hold.offer(item);
+    if answer.is_ok() && !hold.knows(&key) {
+        return Err(HoldBackFault::Failed);
+    }
+    answer
 }
 
-// wrong_role
-#[test]
-fn needs_the_role(rt: HostRuntime) -> Result<(), Fail> {
-    let item = Stamp::new(1, A, 1)?;
-    let first = marker(rt.alloc(), item, "News")?;
-    let later = louder(Stamp::new(2, B, 1)?, item)?;
-    assert!(rt; !is_first_need_met(&later, &first));
-    Ok(())
+// What an offer answers, how many wait then, and how many were released in all.
+type Turn = (Offered, u64, usize);
+
+fn offer_one<M: Allocator + Clone>(
+    memory: &M,
+    hold: &mut HoldBack<Op<M>, M>,
+    item: Item,
+) -> Result<Turn, Fail> {
+    let answer = offer_new(hold, op_of(memory, item)?)?;
+    Ok((answer, hold.held(), hold.released().len()))
+}
+
+// Whether these were released, in this order.
+fn has_released<M: Allocator>(hold: &HoldBack<Op<M>, M>, items: &[Item]) -> bool {
+    hold.released().len() == items.len()
+        && hold
+            .released()
+            .iter()
+            .zip(items)
+            .all(|(op, item)| stamp_of(*item) == Ok(op.key()))
+}
+
+// Whether the offers of these items answer so in turn, and release those in this order.
+fn goes<M: Allocator + Clone>(
+    memory: &M,
+    turns: &[(Item, Turn)],
+    order: &[Item],
+) -> Result<bool, Fail> {
+    let mut hold = HoldBack::new(memory.clone()?);
+    for (item, wanted) in turns {
+        if offer_one(memory, &mut hold, *item)? != *wanted {
+            return Ok(false);
+        }
+    }
+    Ok(has_released(&hold, order))
 }
 
 // early_retitle
 #[test]
 fn holds_an_early_retitle(rt: HostRuntime) -> Result<(), Fail> {
-    let item = Stamp::new(1, A, 1)?;
-    let later = Stamp::new(2, B, 1)?;
-    let mut hold = HoldBack::new(rt.alloc());
-    assert_eq!(rt;
-        offer_new(&mut hold, retitle(rt.alloc(), later, item, "Late")?),
-        Ok(Offered::Held)
-    );
-    assert_eq!(rt; counts(&hold), (1, 0));
-    assert!(rt; hold.knows(&later));
-    assert!(rt; !hold.knows(&item));
-    assert_eq!(rt;
-        offer_new(&mut hold, marker(rt.alloc(), item, "News")?),
-        Ok(Offered::Ready(0))
-    );
-    assert_eq!(rt; counts(&hold), (0, 2));
-    assert!(rt; is_released_at(&hold, 0, item));
-    assert!(rt; is_released_at(&hold, 1, later));
+    let turns = [
+        (Item::Retitle, (Offered::Held, 1, 0)),
+        (Item::Marker, (Offered::Ready(0), 0, 2)),
+    ];
+    assert!(rt; goes(&rt.alloc(), &turns, &[Item::Marker, Item::Retitle])?);
     Ok(())
-}
-
-// What offers the tracks p, q after p, and r after q in this order answers.
-fn offer_tracks<M: Allocator + Clone>(
-    memory: &M,
-    hold: &mut HoldBack<Op<M>, M>,
-    name: char,
-) -> Result<Offered, Fail> {
-    let p = Stamp::new(1, A, 1)?;
-    let q = Stamp::new(2, A, 2)?;
-    let op = match name {
-        'p' => add_track(memory.clone()?, p, None)?,
-        'q' => add_track(memory.clone()?, q, Some(p))?,
-        _ => add_track(memory.clone()?, Stamp::new(3, A, 3)?, Some(q))?,
-    };
-    Ok(offer_new(hold, op)?)
 }
 
 #[test]
 fn releases_a_chain_by_rising_key(rt: HostRuntime) -> Result<(), Fail> {
-    let mut hold = HoldBack::new(rt.alloc());
-    assert_eq!(rt; offer_tracks(&rt.alloc(), &mut hold, 'r')?, Offered::Held);
-    assert_eq!(rt; offer_tracks(&rt.alloc(), &mut hold, 'q')?, Offered::Held);
-    assert_eq!(rt; counts(&hold), (2, 0));
-    assert_eq!(rt;
-        offer_tracks(&rt.alloc(), &mut hold, 'p')?,
-        Offered::Ready(0)
-    );
-    assert_eq!(rt; counts(&hold), (0, 3));
-    assert!(rt; is_released_at(&hold, 0, Stamp::new(1, A, 1)?));
-    assert!(rt; is_released_at(&hold, 1, Stamp::new(2, A, 2)?));
-    assert!(rt; is_released_at(&hold, 2, Stamp::new(3, A, 3)?));
+    let turns = [
+        (Item::Third, (Offered::Held, 1, 0)),
+        (Item::Second, (Offered::Held, 2, 0)),
+        (Item::First, (Offered::Ready(0), 0, 3)),
+    ];
+    let order = [Item::First, Item::Second, Item::Third];
+    assert!(rt; goes(&rt.alloc(), &turns, &order)?);
     Ok(())
 }
 
 #[test]
 fn tells_from_where_on_items_are_new(rt: HostRuntime) -> Result<(), Fail> {
-    let mut hold = HoldBack::new(rt.alloc());
-    assert_eq!(rt;
-        offer_tracks(&rt.alloc(), &mut hold, 'p')?,
-        Offered::Ready(0)
-    );
-    assert_eq!(rt; offer_tracks(&rt.alloc(), &mut hold, 'r')?, Offered::Held);
-    assert_eq!(rt;
-        offer_tracks(&rt.alloc(), &mut hold, 'q')?,
-        Offered::Ready(1)
-    );
-    assert_eq!(rt; counts(&hold), (0, 3));
+    let turns = [
+        (Item::First, (Offered::Ready(0), 0, 1)),
+        (Item::Third, (Offered::Held, 1, 1)),
+        (Item::Second, (Offered::Ready(1), 0, 3)),
+    ];
+    let order = [Item::First, Item::Second, Item::Third];
+    assert!(rt; goes(&rt.alloc(), &turns, &order)?);
     Ok(())
 }
 
 // wrong_role
 #[test]
 fn holds_what_needs_another_role(rt: HostRuntime) -> Result<(), Fail> {
-    let item = Stamp::new(1, A, 1)?;
-    let later = Stamp::new(2, B, 1)?;
-    let mut hold = HoldBack::new(rt.alloc());
-    assert_eq!(rt;
-        offer_new(&mut hold, louder(later, item)?),
-        Ok(Offered::Held)
-    );
-    assert_eq!(rt;
-        offer_new(&mut hold, marker(rt.alloc(), item, "News")?),
-        Ok(Offered::Ready(0))
-    );
-    assert_eq!(rt; counts(&hold), (1, 1));
-    assert!(rt; is_released_at(&hold, 0, item));
-    assert!(rt; hold.knows(&later));
+    let turns = [
+        (Item::Gain, (Offered::Held, 1, 0)),
+        (Item::Marker, (Offered::Ready(0), 1, 1)),
+    ];
+    assert!(rt; goes(&rt.alloc(), &turns, &[Item::Marker])?);
+    Ok(())
+}
+
+// An item that lacks two needs is held once.
+#[test]
+fn holds_a_remove_until_its_last_tag(rt: HostRuntime) -> Result<(), Fail> {
+    let turns = [
+        (Item::Remove, (Offered::Held, 1, 0)),
+        (Item::Restore, (Offered::Held, 2, 0)),
+        (Item::Marker, (Offered::Ready(0), 0, 3)),
+    ];
+    let order = [Item::Marker, Item::Restore, Item::Remove];
+    assert!(rt; goes(&rt.alloc(), &turns, &order)?);
     Ok(())
 }
 
@@ -188,23 +228,26 @@ struct Left {
 }
 
 // Offers an early retitle and then its marker to a hold-back over this memory.
-fn early_retitle<M: Allocator, N: Allocator + Clone>(memory: &M, over: N) -> Result<Left, Fail>
-where
-    M: Clone,
-{
-    let item = Stamp::new(1, A, 1)?;
-    let later = Stamp::new(2, B, 1)?;
-    let mut hold = HoldBack::new(over);
-    let retitle = offer_new(&mut hold, retitle(memory.clone()?, later, item, "Late")?);
-    let marker = offer_new(&mut hold, marker(memory.clone()?, item, "News")?);
-    let knows = hold.knows(&item) || hold.knows(&later);
-    Ok(Left {
+fn left_of<T: Waits + Drop, M: Allocator + Clone>(memory: M, early: T, late: T) -> Left {
+    let (first, second) = (early.key(), late.key());
+    let mut hold = HoldBack::new(memory);
+    let retitle = offer_new(&mut hold, early);
+    let marker = offer_new(&mut hold, late);
+    Left {
         retitle,
         marker,
-        knows,
+        knows: hold.knows(&first) || hold.knows(&second),
         held: hold.held(),
         released: hold.released().len(),
-    })
+    }
+}
+
+fn early_retitle<M: Allocator + Clone, N: Allocator + Clone>(
+    memory: &M,
+    over: N,
+) -> Result<Left, Fail> {
+    let early = op_of(memory, Item::Retitle)?;
+    Ok(left_of(over, early, op_of(memory, Item::Marker)?))
 }
 
 // Whether a refused growth was answered as 0, the later offer as 20, and nothing is left.
@@ -231,38 +274,13 @@ fn fails_at_each_refused_growth(rt: HostRuntime) -> Result<(), Fail> {
         }
         assert!(rt; is_failed(&left));
     }
-    assert!(rt; false);
-    Ok(())
+    Err(Fail::from("each run met a refusal"))
 }
 
 #[test]
-fn numbers_its_refusals(rt: HostRuntime) -> Result<(), Fail> {
+fn numbers_its_refusals(rt: HostRuntime) {
     assert_eq!(rt; HoldBackFault::Memory.number(), 0);
     assert_eq!(rt; HoldBackFault::Failed.number(), 20);
-    Ok(())
-}
-
-// One of seven items: a marker, its Restore, a Remove that needs both, a chain of three tracks, and a SetGain that no order releases.
-fn one_of_seven<M: Allocator + Clone>(memory: &M, which: usize) -> Result<Op<M>, Fail> {
-    let item = Stamp::new(1, A, 1)?;
-    let restored = Stamp::new(2, A, 2)?;
-    let first = Stamp::new(1, B, 1)?;
-    let second = Stamp::new(2, B, 2)?;
-    let op = match which {
-        0 => marker(memory.clone()?, item, "News")?,
-        1 => Op::new(restored, Body::Restore { item })?,
-        2 => removal(
-            memory.clone()?,
-            Stamp::new(3, A, 3)?,
-            item,
-            &[item, restored],
-        )?,
-        3 => add_track(memory.clone()?, first, None)?,
-        4 => add_track(memory.clone()?, second, Some(first))?,
-        5 => add_track(memory.clone()?, Stamp::new(3, B, 3)?, Some(second))?,
-        _ => louder(Stamp::new(4, B, 4)?, item)?,
-    };
-    Ok(op)
 }
 
 // Whether both released the same, in the same order, and as many wait.
@@ -276,30 +294,49 @@ fn agree<M: Allocator>(hold: &HoldBack<Op<M>, M>, plain: &Plain<Op<M>, M>) -> bo
             .all(|(item, other)| item.key() == other.key())
 }
 
-// Offers one of the seven to both, and tells whether they agree then.
+// Offers one item to both, and tells whether they agree then.
 fn agree_after<M: Allocator + Clone>(
     memory: &M,
     hold: &mut HoldBack<Op<M>, M>,
     plain: &mut Plain<Op<M>, M>,
-    which: usize,
+    item: Item,
 ) -> Result<bool, Fail> {
-    let _ = offer_new(hold, one_of_seven(memory, which)?)?;
-    plain.offer(one_of_seven(memory, which)?)?;
+    let _ = offer_one(memory, hold, item)?;
+    plain.offer(op_of(memory, item)?)?;
     Ok(agree(hold, plain))
 }
 
+const SEVEN: [Item; 7] = [
+    Item::Marker,
+    Item::Restore,
+    Item::Remove,
+    Item::First,
+    Item::Second,
+    Item::Third,
+    Item::Gain,
+];
+
 // How often both agree while the seven are offered from one on, in steps.
-fn agreements<M: Allocator + Clone>(memory: &M, from: usize, step: usize) -> Result<u64, Fail> {
-    let mut hold = HoldBack::new(memory.clone()?);
-    let mut plain = Plain::new(memory.clone()?)?;
+fn count_agreements<M: Allocator + Clone>(
+    memory: &M,
+    hold: &mut HoldBack<Op<M>, M>,
+    plain: &mut Plain<Op<M>, M>,
+    (from, step): (usize, usize),
+) -> Result<u64, Fail> {
     let mut agreed = 0u64;
     for turn in 0..7usize {
         let which = from.wrapping_add(turn.wrapping_mul(step)) % 7;
-        if agree_after(memory, &mut hold, &mut plain, which)? {
+        if agree_after(memory, hold, plain, SEVEN[which])? {
             agreed = agreed.saturating_add(1);
         }
     }
     Ok(agreed)
+}
+
+fn agreements<M: Allocator + Clone>(memory: &M, order: (usize, usize)) -> Result<u64, Fail> {
+    let mut plain = Plain::new(memory.clone()?, memory.clone()?);
+    let mut hold = HoldBack::new(memory.clone()?);
+    count_agreements(memory, &mut hold, &mut plain, order)
 }
 
 // The definition's own program releases the same, in 42 orders.
@@ -307,33 +344,18 @@ fn agreements<M: Allocator + Clone>(memory: &M, from: usize, step: usize) -> Res
 fn releases_what_the_plain_program_does(rt: HostRuntime) -> Result<(), Fail> {
     for from in 0..7usize {
         for step in 1..7usize {
-            assert_eq!(rt; agreements(&rt.alloc(), from, step)?, 7);
+            assert_eq!(rt; agreements(&rt.alloc(), (from, step))?, 7);
         }
     }
     Ok(())
 }
 
-// What offering one of the seven answers.
-fn offer_one<M: Allocator + Clone>(
-    memory: &M,
-    hold: &mut HoldBack<Op<M>, M>,
-    which: usize,
-) -> Result<Offered, Fail> {
-    Ok(offer_new(hold, one_of_seven(memory, which)?)?)
-}
-
-// An item that lacks two needs is held once.
-#[test]
-fn holds_a_remove_until_its_last_tag(rt: HostRuntime) -> Result<(), Fail> {
-    let mut hold = HoldBack::new(rt.alloc());
-    assert_eq!(rt; offer_one(&rt.alloc(), &mut hold, 2)?, Offered::Held);
-    assert_eq!(rt; counts(&hold), (1, 0));
-    assert_eq!(rt; offer_one(&rt.alloc(), &mut hold, 1)?, Offered::Held);
-    assert_eq!(rt; counts(&hold), (2, 0));
-    assert_eq!(rt; offer_one(&rt.alloc(), &mut hold, 0)?, Offered::Ready(0));
-    assert_eq!(rt; counts(&hold), (0, 3));
-    assert!(rt; is_released_at(&hold, 2, Stamp::new(3, A, 3)?));
-    Ok(())
+// The track of this number, after the one before.
+fn link<M: Allocator + Clone>(memory: &M, number: u64) -> Result<Op<M>, Fail> {
+    let before = number.saturating_sub(1);
+    let after = Stamp::new(before, A, before).ok();
+    let own = Stamp::new(number, A, number)?;
+    Ok(add_track(memory.clone()?, own, after)?)
 }
 
 // Offers tracks, each after the one before, from the last to the first: how many of them were held.
@@ -344,14 +366,7 @@ fn offer_chain<M: Allocator + Clone>(
 ) -> Result<u64, Fail> {
     let mut held = 0u64;
     for turn in 0..length {
-        let at = length - turn;
-        let after = if at > 1 {
-            Some(Stamp::new(at - 1, A, at - 1)?)
-        } else {
-            None
-        };
-        let op = add_track(memory.clone()?, Stamp::new(at, A, at)?, after)?;
-        if let Offered::Held = offer_new(hold, op)? {
+        if let Offered::Held = offer_new(hold, link(memory, length - turn)?)? {
             held = held.saturating_add(1);
         }
     }
@@ -367,15 +382,21 @@ fn is_rising<M: Allocator>(hold: &HoldBack<Op<M>, M>) -> bool {
         .all(|(item, next)| item.key() < next.key())
 }
 
+// How many of a chain were held, how many wait then, how many were released, and whether by rising key.
+fn offered_chain<M: Allocator + Clone>(
+    memory: &M,
+    length: u64,
+) -> Result<(u64, u64, usize, bool), Fail> {
+    let mut hold = HoldBack::new(memory.clone()?);
+    let held = offer_chain(memory, &mut hold, length)?;
+    Ok((held, hold.held(), hold.released().len(), is_rising(&hold)))
+}
+
 #[test]
 fn releases_a_long_chain_at_once(rt: HostRuntime) -> Result<(), Fail> {
-    let mut hold = HoldBack::new(rt.alloc());
-    let held = offer_chain(&rt.alloc(), &mut hold, 10_000)?;
-    let after = counts(&hold);
-    let rises = is_rising(&hold);
-    drop(hold);
-    assert_eq!(rt; held, 9_999);
-    assert_eq!(rt; after, (0, 10_000));
-    assert!(rt; rises);
+    assert_eq!(rt;
+        offered_chain(&rt.alloc(), 10_000)?,
+        (9_999, 0, 10_000, true)
+    );
     Ok(())
 }

@@ -3,6 +3,7 @@
 use mt_holdback::Waits;
 use mt_stamp::Stamp;
 use std::alloc::{AllocError, AllocFailed, Allocator};
+use std::mem;
 use std::test::Fail;
 
 // What was released, and what waits, by rising key.
@@ -37,25 +38,30 @@ fn is_met<T: Waits>(released: &[T], item: &T) -> bool {
 }
 
 impl<T: Waits + Drop, A: Allocator + Clone> Plain<T, A> {
-    pub fn new(alloc: A) -> Result<Self, Fail> {
-        Ok(Plain {
-            waiting: Vec::new(alloc.clone()?),
+    pub fn new(alloc: A, other: A) -> Self {
+        Plain {
             released: Vec::new(alloc),
-        })
+            waiting: Vec::new(other),
+        }
+    }
+
+    // Releases an item, or lets it wait behind the others.
+    fn put(&mut self, item: T) -> Result<(), Fail> {
+        if is_met(&self.released, &item) {
+            self.released.push(item)?;
+        } else {
+            self.waiting.push(item)?;
+        }
+        Ok(())
     }
 
     // Offers an item whose key is new.
     pub fn offer(&mut self, item: T) -> Result<(), Fail> {
-        let mut queue = Vec::new(self.released.allocator().clone()?);
-        queue.append(&mut self.waiting)?;
-        let place = place_of(&queue, item.key()).min(queue.len());
-        queue.insert(place, item)?;
-        for item in queue {
-            if is_met(&self.released, &item) {
-                self.released.push(item)?;
-            } else {
-                self.waiting.push(item)?;
-            }
+        let place = place_of(&self.waiting, item.key()).min(self.waiting.len());
+        self.waiting.insert(place, item)?;
+        let none = Vec::new(self.waiting.allocator().clone()?);
+        for item in mem::replace(&mut self.waiting, none) {
+            self.put(item)?;
         }
         Ok(())
     }
