@@ -1,10 +1,9 @@
 //! One entry of a session, put in, taken out and rewritten.
 
-ghost use Rattle.std.specs.Prelude.{◌≡◌, [], IfOk};
+ghost use Rattle.std.specs.Prelude.{◌≡◌, [], IfOk, length};
 
 use mt_op::{Digest, Gain, Title};
-use mt_opcodec::Latch;
-use mt_sessionview::{ClipView, MarkerView, Session, SessionFault, TrackView, write_text};
+use mt_sessionview::{ClipView, MarkerView, Session, SessionFault, TrackView};
 use mt_stamp::{List, Stamp};
 use mt_testkit::{A, Refusing};
 use std::alloc::Allocator;
@@ -53,18 +52,50 @@ fn marker_with<M: Allocator>(title: Title<M>, marker: Stamp) -> MarkerView<M>
     }
 }
 
-// Whether a marker is put in, given another title and taken out, and the session is then what it was.
-fn mends_a_marker<M: Allocator + Clone>(memory: &M, marker: Stamp) -> Result<bool, SessionFault> {
-    let mut session = nothing(memory)?;
+// Puts a marker into a session that has none, and then another in its place.
+fn put_and_set<M: Allocator>(
+    session: &mut Session<M>,
+    first: MarkerView<M>,
+    second: MarkerView<M>,
+) -> Result<(), SessionFault>
+    requires none { session.old.markers ≡ [] }
+    requires at { first.at ≡ second.at }
+    requires marker { first.marker ≡ second.marker }
+{
+    session.put_marker(first)?;
+    session.set_marker(second);
+    Ok(())
+}
+
+// A session with a marker that was given another title.
+fn of_a_marker<M: Allocator + Clone>(
+    memory: &M,
+    marker: Stamp,
+) -> Result<Session<M>, SessionFault> {
     let first = title(memory, "News")?;
     let second = title(memory, "Weather")?;
-    session.put_marker(marker_with(first, marker))?;
-    session.set_marker(marker_with(second, marker));
+    let mut session = nothing(memory)?;
+    put_and_set(
+        &mut session,
+        marker_with(first, marker),
+        marker_with(second, marker),
+    )?;
+    Ok(session)
+}
+
+// Whether nothing is in a session.
+fn is_empty<M: Allocator>(session: &Session<M>) -> bool {
+    session.tracks.items().is_empty() && session.markers.items().is_empty() && session.held == 0
+}
+
+// Whether a marker is put in, given another title and taken out, and the session is then what it was.
+fn mends_a_marker<M: Allocator + Clone>(memory: &M, marker: Stamp) -> Result<bool, SessionFault> {
+    let mut session = of_a_marker(memory, marker)?;
     let is_there = session.markers.items().len() == 1;
     let Some(taken) = session.take_marker(480, marker) else {
         return Ok(false);
     };
-    Ok(is_there && taken.title.text() == "Weather" && session == nothing(memory)?)
+    Ok(is_there && taken.title.text() == "Weather" && is_empty(&session))
 }
 
 fn clip_with(place: Stamp, mute: bool) -> ClipView
@@ -94,12 +125,24 @@ fn mends_a_clip<M: Allocator + Clone>(memory: &M, place: Stamp) -> Result<bool, 
     Ok(is_gone && taken == Some(clip_with(place, true)))
 }
 
+// A session with this track alone.
+fn of_a_track<M: Allocator + Clone>(memory: &M, track: Stamp) -> Result<Session<M>, SessionFault>
+    ensures { IfOk result (λ session. length session.tracks ≡ 1) }
+{
+    let view = voice(memory, track)?;
+    let mut session = nothing(memory)?;
+    session.put_track(0, view)?;
+    Ok(session)
+}
+
 // Whether a track is put in, found, muted, moved and taken out.
 fn mends_a_track<M: Allocator + Clone>(memory: &M, track: Stamp) -> Result<bool, SessionFault> {
-    let mut session = nothing(memory)?;
-    session.put_track(0, voice(memory, track)?)?;
     let second = title(memory, "Choir")?;
+    let mut session = of_a_track(memory, track)?;
     session.set_track(0, second, Gain::UNCHANGED, true);
+    if session.tracks.items().len() != 1 {
+        return Ok(false);
+    }
     session.move_track(0, 0);
     session.set_held(3);
     let is_found = session.index_of_track(track) == Some(0);
@@ -145,44 +188,4 @@ fn refuses_each_growth_of_a_session(rt: HostRuntime) -> Result<(), Fail> {
         }
     }
     Ok(())
-}
-
-// A session of one marker, and of three operations that wait.
-fn of_one_marker<M: Allocator + Clone>(
-    memory: &M,
-    marker: Stamp,
-) -> Result<Session<M>, SessionFault> {
-    let mut session = nothing(memory)?;
-    session.put_marker(marker_with(title(memory, "News")?, marker))?;
-    session.set_held(3);
-    Ok(session)
-}
-
-// Whether the line of a marker and that of what is held are these.
-fn is_text_of<M: Allocator, N: Allocator>(
-    memory: M,
-    output: Vec<u8>,
-    session: &Session<N>,
-    wanted: &str,
-) -> Result<bool, SessionFault> {
-    let mut output = Latch::new(output);
-    write_text(memory, session, &mut output)?;
-    Ok(output.into_inner().as_slice() == wanted.as_bytes())
-}
-
-#[test]
-fn refuses_each_growth_of_a_text(rt: HostRuntime) -> Result<(), Fail> {
-    let session = of_one_marker(&rt.alloc(), Stamp::new(1, A, 1)?)?;
-    let wanted = "marker 1.1.00000000-0000-0000-0000-00000000000a at 480 title News\nheld 3\n";
-    for at in 0..20 {
-        let memory = Refusing::new(rt.alloc(), at);
-        let made = is_text_of(&memory, Vec::new(rt.alloc()), &session, wanted);
-        assert_eq!(rt; made.is_err(), memory.has_refused(), "at {at}");
-        if let Ok(is_wanted) = made {
-            assert!(rt; is_wanted);
-            assert!(rt; at > 0, "it grew");
-            return Ok(());
-        }
-    }
-    Err(Fail::from("each run met a refusal"))
 }

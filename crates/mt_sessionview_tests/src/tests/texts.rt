@@ -1,9 +1,8 @@
 //! The text of a log's session.
-use mt_op::{Body, Digest, Op};
-use mt_opcodec::{Latch, Log};
-use mt_sessionview::{Session, SessionFault, from_scratch, write_text};
-use mt_stamp::{Replica, Stamp};
-use mt_testkit::{A, B, FailingWriter, Refusing, add_track, marker, retitle};
+use super::{Item, growths_of_log, session_of};
+use mt_opcodec::Latch;
+use mt_sessionview::{Session, SessionFault, write_text};
+use mt_testkit::{FailingWriter, Refusing};
 use std::alloc::{Allocator, Global};
 use std::io::ErrorKind;
 use std::test::Fail;
@@ -15,150 +14,126 @@ marker 1.1.00000000-0000-0000-0000-00000000000a at 480 title News
 held 1
 ";
 
-/// Adds a track that is moved, if there is memory for it.
-fn add_moved_track<M: Allocator + Clone>(memory: M, log: &mut Log<M>, track: Stamp) -> Option<()> {
-    let _new = log.add(add_track(memory, track, None).ok()?).ok()?;
-    let after = Some(track);
-    let moved = Stamp::new(4, A, 4).ok()?;
-    let moved = Op::new(moved, Body::MoveTrack { track, after }).ok()?;
-    let _new = log.add(moved).ok()?;
-    Some(())
-}
+// A marker, a retitle of another one that is not there, and a track that is moved, with a clip.
+const ITEMS: [Item; 5] = [
+    Item::Voice,
+    Item::Moved,
+    Item::Clip,
+    Item::News,
+    Item::Early,
+];
 
-/// Adds a clip of a track, if there is memory for it.
-fn add_clip<M: Allocator + Clone>(log: &mut Log<M>, track: Stamp) -> Option<()> {
-    let clip = Body::AddClip {
-        source: Digest([7; 32]),
-        track,
-        at: 48,
-        offset: 4,
-        len: 8,
-    };
-    let own = Stamp::new(3, A, 3).ok()?;
-    let _new = log.add(Op::new(own, clip).ok()?).ok()?;
-    Some(())
-}
-
-/// A marker, a retitle of another one that is not there, and a track with a clip, if there is memory for them.
-fn log<M: Allocator + Clone>(memory: M) -> Option<Log<M>> {
-    let mut log = Log::new(memory.clone().ok()?);
-    let track = Stamp::new(2, A, 2).ok()?;
-    add_moved_track(memory.clone().ok()?, &mut log, track)?;
-    add_clip(&mut log, track)?;
-    let stamp = Stamp::new(1, A, 1).ok()?;
-    let _new = log
-        .add(marker(memory.clone().ok()?, stamp, "News").ok()?)
-        .ok()?;
-    let item = Stamp::new(1, Replica(12), 1).ok()?;
-    let stamp = Stamp::new(2, B, 1).ok()?;
-    let _new = log.add(retitle(memory, stamp, item, "Late").ok()?).ok()?;
-    Some(log)
-}
-
-fn session(rt: &HostRuntime) -> Result<Session, Fail> {
-    match log(rt.alloc()) {
-        Some(log) => Ok(from_scratch(rt.alloc(), &log)?),
-        None => Err(Fail::from("there is no log")),
-    }
-}
-
-// How many tracks and markers a session shows, and how many operations it holds.
-fn counts<M: Allocator>(session: &Session<M>) -> (usize, usize, u64) {
-    (
-        session.tracks.items().len(),
-        session.markers.items().len(),
-        session.held,
-    )
-}
-
-fn text_of(alloc: Global, session: &Session) -> Result<Vec<u8>, SessionFault> {
+// Whether the session of these operations has this text.
+fn has_text(alloc: Global, items: &[Item], wanted: &str) -> Result<bool, SessionFault> {
+    let session = session_of(&alloc, items)?;
     let mut output = Latch::new(Vec::new(alloc));
-    write_text(alloc, session, &mut output)?;
-    Ok(output.into_inner())
-}
-
-// The text of the session of no operation.
-fn text_of_none(alloc: Global) -> Result<Vec<u8>, SessionFault> {
-    let session = from_scratch(alloc, &Log::new(alloc))?;
-    text_of(alloc, &session)
+    write_text(alloc, &session, &mut output)?;
+    Ok(output.into_inner().as_slice() == wanted.as_bytes())
 }
 
 #[test]
-fn shows_a_log(rt: HostRuntime) -> Result<(), Fail> {
-    let session = session(&rt)?;
-    assert_eq!(rt; counts(&session), (1, 1, 1));
-    assert_eq!(rt; text_of(rt.alloc(), &session)?.as_slice(), TEXT.as_bytes());
-    assert_eq!(rt;
-        text_of_none(rt.alloc())?.as_slice(),
-        b"held 0\n".as_slice()
-    );
-    Ok(())
+fn shows_a_log(rt: HostRuntime) {
+    assert_eq!(rt; has_text(rt.alloc(), &ITEMS, TEXT), Ok(true));
+    assert_eq!(rt; has_text(rt.alloc(), &[], "held 0\n"), Ok(true));
+}
+
+// How long this front of the text is.
+fn front_of(written: &[u8]) -> Option<usize> {
+    if TEXT.as_bytes().starts_with(written) {
+        Some(written.len())
+    } else {
+        None
+    }
+}
+
+// What writing a session's text came to: the last answer, whether the output failed, and how long a front of the text it has.
+type Written = (Result<(), SessionFault>, bool, Option<usize>);
+
+// Writes a session's text so often.
+fn written<M: Allocator + Copy>(
+    memory: M,
+    session: &Session,
+    mut output: Latch<FailingWriter<Global>>,
+    times: usize,
+) -> Written {
+    let mut answer = Ok(());
+    for _ in 0..times {
+        answer = write_text(memory, session, &mut output);
+    }
+    let failed = output.failed();
+    (answer, failed, front_of(output.into_inner().written()))
+}
+
+// An output that fails at the write of this number, each of one byte.
+fn output(alloc: Global, good: usize) -> Latch<FailingWriter<Global>> {
+    Latch::new(FailingWriter::new(alloc, good, ErrorKind::Other))
 }
 
 #[test]
 fn writes_a_front_where_the_output_fails(rt: HostRuntime) -> Result<(), Fail> {
-    let session = session(&rt)?;
+    let session = session_of(&rt.alloc(), &ITEMS)?;
     for fails_at in 0..TEXT.len() {
-        let mut output = Latch::new(FailingWriter::new(rt.alloc(), fails_at, ErrorKind::Other));
-        for _ in 0..2 {
+        for times in 1..3 {
             assert_eq!(rt;
-                write_text(rt.alloc(), &session, &mut output),
-                Err(SessionFault::Write),
+                written(rt.alloc(), &session, output(rt.alloc(), fails_at), times),
+                (Err(SessionFault::Write), true, Some(fails_at)),
                 "at {fails_at}"
             );
         }
-        assert!(rt; output.failed());
-        assert_eq!(rt; output.into_inner().written(), &TEXT.as_bytes()[..fails_at]);
     }
     Ok(())
 }
 
+// Writes it where the growth of this number is refused, and tells whether one was.
+fn written_without(alloc: Global, session: &Session, at: u64) -> (bool, Written) {
+    let memory = Refusing::new(alloc, at);
+    let told = written(&memory, session, output(alloc, usize::MAX), 1);
+    (memory.has_refused(), told)
+}
+
 #[test]
 fn writes_nothing_without_memory(rt: HostRuntime) -> Result<(), Fail> {
-    let session = session(&rt)?;
+    let session = session_of(&rt.alloc(), &ITEMS)?;
     for at in 0..20 {
-        let memory = Refusing::new(rt.alloc(), at);
-        let mut output = Latch::new(Vec::new(rt.alloc()));
-        let written = write_text(&memory, &session, &mut output);
-        assert!(rt; !output.failed());
-        if !memory.has_refused() {
-            assert_eq!(rt; written, Ok(()));
-            assert_eq!(rt; output.into_inner().as_slice(), TEXT.as_bytes());
+        let (refused, told) = written_without(rt.alloc(), &session, at);
+        if !refused {
+            assert_eq!(rt; told, (Ok(()), false, Some(TEXT.len())));
             assert!(rt; at > 0, "the text was refused memory");
             return Ok(());
         }
-        assert_eq!(rt; written, Err(SessionFault::Memory), "at {at}");
-        assert!(rt; output.into_inner().is_empty());
+        assert!(rt;
+            told == (Err(SessionFault::Memory), false, Some(0)),
+            "at {at}"
+        );
     }
     Err(Fail::from("each run met a refusal"))
 }
 
-// What the session of the log counts; none where there was no memory for the log.
-fn counts_of<M: Allocator + Clone + Copy>(
-    memory: M,
-) -> Option<Result<(usize, usize, u64), SessionFault>> {
-    let log = log(memory)?;
-    match from_scratch(memory, &log) {
-        Ok(session) => Some(Ok(counts(&session))),
-        Err(fault) => Some(Err(fault)),
-    }
+// How many tracks and markers a session of these operations shows, and how many it holds.
+fn counts_of<M: Allocator + Clone>(
+    memory: &M,
+    items: &[Item],
+) -> Result<(usize, usize, u64), SessionFault> {
+    let session = session_of(memory, items)?;
+    Ok((
+        session.tracks.items().len(),
+        session.markers.items().len(),
+        session.held,
+    ))
 }
 
 #[test]
 fn makes_no_session_without_memory(rt: HostRuntime) -> Result<(), Fail> {
-    let mut refused = false;
-    for at in 0..100 {
+    let first = growths_of_log(rt.alloc(), &ITEMS)?;
+    for at in first..100 {
         let memory = Refusing::new(rt.alloc(), at);
-        let Some(made) = counts_of(&memory) else {
-            continue;
-        };
+        let made = counts_of(&&memory, &ITEMS);
         if !memory.has_refused() {
             assert_eq!(rt; made, Ok((1, 1, 1)));
-            assert!(rt; refused, "a growth of the session was refused");
+            assert!(rt; at - first > 10, "several growths were refused");
             return Ok(());
         }
         assert_eq!(rt; made, Err(SessionFault::Memory), "at {at}");
-        refused = true;
     }
     Err(Fail::from("each run met a refusal"))
 }
