@@ -1,6 +1,6 @@
 //! How many cells takes and edits join, and that they look at nothing else.
 
-use mt_op::{Op, Title};
+use mt_op::Title;
 use mt_opcodec::Log;
 use mt_replica::{Change, Editor, EditorFault};
 use mt_sessionview::from_scratch;
@@ -44,46 +44,57 @@ fn crowded<M: Allocator + Clone>(memory: &M) -> Result<Editor<M>, EditorFault> {
     Ok(editor)
 }
 
-// A new title of the first marker, by B.
-fn title_by_b<M: Allocator + Clone>(memory: &M) -> Result<Op<M>, EditorFault> {
-    let number = MARKERS.saturating_add(1);
-    match retitle(memory.clone()?, stamp_of_b(number)?, stamp_of_b(1)?, "y") {
-        Ok(op) => Ok(op),
-        Err(_) => Err(EditorFault::Memory),
-    }
+// By how much a take of a new title of the first marker, by B, raises the count.
+fn raised_by_take<M: Allocator + Clone>(
+    memory: &M,
+    editor: &mut Editor<M>,
+) -> Result<u64, EditorFault> {
+    let (stamp, item) = (stamp_of_b(MARKERS.saturating_add(1))?, stamp_of_b(1)?);
+    let before = editor.joins();
+    let Ok(op) = retitle(memory.clone()?, stamp, item, "y") else {
+        return Err(EditorFault::Memory);
+    };
+    let _ = editor.take(op)?;
+    Ok(editor.joins().saturating_sub(before))
 }
 
-// Another one.
-fn other_title<M: Allocator + Clone>(memory: &M) -> Result<Change<M>, EditorFault> {
+// By how much an edit of the same does.
+fn raised_by_edit<M: Allocator + Clone>(
+    memory: &M,
+    editor: &mut Editor<M>,
+) -> Result<u64, EditorFault> {
     let item = stamp_of_b(1)?;
-    match Title::new(memory.clone()?, "z") {
-        Ok(title) => Ok(Change::Retitle { item, title }),
-        Err(_) => Err(EditorFault::Memory),
-    }
+    let before = editor.joins();
+    let Ok(title) = Title::new(memory.clone()?, "z") else {
+        return Err(EditorFault::Memory);
+    };
+    let _ = editor.edit(&Change::Retitle { item, title })?;
+    Ok(editor.joins().saturating_sub(before))
 }
 
 // By how much a take of a new title raises the count, where `takes`; else by how much an edit after it does.
 fn raised<M: Allocator + Clone>(memory: &M, takes: bool) -> Result<u64, EditorFault> {
     let mut editor = crowded(memory)?;
-    let (taken, change) = (title_by_b(memory)?, other_title(memory)?);
-    let before = editor.joins();
-    let _ = editor.take(taken)?;
-    let between = editor.joins();
+    let taken = raised_by_take(memory, &mut editor)?;
     if takes {
-        return Ok(between.saturating_sub(before));
+        return Ok(taken);
     }
-    let _ = editor.edit(&change)?;
-    Ok(editor.joins().saturating_sub(between))
+    raised_by_edit(memory, &mut editor)
 }
 
-// How many growths there are before the take, where `takes`; else before the edit.
+// An editor before the take, where `takes`; else before the edit.
+fn editor_before<M: Allocator + Clone>(memory: &M, takes: bool) -> Result<Editor<M>, EditorFault> {
+    let mut editor = crowded(memory)?;
+    if !takes {
+        let _ = raised_by_take(memory, &mut editor)?;
+    }
+    Ok(editor)
+}
+
+// How many growths there are before it.
 fn growths_before(alloc: Global, takes: bool) -> Result<u64, EditorFault> {
     let memory = Refusing::new(alloc, u64::MAX);
-    let mut editor = crowded(&&memory)?;
-    let (taken, _change) = (title_by_b(&&memory)?, other_title(&&memory)?);
-    if !takes {
-        let _ = editor.take(taken)?;
-    }
+    let _editor = editor_before(&&memory, takes)?;
     Ok(memory.allocations())
 }
 
@@ -146,28 +157,52 @@ fn makes_a_session_from_nothing_with_more_growths(rt: HostRuntime) -> Result<(),
     Ok(())
 }
 
-// The count after a track and a Remove of it are taken in turn, the Remove first, and after an edit in a copy.
-fn counts<M: Allocator + Clone>(memory: &M) -> Result<(u64, u64, u64, u64), EditorFault> {
-    let mut editor = Editor::from_log(memory.clone()?, A, Log::new(memory.clone()?))?;
-    let track = stamp_of_b(1)?;
-    let (Ok(track_op), Ok(removed)) = (
-        add_track(memory.clone()?, track, None),
-        removal(memory.clone()?, stamp_of_b(2)?, track, &[track]),
-    ) else {
+// Takes a Remove of a track that is not there yet, and tells the count.
+fn joins_with_removed<M: Allocator + Clone>(
+    memory: &M,
+    editor: &mut Editor<M>,
+) -> Result<u64, EditorFault> {
+    let (stamp, track) = (stamp_of_b(2)?, stamp_of_b(1)?);
+    let Ok(op) = removal(memory.clone()?, stamp, track, &[track]) else {
         return Err(EditorFault::Memory);
     };
-    let _ = editor.take(removed)?;
-    let held = editor.joins();
-    let _ = editor.take(track_op)?;
-    let mut copy = editor.try_clone()?;
-    let anew = copy.joins();
-    let _ = copy.edit(&Change::Restore { item: track })?;
-    Ok((held, editor.joins(), anew, copy.joins()))
+    let _ = editor.take(op)?;
+    Ok(editor.joins())
 }
 
-// A Remove that is held joins nothing; with the track it joins the one tag that it lists, and the track its four fields and its tag.
+// Takes the track, and tells the count.
+fn joins_with_track<M: Allocator + Clone>(
+    memory: &M,
+    editor: &mut Editor<M>,
+) -> Result<u64, EditorFault> {
+    let Ok(op) = add_track(memory.clone()?, stamp_of_b(1)?, None) else {
+        return Err(EditorFault::Memory);
+    };
+    let _ = editor.take(op)?;
+    Ok(editor.joins())
+}
+
+// The count of a copy, and what it is after the track is restored there.
+fn joins_of_copy<M: Allocator + Clone>(editor: &Editor<M>) -> Result<(u64, u64), EditorFault> {
+    let mut copy = editor.try_clone()?;
+    let anew = copy.joins();
+    let item = stamp_of_b(1)?;
+    let _ = copy.edit(&Change::Restore { item })?;
+    Ok((anew, copy.joins()))
+}
+
+// Whether a Remove that is held joins nothing, and with the track joins the one tag that it lists, and the track its four fields and its
+// tag; and a copy counts from 0.
+fn counts<M: Allocator + Clone>(memory: &M) -> Result<bool, EditorFault> {
+    let mut editor = Editor::from_log(memory.clone()?, A, Log::new(memory.clone()?))?;
+    let held = joins_with_removed(memory, &mut editor)?;
+    let both = joins_with_track(memory, &mut editor)?;
+    let copy = joins_of_copy(&editor)?;
+    Ok(held == 0 && both == 6 && copy == (0, 1))
+}
+
 #[test]
 fn counts_what_became_ready(rt: HostRuntime) -> Result<(), Fail> {
-    assert_eq!(rt; counts(&rt.alloc()), Ok((0, 6, 0, 1)));
+    assert_eq!(rt; counts(&rt.alloc()), Ok(true));
     Ok(())
 }
