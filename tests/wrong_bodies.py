@@ -241,9 +241,11 @@ def main():
     parser.add_argument("--jobs", type=int, default=1, help="how many crates at a time")
     options = parser.parse_args()
     crates = options.crates or sorted(os.path.basename(os.path.dirname(path)) for path in glob.glob(os.path.join(TOP, "crates", "*", options.folder)))
-    if subprocess.run(["rt", "all", "check", "--jobs", str(options.jobs)], cwd=TOP, capture_output=True).returncode != 0:
-        print("rt all check: the project itself is not proved")
-        return 1
+    for name in crates:
+        # proves it and those that it stands on, so that the rounds begin with what this keeps in out/
+        if subprocess.run(["rt", "check"], cwd=os.path.join(TOP, "crates", name), capture_output=True).returncode != 0:
+            print("%s: rt check: the crate itself is not proved" % name)
+            return 1
     with concurrent.futures.ThreadPoolExecutor(options.jobs) as pool:
         return 1 if sum(pool.map(lambda name: try_crate(name, options.folder), crates)) else 0
 
