@@ -94,7 +94,10 @@ fn change_at<M: Allocator + Clone>(memory: &M, step: u64) -> Result<Change<M>, E
     changing(memory, step)
 }
 
-fn is_alike<M: Allocator + Clone>(memory: &M, editor: &Editor<M>) -> Result<bool, EditorFault> {
+pub(crate) fn is_alike<M: Allocator + Clone>(
+    memory: &M,
+    editor: &Editor<M>,
+) -> Result<bool, EditorFault> {
     let Some(log) = editor.log() else {
         return Ok(false);
     };
