@@ -7,8 +7,8 @@ use Rattle.mt_stamp.specs.Moment.{Moment, stamp_eq}
 use Rattle.mt_stamp.specs.Tree.{TreePlace}
 use Rattle.mt_tracklist.specs.declared.track_list.Placed.{Placed}
 use Rattle.mt_tracklist.specs.Ordered.{tree_of}
-use Rattle.mt_tracklist.specs.Skipping.{index_in}
-use Rattle.mt_op.specs.Operation.{Operation}
+use Rattle.mt_tracklist.specs.Skipping.{index_in, inserted}
+use Rattle.mt_op.specs.Operation.{Act, AddTrack, MoveTrack, Operation}
 use Rattle.mt_op.specs.declared.need.Role.TheVariants.{Item as ItemRole}
 use Rattle.mt_op.specs.Needs.{need_of}
 use Rattle.mt_items.specs.Noting.{AreNoted, is_need_met}
@@ -65,6 +65,17 @@ pub record TracksStood (ops : List Operation) (item : Moment) (known : Bool) (tr
 -- The list has the places that these operations gave: whatever is counted of each place adds up to the same.
 abbrev pub ArePlacesOf : List Placed → List Operation → Type 0
 ArePlacesOf list ops = (f : TreePlace → ℕ) → sum_by f (tree_of list) ≡ sum_by f (places_in ops)
+
+-- the place that an act under a stamp gives a track, if it gives one, with what it is put after and the track
+abbrev pub placed_of : Moment → Act → Option Placed
+placed_of stamp (AddTrack after title) = Some (record { place = stamp; after = after; track = stamp })
+placed_of stamp (MoveTrack track after) = Some (record { place = stamp; after = after; track = track })
+placed_of stamp act = None
+
+-- a list of places with one more put in, if there is one
+abbrev pub with_placed : Option Placed → List Placed → List Placed
+with_placed None list = list
+with_placed (Some placed) list = inserted list placed
 
 -- where an item stands in a session: the position of a marker, a clip with its track, and whether it was added at all
 abbrev pub stood_in : List Operation → Moment → Stood

@@ -1,14 +1,14 @@
 //! The list of the places of tracks, with the place that one operation more gives.
 
-ghost use Rattle.std.specs.Prelude.{◌≡◌, ◌∷◌, ◌+◌, false, option_map, IfErr, OnOk, ℕ};
+ghost use Rattle.std.specs.Prelude.{◌≡◌, ◌∷◌, ◌+◌, false, option_map, IfErr, OnErr, OnOk, ℕ};
 ghost use Rattle.std.specs.List.{sum_by};
 ghost use Rattle.mt_stamp.specs.Tree.{TreePlace};
 ghost use Rattle.mt_tracklist.specs.Ordered.{IsNewer, has_place, tree_of, tree_place};
-ghost use Rattle.mt_tracklist.specs.Skipping.{IsReferenceThere};
+ghost use Rattle.mt_tracklist.specs.Skipping.{IsReferenceThere, inserted};
 ghost use Rattle.mt_op.specs.Valid.{IsOperation};
 ghost use Rattle.mt_items.specs.Noting.{AreNoted};
 ghost use Rattle.mt_sessionview.specs.Session.{place_added};
-ghost use Rattle.mt_mending.specs.Before.{ArePlacesOf};
+ghost use Rattle.mt_mending.specs.Before.{ArePlacesOf, placed_of, with_placed};
 
 use mt_items::Items;
 use mt_op::{Body, Op};
@@ -19,6 +19,7 @@ use std::alloc::Allocator;
 // The place that an operation gives a track, if it gives one.
 fn placed_by<A: Allocator>(op: &Op<A>) -> Option<Placed>
     ensures place { option_map tree_place result ≡ place_added op.now }
+    ensures placed { result ≡ placed_of op.now.stamp op.now.act }
     ensures valid { IsOperation op.now }
 {
     let place = op.stamp();
@@ -43,7 +44,9 @@ fn put_place<A: Allocator>(list: &mut TrackList<A>, placed: Placed) -> Result<()
     requires reference { IsReferenceThere list.old placed.after }
     requires newer { IsNewer placed.place placed.after }
     ensures ok { OnOk result ((f : TreePlace → ℕ) → sum_by f (tree_of list.new) ≡ f (tree_place placed) + sum_by f (tree_of list.old)) }
+    ensures put_in { OnOk result (list.new ≡ inserted list.old placed) }
     ensures err { IfErr result (λ fault. fault ≡ SessionFault.Memory) }
+    ensures refused { OnErr result (list.new ≡ list.old) }
 {
     match list.insert(placed.place, placed.after, placed.track) {
         Ok(()) => Ok(()),
@@ -53,7 +56,7 @@ fn put_place<A: Allocator>(list: &mut TrackList<A>, placed: Placed) -> Result<()
 }
 
 /// Puts the place that an operation gives a track, if it gives one, into the list of the places of those noted before it. Looks
-/// at one place after another. Refused only as `Memory` (0), where a growth was refused; the list may then lack the place.
+/// at one place after another. Refused only as `Memory` (0), where a growth was refused; the list is then unchanged.
 pub fn add_place<A: Allocator>(
     list: &mut TrackList<A>,
     items: &Items<A>,
@@ -62,7 +65,9 @@ pub fn add_place<A: Allocator>(
     requires follows { AreNoted (op.now ∷ items.now) }
     requires places { ArePlacesOf list.old items.now }
     ensures ok { OnOk result (ArePlacesOf list.new (op.now ∷ items.now)) }
+    ensures put_in { OnOk result (list.new ≡ with_placed (placed_of op.now.stamp op.now.act) list.old) }
     ensures err { IfErr result (λ fault. fault ≡ SessionFault.Memory) }
+    ensures refused { OnErr result (list.new ≡ list.old) }
 {
     match placed_by(op) {
         Some(placed) => put_place(list, placed),
