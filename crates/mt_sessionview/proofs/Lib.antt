@@ -3,8 +3,6 @@ pub mod TrackSorting
 pub mod Lists
 pub mod Orders
 pub mod PlaceTree
-pub mod Links
-pub mod Linking
 pub mod SessionText
 pub mod FromReady
 pub mod HeldOps

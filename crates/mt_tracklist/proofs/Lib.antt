@@ -4,3 +4,5 @@ pub mod Sorted
 pub mod Skipping
 pub mod Equal
 pub mod Elements
+pub mod Links
+pub mod Linking

@@ -5,8 +5,8 @@ use Rattle.std.proofs.lemmas.Bool.{eqb-true}
 use Rattle.std.proofs.lemmas.List.{length-set, append-nil, append_assoc}
 use Rattle.std.proofs.lemmas.Option.{get_or_from_slice_get, slice_get_read}
 use Rattle.std.proofs.lemmas.Map.Steps.{length-le_from_distinct_below}
-use Rattle.mt_sessionview.specs.Chain.{has, put_after}
-use Rattle.mt_sessionview.specs.Links.{spelled, Spells, IsChain}
+use Rattle.mt_tracklist.specs.Chain.{has, put_after}
+use Rattle.mt_tracklist.specs.Links.{spelled, Spells, IsChain}
 
 abbrev Links : Type 0
 Links = List (Option ℕ)
@@ -20,14 +20,14 @@ eqb-turned a b other = by (eqb b a) refl
     by false e = refl
     by true e = absurd (true≢false (sym (eq-eqb a b (sym (eqb-true b a e))) ∙ other))
 
-unlike : (a b : ℕ) → eqb a b ≡ false → a ≢ b
+pub unlike : (a b : ℕ) → eqb a b ≡ false → a ≢ b
 unlike a b other same = true≢false (sym (eq-eqb a b same) ∙ other)
 
-neither_first : (a b : Bool) → (a || b) ≡ false → a ≡ false
+pub neither_first : (a b : Bool) → (a || b) ≡ false → a ≡ false
 neither_first true b e = e
 neither_first false b e = refl
 
-neither_second : (a b : Bool) → (a || b) ≡ false → b ≡ false
+pub neither_second : (a b : Bool) → (a || b) ≡ false → b ≡ false
 neither_second true b e = absurd (true≢false e)
 neither_second false b e = e
 

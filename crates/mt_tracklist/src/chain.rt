@@ -1,7 +1,7 @@
 //! A list of places that are linked each to the next.
 
 ghost use Rattle.std.specs.Prelude.{◌≡◌, ◌<◌, true, false, [], ◌∷◌, IfOk};
-ghost use Rattle.mt_sessionview.specs.Chain.{has, put_after};
+ghost use Rattle.mt_tracklist.specs.Chain.{has, put_after};
 
 use std::alloc::{AllocError, Allocator};
 use std::marker::Model;
@@ -15,8 +15,8 @@ pub(crate) struct Chain<A: Allocator> {
 
 impl<A: Allocator> Model for Chain<A> {
     ghost use Rattle.std.specs.Prelude.{length};
-    ghost use Rattle.mt_sessionview.specs.Chain.{ChainList};
-    ghost use Rattle.mt_sessionview.specs.Links.{spelled, IsChain};
+    ghost use Rattle.mt_tracklist.specs.Chain.{ChainList};
+    ghost use Rattle.mt_tracklist.specs.Links.{spelled, IsChain};
 
     ghost Value = { ChainList };
 

@@ -1,9 +1,9 @@
 use Rattle.std.proofs.Common.{◌≡◌, ℕ, suc, ◌-◌, ◌<◌, ◌++◌, List, true, length, sym, ap, ◌∙◌, arith}
 use Rattle.std.proofs.lemmas.List.{append-nil}
-use Rattle.mt_sessionview.specs.Chain.{ChainList, has}
-use Rattle.mt_sessionview.specs.Links.{spelled}
-use Rattle.mt_sessionview.proofs.Links.{in_range, walk_ends, walk_stays, walk_goes_on}
-use Rattle.mt_sessionview.proofs.chain.Chain.to_vec.Goals as goal
+use Rattle.mt_tracklist.specs.Chain.{ChainList, has}
+use Rattle.mt_tracklist.specs.Links.{spelled}
+use Rattle.mt_tracklist.proofs.Links.{in_range, walk_ends, walk_stays, walk_goes_on}
+use Rattle.mt_tracklist.proofs.chain.Chain.to_vec.Goals as goal
 
 abbrev items_of : ChainList → List ℕ
 items_of chain = chain.items

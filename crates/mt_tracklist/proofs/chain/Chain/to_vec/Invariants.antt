@@ -1,6 +1,6 @@
 use Rattle.std.proofs.Common.{◌≡◌, ℕ, ◌+◌, ◌++◌, length}
-use Rattle.mt_sessionview.specs.Links.{spelled}
-use Rattle.mt_sessionview.proofs.chain.Chain.to_vec.Given as goal
+use Rattle.mt_tracklist.specs.Links.{spelled}
+use Rattle.mt_tracklist.proofs.chain.Chain.to_vec.Given as goal
 
 -- what is walked, and what is left of the walk, are the list
 abbrev pub invariant-loop : goal.invariant-loop

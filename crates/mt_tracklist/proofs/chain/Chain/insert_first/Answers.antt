@@ -1,7 +1,7 @@
 use Rattle.std.proofs.Common.{ℕ, List, ◌<◌, length, ap, arith}
-use Rattle.mt_sessionview.specs.Chain.{ChainList}
-use Rattle.mt_sessionview.proofs.Links.{put_first}
-use Rattle.mt_sessionview.proofs.chain.Chain.insert_first.Goals as goal
+use Rattle.mt_tracklist.specs.Chain.{ChainList}
+use Rattle.mt_tracklist.proofs.Links.{put_first}
+use Rattle.mt_tracklist.proofs.chain.Chain.insert_first.Goals as goal
 
 abbrev items_of : ChainList → List ℕ
 items_of chain = chain.items
