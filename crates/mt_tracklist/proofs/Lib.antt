@@ -6,3 +6,4 @@ pub mod Equal
 pub mod Elements
 pub mod Links
 pub mod Linking
+pub mod FourPlaces
