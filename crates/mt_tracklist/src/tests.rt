@@ -253,12 +253,17 @@ fn four() -> Result<[PlaceAfter; 4], StampFault>
     ])
 }
 
+// Whether the indexes are those of z, a, y and x among the four places.
+fn reads_zayx(order: &[usize]) -> bool {
+    order == [3, 0, 2, 1].as_slice()
+}
+
 // Whether the four places were ordered, as z a y x.
 fn is_order_of_four<M: Allocator + Clone>(memory: &M, places: &[PlaceAfter]) -> bool
     requires { given_tree places.now ≡ four }
 {
     match order_of(memory, places) {
-        Ok(order) => order.as_slice() == [3, 0, 2, 1].as_slice(),
+        Ok(order) => reads_zayx(&order),
         Err(_refused) => false,
     }
 }
