@@ -18,7 +18,6 @@ pub mod PlacedOps
 pub mod SameMembers
 pub mod Standing
 pub mod Whole
-pub mod Rising
 mod Equal
 pub mod Placing
 pub mod Beside

@@ -119,9 +119,6 @@ pub record IsLinked (places : List TreePlace) (items : List ℕ) (n : ℕ) : Typ
   pub had : (p : ℕ) → has items p ≡ ltb p n
   pub order : map (stamp_at places) items ≡ arranged (take n places)
 
-pub none_linked : (places : List TreePlace) (items : List ℕ) → items ≡ [] → IsLinked places items 0
-none_linked places items none = subst (λ (l : List ℕ). IsLinked places l 0) (sym none) (record { had = none_below; order = refl })
-
 module _ (places : List TreePlace) (tree : IsTree places) (rises : RisesStrictly stamp_cmp (stamps_of places)) where
   sorted : IsStrictlySortedBy stamp_cmp (stamps_of places)
   sorted = strictly_sorted (stamps_of places) rises
@@ -176,9 +173,6 @@ module _ (places : List TreePlace) (tree : IsTree places) (rises : RisesStrictly
 -- what the list has is below the count
 pub had_below : (places : List TreePlace) (items : List ℕ) (n : ℕ) → IsLinked places items n → (k p : ℕ) → slice_get items k ≡ Some p → p < n
 had_below places items n linked k p at = ltb-true p n (sym (linked.had p) ∙ has_at items k p at)
-
-pub below_had : (places : List TreePlace) (items : List ℕ) (n : ℕ) → IsLinked places items n → (p : ℕ) → p < n → has items p ≡ true
-below_had places items n linked p less = linked.had p ∙ lt-ltb p n less
 
 -- ---- a search among places of rising stamps
 

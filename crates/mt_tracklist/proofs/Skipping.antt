@@ -14,7 +14,7 @@ use Rattle.mt_stamp.specs.Tree.{TreePlace, stamps_of, tree_cmp, IsPlaceOf, IsTre
 use Rattle.mt_stamp.proofs.Order.{stamp_cmp_total, stamp_cmp-IsAntisymmetric, stamp_eq-true, stamp_eq-itself}
 use Rattle.mt_tracklist.specs.declared.track_list.Placed.{Placed}
 use Rattle.mt_tracklist.specs.Ordered.{tree_place, tree_of, IsOrdered, has_place, IsNewer}
-use Rattle.mt_tracklist.specs.Skipping.{index_in, right_of, skipped, insertion_index, inserted, IsReferenceThere, IsReferenceMissing, SkippingKeepsTheOrder}
+use Rattle.mt_tracklist.specs.Skipping.{index_in, right_of, skipped, insertion_index, inserted, IsReferenceThere, SkippingKeepsTheOrder}
 use Rattle.mt_tracklist.proofs.Growing.{IsNewIn, tree_grows}
 use Rattle.mt_tracklist.proofs.Links.{neither_first, neither_second}
 use Rattle.mt_tracklist.proofs.Sorted.{IsGap, sorted_with}
@@ -190,11 +190,6 @@ empty_sorted = tt
 pub none_ordered : (list : List Placed) → list ≡ [] → IsOrdered list
 none_ordered [] none = record { tree = record { apart = λ i j s t at_i at_j same. absurd (none-some s at_i); after_older = λ i t p at after. absurd (none-some t at) }; sorted = empty_sorted }
 none_ordered (t ∷ list) none = absurd cc
-
--- a reference is there or missing
-pub never_there_and_missing : (list : List Placed) (after : Option Moment) → IsReferenceThere list after → IsReferenceMissing list after → ⊥
-never_there_and_missing list None there missing = missing
-never_there_and_missing list (Some p) there missing = true≢false (sym there ∙ missing)
 
 -- what the code found of where the new one goes, and the list with it
 pub put_in_ordered : (list tested searched walked news : List Placed) (t : Placed) (has : Bool) (start index : ℕ) → IsOrdered list → tested ≡ list → searched ≡ list → walked ≡ list
