@@ -3,8 +3,6 @@ pub mod TrackSorting
 pub mod Lists
 pub mod Orders
 pub mod PlaceTree
-pub mod Links
-pub mod Linking
 pub mod SessionText
 pub mod FromReady
 pub mod HeldOps
@@ -20,7 +18,6 @@ pub mod PlacedOps
 pub mod SameMembers
 pub mod Standing
 pub mod Whole
-pub mod Rising
 mod Equal
 pub mod Placing
 pub mod Beside

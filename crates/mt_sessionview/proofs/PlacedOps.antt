@@ -8,10 +8,11 @@ use Rattle.std.specs.declared.cmp.Ordering.{Ordering}
 use Rattle.std.specs.declared.cmp.Ordering.TheVariants.{Less}
 use Rattle.std.proofs.lemmas.Bool.{eqb-true}
 use Rattle.std.proofs.lemmas.Cmp.{on_total}
+use Rattle.std.proofs.lemmas.List.{length-map}
 use Rattle.std.proofs.lemmas.Option.{slice_get-get_or, get_or_from_slice_get, slice_get_within}
 use Rattle.mt_stamp.specs.Moment.{Moment, stamp_cmp}
 use Rattle.mt_stamp.specs.Sorting.{sort_by, RisesStrictly, DifferBy}
-use Rattle.mt_stamp.specs.Tree.{TreePlace, tree_cmp}
+use Rattle.mt_stamp.specs.Tree.{TreePlace, IsTree, stamps_of, tree_cmp}
 use Rattle.mt_stamp.proofs.Order.{stamp_cmp_total}
 use Rattle.mt_stamp.proofs.Differing.{differ_kept}
 use Rattle.mt_stamp.proofs.Members.{IsMember, member_at, member_stands, member_of_kept, one_list, sort_strict, member_sorted, member_unsorted}
@@ -22,23 +23,24 @@ use Rattle.mt_op.specs.declared.need.Role.TheVariants.{Place}
 use Rattle.mt_op.specs.ByStamp.{stamp_of, op_cmp}
 use Rattle.mt_op.specs.Operation.{Operation}
 use Rattle.mt_op.specs.Needs.{fits}
-use Rattle.mt_sessionview.specs.Chain.{has, stamp_at}
+use Rattle.mt_tracklist.specs.declared.rising.PlaceAfter.{PlaceAfter}
+use Rattle.mt_tracklist.specs.Chain.{has}
+use Rattle.mt_tracklist.specs.Rising.{given_tree, stamp_at}
 use Rattle.mt_sessionview.specs.Noted.{places_in, by_place, placed_in}
 use Rattle.mt_sessionview.specs.Read.{op_at, ops_at, tree_place}
 use Rattle.mt_sessionview.proofs.InOrder.{apart_by}
-use Rattle.mt_sessionview.proofs.Linking.{mapped_length}
-use Rattle.mt_sessionview.proofs.Lists.{all_also, all_members, member_all, rises_unmapped}
+use Rattle.mt_sessionview.proofs.Lists.{all_also, all_members, member_all, rises_kept, rises_mapped, rises_unmapped}
 use Rattle.mt_sessionview.proofs.PlaceTree.{given_places}
 use Rattle.mt_sessionview.proofs.SameSession.{tree_same}
 
 -- ---- operations at places
 
-named_at : (ops : List Operation) (k : ℕ) → stamp_at (map stamp_of ops) k ≡ (op_at ops k).stamp
+named_at : (ops : List Operation) (k : ℕ) → stamp_at (map tree_place ops) k ≡ (op_at ops k).stamp
 named_at [] k = refl
 named_at (x ∷ xs) zero = refl
 named_at (x ∷ xs) (suc k) = named_at xs k
 
-names_at : (ops : List Operation) (order : List ℕ) → map (stamp_at (map stamp_of ops)) order ≡ map stamp_of (ops_at ops order)
+names_at : (ops : List Operation) (order : List ℕ) → map (stamp_at (map tree_place ops)) order ≡ map stamp_of (ops_at ops order)
 names_at ops [] = refl
 names_at ops (k ∷ order) = λ i. named_at ops k i ∷ names_at ops order i
 
@@ -84,11 +86,11 @@ module _ (r : List Operation) (differ : DifferBy stamp_of r) (order : List ℕ) 
   abbrev those : List Operation
   those = ops_at ops order
 
-  those_rise : IsStrictlySortedBy (tree_cmp (map tree_place ops)) (map (stamp_at (map stamp_of ops)) order) → RisesStrictly (by_place r) those
+  those_rise : IsStrictlySortedBy (tree_cmp (map tree_place ops)) (map (stamp_at (map tree_place ops)) order) → RisesStrictly (by_place r) those
   those_rise sorted =
       rises_unmapped (tree_cmp (places_in r)) stamp_of those
       (strictly (tree_cmp (places_in r)) (map stamp_of those)
-      (subst (λ (l : List Moment). IsStrictlySortedBy (tree_cmp (places_in r)) l) (names_at ops order) (subst (λ (places : List TreePlace). IsStrictlySortedBy (tree_cmp places) (map (stamp_at (map stamp_of ops)) order)) (sym (given_places r)) sorted)))
+      (subst (λ (l : List Moment). IsStrictlySortedBy (tree_cmp (places_in r)) l) (names_at ops order) (subst (λ (places : List TreePlace). IsStrictlySortedBy (tree_cmp places) (map (stamp_at (map tree_place ops)) order)) (sym (given_places r)) sorted)))
 
   out_of : ((p : ℕ) → p < length ops → has order p ≡ true) → (v : Operation) → IsMember v (placed_in r) → IsMember v those
   out_of all v m =
@@ -96,21 +98,32 @@ module _ (r : List Operation) (differ : DifferBy stamp_of r) (order : List ℕ) 
       let had = at_ops_had ops order at.place (all at.place (slice_get_within ops at.place v at.at)) in
       subst (λ (o : Operation). IsMember o those) (get_or_from_slice_get ops at.place v (op_at [] 0) at.at) had
 
-  pub placed_at : ((k p : ℕ) → slice_get order k ≡ Some p → p < length ops) → ((p : ℕ) → p < length ops → has order p ≡ true) → IsStrictlySortedBy (tree_cmp (map tree_place ops)) (map (stamp_at (map stamp_of ops)) order) → those ≡ placed_in r
+  pub placed_at : ((k p : ℕ) → slice_get order k ≡ Some p → p < length ops) → ((p : ℕ) → p < length ops → has order p ≡ true) → IsStrictlySortedBy (tree_cmp (map tree_place ops)) (map (stamp_at (map tree_place ops)) order) → those ≡ placed_in r
   placed_at below all sorted =
       one_list (by_place r) (by_place_total r) those (placed_in r) (those_rise sorted) (placed_rise r differ)
       (λ v m. member_sorted (by_place r) (by_place_total r) v ops (member_ops_at ops order below v m)) (out_of all)
 
--- the same of references to the operations, and of their stamps
-pub placed_refs : {X : Type 0} (f : X → Operation) (r : List Operation) → DifferBy stamp_of r → (refs : List X) → map f refs ≡ filter (fits Place) r → (stamps : List Moment) → stamps ≡ map stamp_of (filter (fits Place) r)
-    → (order : List ℕ) → ((k p : ℕ) → slice_get order k ≡ Some p → p < length refs) → ((p : ℕ) → p < length refs → has order p ≡ true) → IsStrictlySortedBy (tree_cmp (map tree_place (map f refs))) (map (stamp_at stamps) order)
-    → ops_at (map f refs) order ≡ placed_in r
-placed_refs f r differ refs refs_are stamps stamps_are order below all sorted =
-    let long : length (filter (fits Place) r) ≡ length refs = sym (ap length refs_are) ∙ mapped_length f refs in
-    ap (λ (l : List Operation). ops_at l order) refs_are
-    ∙ placed_at r differ order (λ k p at. let less = below k p at in omega (arith, less, long)) (λ p less. all p (omega (arith, less, long)))
-    (subst (λ (l : List Moment). IsStrictlySortedBy (tree_cmp (map tree_place (filter (fits Place) r))) (map (stamp_at l) order)) stamps_are
-    (subst (λ (l : List Operation). IsStrictlySortedBy (tree_cmp (map tree_place l)) (map (stamp_at stamps) order)) refs_are sorted))
+-- the same of references to the operations, and of the places that these give
+module _ {X : Type 0} (f : X → Operation) (r : List Operation) (refs : List X) (refs_are : map f refs ≡ filter (fits Place) r) (places : List PlaceAfter) (places_are : given_tree places ≡ map tree_place (map f refs)) where
+  given_are : given_tree places ≡ map tree_place (filter (fits Place) r)
+  given_are = places_are ∙ ap (map tree_place) refs_are
+
+  pub as_many : length places ≡ length refs
+  as_many = sym (length-map places _) ∙ ap length places_are ∙ length-map (map f refs) tree_place ∙ length-map refs f
+
+  pub are_a_tree : IsTree (places_in r) → IsTree (given_tree places)
+  are_a_tree = subst (λ (l : List TreePlace). IsTree l) (given_places r ∙ sym given_are)
+
+  pub places_rise : RisesStrictly op_cmp r → RisesStrictly stamp_cmp (stamps_of (given_tree places))
+  places_rise rise = subst (λ (l : List TreePlace). RisesStrictly stamp_cmp (stamps_of l)) (sym given_are) (rises_mapped stamp_cmp (λ (t : TreePlace). t.place) (map tree_place (filter (fits Place) r)) (rises_mapped (λ (s t : TreePlace). stamp_cmp s.place t.place) tree_place (filter (fits Place) r) (rises_kept op_cmp (fits Place) r rise)))
+
+  pub placed_refs : DifferBy stamp_of r → (order : List ℕ) → ((k p : ℕ) → slice_get order k ≡ Some p → p < length places) → ((p : ℕ) → p < length places → has order p ≡ true) → IsStrictlySortedBy (tree_cmp (given_tree places)) (map (stamp_at (given_tree places)) order)
+      → ops_at (map f refs) order ≡ placed_in r
+  placed_refs differ order below all sorted =
+      let long : length (filter (fits Place) r) ≡ length places = sym (ap length refs_are) ∙ length-map refs f ∙ sym as_many in
+      ap (λ (l : List Operation). ops_at l order) refs_are
+      ∙ placed_at r differ order (λ k p at. let less = below k p at in omega (arith, less, long)) (λ p less. all p (omega (arith, less, long)))
+      (subst (λ (l : List TreePlace). IsStrictlySortedBy (tree_cmp l) (map (stamp_at l) order)) given_are sorted)
 
 -- operations that rise by stamp have stamps of their own
 pub rising_differ : (ops : List Operation) → RisesStrictly op_cmp ops → DifferBy stamp_of ops

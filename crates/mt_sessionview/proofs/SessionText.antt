@@ -15,10 +15,6 @@ three_pieces old t1 t2 new a b c e1 e2 e = rw (e, e2, e1) (simp append_assoc)
 pub sound_pieces : (old t1 t2 new a b c d f : List ℕ) → t1 ≡ old ++ (a ++ b) → t2 ≡ t1 ++ (c ++ d) → new ≡ t2 ++ f → new ≡ old ++ (a ++ (b ++ (c ++ (d ++ f))))
 sound_pieces old t1 t2 new a b c d f e1 e2 e = rw (e, e2, e1) (simp append_assoc)
 
--- the parts of a track's line
-pub track_pieces : (old t1 t2 t3 t4 new a b c d f h : List ℕ) → t1 ≡ old ++ (a ++ b) → t2 ≡ t1 ++ c → t3 ≡ t2 ++ d → t4 ≡ t3 ++ f → new ≡ t4 ++ h → new ≡ old ++ (a ++ (b ++ (c ++ (d ++ (f ++ h)))))
-track_pieces old t1 t2 t3 t4 new a b c d f h e1 e2 e3 e4 e = rw (e, e4, e3, e2, e1) (simp append_assoc)
-
 -- the parts of a clip's line
 pub clip_pieces : (old t1 t2 t3 t4 t5 t6 t7 new a b c d f h i j k l m n o : List ℕ) → t1 ≡ old ++ (a ++ b) → t2 ≡ t1 ++ (c ++ d) → t3 ≡ t2 ++ (f ++ h) → t4 ≡ t3 ++ (i ++ j) → t5 ≡ t4 ++ (k ++ l) → t6 ≡ t5 ++ m → t7 ≡ t6 ++ n → new ≡ t7 ++ o
     → new ≡ old ++ (a ++ (b ++ (c ++ (d ++ (f ++ (h ++ (i ++ (j ++ (k ++ (l ++ (m ++ (n ++ o))))))))))))

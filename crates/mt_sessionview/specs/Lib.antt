@@ -6,6 +6,4 @@ pub mod SessionText
 pub mod SessionLaws
 pub mod Noted
 pub mod Read
-pub mod Chain
-pub mod Links
 pub mod Changing

@@ -4,7 +4,6 @@
 
 mod build;
 mod by_stamp;
-mod chain;
 mod change_clip;
 mod change_marker;
 mod change_track;
@@ -12,8 +11,8 @@ mod clip;
 mod fault;
 pub mod laws;
 mod marker;
-mod place_order;
 mod placed;
+mod places;
 mod read;
 mod readiness;
 mod ready;

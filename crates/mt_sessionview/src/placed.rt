@@ -7,10 +7,10 @@ ghost use Rattle.mt_op.specs.ByStamp.{op_cmp};
 ghost use Rattle.mt_sessionview.specs.Noted.{places_in, placed_in};
 ghost use Rattle.mt_sessionview.specs.Read.{ops_at};
 
-use crate::by_stamp::stamps_of;
 use crate::fault::SessionFault;
-use crate::place_order::{place_ops, place_order};
+use crate::places::{place_ops, places_of};
 use mt_op::Op;
+use mt_tracklist::order_of;
 use std::alloc::{AllocError, Allocator};
 
 // The operations at these indexes, in this order.
@@ -39,9 +39,9 @@ pub(crate) fn placed_ops<'a, A: Allocator + Clone>(
     ensures ok { IfOk result (λ placed. map (λ o. o.now) placed.items ≡ placed_in (map (λ o. o.now) ops.now)) }
     ensures err { IfErr result (λ fault. fault ≡ SessionFault.Memory) }
 {
-    let places = place_ops(alloc, ops)?;
-    let stamps = stamps_of(alloc.clone()?, &places)?;
-    let order = place_order(alloc, &places, &stamps)?;
-    drop(stamps);
-    Ok(ops_at(alloc.clone()?, &places, &order)?)
+    let ops = place_ops(alloc, ops)?;
+    let places = places_of(alloc.clone()?, &ops)?;
+    let order = order_of(alloc, &places)?;
+    drop(places);
+    Ok(ops_at(alloc.clone()?, &ops, &order)?)
 }

@@ -4,3 +4,6 @@ pub mod Sorted
 pub mod Skipping
 pub mod Equal
 pub mod Elements
+pub mod Links
+pub mod Linking
+pub mod FourPlaces

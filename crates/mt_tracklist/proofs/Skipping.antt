@@ -14,8 +14,9 @@ use Rattle.mt_stamp.specs.Tree.{TreePlace, stamps_of, tree_cmp, IsPlaceOf, IsTre
 use Rattle.mt_stamp.proofs.Order.{stamp_cmp_total, stamp_cmp-IsAntisymmetric, stamp_eq-true, stamp_eq-itself}
 use Rattle.mt_tracklist.specs.declared.track_list.Placed.{Placed}
 use Rattle.mt_tracklist.specs.Ordered.{tree_place, tree_of, IsOrdered, has_place, IsNewer}
-use Rattle.mt_tracklist.specs.Skipping.{index_in, right_of, skipped, insertion_index, inserted, IsReferenceThere, IsReferenceMissing, SkippingKeepsTheOrder}
+use Rattle.mt_tracklist.specs.Skipping.{index_in, right_of, skipped, insertion_index, inserted, IsReferenceThere, SkippingKeepsTheOrder}
 use Rattle.mt_tracklist.proofs.Growing.{IsNewIn, tree_grows}
+use Rattle.mt_tracklist.proofs.Links.{neither_first, neither_second}
 use Rattle.mt_tracklist.proofs.Sorted.{IsGap, sorted_with}
 
 -- tests of a list's elements by index
@@ -31,16 +32,8 @@ module _ {X : Type 0} (p : X → Bool) where
 
   pub passes_nowhere : (xs : List X) (k : ℕ) (x : X) → list_any p xs ≡ false → slice_get xs k ≡ Some x → p x ≡ false
   passes_nowhere [] k x none at = absurd (none-some x at)
-  passes_nowhere (y ∷ xs) zero x none at = ap p (sym (same_Some y x at)) ∙ first (p y) (list_any p xs) none
-    where
-      first : (a b : Bool) → (a || b) ≡ false → a ≡ false
-      first true b h = h
-      first false b h = refl
-  passes_nowhere (y ∷ xs) (suc k) x none at = passes_nowhere xs k x (rest (p y) (list_any p xs) none) at
-    where
-      rest : (a b : Bool) → (a || b) ≡ false → b ≡ false
-      rest true b h = absurd (true≢false h)
-      rest false b h = h
+  passes_nowhere (y ∷ xs) zero x none at = ap p (sym (same_Some y x at)) ∙ neither_first (p y) (list_any p xs) none
+  passes_nowhere (y ∷ xs) (suc k) x none at = passes_nowhere xs k x (neither_second (p y) (list_any p xs) none) at
 
   pub fails_before : (xs : List X) (k : ℕ) (x : X) → k < position_or_len p xs → slice_get xs k ≡ Some x → p x ≡ false
   fails_before xs k x lt at = ap p (sym (get_or_from_slice_get xs k x x at)) ∙ fails_before_first p xs k x lt
@@ -197,11 +190,6 @@ empty_sorted = tt
 pub none_ordered : (list : List Placed) → list ≡ [] → IsOrdered list
 none_ordered [] none = record { tree = record { apart = λ i j s t at_i at_j same. absurd (none-some s at_i); after_older = λ i t p at after. absurd (none-some t at) }; sorted = empty_sorted }
 none_ordered (t ∷ list) none = absurd cc
-
--- a reference is there or missing
-pub never_there_and_missing : (list : List Placed) (after : Option Moment) → IsReferenceThere list after → IsReferenceMissing list after → ⊥
-never_there_and_missing list None there missing = missing
-never_there_and_missing list (Some p) there missing = true≢false (sym there ∙ missing)
 
 -- what the code found of where the new one goes, and the list with it
 pub put_in_ordered : (list tested searched walked news : List Placed) (t : Placed) (has : Bool) (start index : ℕ) → IsOrdered list → tested ≡ list → searched ≡ list → walked ≡ list

@@ -16,7 +16,7 @@ use Rattle.mt_tracklist.proofs.Growing.{shifted_before, shifted_behind, shifted_
 use Rattle.mt_tracklist.proofs.Order.{same_order, never_both, before_smaller, skipped_before}
 
 module _ (cmp : Moment → Moment → Ordering) where
-  all_at : (P : Moment → Type 0) (list : List TreePlace) → AllByRecursion P (stamps_of list) → (i : ℕ) (t : TreePlace) → slice_get list i ≡ Some t → P t.place
+  pub all_at : (P : Moment → Type 0) (list : List TreePlace) → AllByRecursion P (stamps_of list) → (i : ℕ) (t : TreePlace) → slice_get list i ≡ Some t → P t.place
   all_at P [] all i t at = absurd (none-some t at)
   all_at P (s ∷ list) all zero t at = subst (λ (u : TreePlace). P u.place) (same_Some s t at) all.0
   all_at P (s ∷ list) all (suc i) t at = all_at P list all.1 i t at

@@ -21,13 +21,20 @@
 //! than the one that it was put after. And the skip never goes beyond: where the tree under the reference ends, the next
 //! element is a sibling of the reference or of a place above it, with a smaller stamp than these, so smaller than the new one.
 //! `laws::skipping` says so of every list.
+//!
+//! Of places that are given by rising stamp the order is made in one pass, without a skip (`order_of`): each place goes right after
+//! what it was put after, or to the front, in constant time once that is found. Every later stamp is greater, so whatever was put
+//! there before is smaller and stands behind it.
 #![tactic(auto)]
 
+mod chain;
 mod fault;
 pub mod laws;
+mod rising;
 #[cfg(test)]
 mod tests;
 mod track_list;
 
 pub use fault::TrackListFault;
+pub use rising::{PlaceAfter, order_of};
 pub use track_list::{Placed, TrackList, is_newer};

@@ -1,5 +1,11 @@
+//! Tests.
+
+ghost use Rattle.std.specs.Prelude.{◌≡◌, IfOk};
+ghost use Rattle.mt_stamp.specs.TreeExamples.{four};
+ghost use Rattle.mt_tracklist.specs.Rising.{given_tree};
+
 use crate::laws::equal_lists;
-use crate::{Placed, TrackList, TrackListFault, is_newer};
+use crate::{PlaceAfter, Placed, TrackList, TrackListFault, is_newer, order_of};
 use mt_stamp::{Replica, Stamp, StampFault};
 use mt_testalloc::Refusing;
 use std::alloc::Allocator;
@@ -216,6 +222,59 @@ fn refuses_a_copy_where_its_growth_is_refused(rt: HostRuntime) -> Result<(), Fai
         let memory = Refusing::new(rt.alloc(), at);
         let copied = is_copied(&memory);
         assert_eq!(rt; copied == Ok(true), !memory.has_refused());
+        if !memory.has_refused() {
+            return Ok(());
+        }
+    }
+    assert!(rt; false);
+    Ok(())
+}
+
+// A place that is put after another one.
+fn after(place: Stamp, after: Option<Stamp>) -> PlaceAfter
+    ensures { result ≡ record { place = place; after = after } }
+{
+    PlaceAfter { place, after }
+}
+
+// four_places, by rising stamp: a, x, y, z
+fn four() -> Result<[PlaceAfter; 4], StampFault>
+    ensures { IfOk result (λ places. given_tree places ≡ four) }
+{
+    let a = Stamp::new(1, A, 1)?;
+    let x = Stamp::new(2, A, 2)?;
+    let y = Stamp::new(2, B, 1)?;
+    let z = Stamp::new(3, B, 2)?;
+    Ok([
+        after(a, None),
+        after(x, Some(a)),
+        after(y, Some(a)),
+        after(z, None),
+    ])
+}
+
+// Whether the indexes are those of z, a, y and x among the four places.
+fn reads_zayx(order: &[usize]) -> bool {
+    order == [3, 0, 2, 1].as_slice()
+}
+
+// Whether the four places were ordered, as z a y x.
+fn is_order_of_four<M: Allocator + Clone>(memory: &M, places: &[PlaceAfter]) -> bool
+    requires { given_tree places.now ≡ four }
+{
+    match order_of(memory, places) {
+        Ok(order) => reads_zayx(&order),
+        Err(_refused) => false,
+    }
+}
+
+#[test]
+fn orders_places_of_rising_stamps(rt: HostRuntime) -> Result<(), Fail> {
+    let places = four()?;
+    for at in 0..100 {
+        let memory = Refusing::new(rt.alloc(), at);
+        let ordered = is_order_of_four(&&memory, &places);
+        assert_eq!(rt; ordered, !memory.has_refused());
         if !memory.has_refused() {
             return Ok(());
         }

@@ -1,10 +1,10 @@
 use Rattle.std.proofs.Common.{List, length, map, sym, ap, ◌∙◌, Bor}
 use Rattle.std.specs.String.{string_bytes}
+use Rattle.std.proofs.lemmas.List.{length-map}
 use Rattle.mt_op.specs.declared.op.Op.{Op}
 use Rattle.mt_op.specs.Operation.{Operation}
 use Rattle.mt_opcodec.specs.LogValue.{operations}
 use Rattle.mt_replica.proofs.Taking.{sorted_rise}
-use Rattle.mt_sessionview.proofs.Linking.{mapped_length}
 use Rattle.mt_sessionview.specs.Session.{ready_ops, stamps_of}
 use Rattle.mt_logtext.proofs.Lines.{text_is}
 use Rattle.mt_logtext.proofs.log_text.append_log.Goals as goal
@@ -17,5 +17,5 @@ returns-clause-text g c =
     let now : List (Bor (Op g.row.A.Denot)) → List Operation = λ l. map (λ (o : Bor (Op g.row.A.Denot)). o.now) l in
     let refs = c.deref.result.now in
     text_is (operations c.args.log.now) c.runs.ensures.logged c.deref-2.result.now (c.deref-2.ensures.value ∙ c.in_ok-ready.ensures.ok) (now refs) (ap now c.deref.ensures.value ∙ c.in_ok-sorted.ensures) c.len.result
-    (c.len.ensures ∙ c.in_ok-sorted.sorted.ok.0 ∙ ap length (sym c.deref.ensures.value) ∙ sym (mapped_length (λ (o : Bor (Op g.row.A.Denot)). o.now) refs))
+    (c.len.ensures ∙ c.in_ok-sorted.sorted.ok.0 ∙ ap length (sym c.deref.ensures.value) ∙ sym (length-map refs (λ (o : Bor (Op g.row.A.Denot)). o.now)))
     (string_bytes c.args.text.now) (string_bytes c.append_lines.new.text) (string_bytes c.append_count.new.text) c.in_ok-append_lines.ensures c.in_ok-append_count.ensures

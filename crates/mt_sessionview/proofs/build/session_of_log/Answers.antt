@@ -1,3 +1,4 @@
+use Rattle.std.proofs.lemmas.List.{length-map}
 use Rattle.std.proofs.Common.{◌≡◌, ◌∙◌, List, length, map, reverse, refl, sym, ap, subst, arith, Bor}
 use Rattle.std.specs.List.{sum_by}
 use Rattle.std.proofs.lemmas.List.Sorted.{sum_by-IsPermutation, IsPermutation-reverse}
@@ -11,7 +12,6 @@ use Rattle.mt_op.specs.Operation.{Operation}
 use Rattle.mt_opcodec.specs.LogValue.{operations}
 use Rattle.mt_sessionview.specs.Noted.{places_in, tracks_in, markers_in}
 use Rattle.mt_sessionview.specs.Session.{ready_ops}
-use Rattle.mt_sessionview.proofs.Linking.{mapped_length}
 use Rattle.mt_sessionview.proofs.Lists.{rises_kept}
 use Rattle.mt_sessionview.proofs.Refs.{rising_ops}
 use Rattle.mt_sessionview.proofs.TrackSorting.{every_stamp}
@@ -29,8 +29,8 @@ count_held-held-requires g c =
     let now : List Ref → List Operation = λ l. map (λ (o : Ref). o.now) l in
     let s = sort_by op_cmp (operations c.args.log.now) in
     let sorted : now c.deref.result.now ≡ s = ap now c.deref.ensures.value ∙ c.in_ok-sorted.ensures in
-    let all : length c.deref-2.result.now ≡ length s = sym (mapped_length (λ (o : Ref). o.now) c.deref-2.result.now) ∙ ap length (ap now c.deref-2.ensures.value ∙ c.in_ok-sorted.ensures) in
-    let some : length c.deref-3.result.now ≡ length (ready_ops s) = sym (mapped_length (λ (o : Ref). o.now) c.deref-3.result.now) ∙ ap length (ap now c.deref-3.ensures.value ∙ c.in_ok-ready.ensures.ops ∙ ap ready_ops sorted) in
+    let all : length c.deref-2.result.now ≡ length s = sym (length-map c.deref-2.result.now (λ (o : Ref). o.now)) ∙ ap length (ap now c.deref-2.ensures.value ∙ c.in_ok-sorted.ensures) in
+    let some : length c.deref-3.result.now ≡ length (ready_ops s) = sym (length-map c.deref-3.result.now (λ (o : Ref). o.now)) ∙ ap length (ap now c.deref-3.ensures.value ∙ c.in_ok-ready.ensures.ops ∙ ap ready_ops sorted) in
     let rest = fewer (operations c.args.log.now) c.runs.ensures.logged (length c.deref-2.result.now) (length c.deref-3.result.now) all some in
     omega (arith, rest.1)
 
@@ -59,8 +59,8 @@ returns-clause-ok g c =
     let now : List Ref → List Operation = λ l. map (λ (o : Ref). o.now) l in
     let s = sort_by op_cmp (operations c.args.log.now) in
     let sorted : now c.deref.result.now ≡ s = ap now c.deref.ensures.value ∙ c.in_ok-sorted.ensures in
-    let all : length c.deref-2.result.now ≡ length s = sym (mapped_length (λ (o : Ref). o.now) c.deref-2.result.now) ∙ ap length (ap now c.deref-2.ensures.value ∙ c.in_ok-sorted.ensures) in
-    let some : length c.deref-3.result.now ≡ length (ready_ops s) = sym (mapped_length (λ (o : Ref). o.now) c.deref-3.result.now) ∙ ap length (ap now c.deref-3.ensures.value ∙ c.in_ok-ready.ensures.ops ∙ ap ready_ops sorted) in
+    let all : length c.deref-2.result.now ≡ length s = sym (length-map c.deref-2.result.now (λ (o : Ref). o.now)) ∙ ap length (ap now c.deref-2.ensures.value ∙ c.in_ok-sorted.ensures) in
+    let some : length c.deref-3.result.now ≡ length (ready_ops s) = sym (length-map c.deref-3.result.now (λ (o : Ref). o.now)) ∙ ap length (ap now c.deref-3.ensures.value ∙ c.in_ok-ready.ensures.ops ∙ ap ready_ops sorted) in
     let items : c.in_ok-ready.ready.items ≡ reverse (ready_ops s) = c.in_ok-ready.ensures.items ∙ ap (λ (l : List Operation). reverse (ready_ops l)) sorted in
     let session = c.in_ok-session.ensures.session in
     session ∙ whole (operations c.args.log.now) c.runs.ensures.logged c.in_ok-ready.ready.items (tracks_in c.in_ok-ready.ready.items) (markers_in c.in_ok-ready.ready.items) (length c.deref-2.result.now) (length c.deref-3.result.now) c.count_held-held.result items refl refl all some c.count_held-held.ensures

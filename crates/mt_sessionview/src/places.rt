@@ -1,0 +1,58 @@
+//! The operations that give tracks their places, and these places.
+
+ghost use Rattle.std.specs.Prelude.{◌≡◌, map, IfOk, IfErr};
+ghost use Rattle.std.specs.List.{filter};
+ghost use Rattle.mt_op.specs.declared.need.Role.TheVariants.{Place};
+ghost use Rattle.mt_op.specs.Needs.{fits};
+ghost use Rattle.mt_tracklist.specs.Rising.{given_tree};
+ghost use Rattle.mt_sessionview.specs.Read.{place_after, tree_place};
+
+use crate::fault::SessionFault;
+use mt_op::{Body, Op, Role};
+use mt_stamp::Stamp;
+use mt_tracklist::PlaceAfter;
+use std::alloc::{AllocError, Allocator};
+
+// Those of the operations that give a track a place.
+pub(crate) fn place_ops<'a, A: Allocator + Clone>(
+    alloc: &A,
+    ops: &[&'a Op<A>],
+) -> Result<Vec<&'a Op<A>, A>, SessionFault>
+    ensures ok { IfOk result (λ places. map (λ o. o.now) places.items ≡ filter (fits Place) (map (λ o. o.now) ops.now)) }
+    ensures err { IfErr result (λ fault. fault ≡ SessionFault.Memory) }
+{
+    let mut places = Vec::new(alloc.clone()?);
+    for op in ops {
+        if op.fits(&Role::Place) {
+            places.push(*op)?;
+        }
+    }
+    Ok(places)
+}
+
+// What an operation puts a track after, none for the head.
+fn after<A: Allocator>(op: &Op<A>) -> Option<Stamp>
+    ensures { result ≡ place_after op.now.act }
+{
+    match op.body() {
+        Body::AddTrack { after, .. } | Body::MoveTrack { after, .. } => *after,
+        _ => None,
+    }
+}
+
+// The places that operations give, in their order.
+pub(crate) fn places_of<A: Allocator, B: Allocator>(
+    alloc: B,
+    ops: &[&Op<A>],
+) -> Result<Vec<PlaceAfter, B>, AllocError>
+    ensures { IfOk result (λ places. given_tree places.items ≡ map tree_place (map (λ o. o.now) ops.now)) }
+{
+    let mut places = Vec::with_capacity(alloc, ops.len())?;
+    for op in ops {
+        places.push(PlaceAfter {
+            place: op.stamp(),
+            after: after(op),
+        })?;
+    }
+    Ok(places)
+}

@@ -1,0 +1,66 @@
+//! The order of places that are given by rising stamp.
+
+ghost use Rattle.std.specs.Prelude.{◌≡◌, ◌<◌, ℕ, true, false, length, map, slice_get, Some, IfOk};
+ghost use Rattle.std.specs.List.Sorted.{IsStrictlySortedBy};
+ghost use Rattle.mt_stamp.specs.Moment.{Moment, stamp_cmp};
+ghost use Rattle.mt_stamp.specs.Sorting.{RisesStrictly};
+ghost use Rattle.mt_stamp.specs.Tree.{IsPlaceOf, IsTree, stamps_of, tree_cmp};
+ghost use Rattle.mt_tracklist.specs.Chain.{has};
+ghost use Rattle.mt_tracklist.specs.Rising.{given_tree, stamp_at, IsPut};
+
+use crate::chain::Chain;
+use mt_stamp::Stamp;
+use std::alloc::{AllocError, Allocator};
+
+/// A place, and what it was put after.
+#[derive(Clone, Copy, Debug)]
+pub struct PlaceAfter {
+    /// The stamp of the operation that added the place.
+    pub place: Stamp,
+    /// The place that it was put after, or `None` at the head.
+    pub after: Option<Stamp>,
+}
+
+// Puts an index into the chain right after that of the place of a stamp, or in front.
+fn link_place<A: Allocator>(
+    chain: &mut Chain<A>,
+    places: &[PlaceAfter],
+    after: Option<Stamp>,
+    index: usize,
+)
+    requires rising { RisesStrictly stamp_cmp (stamps_of (given_tree places.now)) }
+    requires tree { IsTree (given_tree places.now) }
+    requires in_range { index < chain.old.count }
+    requires new { has chain.old.items index ≡ false }
+    requires there { (p : Moment) → after ≡ Some p → (there : IsPlaceOf (given_tree places.now) p) × (has chain.old.items there.index ≡ true) }
+    ensures count { chain.new.count ≡ chain.old.count }
+    ensures items { IsPut (given_tree places.now) after index chain.old.items chain.new.items }
+{
+    let Some(after) = after else {
+        chain.insert_first(index);
+        return;
+    };
+    if let Ok(before) = places.binary_search_by_key(&after, |placed| placed.place) {
+        chain.insert_after(before, index);
+    }
+}
+
+/// The indexes of places that are given by rising stamp, in the order of their tree: each is put right after what it was put
+/// after, or in front, and so before all older ones that were put there. n places cost n log n, since what each was put after is
+/// searched for. Refused only where a growth was.
+pub fn order_of<A: Allocator + Clone>(
+    alloc: &A,
+    places: &[PlaceAfter],
+) -> Result<Vec<usize, A>, AllocError>
+    requires rising { RisesStrictly stamp_cmp (stamps_of (given_tree places.now)) }
+    requires tree { IsTree (given_tree places.now) }
+    ensures below { IfOk result (λ order. (k p : ℕ) → slice_get order.items k ≡ Some p → p < length places.now) }
+    ensures all { IfOk result (λ order. (p : ℕ) → p < length places.now → has order.items p ≡ true) }
+    ensures sorted { IfOk result (λ order. IsStrictlySortedBy (tree_cmp (given_tree places.now)) (map (stamp_at (given_tree places.now)) order.items)) }
+{
+    let mut chain = Chain::new(alloc.clone()?, places.len())?;
+    for index in 0..places.len() {
+        link_place(&mut chain, places, places[index].after, index);
+    }
+    Ok(chain.to_vec(alloc.clone()?)?)
+}
