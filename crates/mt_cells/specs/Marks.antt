@@ -1,10 +1,11 @@
 -- What an item's presence holds: its tags, and the removed ones (INRIA RR-7506, section 3.3.5: Observed-Remove Set (OR-Set)).
-use Rattle.std.specs.Prelude.{Bool, not, ◌&&◌, List, [], Option, Some, None, IsTrue, refl}
-use Rattle.std.specs.BTreeSet.{BTreeSet}
+use Rattle.std.specs.Prelude.{Bool, not, ◌&&◌, List, [], ◌∷◌, IsTrue, refl}
 use Rattle.std.specs.Coded.{Coded, code_by, coded×}
 use Rattle.std.specs.FinSet as set
 use Rattle.mt_stamp.specs.Moment.{Moment, stamp_cmp}
 use Rattle.mt_stamp.specs.Codes.{moment_code}
+use Rattle.mt_cells.specs.declared.stamp_set.Kept.{Kept}
+use Rattle.mt_cells.specs.declared.stamp_set.Kept.TheVariants.{Nothing, One, Many}
 
 -- the stamps that tag the item, and those that were removed, of which a tag may still be to come
 pub record Marks : Type 0 where
@@ -42,6 +43,7 @@ abbrev pub marks_code : Coded Marks
 marks_code = code_by (set.FinSet stamp_cmp × set.FinSet stamp_cmp) (coded× stamps_code stamps_code) (λ m. (m.tags, m.removed)) (λ p. record { tags = p.0; removed = p.1 }) (λ _. refl)
 
 -- the stamps that a set keeps, in order
-abbrev pub stamps_in : Option (BTreeSet Moment) → List Moment
-stamps_in None = []
-stamps_in (Some stamps) = stamps.keys
+abbrev pub stamps_in : {A : Type 0} → Kept A → List Moment
+stamps_in Nothing = []
+stamps_in (One stamp) = stamp ∷ []
+stamps_in (Many stamps) = stamps.keys

@@ -155,7 +155,7 @@ impl<A: Allocator + Clone> Join for Presence<A> {
             removed,
         } = other;
         drop(alloc);
-        self.tags.append(tags)?;
-        self.removed.append(removed)
+        self.tags.append(&self.alloc, tags)?;
+        self.removed.append(&self.alloc, removed)
     }
 }

@@ -1,6 +1,7 @@
 //! Sets of stamps.
 
-ghost use Rattle.std.specs.Prelude.{◌≡◌, ◌&&◌, not, IsTrue, IfOk, OnOk, OnErr};
+ghost use Rattle.std.specs.Prelude.{◌≡◌, ◌↔◌, ◌∷◌, [], ◌&&◌, not, IsTrue, IfOk, OnOk, OnErr};
+ghost use Rattle.std.specs.List.{filter};
 ghost use Rattle.std.specs.List.Sorted.{IsStrictlySortedBy};
 ghost use Rattle.std.specs.Ordering.{eq_by_cmp};
 ghost use Rattle.std.specs.FinSet as set;
@@ -13,10 +14,18 @@ use std::alloc::Allocator;
 use std::collections::BTreeSet;
 use std::marker::Model;
 
-/// A set of stamps, which takes memory from its first stamp on.
+/// Where the stamps of a set are: no stamp and one take no memory.
+#[derive(Drop)]
+enum Kept<A: Allocator> {
+    Nothing,
+    One(Stamp),
+    Many(BTreeSet<Stamp, A>),
+}
+
+/// A set of stamps, which takes memory from its second stamp on.
 #[derive(Drop)]
 pub(crate) struct StampSet<A: Allocator> {
-    stamps: Option<BTreeSet<Stamp, A>>,
+    stamps: Kept<A>,
 }
 
 impl<A: Allocator> Model for StampSet<A> {
@@ -31,19 +40,48 @@ impl<A: Allocator> Model for StampSet<A> {
     ghost view = { λ s. set.from_list (stamps_in s.stamps) };
 }
 
+// The set of two stamps.
+fn both<A: Allocator + Clone>(
+    alloc: &A,
+    one: Stamp,
+    other: Stamp,
+) -> Result<BTreeSet<Stamp, A>, CellFault>
+    ensures { IfOk result (λ stamps. (stamp : Moment) → is_in (eq_by_cmp stamp_cmp) stamps.keys stamp ≡ is_in (eq_by_cmp stamp_cmp) (other ∷ one ∷ []) stamp) }
+{
+    let mut stamps = BTreeSet::new(alloc.clone()?);
+    stamps.insert(one)?;
+    stamps.insert(other)?;
+    Ok(stamps)
+}
+
+// Whether each of these stamps is this one.
+fn are_all<A: Allocator>(stamps: &BTreeSet<Stamp, A>, one: &Stamp) -> bool
+    ensures { IsTrue result ↔ ((stamp : Moment) → IsTrue (is_in (eq_by_cmp stamp_cmp) stamps.now.keys stamp) → IsTrue (is_in (eq_by_cmp stamp_cmp) (one.now ∷ []) stamp)) }
+{
+    for stamp in stamps {
+        if stamp != one {
+            return false;
+        }
+    }
+    true
+}
+
 impl<A: Allocator> StampSet<A> {
     pub(crate) fn new() -> Self
         ensures { result ≡ set.empty }
     {
-        StampSet { stamps: None }
+        StampSet {
+            stamps: Kept::Nothing,
+        }
     }
 
     pub(crate) fn contains(&self, stamp: &Stamp) -> bool
         ensures { result ≡ set.contains self.now stamp.now }
     {
         match &self.stamps {
-            Some(stamps) => stamps.contains(stamp),
-            None => false,
+            Kept::Nothing => false,
+            Kept::One(one) => stamp == one,
+            Kept::Many(stamps) => stamps.contains(stamp),
         }
     }
 
@@ -52,9 +90,11 @@ impl<A: Allocator> StampSet<A> {
         ensures { result ≡ set.is_subset self.now other.now }
     {
         match (&self.stamps, &other.stamps) {
-            (None, _) => true,
-            (Some(stamps), None) => stamps.is_empty(),
-            (Some(stamps), Some(others)) => stamps.is_subset(others),
+            (Kept::Nothing, _) => true,
+            (Kept::One(one), _) => other.contains(one),
+            (Kept::Many(stamps), Kept::Nothing) => stamps.is_empty(),
+            (Kept::Many(stamps), Kept::One(one)) => are_all(stamps, one),
+            (Kept::Many(stamps), Kept::Many(others)) => stamps.is_subset(others),
         }
     }
 
@@ -66,20 +106,22 @@ impl<A: Allocator> StampSet<A> {
         ensures kept { OnErr result (self.new ≡ self.old) }
     {
         match &mut self.stamps {
-            Some(stamps) => {
-                stamps.insert(stamp)?;
+            Kept::Nothing => self.stamps = Kept::One(stamp),
+            Kept::One(one) => {
+                let one = *one;
+                if one != stamp {
+                    self.stamps = Kept::Many(both(alloc, one, stamp)?);
+                }
             }
-            None => {
-                let mut stamps = BTreeSet::new(alloc.clone()?);
+            Kept::Many(stamps) => {
                 stamps.insert(stamp)?;
-                self.stamps = Some(stamps);
             }
         }
         Ok(())
     }
 
     /// Puts another set's stamps in. After a refusal some of them are in.
-    pub(crate) fn append(&mut self, other: Self) -> Result<(), CellFault>
+    pub(crate) fn append(&mut self, alloc: &A, other: Self) -> Result<(), CellFault>
     where
         A: Clone,
         ensures union { OnOk result (self.new ≡ set.union self.old other) }
@@ -87,10 +129,29 @@ impl<A: Allocator> StampSet<A> {
         ensures to { OnErr result (IsTrue (set.is_subset self.new (set.union self.old other))) }
     {
         let StampSet { stamps: others } = other;
-        match (&mut self.stamps, others) {
-            (_, None) => {}
-            (Some(stamps), Some(mut others)) => stamps.append(&mut others)?,
-            (None, Some(others)) => self.stamps = Some(others),
+        match others {
+            Kept::Nothing => Ok(()),
+            Kept::One(stamp) => self.insert(alloc, stamp),
+            Kept::Many(others) => self.append_many(others),
+        }
+    }
+
+    // The same of a set that stands in memory.
+    fn append_many(&mut self, others: BTreeSet<Stamp, A>) -> Result<(), CellFault>
+    where
+        A: Clone,
+        ensures union { OnOk result (self.new ≡ set.union self.old (set.from_list others.keys)) }
+        ensures from { OnErr result (IsTrue (set.is_subset self.old self.new)) }
+        ensures to { OnErr result (IsTrue (set.is_subset self.new (set.union self.old (set.from_list others.keys)))) }
+    {
+        let mut others = others;
+        match &mut self.stamps {
+            Kept::Nothing => self.stamps = Kept::Many(others),
+            Kept::One(one) => {
+                others.insert(*one)?;
+                self.stamps = Kept::Many(others);
+            }
+            Kept::Many(stamps) => stamps.append(&mut others)?,
         }
         Ok(())
     }
@@ -102,16 +163,11 @@ impl<A: Allocator> StampSet<A> {
         ensures rising { IfOk result (λ stamps. IsStrictlySortedBy stamp_cmp stamps.items) }
         ensures members { IfOk result (λ stamps. (stamp : Moment) → is_in (eq_by_cmp stamp_cmp) stamps.items stamp ≡ (set.contains self.now stamp && not (set.contains other.now stamp))) }
     {
-        let mut left = Vec::new(alloc.clone()?);
-        let Some(stamps) = &self.stamps else {
-            return Ok(left);
-        };
-        for stamp in stamps {
-            if !other.contains(stamp) {
-                left.push(*stamp)?;
-            }
+        match &self.stamps {
+            Kept::Nothing => Ok(Vec::new(alloc.clone()?)),
+            Kept::One(one) => left_of_one(alloc, one, other),
+            Kept::Many(stamps) => left_of_many(alloc, stamps, other),
         }
-        Ok(left)
     }
 
     pub(crate) fn try_clone(&self) -> Result<Self, CellFault>
@@ -119,11 +175,44 @@ impl<A: Allocator> StampSet<A> {
         A: Clone,
         ensures { IfOk result (λ copy. copy ≡ self.now) }
     {
-        match &self.stamps {
-            Some(stamps) => Ok(StampSet {
-                stamps: Some(stamps.clone()?),
-            }),
-            None => Ok(StampSet::new()),
+        let stamps = match &self.stamps {
+            Kept::Nothing => Kept::Nothing,
+            Kept::One(one) => Kept::One(*one),
+            Kept::Many(stamps) => Kept::Many(stamps.clone()?),
+        };
+        Ok(StampSet { stamps })
+    }
+}
+
+// A stamp where it is not in the other set.
+fn left_of_one<A: Allocator + Clone>(
+    alloc: &A,
+    one: &Stamp,
+    other: &StampSet<A>,
+) -> Result<Vec<Stamp, A>, CellFault>
+    ensures { IfOk result (λ left. left.items ≡ filter (λ stamp. not (set.contains other.now stamp)) (one.now ∷ [])) }
+{
+    let mut left = Vec::new(alloc.clone()?);
+    if !other.contains(one) {
+        left.push(*one)?;
+    }
+    Ok(left)
+}
+
+// The stamps of a set in memory that are not in the other one, in their order.
+fn left_of_many<A: Allocator + Clone>(
+    alloc: &A,
+    stamps: &BTreeSet<Stamp, A>,
+    other: &StampSet<A>,
+) -> Result<Vec<Stamp, A>, CellFault>
+    ensures rising { IfOk result (λ left. IsStrictlySortedBy stamp_cmp left.items) }
+    ensures are { IfOk result (λ left. left.items ≡ filter (λ stamp. not (set.contains other.now stamp)) stamps.now.keys) }
+{
+    let mut left = Vec::new(alloc.clone()?);
+    for stamp in stamps {
+        if !other.contains(stamp) {
+            left.push(*stamp)?;
         }
     }
+    Ok(left)
 }

@@ -1,21 +1,24 @@
-use Rattle.std.proofs.Common.{◌≡◌, [], rules}
-use Rattle.mt_cells.proofs.StampSets.{left_rising, left_members, left_none-rising, left_none-members}
+use Rattle.std.proofs.Common.{[], ◌∷◌}
+use Rattle.mt_cells.proofs.StampSets.{seen_at, left_none-rising, left_none-members, filtered_members, filtered_one-rising, when_ok}
+use Rattle.mt_cells.specs.declared.stamp_set.Kept.TheVariants.{Nothing, One, Many}
 use Rattle.mt_cells.proofs.stamp_set.StampSet.difference.Goals as goal
 
-pub returns-in_default-clause-rising : goal.returns-in_default-clause-rising
-returns-in_default-clause-rising g c = left_none-rising c.new-left.result.items c.new-left.ensures.items
+pub returns-in_ok-clone-in-Nothing-clause-rising : goal.returns-in_ok-clone-in-Nothing-clause-rising
+returns-in_ok-clone-in-Nothing-clause-rising g c = left_none-rising c.new.result.items c.new.ensures.items
 
-pub returns-in_default-clause-members : goal.returns-in_default-clause-members
-returns-in_default-clause-members g c = left_none-members c.self.inside.stamps c.args.self.now c.args.other.now c.new-left.result.items c.self.view_is c.in_default.is c.new-left.ensures.items
+pub returns-in_ok-clone-in-Nothing-clause-members : goal.returns-in_ok-clone-in-Nothing-clause-members
+returns-in_ok-clone-in-Nothing-clause-members g c =
+    left_none-members c.args.self.now c.args.other.now c.new.result.items (seen_at c.self.inside.stamps Nothing c.args.self.now c.self.view_is c.in-Nothing.is) c.new.ensures.items
 
-pub returns-clause-rising : goal.returns-clause-rising
-returns-clause-rising g c =
-    let ended : c.loop-stamp.stamp-iterator ≡ [] = search rules in
-    left_rising c.in-Some.stamps.keys c.args.other.now c.loop-stamp.left.items c.loop-stamp.stamp-iterator c.into_iter-stamp-iterator.result
-    c.loop-stamp.invariant ended c.into_iter-stamp-iterator.ensures.into_iter_gives.0 c.into_iter-stamp-iterator.ensures.into_iter_gives.4
+pub returns-in-One-clause-rising : goal.returns-in-One-clause-rising
+returns-in-One-clause-rising g c = when_ok c.left_of_one.result (λ left is. filtered_one-rising c.in-One.one left.items c.args.other.now is) c.left_of_one.ensures
 
-pub returns-clause-members : goal.returns-clause-members
-returns-clause-members g c =
-    let ended : c.loop-stamp.stamp-iterator ≡ [] = search rules in
-    left_members c.self.inside.stamps c.args.self.now c.in-Some.stamps c.args.other.now c.loop-stamp.left.items c.loop-stamp.stamp-iterator c.into_iter-stamp-iterator.result
-    c.self.view_is c.in-Some.is c.loop-stamp.invariant ended c.into_iter-stamp-iterator.ensures.into_iter_gives.0
+pub returns-in-One-clause-members : goal.returns-in-One-clause-members
+returns-in-One-clause-members g c =
+    when_ok c.left_of_one.result
+    (λ left is. filtered_members (c.in-One.one ∷ []) left.items c.args.self.now c.args.other.now (seen_at c.self.inside.stamps (One c.in-One.one) c.args.self.now c.self.view_is c.in-One.is) is) c.left_of_one.ensures
+
+pub returns-in-Many-clause-members : goal.returns-in-Many-clause-members
+returns-in-Many-clause-members g c =
+    when_ok c.left_of_many.result
+    (λ left is. filtered_members c.in-Many.stamps.keys left.items c.args.self.now c.args.other.now (seen_at c.self.inside.stamps (Many c.in-Many.stamps) c.args.self.now c.self.view_is c.in-Many.is) is) c.left_of_many.ensures.are
