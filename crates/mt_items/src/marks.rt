@@ -16,8 +16,7 @@ use std::alloc::Allocator;
 use std::marker::Model;
 
 // The tags of an item that was added, and those that were removed. Its own stamp is its first tag; it takes memory from the
-// first other tag or removal on, a block for the marks and what they hold, and until then no more than its stamp and a
-// pointer.
+// first other tag or removal on: a block for the marks, and what they hold.
 #[derive(Drop)]
 pub(crate) struct ItemMarks<A: Allocator> {
     own: Stamp,
