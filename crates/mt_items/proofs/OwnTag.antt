@@ -1,6 +1,6 @@
 -- The marks of an item that has its own tag alone.
 use Rattle.std.proofs.Common.{◌≡◌, Bool, true, false, not, ◌&&◌, ◌||◌, List, [], ◌∷◌, Option, None, refl, sym, ap, ◌∙◌, subst}
-use Rattle.std.specs.Prelude.{IsTrue, ◌↔◌}
+use Rattle.std.specs.Prelude.{IsTrue, ◌↔◌, Box, box_value, option_map}
 use Rattle.std.specs.FinSet as set
 use Rattle.std.specs.List.Sorted.{IsStrictlySortedBy}
 use Rattle.std.specs.Ordering.{eq_by_cmp}
@@ -28,9 +28,9 @@ own_has own t = inserted no_stamps own t ∙ or_none (stamp_eq t own) (set.conta
 own_live : (own t : Moment) → is_live (marks_from own None) t ≡ stamp_eq t own
 own_live own t = and_not (set.contains (marks_from own None).tags t) (set.contains no_stamps t) (set.contains-empty stamp_cmp t) ∙ own_has own t
 
-module _ (own : Moment) (noted : Option Marks) (now : Marks) (view : marks_from own noted ≡ now) (none : noted ≡ None) where
+module _ {Z : Type 0} (own : Moment) (noted : Option (Box Marks Z)) (now : Marks) (view : marks_from own (option_map box_value noted) ≡ now) (none : noted ≡ None) where
   is : marks_from own None ≡ now
-  is = sym (ap (marks_from own) none) ∙ view
+  is = sym (ap (λ (n : Option (Box Marks Z)). marks_from own (option_map box_value n)) none) ∙ view
 
   pub has_own : (t : Moment) → stamp_eq t own ≡ set.contains now.tags t
   has_own t = sym (own_has own t) ∙ ap (λ (m : Marks). set.contains m.tags t) is

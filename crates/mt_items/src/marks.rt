@@ -1,6 +1,6 @@
 //! The tags of an item.
 
-ghost use Rattle.std.specs.Prelude.{◌≡◌, ◌↔◌, IsTrue, IfOk, IfErr, OnOk};
+ghost use Rattle.std.specs.Prelude.{◌≡◌, ◌↔◌, IsTrue, IfOk, IfErr, OnOk, box_value, option_map};
 ghost use Rattle.std.specs.List.Sorted.{IsStrictlySortedBy};
 ghost use Rattle.std.specs.Ordering.{eq_by_cmp};
 ghost use Rattle.std.specs.FinSet as set;
@@ -16,14 +16,15 @@ use std::alloc::Allocator;
 use std::marker::Model;
 
 // The tags of an item that was added, and those that were removed. Its own stamp is its first tag; it takes memory from the
-// first other tag or removal on.
+// first other tag or removal on: a block for the marks, and what they hold.
 #[derive(Drop)]
 pub(crate) struct ItemMarks<A: Allocator> {
     own: Stamp,
-    noted: Option<Presence<A>>,
+    noted: Option<Box<Presence<A>, A>>,
 }
 
 impl<A: Allocator> Model for ItemMarks<A> {
+    ghost use Rattle.std.specs.Prelude.{box_value, option_map};
     ghost use Rattle.mt_cells.specs.Marks.{Marks, marks_code};
     ghost use Rattle.mt_items.specs.Tags.{marks_from};
 
@@ -31,7 +32,7 @@ impl<A: Allocator> Model for ItemMarks<A> {
 
     ghost coded = { marks_code };
 
-    ghost view = { λ m. marks_from m.own m.noted };
+    ghost view = { λ m. marks_from m.own (option_map box_value m.noted) };
 }
 
 impl<A: Allocator> ItemMarks<A> {
@@ -109,9 +110,9 @@ impl<A: Allocator> ItemMarks<A> {
 fn marks_of<A: Allocator + Clone>(
     alloc: &A,
     own: Stamp,
-    noted: Option<Presence<A>>,
-) -> Result<Presence<A>, ItemsFault>
-    ensures ok { IfOk result (λ marks. marks ≡ marks_from own noted) }
+    noted: Option<Box<Presence<A>, A>>,
+) -> Result<Box<Presence<A>, A>, ItemsFault>
+    ensures ok { IfOk result (λ marks. marks.value ≡ marks_from own (option_map box_value noted)) }
     ensures err { IfErr result (λ fault. fault ≡ ItemsFault.Memory) }
 {
     if let Some(marks) = noted {
@@ -119,5 +120,5 @@ fn marks_of<A: Allocator + Clone>(
     }
     let mut marks = Presence::new(alloc.clone()?);
     marks.add_tag(own)?;
-    Ok(marks)
+    Ok(Box::new(alloc.clone()?, marks)?)
 }
