@@ -1,33 +1,35 @@
 -- The clips of tracks, mended by taking one off a track and putting one on a track.
-use Rattle.std.proofs.Common.{◌≡◌, ◌≢◌, ℕ, zero, suc, ◌+◌, ◌≤◌, Bool, true, false, cond, not, ◌||◌, List, [], ◌∷◌, Option, Some, None, length, map, refl, sym, ap, ◌∙◌, subst, arith}
+use Rattle.std.proofs.Common.{◌≡◌, ◌≢◌, ℕ, zero, suc, ◌+◌, ◌≤◌, Bool, true, false, cond, not, eqb, ◌&&◌, ◌||◌, List, [], ◌∷◌, Option, Some, None, length, map, refl, sym, ap, ◌∙◌, subst, eq-eqb, arith}
 use Rattle.std.specs.Prelude.{option_map, slice_get, IfSome}
 use Rattle.std.specs.List.{AllByRecursion, list_any, filter, position, position_or_len}
 use Rattle.std.specs.Ordering.{match_ordering}
 use Rattle.std.specs.declared.cmp.Ordering.{Ordering}
 use Rattle.std.specs.declared.cmp.Ordering.TheVariants.{Less, Equal, Greater}
 use Rattle.std.proofs.lemmas.Grind.{common_steps}
+use Rattle.std.proofs.lemmas.Bool.{eqb-true, false≢true}
 use Rattle.std.proofs.lemmas.Option.{same_Some, none-some}
 use Rattle.mt_stamp.specs.Moment.{Moment, stamp_eq}
 use Rattle.mt_stamp.specs.Sorting.{DifferBy, insert_by}
-use Rattle.mt_stamp.proofs.Order.{stamp_eq-true}
+use Rattle.mt_stamp.proofs.Order.{stamp_eq-true, stamp_eq-itself}
 use Rattle.mt_stamp.proofs.Differing.{differ_mapped}
 use Rattle.mt_stamp.proofs.Members.{IsMember, member_at}
 use Rattle.mt_op.specs.declared.need.Role.TheVariants.{Track as TrackRole}
 use Rattle.mt_op.specs.Needs.{need_of, adds_track}
 use Rattle.mt_op.specs.Operation.{Operation}
+use Rattle.mt_op.proofs.Needs.{and_first, and_second}
 use Rattle.mt_items.specs.Noting.{AreNoted, is_need_met}
 use Rattle.mt_items.proofs.Noting.{unmet}
 use Rattle.mt_sessionview.specs.Content.{Clip, Track, clip_cmp}
 use Rattle.mt_sessionview.specs.Noted.{is_shown_in, clips_in, track_in, tracks_in}
 use Rattle.mt_sessionview.specs.Read.{if_on, clip_read, clip_on}
-use Rattle.mt_sessionview.specs.Changing.{put, without, changed_at, is_clip_at, is_placed_by}
+use Rattle.mt_sessionview.specs.Changing.{put, without, changed_at, is_clip_at, is_placed_by, with_clip, without_clip}
 use Rattle.mt_sessionview.proofs.InOrder.{clips_are, tracks_once}
-use Rattle.mt_sessionview.proofs.Lists.{all_also, member_all, member_of_map}
+use Rattle.mt_sessionview.proofs.Lists.{all_also, any_of, member_all, member_of_map}
 use Rattle.mt_mending.specs.declared.clip.PlacedClip.{PlacedClip}
 use Rattle.mt_mending.specs.Mending.{subject_of, track_mended}
-use Rattle.mt_mending.specs.Before.{ClipsStood, placed_clip, if_there, clip_off, clip_to, tracks_without, tracks_with}
+use Rattle.mt_mending.specs.Before.{ClipsStood, placed_clip, if_there, clip_off, clip_to, tracks_without, tracks_with, is_where, IsThere, IsNew}
 use Rattle.mt_mending.proofs.Entries.{IsOf}
-use Rattle.mt_mending.proofs.Found.{all_tracks, clips_are_found}
+use Rattle.mt_mending.proofs.Found.{all_tracks, clips_are_found, entries_are_shown}
 use Rattle.mt_mending.proofs.Items.{clips_are_mended}
 use Rattle.mt_mending.proofs.Kept.{map_alike}
 use Rattle.mt_mending.proofs.Leaving.{items_are_of_a_kind}
@@ -190,6 +192,47 @@ on_is ops item u (Some f) is = by (stamp_eq f.track u.track) refl
         let now : clip_on ops u.track item ≡ None = there_is ops u.track item ∙ ap (if_there u.track) is ∙ ap (λ (b : Bool). cond b (Some f.clip) None) other in
         λ i. record u { clips = put clip_cmp (sym now i) u.clips }
 
+-- ---- a clip rewritten where it stands
+
+-- one that is where the other stood is there too, and what is left without either is the same
+module _ (was found : PlacedClip) (is : is_where (Some was) found ≡ true) where
+  pub its_track : was.track ≡ found.track
+  its_track = stamp_eq-true was.track found.track (and_first _ _ (and_first _ _ is))
+
+  pub its_at : was.clip.at ≡ found.clip.at
+  its_at = eqb-true was.clip.at found.clip.at (and_second (stamp_eq was.track found.track) _ (and_first _ _ is))
+
+  pub its_place : was.clip.place ≡ found.clip.place
+  its_place = stamp_eq-true was.clip.place found.clip.place (and_second (stamp_eq was.track found.track && eqb was.clip.at found.clip.at) _ is)
+
+module _ (found : PlacedClip) (tracks : List Track) where
+  -- where the test says so, it is that of one that stood
+  pub is_there : (stood : Option PlacedClip) → IfSome stood (λ f. IsThere f tracks) → is_where stood found ≡ true → IsThere found tracks
+  is_there None there is = absurd (false≢true is)
+  is_there (Some was) there is = λ k t at same. (λ i. list_any (is_clip_at (sym (its_at was found is) i) (sym (its_place was found is) i)) t.clips) ∙ there k t at ((λ i. stamp_eq (its_track was found is i) t.track) ∙ same)
+
+  pub same_left : (stood : Option PlacedClip) → is_where stood found ≡ true → map (clip_off found) tracks ≡ tracks_without stood tracks
+  same_left None is = absurd (false≢true is)
+  same_left (Some was) is = sym (λ i. map (λ (t : Track). cond (stamp_eq (its_track was found is i) t.track) (without_clip (its_at was found is i) (its_place was found is i) t) t) tracks)
+
+-- taken off and put on again on its track, as it is rewritten there
+pub rewritten : (found : PlacedClip) (ts : List Track) → map (λ (t : Track). cond (stamp_eq found.track t.track) (with_clip found.clip (without_clip found.clip.at found.clip.place t)) t) ts ≡ map (clip_to found) (map (clip_off found) ts)
+rewritten found ts = (λ i. map (λ (t : Track). by t (stamp_eq found.track t.track) refl i) ts) ∙ sym (map_twice (clip_off found) (clip_to found) ts)
+  where
+    by : (t : Track) (b : Bool) → stamp_eq found.track t.track ≡ b
+        → cond b (with_clip found.clip (without_clip found.clip.at found.clip.place t)) t ≡ clip_to found (cond b (without_clip found.clip.at found.clip.place t) t)
+    by t true is = λ i. cond (sym is i) (with_clip found.clip (without_clip found.clip.at found.clip.place t)) (without_clip found.clip.at found.clip.place t)
+    by t false is = λ i. cond (sym is i) (with_clip found.clip t) t
+
+-- where a clip is taken off, the tracks keep their stamps
+pub once_off : (stood : Option PlacedClip) (ts : List Track) → DifferBy (λ (t : Track). t.track) ts → DifferBy (λ (t : Track). t.track) (tracks_without stood ts)
+once_off None ts differ = differ
+once_off (Some found) ts differ = differ_mapped (clip_off found) (λ (t : Track). t.track) ts (subst (λ (key : Track → Moment). DifferBy key ts) (λ i t. by t (stamp_eq found.track t.track) i) differ)
+  where
+    by : (t : Track) (b : Bool) → t.track ≡ (cond b (without_clip found.clip.at found.clip.place t) t).track
+    by t true = refl
+    by t false = refl
+
 -- ---- all tracks
 
 module _ {ops : List Operation} {item : Moment} {stood : Option PlacedClip} {tracks : List Track} (was : ClipsStood ops item stood tracks) where
@@ -210,9 +253,6 @@ module _ {ops : List Operation} {item : Moment} {stood : Option PlacedClip} {tra
   pub once : DifferBy (λ (t : Track). t.track) tracks
   once = subst (DifferBy (λ (t : Track). t.track)) (sym was.are) (tracks_once r before_noted)
 
-  pub once_left : DifferBy (λ (t : Track). t.track) (tracks_without stood tracks)
-  once_left = subst (DifferBy (λ (t : Track). t.track)) (sym left_is) (differ_mapped (left item) (λ (t : Track). t.track) (tracks_in r) (tracks_once r before_noted))
-
   pub mends : is_need_met ops (need_of TrackRole item) ≡ false → tracks_with (placed_clip ops item) (tracks_without stood tracks) ≡ tracks_in ops
   mends no_track =
       let more = was.one_more in
@@ -224,7 +264,7 @@ module _ {ops : List Operation} {item : Moment} {stood : Option PlacedClip} {tra
       ∙ (λ i. map (track_mended (more.are i) (more.about i)) (tracks_in r)) ∙ sym alone ∙ ap tracks_in (sym more.are)
 
   -- the clip comes to no place that another clip has
-  come_new : (f : PlacedClip) → placed_clip ops item ≡ Some f → (k : ℕ) (t : Track) → slice_get (tracks_without stood tracks) k ≡ Some t → stamp_eq f.track t.track ≡ true → list_any (is_placed_by f.clip.place) t.clips ≡ false
+  pub come_new : (f : PlacedClip) → placed_clip ops item ≡ Some f → IsNew f (tracks_without stood tracks)
   come_new f is k t at same =
       let more = was.one_more in
       let noted : AreNoted (more.last ∷ r) = subst AreNoted more.are more.noted in
@@ -240,12 +280,18 @@ module _ {ops : List Operation} {item : Moment} {stood : Option PlacedClip} {tra
       let apart = inserted_apart clip_cmp (λ (c : Clip). c.place) f.clip (without clip_key item (clips_in r u.track)) (subst (DifferBy (λ (c : Clip). c.place)) clips (clips_are ops more.noted u.track).apart) in
       ap (λ (v : Track). list_any (is_placed_by f.clip.place) v.clips) (sym from.2) ∙ ap (λ (cs : List Clip). list_any (is_placed_by f.clip.place) (without clip_key item cs)) its ∙ none_placed f.clip.place (without clip_key item (clips_in r u.track)) apart
 
-  abbrev IsNew : PlacedClip → Type 0
-  IsNew f = (k : ℕ) (t : Track) → slice_get (tracks_without stood tracks) k ≡ Some t → stamp_eq f.track t.track ≡ true → list_any (is_placed_by f.clip.place) t.clips ≡ false
+  -- the clip that stood is there, where its track is shown
+  stands : (f : PlacedClip) → placed_clip r item ≡ Some f → IsThere f tracks
+  stands f is k t at same =
+      let its : AreIn r t = member_all (AreIn r) (tracks_in r) t all_in (subst (IsMember t) was.are (member_at tracks k t at)) in
+      let on_track : clip_on r t.track item ≡ Some f.clip = there_is r t.track item ∙ ap (if_there t.track) is ∙ ap (λ (b : Bool). cond b (Some f.clip) None) same in
+      let shown = ((entries_are_shown r before_noted).clips t.track item f.clip).0 on_track in
+      let passes : is_clip_at f.clip.at f.clip.place f.clip ≡ true = (λ i. eq-eqb f.clip.at f.clip.at refl i && stamp_eq f.clip.place f.clip.place) ∙ stamp_eq-itself f.clip.place in
+      ap (list_any (is_clip_at f.clip.at f.clip.place)) its ∙ any_of (is_clip_at f.clip.at f.clip.place) (clips_in r t.track) f.clip (member_at (clips_in r t.track) shown.0.0 f.clip shown.0.1) passes
 
-  pub is_new : IfSome (placed_clip ops item) IsNew
-  is_new = by (placed_clip ops item) refl
+  pub stood_there : IfSome stood (λ f. IsThere f tracks)
+  stood_there = by stood was.stood_at
     where
-      by : (e : Option PlacedClip) → placed_clip ops item ≡ e → IfSome e IsNew
+      by : (e : Option PlacedClip) → e ≡ placed_clip r item → IfSome e (λ f. IsThere f tracks)
       by None is = tt
-      by (Some f) is = come_new f is
+      by (Some f) is = stands f (sym is)

@@ -1,6 +1,6 @@
 -- A session before the last of the noted operations, and where the item of this operation stood in it.
-use Rattle.std.specs.Prelude.{◌≡◌, ℕ, Bool, List, ◌∷◌, map, filter, not, Option, option_map, Some, None, if◌then◌else◌}
-use Rattle.std.specs.List.{sum_by}
+use Rattle.std.specs.Prelude.{◌≡◌, ℕ, Bool, true, false, ◌&&◌, ◌==◌, List, ◌∷◌, map, filter, not, slice_get, Option, option_map, Some, None, if◌then◌else◌}
+use Rattle.std.specs.List.{sum_by, list_any}
 use Rattle.std.specs.Ordering.{nat_cmp}
 use Rattle.std.specs.declared.cmp.Ordering.{Ordering}
 use Rattle.mt_stamp.specs.Moment.{Moment, stamp_eq}
@@ -15,7 +15,7 @@ use Rattle.mt_items.specs.Noting.{AreNoted, is_need_met}
 use Rattle.mt_sessionview.specs.Content.{Clip, Track, Marker, Content}
 use Rattle.mt_sessionview.specs.Noted.{markers_in, tracks_in, places_in, track_place_in}
 use Rattle.mt_sessionview.specs.Read.{clip_read}
-use Rattle.mt_sessionview.specs.Changing.{is_marker_at, with_clip, without_clip}
+use Rattle.mt_sessionview.specs.Changing.{is_marker_at, is_clip_at, is_placed_by, with_clip, without_clip}
 use Rattle.mt_mending.specs.declared.before.Stood.{Stood}
 use Rattle.mt_mending.specs.declared.clip.PlacedClip.{PlacedClip}
 use Rattle.mt_mending.specs.Mending.{subject_of, marker_entry}
@@ -108,6 +108,19 @@ clip_off found t = if stamp_eq found.track t.track then without_clip found.clip.
 -- a track with a clip that comes to it
 abbrev pub clip_to : PlacedClip → Track → Track
 clip_to found t = if stamp_eq found.track t.track then with_clip found.clip t else t
+
+-- whether a clip is where one stood: on the same track, at the same position, where the same operation put it
+abbrev pub is_where : Option PlacedClip → PlacedClip → Bool
+is_where None found = false
+is_where (Some was) found = stamp_eq was.track found.track && (was.clip.at == found.clip.at) && stamp_eq was.clip.place found.clip.place
+
+-- Its track, where it is one of these, has a clip where it is.
+abbrev pub IsThere : PlacedClip → List Track → Type 0
+IsThere found tracks = (k : ℕ) (t : Track) → slice_get tracks k ≡ Some t → stamp_eq found.track t.track ≡ true → list_any (is_clip_at found.clip.at found.clip.place) t.clips ≡ true
+
+-- Its track, where it is one of these, has no clip that the same operation put where it is.
+abbrev pub IsNew : PlacedClip → List Track → Type 0
+IsNew found tracks = (k : ℕ) (t : Track) → slice_get tracks k ≡ Some t → stamp_eq found.track t.track ≡ true → list_any (is_placed_by found.clip.place) t.clips ≡ false
 
 -- the tracks with a clip taken off where it stood
 abbrev pub tracks_without : Option PlacedClip → List Track → List Track

@@ -1,16 +1,13 @@
 //! The clips of a session, mended by one operation more.
 
-ghost use Rattle.std.specs.Prelude.{◌≡◌, ℕ, true, false, map, slice_get, Some, IfOk, IfErr, IfSome, OnOk};
-ghost use Rattle.std.specs.List.{list_any};
-ghost use Rattle.mt_stamp.specs.Moment.{stamp_eq};
+ghost use Rattle.std.specs.Prelude.{◌≡◌, false, map, IfOk, IfErr, IfSome, OnOk};
 ghost use Rattle.mt_stamp.specs.Sorting.{DifferBy};
 ghost use Rattle.mt_op.specs.declared.need.Role.TheVariants.{Track as TrackRole};
 ghost use Rattle.mt_op.specs.Needs.{need_of};
 ghost use Rattle.mt_items.specs.Noting.{is_need_met};
 ghost use Rattle.mt_sessionview.specs.Content.{Track};
 ghost use Rattle.mt_sessionview.specs.Noted.{tracks_in};
-ghost use Rattle.mt_sessionview.specs.Changing.{is_placed_by};
-ghost use Rattle.mt_mending.specs.Before.{ClipsStood, placed_clip, clip_off, clip_to, tracks_without, tracks_with};
+ghost use Rattle.mt_mending.specs.Before.{ClipsStood, placed_clip, clip_off, clip_to, tracks_without, is_where, IsThere, IsNew};
 
 use crate::read::value_or;
 use mt_items::Items;
@@ -89,7 +86,7 @@ fn take_stood<A: Allocator>(session: &mut Session<A>, stood: Option<PlacedClip>)
 // Puts a clip on its track, where that is shown.
 fn put_on<A: Allocator>(session: &mut Session<A>, found: PlacedClip) -> Result<(), SessionFault>
     requires once { DifferBy (λ (t : Track). t.track) session.old.tracks }
-    requires new { (k : ℕ) (t : Track) → slice_get session.old.tracks k ≡ Some t → stamp_eq found.track t.track ≡ true → list_any (is_placed_by found.clip.place) t.clips ≡ false }
+    requires new { IsNew found session.old.tracks }
     ensures ok { OnOk result (session.new ≡ record session.old { tracks = map (clip_to found) session.old.tracks }) }
     ensures err { IfErr result (λ fault. fault ≡ SessionFault.Memory) }
 {
@@ -99,27 +96,58 @@ fn put_on<A: Allocator>(session: &mut Session<A>, found: PlacedClip) -> Result<(
     }
 }
 
-// The same of what is shown, if anything is.
-fn put_shown<A: Allocator>(
+// Whether a clip is shown where it stood: on the same track, at the same position, where the same operation put it.
+fn stands_there(stood: &Option<PlacedClip>, found: &PlacedClip) -> bool
+    ensures { result ≡ is_where stood.now found.now }
+{
+    match stood {
+        Some(was) => {
+            was.track == found.track
+                && was.clip.at == found.clip.at
+                && was.clip.place == found.clip.place
+        }
+        None => false,
+    }
+}
+
+// Puts a clip in the place of the one that stands where it does, where its track is shown.
+fn set_on<A: Allocator>(session: &mut Session<A>, found: PlacedClip)
+    requires once { DifferBy (λ (t : Track). t.track) session.old.tracks }
+    requires there { IsThere found session.old.tracks }
+    ensures { session.new ≡ record session.old { tracks = map (clip_to found) (map (clip_off found) session.old.tracks) } }
+{
+    match session.index_of_track(found.track) {
+        Some(index) => session.set_clip(index, found.clip),
+        None => {}
+    }
+}
+
+// Puts a clip in: in the place of the one that stood, where it stays there, and else in its new place, after that one was taken off.
+fn put_in<A: Allocator>(
     session: &mut Session<A>,
-    shown: Option<PlacedClip>,
+    stood: Option<PlacedClip>,
+    found: PlacedClip,
 ) -> Result<(), SessionFault>
     requires once { DifferBy (λ (t : Track). t.track) session.old.tracks }
-    requires new { IfSome shown (λ f. (k : ℕ) (t : Track) → slice_get session.old.tracks k ≡ Some t → stamp_eq f.track t.track ≡ true → list_any (is_placed_by f.clip.place) t.clips ≡ false) }
-    ensures ok { OnOk result (session.new ≡ record session.old { tracks = tracks_with shown session.old.tracks }) }
+    requires there { IfSome stood (λ was. IsThere was session.old.tracks) }
+    requires new { IsNew found (tracks_without stood session.old.tracks) }
+    ensures ok { OnOk result (session.new ≡ record session.old { tracks = map (clip_to found) (tracks_without stood session.old.tracks) }) }
     ensures err { IfErr result (λ fault. fault ≡ SessionFault.Memory) }
 {
-    match shown {
-        Some(found) => put_on(session, found),
-        None => Ok(()),
+    if stands_there(&stood, &found) {
+        set_on(session, found);
+        return Ok(());
     }
+    take_stood(session, stood);
+    put_on(session, found)
 }
 
 /// Mends the clips of a session after one operation more was noted, whose item is no track: takes the clip that is its item
 /// off the track on which it stood before (`placed_clip` of the operations before), where that track is shown, and puts it on
-/// the one on which it is now, where this is shown. Looks at one track after another, and takes as many comparisons as the
-/// logarithm of the number of clips and items; what follows the clip moves. Refused only as `Memory` (0), where a growth was
-/// refused; the session may then lack the clip.
+/// the one on which it is now, where this is shown; where it stays at its position on its track, put there by the same
+/// operation, it is rewritten in its place: nothing moves, and no memory is taken. Looks at one track after another, and takes
+/// as many comparisons as the logarithm of the number of clips and items; what follows the clip moves else. Refused only as
+/// `Memory` (0), where a growth was refused; the session may then lack the clip.
 pub fn mend_clips<A: Allocator>(
     session: &mut Session<A>,
     stood: Option<PlacedClip>,
@@ -131,6 +159,11 @@ pub fn mend_clips<A: Allocator>(
     ensures ok { OnOk result (session.new ≡ record session.old { tracks = tracks_in items.now }) }
     ensures err { IfErr result (λ fault. fault ≡ SessionFault.Memory) }
 {
-    take_stood(session, stood);
-    put_shown(session, placed_clip(items, item))
+    match placed_clip(items, item) {
+        Some(found) => put_in(session, stood, found),
+        None => {
+            take_stood(session, stood);
+            Ok(())
+        }
+    }
 }

@@ -29,7 +29,8 @@
 //!
 //! The calls that mend a session do what the laws say. Before an operation is noted, [`stood`] tells where its item ([`subject_of`]) stands, and
 //! [`add_place`] puts the place that it gives a track, if it gives one, into the list of all places; after it, [`mend`] takes the item's entry out where it
-//! stood, and puts in the one that is shown now. The session is then the one that all noted operations show:
+//! stood, and puts in the one that is shown now; a marker or a clip that stays where it stood is rewritten there, and nothing moves. The session is then
+//! the one that all noted operations show:
 //!
 //! ```text
 //! let item = subject_of(&op);
