@@ -9,21 +9,21 @@ use Rattle.std.proofs.lemmas.List.{take-append-le, take_min, take_more, append-n
 use Rattle.std.proofs.lemmas.List.Concat.{flat_map-append}
 use Rattle.std.proofs.lemmas.Option.{slice_get_within, get_or_from_slice_get}
 use Rattle.std.proofs.Math.Seq.{take-append-add}
-use Rattle.mt_opcodec.specs.Latch.{Latched, AppendsFront}
+use Rattle.mt_latch.specs.Latch.{Latched, AppendsPrefix}
 use Rattle.mt_cli.specs.Buffering.{Moves, Hands}
 
--- a front of some bytes is a front of what begins with them
-pub front_of_more : (a b : Option (List ℕ)) (p q : List ℕ) → AppendsFront a b p → AppendsFront a b (p ++ q)
-front_of_more a b p q front =
-    let n = min front.0 (length p) in
-    let same : take n (p ++ q) ≡ take front.0 p = take-append-le n p q (omega arith) ∙ take_min front.0 p in
-    (n, rw same front.1)
+-- a prefix of some bytes is a prefix of what begins with them
+pub prefix_of_more : (a b : Option (List ℕ)) (p q : List ℕ) → AppendsPrefix a b p → AppendsPrefix a b (p ++ q)
+prefix_of_more a b p q prefix =
+    let n = min prefix.0 (length p) in
+    let same : take n (p ++ q) ≡ take prefix.0 p = take-append-le n p q (omega arith) ∙ take_min prefix.0 p in
+    (n, rw same prefix.1)
 
--- some bytes, and then a front of what follows them
-pub front_after : (a b c : Option (List ℕ)) (p w rest q : List ℕ) → Appends a b w → p ≡ w ++ rest → AppendsFront b c (rest ++ q) → AppendsFront a c (p ++ q)
-front_after a b c p w rest q put parts front =
-    let same : take (length w + front.0) (p ++ q) ≡ w ++ take front.0 (rest ++ q) = ap (λ (l : List ℕ). take (length w + front.0) (l ++ q)) parts ∙ ap (take (length w + front.0)) (append_assoc w rest q) ∙ take-append-add w (rest ++ q) front.0 in
-    (length w + front.0, rw same (Appends-trans a b c w (take front.0 (rest ++ q)) put front.1))
+-- some bytes, and then a prefix of what follows them
+pub prefix_after : (a b c : Option (List ℕ)) (p w rest q : List ℕ) → Appends a b w → p ≡ w ++ rest → AppendsPrefix b c (rest ++ q) → AppendsPrefix a c (p ++ q)
+prefix_after a b c p w rest q put parts prefix =
+    let same : take (length w + prefix.0) (p ++ q) ≡ w ++ take prefix.0 (rest ++ q) = ap (λ (l : List ℕ). take (length w + prefix.0) (l ++ q)) parts ∙ ap (take (length w + prefix.0)) (append_assoc w rest q) ∙ take-append-add w (rest ++ q) prefix.0 in
+    (length w + prefix.0, rw same (Appends-trans a b c w (take prefix.0 (rest ++ q)) put prefix.1))
 
 pub refused_left : {T E : Type 0} (r : Result T E) (P : Type 0) → is_ok r ≡ false → OnErr r P → P
 refused_left (Ok x) P failed h = cc failed
@@ -56,23 +56,23 @@ module _ {W : Type 0} (contents : W → Option (List ℕ)) where
       by : (t : Bool) → m.failed ≡ t → Hands contents o n a c (x ++ y)
       by true e = record {
         moved = λ sound. cc (sym sound ∙ ap (λ (l : Latched W). l.failed) (same e) ∙ e);
-        front = rw (same e, ← append_assoc a x y) (front_of_more (contents o.inner) (contents m.inner) (a ++ x) y first.front);
+        prefix = rw (same e, ← append_assoc a x y) (prefix_of_more (contents o.inner) (contents m.inner) (a ++ x) y first.prefix);
         stays = λ failed. same e ∙ first.stays failed;
       }
       by false e =
           let moved = first.moved e in
           record {
             moved = λ sound. moves_on o m n a b c x y moved (second.moved sound);
-            front = rw (← append_assoc a x y) (front_after (contents o.inner) (contents m.inner) (contents n.inner) (a ++ x) moved.written b y moved.put moved.all second.front);
+            prefix = rw (← append_assoc a x y) (prefix_after (contents o.inner) (contents m.inner) (contents n.inner) (a ++ x) moved.written b y moved.put moved.all second.prefix);
             stays = λ failed. second.stays (ap (λ (l : Latched W). l.failed) (first.stays failed) ∙ failed) ∙ first.stays failed;
           }
 
   -- the output took the bytes by itself, past a buffer that is empty
   pub put_past : {E : Type 0} (m n : Latched W) (b c x : List ℕ) (r : Result Unit E) → b ≡ [] → c ≡ [] → OnOk r (Appends (contents m.inner) (contents n.inner) x)
-      → AppendsFront (contents m.inner) (contents n.inner) x → n.failed ≡ is_err r → (m.failed ≡ true → n ≡ m) → Hands contents m n b c x
-  put_past m n b c x r none after whole front failed stays = record {
+      → AppendsPrefix (contents m.inner) (contents n.inner) x → n.failed ≡ is_err r → (m.failed ≡ true → n ≡ m) → Hands contents m n b c x
+  put_past m n b c x r none after whole prefix failed stays = record {
     moved = λ sound. record { written = x; put = by r whole (sym failed ∙ sound); all = ap (λ (l : List ℕ). l ++ x) none ∙ sym (append-nil x) ∙ ap (λ (l : List ℕ). x ++ l) (sym after) };
-    front = rw none front;
+    prefix = rw none prefix;
     stays = stays;
   }
     where
@@ -84,7 +84,7 @@ module _ {W : Type 0} (contents : W → Option (List ℕ)) where
   pub hands_in : (out : Latched W) (b c x : List ℕ) → c ≡ b ++ x → Hands contents out out b c x
   hands_in out b c x is = record {
     moved = λ _. record { written = []; put = Appends-nil (contents out.inner); all = sym is };
-    front = (0, Appends-nil (contents out.inner));
+    prefix = (0, Appends-nil (contents out.inner));
     stays = λ _. refl;
   }
 
@@ -105,12 +105,12 @@ module _ {W : Type 0} (contents : W → Option (List ℕ)) where
       ap (λ (l : List ℕ). flat_map f (take i xs) ++ l) (sym (append-nil (f x))) ∙ sym (flat_map-append f (take i xs) (x ∷ [])) ∙ ap (flat_map f) (sym more_taken) in
       hands_same same (then_hands so_far more)
 
-  -- from an empty buffer to an empty one, all was written, or a front of it
+  -- from an empty buffer to an empty one, all was written, or a prefix of it
   pub all_written : {o n : Latched W} {a c bytes : List ℕ} → a ≡ [] → c ≡ [] → Hands contents o n a c bytes → n.failed ≡ false → Appends (contents o.inner) (contents n.inner) bytes
   all_written {o} {n} {a} {c} {bytes} before after h sound =
       let moved = h.moved sound in
       let same : moved.written ≡ bytes = sym (append-nil moved.written) ∙ ap (λ (l : List ℕ). moved.written ++ l) (sym after) ∙ sym moved.all ∙ ap (λ (l : List ℕ). l ++ bytes) before in
       subst (λ (l : List ℕ). Appends (contents o.inner) (contents n.inner) l) same moved.put
 
-  pub front_written : {o n : Latched W} {a c bytes : List ℕ} → a ≡ [] → Hands contents o n a c bytes → AppendsFront (contents o.inner) (contents n.inner) bytes
-  front_written {o} {n} {a} {c} {bytes} before h = subst (λ (l : List ℕ). AppendsFront (contents o.inner) (contents n.inner) (l ++ bytes)) before h.front
+  pub prefix_written : {o n : Latched W} {a c bytes : List ℕ} → a ≡ [] → Hands contents o n a c bytes → AppendsPrefix (contents o.inner) (contents n.inner) bytes
+  prefix_written {o} {n} {a} {c} {bytes} before h = subst (λ (l : List ℕ). AppendsPrefix (contents o.inner) (contents n.inner) (l ++ bytes)) before h.prefix

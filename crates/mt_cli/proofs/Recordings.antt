@@ -14,7 +14,7 @@ use Rattle.std.specs.Str.{bytes_eq}
 use Rattle.mt_stamp.proofs.Texts.{unlike}
 use Rattle.sha2.specs.Sha256.{sha256}
 use Rattle.mt_bwfread.specs.Wave.{IsWave}
-use Rattle.mt_opcodec.specs.Latch.{Latched}
+use Rattle.mt_latch.specs.Latch.{Latched}
 use Rattle.mt_render.specs.Sources.{Sources, digest_cmp, found}
 use Rattle.mt_cli.specs.declared.fault.CliFault.{CliFault}
 use Rattle.mt_cli.specs.declared.fault.CliFault.TheVariants.{Memory}

@@ -2,7 +2,7 @@
 use Rattle.std.proofs.Common.{◌≡◌, ◌≢◌, ℕ, List, Option, Result, Ok, Err, inr, refl, subst, ap, ◌∙◌, ◌<◌, ◌≤◌, ◌^◌, length}
 use Rattle.std.specs.Prelude.{OnOk, IfErr}
 use Rattle.std.specs.Io.KnownBytes.{Appends}
-use Rattle.mt_opcodec.specs.Latch.{Latched, AppendsFront}
+use Rattle.mt_latch.specs.Latch.{Latched, AppendsPrefix}
 use Rattle.mt_opcodec.specs.LogValue.{LogMap, operations}
 use Rattle.mt_sessionview.specs.Session.{session_of}
 use Rattle.mt_sessionview.specs.Content.{Content, Marker}
@@ -66,4 +66,4 @@ module _ (mix : Programme) (session : Content) (markers : List Marker) (catalogu
   pub file_refused : {W : Type 0} (contents : W → Option (List ℕ)) (old new : Latched W) (fault : BounceFault) → IsMixable mix → FileFails contents mix markers head old new fault → SessionFails contents session texts layout head old new (file_fault fault)
   file_refused contents old new bounce.Memory mixable fails = fails.1
   file_refused contents old new bounce.TooLong mixable fails = (too_long mixable fails.0, fails.1)
-  file_refused contents old new bounce.Write mixable fails = (can_bounce mixable fails.0, fails.1, subst (λ (l : List ℕ). AppendsFront (contents old.inner) (contents new.inner) l) file_is fails.2)
+  file_refused contents old new bounce.Write mixable fails = (can_bounce mixable fails.0, fails.1, subst (λ (l : List ℕ). AppendsPrefix (contents old.inner) (contents new.inner) l) file_is fails.2)

@@ -1,7 +1,7 @@
 -- Texts that are written or refused.
 use Rattle.std.proofs.Common.{◌≡◌, ℕ, List, Option, Result, Ok, Err, inr, subst}
 use Rattle.std.specs.Prelude.{OnOk, IfErr}
-use Rattle.mt_opcodec.specs.Latch.{Latched}
+use Rattle.mt_latch.specs.Latch.{Latched}
 use Rattle.mt_opcodec.specs.LogValue.{LogMap}
 use Rattle.mt_opcodec.specs.Union.{union_all, AllAgree}
 use Rattle.mt_cli.specs.declared.fault.CliFault.{CliFault}

@@ -1,7 +1,7 @@
 -- The file of logs and recordings, and why it is not written.
 use Rattle.std.specs.Prelude.{◌≡◌, ◌≢◌, ℕ, ◌^◌, ◌≤◌, true, List, length, Option, ◌⊎◌}
 use Rattle.std.specs.Io.KnownBytes.{Appends}
-use Rattle.mt_opcodec.specs.Latch.{Latched, AppendsFront}
+use Rattle.mt_latch.specs.Latch.{Latched, AppendsPrefix}
 use Rattle.mt_opcodec.specs.LogValue.{LogMap, operations}
 use Rattle.mt_opcodec.specs.Union.{union_all, AllAgree}
 use Rattle.mt_sessionview.specs.Content.{Content}
@@ -46,11 +46,11 @@ IsMixRefusal session texts layout head fault =
     ⊎ (IsMixable (programme session texts layout) × (fault ≡ mix.TooLong) × (2 ^ 32 ≤ length (riff (programme session texts layout) session.markers head))))
 
 module _ {W : Type 0} (contents : W → Option (List ℕ)) where
-  -- why the file of a session is not written: each with the output as it was, but where that has failed, and holds a front of it
+  -- why the file of a session is not written: each with the output as it was, but where that has failed, and holds a prefix of it
   abbrev pub SessionFails : Content → List (List ℕ) → Layout → HeadText → Latched W → Latched W → CliFault → Type 0
   SessionFails session texts layout head old new Memory = new ≡ old
   SessionFails session texts layout head old new (Mix fault) = IsMixRefusal session texts layout head fault × (new ≡ old)
-  SessionFails session texts layout head old new Write = CanBounce session texts layout head × (new.failed ≡ true) × AppendsFront (contents old.inner) (contents new.inner) (session_file session texts layout head)
+  SessionFails session texts layout head old new Write = CanBounce session texts layout head × (new.failed ≡ true) × AppendsPrefix (contents old.inner) (contents new.inner) (session_file session texts layout head)
   SessionFails session texts layout head old new _ = ⊥
 
   module _ {R : Type 0} (remaining : R → Option (List ℕ)) (logs_old logs_new sources_old sources_new : List (Latched R)) (layout : Layout) (head : HeadText) (old new : Latched W) where

@@ -4,7 +4,7 @@ use Rattle.std.specs.Fmt.{decimal}
 use Rattle.std.specs.List.{flat_map}
 use Rattle.hex.specs.Hex.{encode_lower}
 use Rattle.sha2.specs.Sha256.{sha256}
-use Rattle.mt_opcodec.specs.Latch.{Latched, AppendsFront}
+use Rattle.mt_latch.specs.Latch.{Latched, AppendsPrefix}
 use Rattle.mt_sessionview.specs.SessionText.{newline}
 use Rattle.mt_bwfread.specs.Wave.{IsWave, fault_of, rate_of, channels_of, bits_of, frames_of}
 use Rattle.mt_bwfread.specs.Extension.{Extension, bext_of}
@@ -67,9 +67,9 @@ info_text bytes =
 
 module _ {W : Type 0} (contents : W → Option (List ℕ)) where
   -- What refuses it: the bytes are no wave file, or memory, each with the output as it was; or the output has failed,
-  -- and holds a front of the text.
+  -- and holds a prefix of the text.
   abbrev pub InfoFails : List ℕ → Latched W → Latched W → CliFault → Type 0
   InfoFails bytes old new Memory = new ≡ old
   InfoFails bytes old new (Source place fault) = (place ≡ 0) × (fault_of bytes ≡ Some fault) × (new ≡ old)
-  InfoFails bytes old new Write = IsWave bytes × (new.failed ≡ true) × AppendsFront (contents old.inner) (contents new.inner) (info_text bytes)
+  InfoFails bytes old new Write = IsWave bytes × (new.failed ≡ true) × AppendsPrefix (contents old.inner) (contents new.inner) (info_text bytes)
   InfoFails bytes old new _ = ⊥

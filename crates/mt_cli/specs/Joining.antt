@@ -1,6 +1,6 @@
 -- Why joining logs is refused.
 use Rattle.std.specs.Prelude.{ℕ, List, Option, ◌⊎◌}
-use Rattle.mt_opcodec.specs.Latch.{Latched}
+use Rattle.mt_latch.specs.Latch.{Latched}
 use Rattle.mt_opcodec.specs.LogValue.{LogMap}
 use Rattle.mt_opcodec.specs.Union.{FirstClash}
 use Rattle.mt_cli.specs.declared.fault.CliFault.{CliFault}

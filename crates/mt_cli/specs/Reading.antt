@@ -3,7 +3,7 @@ use Rattle.std.specs.Io.KnownBytes.{IsAtEnd}
 use Rattle.std.specs.List.{AllByRecursion}
 use Rattle.std.specs.Prelude.{false, ◌≡◌, ◌≢◌, ℕ, true, List, [], ◌∷◌, Option, IfSome, ◌+◌, ◌⊎◌}
 use Rattle.mt_opcodec.specs.declared.fault.LogFault.TheVariants as log
-use Rattle.mt_opcodec.specs.Latch.{Latched}
+use Rattle.mt_latch.specs.Latch.{Latched}
 use Rattle.mt_opcodec.specs.LogText.{log_text}
 use Rattle.mt_opcodec.specs.LogReading.{log_at, LogFails}
 use Rattle.mt_opcodec.specs.LogValue.{LogMap, operations}

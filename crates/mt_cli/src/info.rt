@@ -10,7 +10,7 @@ ghost use Rattle.mt_bwfread.specs.Extension.{extension, bext_of};
 ghost use Rattle.mt_bwfread.specs.Cues.{CueText, cues_of, labels_of, label_for};
 ghost use Rattle.hex.specs.Hex.{encode_lower};
 ghost use Rattle.sha2.specs.Sha256.{sha256};
-ghost use Rattle.mt_opcodec.specs.Latch.{AppendsFront};
+ghost use Rattle.mt_latch.specs.Latch.{AppendsPrefix};
 ghost use Rattle.mt_cli.specs.Buffering.{Hands};
 ghost use Rattle.mt_cli.specs.Info.{info_text, line, shown_byte, shown, sound_lines, extension_lines, label_text, cue_line, InfoFails};
 ghost use Rattle.std.specs.Fmt.{decimal};
@@ -175,7 +175,7 @@ fn put_cues<A: Allocator, W: Write>(
 ///
 /// Refused as `Source` (26 to 32) with place 0 where the bytes are no wave file, by the first of its faults, and as
 /// `Memory` (0) where a growth was refused, each with nothing written; as `Write` (37) where the output's latch has
-/// failed, which then holds a front of the text.
+/// failed, which then holds a prefix of the text.
 ///
 /// The time is that of hashing the bytes, of one walk over the chunks and the labels, and of the text: a label stands
 /// in it once for each cue point of its name. The memory is that of the labels' map.
@@ -208,7 +208,7 @@ fn put_info<A: Allocator, W: Write>(
     requires labels { (name : ℕ) → option_copied (get nat_cmp labels.now name) ≡ label_for name (labels_of wave.now) }
     requires digest { digest.now ≡ encode_lower (sha256 wave.now) }
     ensures ok { OnOk result (Appends (W.contents output.old.inner) (W.contents output.new.inner) (info_text wave.now)) }
-    ensures err { IfErr result (λ fault. (fault ≡ CliFault.Write) × (output.new.failed ≡ true) × AppendsFront (W.contents output.old.inner) (W.contents output.new.inner) (info_text wave.now)) }
+    ensures err { IfErr result (λ fault. (fault ≡ CliFault.Write) × (output.new.failed ≡ true) × AppendsPrefix (W.contents output.old.inner) (W.contents output.new.inner) (info_text wave.now)) }
 {
     let mut buffer = Buffer::new();
     put_line(&mut buffer, output, "digest", digest);

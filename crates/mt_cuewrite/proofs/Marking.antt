@@ -4,7 +4,7 @@ use Rattle.std.specs.Prelude.{nat_lt, min, codes, Option}
 use Rattle.std.proofs.lemmas.List.{take_more, take-append-drop, append-nil, length-take-le}
 use Rattle.std.proofs.lemmas.List.Elements.{filter-append}
 use Rattle.std.proofs.lemmas.List.Sums.{length-filter, count_by-le-length}
-use Rattle.mt_opcodec.specs.Latch.{Latched}
+use Rattle.mt_latch.specs.Latch.{Latched}
 use Rattle.mt_sessionview.specs.Content.{Marker}
 use Rattle.mt_cuewrite.specs.File.{before, named, label_content, label, labels}
 use Rattle.mt_cuewrite.specs.Putting.{Puts}

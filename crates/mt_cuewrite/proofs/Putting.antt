@@ -6,30 +6,30 @@ use Rattle.std.specs.Io.KnownBytes.{Appends}
 use Rattle.std.proofs.KnownBytes.{Appends-nil, Appends-trans}
 use Rattle.std.proofs.lemmas.List.{take-append-le, take_min}
 use Rattle.std.proofs.Math.Seq.{take-append-add}
-use Rattle.mt_opcodec.specs.Latch.{Latched, AppendsFront}
+use Rattle.mt_latch.specs.Latch.{Latched, AppendsPrefix}
 use Rattle.byteorder.specs.Endian.{little_bytes}
 use Rattle.mt_cuewrite.specs.File.{zeros, padded}
 use Rattle.mt_cuewrite.specs.Putting.{Puts}
 
--- a front of some bytes is a front of what begins with them
-front_of_more : (a b : Option (List ℕ)) (p q : List ℕ) → AppendsFront a b p → AppendsFront a b (p ++ q)
-front_of_more a b p q front =
-    let n = min front.0 (length p) in
-    let same : take n (p ++ q) ≡ take front.0 p = take-append-le n p q (omega arith) ∙ take_min front.0 p in
-    (n, rw same front.1)
+-- a prefix of some bytes is a prefix of what begins with them
+prefix_of_more : (a b : Option (List ℕ)) (p q : List ℕ) → AppendsPrefix a b p → AppendsPrefix a b (p ++ q)
+prefix_of_more a b p q prefix =
+    let n = min prefix.0 (length p) in
+    let same : take n (p ++ q) ≡ take prefix.0 p = take-append-le n p q (omega arith) ∙ take_min prefix.0 p in
+    (n, rw same prefix.1)
 
--- some bytes, and then a front of what follows them
-front_after : (a b c : Option (List ℕ)) (w q : List ℕ) → Appends a b w → AppendsFront b c q → AppendsFront a c (w ++ q)
-front_after a b c w q put front =
-    (length w + front.0, rw (take-append-add w q front.0) (Appends-trans a b c w (take front.0 q) put front.1))
+-- some bytes, and then a prefix of what follows them
+prefix_after : (a b c : Option (List ℕ)) (w q : List ℕ) → Appends a b w → AppendsPrefix b c q → AppendsPrefix a c (w ++ q)
+prefix_after a b c w q put prefix =
+    (length w + prefix.0, rw (take-append-add w q prefix.0) (Appends-trans a b c w (take prefix.0 q) put prefix.1))
 
 module _ {W : Type 0} (contents : W → Option (List ℕ)) where
   -- what the latch says of one call
   pub puts_all : {E : Type 0} {o n : Latched W} {x : List ℕ} (r : Result Unit E) → OnOk r (Appends (contents o.inner) (contents n.inner) x)
-      → AppendsFront (contents o.inner) (contents n.inner) x → n.failed ≡ is_err r → (o.failed ≡ true → n ≡ o) → n.reads_left ≡ o.reads_left → Puts contents o n x
-  puts_all {E} {o} {n} {x} r whole front failed stays reads = record {
+      → AppendsPrefix (contents o.inner) (contents n.inner) x → n.failed ≡ is_err r → (o.failed ≡ true → n ≡ o) → n.reads_left ≡ o.reads_left → Puts contents o n x
+  puts_all {E} {o} {n} {x} r whole prefix failed stays reads = record {
     whole = λ sound. by r whole (sym failed ∙ sound);
-    front = front;
+    prefix = prefix;
     stays = stays;
     reads = reads;
   }
@@ -40,7 +40,7 @@ module _ {W : Type 0} (contents : W → Option (List ℕ)) where
 
   -- nothing
   pub puts_none : (o : Latched W) → Puts contents o o []
-  puts_none o = record { whole = λ _. Appends-nil (contents o.inner); front = (0, Appends-nil (contents o.inner)); stays = λ _. refl; reads = refl }
+  puts_none o = record { whole = λ _. Appends-nil (contents o.inner); prefix = (0, Appends-nil (contents o.inner)); stays = λ _. refl; reads = refl }
 
   -- one piece, and then another
   puts_on : (o m n : Latched W) (x y : List ℕ) → Puts contents o m x → Puts contents m n y → Puts contents o n (x ++ y)
@@ -52,13 +52,13 @@ module _ {W : Type 0} (contents : W → Option (List ℕ)) where
       by : (t : Bool) → m.failed ≡ t → Puts contents o n (x ++ y)
       by true e = record {
         whole = λ sound. cc (sym sound ∙ ap (λ (l : Latched W). l.failed) (same e) ∙ e);
-        front = rw (same e) (front_of_more (contents o.inner) (contents m.inner) x y first.front);
+        prefix = rw (same e) (prefix_of_more (contents o.inner) (contents m.inner) x y first.prefix);
         stays = λ failed. same e ∙ first.stays failed;
         reads = second.reads ∙ first.reads;
       }
       by false e = record {
         whole = λ sound. Appends-trans (contents o.inner) (contents m.inner) (contents n.inner) x y (first.whole e) (second.whole sound);
-        front = front_after (contents o.inner) (contents m.inner) (contents n.inner) x y (first.whole e) second.front;
+        prefix = prefix_after (contents o.inner) (contents m.inner) (contents n.inner) x y (first.whole e) second.prefix;
         stays = λ failed. second.stays (ap (λ (l : Latched W). l.failed) (first.stays failed) ∙ failed) ∙ first.stays failed;
         reads = second.reads ∙ first.reads;
       }
@@ -71,11 +71,11 @@ module _ {W : Type 0} (contents : W → Option (List ℕ)) where
   pub puts_same : {o n : Latched W} {x y : List ℕ} → x ≡ y → Puts contents o n x → Puts contents o n y
   puts_same {o} {n} same h = subst (λ (bytes : List ℕ). Puts contents o n bytes) same h
 
-  -- what failed on the way put a front of all
-  pub puts_front : {o n : Latched W} {x : List ℕ} (y : List ℕ) → n.failed ≡ true → Puts contents o n x → Puts contents o n (x ++ y)
-  puts_front {o} {n} {x} y failed h = record {
+  -- what failed on the way put a prefix of all
+  pub puts_prefix : {o n : Latched W} {x : List ℕ} (y : List ℕ) → n.failed ≡ true → Puts contents o n x → Puts contents o n (x ++ y)
+  puts_prefix {o} {n} {x} y failed h = record {
     whole = λ sound. cc (sym sound ∙ failed);
-    front = front_of_more (contents o.inner) (contents n.inner) x y h.front;
+    prefix = prefix_of_more (contents o.inner) (contents n.inner) x y h.prefix;
     stays = h.stays;
     reads = h.reads;
   }

@@ -82,7 +82,7 @@ fn put_file<A: Allocator, B: Allocator, W: Write>(
 ///
 /// Refused, in this order: `TooLong` (35) where the size of the RIFF chunk is over 4,294,967,295 bytes, and `Memory` (0) where the
 /// room for a block of samples, its one growth, was refused, each with nothing written; then `Write` (37) where the output's latch
-/// has failed, which then holds a front of the file.
+/// has failed, which then holds a prefix of the file.
 ///
 /// The output is given pieces of at most 24,576 bytes, a block of 4,096 frames at a time. The memory is 32,768 bytes, whatever the
 /// length is; the time is that of the mix, and of one walk over the markers for each of their two chunks and for their sizes.

@@ -3,7 +3,7 @@
 ghost use Rattle.std.specs.Prelude.{◌≡◌, ◌++◌, true, false, OnOk, IfErr};
 ghost use Rattle.std.specs.Io.KnownBytes.{Appends};
 ghost use Rattle.std.specs.String.{string_bytes};
-ghost use Rattle.mt_opcodec.specs.Latch.{AppendsFront};
+ghost use Rattle.mt_latch.specs.Latch.{AppendsPrefix};
 ghost use Rattle.mt_opcodec.specs.LogValue.{operations};
 ghost use Rattle.mt_logtext.specs.LogText.{log_text};
 
@@ -36,7 +36,7 @@ fn append_log<A: Allocator + Clone, B: Allocator>(
 /// `remove` removes. Last `operations N`. Each line is ended by a line feed. In a time of n log n for n operations and the tags that they
 /// list.
 ///
-/// `Write` (37) where the output's latch has failed, before or in this call; the output then holds a front of the text, and is as
+/// `Write` (37) where the output's latch has failed, before or in this call; the output then holds a prefix of the text, and is as
 /// it was where the latch had failed before. `Memory` (0) where a growth was refused; the output is then as it was.
 pub fn write_log_text<A: Allocator + Clone, W: Write>(
     alloc: A,
@@ -44,7 +44,7 @@ pub fn write_log_text<A: Allocator + Clone, W: Write>(
     output: &mut Latch<W>,
 ) -> Result<(), SessionFault>
     ensures whole { OnOk result (Appends (W.contents output.old.inner) (W.contents output.new.inner) (log_text (operations log.now))) }
-    ensures front { AppendsFront (W.contents output.old.inner) (W.contents output.new.inner) (log_text (operations log.now)) }
+    ensures prefix { AppendsPrefix (W.contents output.old.inner) (W.contents output.new.inner) (log_text (operations log.now)) }
     ensures sound { OnOk result (output.new.failed ≡ false) }
     ensures write { IfErr result (λ fault. fault ≡ SessionFault.Write → output.new.failed ≡ true) }
     ensures stays_failed { output.old.failed ≡ true → output.new ≡ output.old }

@@ -7,7 +7,6 @@ pub mod Union
 pub mod Merging
 pub mod Laws
 pub mod Faults
-pub mod Latch
 pub mod Runs
 pub mod Clashing
 pub mod Seen

@@ -31,7 +31,6 @@ mod find;
 mod join;
 mod join_all;
 mod joining;
-mod latch;
 pub mod laws;
 mod log;
 mod log_reader;
@@ -42,9 +41,9 @@ mod run_list;
 mod seen;
 
 pub use fault::{LogFault, ReadFault};
-pub use latch::{Latch, LatchFault};
 pub use log::Log;
 pub use log_reader::read_ops;
+pub use mt_latch::{Latch, LatchFault};
 pub use op_reader::read_op;
 pub use op_writer::write_op;
 pub use run::Run;

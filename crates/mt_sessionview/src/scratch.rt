@@ -2,7 +2,7 @@
 
 ghost use Rattle.std.specs.Prelude.{◌≡◌, IfOk, IfErr, OnOk, false, true};
 ghost use Rattle.std.specs.Io.KnownBytes.{Appends};
-ghost use Rattle.mt_opcodec.specs.Latch.{AppendsFront};
+ghost use Rattle.mt_latch.specs.Latch.{AppendsPrefix};
 ghost use Rattle.mt_opcodec.specs.LogValue.{operations};
 ghost use Rattle.mt_sessionview.specs.Session.{session_of};
 ghost use Rattle.mt_sessionview.specs.SessionText.{session_text};
@@ -30,7 +30,7 @@ pub fn from_scratch<A: Allocator + Clone>(
 /// Writes a session's text: a line for each track, followed by one for each of its clips, a line for each marker, all
 /// in order, then `held N`, each ended by a line feed.
 ///
-/// `Write` (37) where the output's latch has failed, before or in this call; the output then holds a front of
+/// `Write` (37) where the output's latch has failed, before or in this call; the output then holds a prefix of
 /// the text, and is as it was where the latch had failed before. `Memory` (0) where a growth was refused; the output is
 /// then as it was.
 pub fn write_text<A: Allocator, B: Allocator, W: Write>(
@@ -39,7 +39,7 @@ pub fn write_text<A: Allocator, B: Allocator, W: Write>(
     output: &mut Latch<W>,
 ) -> Result<(), SessionFault>
     ensures whole { OnOk result (Appends (W.contents output.old.inner) (W.contents output.new.inner) (session_text session.now)) }
-    ensures front { AppendsFront (W.contents output.old.inner) (W.contents output.new.inner) (session_text session.now) }
+    ensures prefix { AppendsPrefix (W.contents output.old.inner) (W.contents output.new.inner) (session_text session.now) }
     ensures sound { OnOk result (output.new.failed ≡ false) }
     ensures write { IfErr result (λ fault. fault ≡ SessionFault.Write → output.new.failed ≡ true) }
     ensures stays_failed { output.old.failed ≡ true → output.new ≡ output.old }

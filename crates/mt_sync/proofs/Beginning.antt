@@ -2,7 +2,7 @@
 use Rattle.std.proofs.Common.{◌≡◌, ℕ, List, [], Option, Some, None, Result, Ok, Err, refl, sym, ◌∙◌, subst, inl, inr}
 use Rattle.std.specs.Io.KnownBytes.{Appends}
 use Rattle.mt_opcodec.specs.LogValue.{LogMap}
-use Rattle.mt_opcodec.specs.Latch.{AppendsFront}
+use Rattle.mt_latch.specs.Latch.{AppendsPrefix}
 use Rattle.mt_sync.specs.declared.fault.TalkFault.{TalkFault}
 use Rattle.mt_sync.specs.declared.fault.TalkFault.TheVariants.{Memory, Conflict, Failed, BadMessage, OutOfTurn, FrameTooLong}
 use Rattle.mt_sync.specs.declared.fault.SyncFault.{SyncFault}
@@ -41,10 +41,10 @@ begins talk bytes log x text written written' h is put =
     let b = call_begun talk bytes log x h in
     (b.1.1.0, (b.0, (b.1.0, (b.1.1.1, subst (Appends written written') (is ∙ b.1.1.2) put))))
 
-pub fails : {X : Type 0} (talk : X → Talking) (bytes : X → List ℕ) (log : Option LogMap) (x : X) (text : List ℕ) (written written' : Option (List ℕ)) → Calls talk bytes log (Ok x) → text ≡ bytes x → AppendsFront written written' text → NotBegun log written written' (Err fault.Write)
+pub fails : {X : Type 0} (talk : X → Talking) (bytes : X → List ℕ) (log : Option LogMap) (x : X) (text : List ℕ) (written written' : Option (List ℕ)) → Calls talk bytes log (Ok x) → text ≡ bytes x → AppendsPrefix written written' text → NotBegun log written written' (Err fault.Write)
 fails talk bytes log x text written written' h is put =
     let b = call_begun talk bytes log x h in
-    (b.0, (b.1.0, subst (AppendsFront written written') (is ∙ b.1.1.2) put))
+    (b.0, (b.1.0, subst (AppendsPrefix written written') (is ∙ b.1.1.2) put))
 
 pub caller_refused : (side : Side) (log : Option LogMap) (read written written' : Option (List ℕ)) (f : SyncFault) → side ≡ Caller → NotBegun log written written' (Err f) → ConversesAs side log read read written written' (Err f) log
 caller_refused side log read written written' f is h = subst (λ (s : Side). ConversesAs s log read read written written' (Err f) log) (sym is) (inl (refl, (refl, h)))

@@ -4,7 +4,7 @@ use Rattle.std.specs.Io.KnownBytes.{Appends, Consumes, Keeps}
 use Rattle.std.proofs.KnownBytes.{Appends-nil, Appends-trans, Consumes-nil, Consumes-trans, Consumes-kept}
 use Rattle.std.proofs.lemmas.List.{take_at, drop_at}
 use Rattle.std.proofs.Math.Seq.{take-add}
-use Rattle.mt_opcodec.specs.Latch.{AppendsFront}
+use Rattle.mt_latch.specs.Latch.{AppendsPrefix}
 use Rattle.mt_sync.specs.declared.fault.TalkFault.{TalkFault}
 use Rattle.mt_sync.specs.declared.fault.TalkFault.TheVariants.{Memory, Conflict, Failed, BadMessage, OutOfTurn, FrameTooLong}
 use Rattle.mt_sync.specs.declared.fault.SyncFault.TheVariants as fault
@@ -51,8 +51,8 @@ goes_on start a b c d e f end new piece more g took fed put = record {
 all_of : (xs : List ℕ) → take (length xs) xs ≡ xs
 all_of xs = ap (take (length xs)) (sym (append-nil xs)) ∙ take_at xs [] (length xs) refl
 
-whole_front : (a b : Option (List ℕ)) (xs : List ℕ) → Appends a b xs → AppendsFront a b xs
-whole_front a b xs h = (length xs, subst (Appends a b) (sym (all_of xs)) h)
+whole_prefix : (a b : Option (List ℕ)) (xs : List ℕ) → Appends a b xs → AppendsPrefix a b xs
+whole_prefix a b xs h = (length xs, subst (Appends a b) (sym (all_of xs)) h)
 
 -- what is not a refused growth
 no_refusal : ◌≡◌ {A = Result (Unit {0}) SyncFault} (Ok tt) (Err (fault.Talk Memory)) → ⊥
@@ -75,7 +75,7 @@ pub is_done : (start : End) (a b c d : Option (List ℕ)) (end : End) → Goes s
 is_done start a b c d end g is = record {
   bytes = g.bytes;
   consumed = g.consumed;
-  front = subst (AppendsFront c d) (sym (ap (λ (t : Told). t.1) g.told_so)) (whole_front c d g.reply g.appended);
+  prefix = subst (AppendsPrefix c d) (sym (ap (λ (t : Told). t.1) g.told_so)) (whole_prefix c d g.reply g.appended);
   outcome = subst (λ (t : Told). Outcome t c d end.set (Ok tt)) (sym g.told_so) (is, refl, g.appended);
   left = λ e. absurd (no_refusal e);
 }
@@ -85,7 +85,7 @@ pub is_unread : (start : End) (a b b' c d : Option (List ℕ)) (end : End) → G
 is_unread start a b b' c d end g kept = record {
   bytes = g.bytes;
   consumed = Consumes-kept a b b' g.bytes g.consumed kept;
-  front = subst (AppendsFront c d) (sym (ap (λ (t : Told). t.1) g.told_so)) (whole_front c d g.reply g.appended);
+  prefix = subst (AppendsPrefix c d) (sym (ap (λ (t : Told). t.1) g.told_so)) (whole_prefix c d g.reply g.appended);
   outcome = ap (λ (t : Told). t.0.set) g.told_so;
   left = λ e. absurd (no_read e);
 }
@@ -95,13 +95,13 @@ pub is_unfinished : (start : End) (a b b' c d : Option (List ℕ)) (end : End) �
 is_unfinished start a b b' c d end g none not_ended = record {
   bytes = g.bytes;
   consumed = subst (Consumes a b') (append-nil g.bytes) (Consumes-trans a b b' g.bytes [] g.consumed none);
-  front = subst (AppendsFront c d) (sym (ap (λ (t : Told). t.1) g.told_so)) (whole_front c d g.reply g.appended);
+  prefix = subst (AppendsPrefix c d) (sym (ap (λ (t : Told). t.1) g.told_so)) (whole_prefix c d g.reply g.appended);
   outcome = subst (λ (t : Told). Outcome t c d end.set (Err fault.Ended)) (sym g.told_so) (not_ended, refl);
   left = λ e. absurd (no_end e);
 }
 
-longer_front : (a b c : Option (List ℕ)) (xs ys : List ℕ) → Appends a b xs → AppendsFront b c ys → AppendsFront a c (xs ++ ys)
-longer_front a b c xs ys h k =
+longer_prefix : (a b c : Option (List ℕ)) (xs ys : List ℕ) → Appends a b xs → AppendsPrefix b c ys → AppendsPrefix a c (xs ++ ys)
+longer_prefix a b c xs ys h k =
     let n = length xs + k.0 in
     (n, subst (Appends a c) (taken xs ys k.0) (Appends-trans a b c xs (take k.0 ys) h k.1))
   where
@@ -109,13 +109,13 @@ longer_front a b c xs ys h k =
     taken xs ys n = ap₂ (λ (u v : List ℕ). u ++ take n v) (sym (take_at xs ys (length xs) refl)) (sym (drop_at xs ys (length xs) refl)) ∙ sym (take-add (length xs) n (xs ++ ys))
 
 -- the writer failed at the reply to a piece
-pub is_unwritten : (start : End) (a b b' c d d' : Option (List ℕ)) (end new : End) (piece more : List ℕ) → Goes start a b c d end → Consumes b b' piece → told end piece ≡ (new, more) → AppendsFront d d' more → Converses start a b' c d' (Err fault.Write) new.set
+pub is_unwritten : (start : End) (a b b' c d d' : Option (List ℕ)) (end new : End) (piece more : List ℕ) → Goes start a b c d end → Consumes b b' piece → told end piece ≡ (new, more) → AppendsPrefix d d' more → Converses start a b' c d' (Err fault.Write) new.set
 is_unwritten start a b b' c d d' end new piece more g took fed put =
     let all = told_more start g.bytes piece end g.reply g.told_so ∙ ap (λ (t : Told). (t.0, g.reply ++ t.1)) fed in
     record {
       bytes = g.bytes ++ piece;
       consumed = Consumes-trans a b b' g.bytes piece g.consumed took;
-      front = subst (AppendsFront c d') (sym (ap (λ (t : Told). t.1) all)) (longer_front c d d' g.reply more g.appended put);
+      prefix = subst (AppendsPrefix c d') (sym (ap (λ (t : Told). t.1) all)) (longer_prefix c d d' g.reply more g.appended put);
       outcome = ap (λ (t : Told). t.0.set) all;
       left = λ e. absurd (no_write e);
     }
@@ -135,7 +135,7 @@ is_stopped start a b b' c d end new piece f g took fed left =
     record {
       bytes = g.bytes ++ piece;
       consumed = Consumes-trans a b b' g.bytes piece g.consumed took;
-      front = subst (AppendsFront c d) (sym (ap (λ (t : Told). t.1) all)) (longer_front c d d g.reply (told end piece).1 g.appended (0, Appends-nil d));
+      prefix = subst (AppendsPrefix c d) (sym (ap (λ (t : Told). t.1) all)) (longer_prefix c d d g.reply (told end piece).1 g.appended (0, Appends-nil d));
       outcome = subst (λ (t : Told). StopsBy t.0 new.set f) (sym all) (stops_by f (told end piece) end new fed);
       left = λ e. left_after start g.bytes piece end g.reply new.set g.told_so (left (of_talk f e));
     }

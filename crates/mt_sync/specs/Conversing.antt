@@ -2,7 +2,7 @@
 use Rattle.std.specs.Prelude.{◌≡◌, ℕ, List, [], Option, Some, None, Result, true, false, ◌⊎◌, Ok, Err}
 use Rattle.std.specs.Io.KnownBytes.{Appends, Consumes}
 use Rattle.mt_opcodec.specs.LogValue.{LogMap}
-use Rattle.mt_opcodec.specs.Latch.{AppendsFront}
+use Rattle.mt_latch.specs.Latch.{AppendsPrefix}
 use Rattle.mt_sync.specs.declared.fault.TalkFault.{TalkFault}
 use Rattle.mt_sync.specs.declared.fault.TalkFault.TheVariants.{Memory, Conflict, Failed, BadMessage, OutOfTurn, FrameTooLong}
 use Rattle.mt_sync.specs.declared.fault.SyncFault.{SyncFault}
@@ -40,7 +40,7 @@ Outcome t written written' set (Err fault.Write) = t.0.set ≡ set
 pub record Converses (start : End) (read read' written written' : Option (List ℕ)) (result : Result (Unit {0}) SyncFault) (set : Option LogMap) : Type 0 where
   pub bytes : List ℕ
   pub consumed : Consumes read read' bytes
-  pub front : AppendsFront written written' (told start bytes).1
+  pub prefix : AppendsPrefix written written' (told start bytes).1
   pub outcome : Outcome (told start bytes) written written' set result
   pub left : result ≡ Err (fault.Talk Memory) → IsLeft start bytes set
 
@@ -55,7 +55,7 @@ abbrev pub NotBegun : Option LogMap → Option (List ℕ) → Option (List ℕ) 
 NotBegun log written written' (Err (fault.Talk Memory)) = written' ≡ written
 NotBegun log written written' (Err (fault.Talk Failed)) = (log ≡ None) × (written' ≡ written)
 NotBegun log written written' (Err (fault.Talk FrameTooLong)) = (set : LogMap) × ((log ≡ Some set) × ((can_say (summary_of set) ≡ false) × (written' ≡ written)))
-NotBegun log written written' (Err fault.Write) = (set : LogMap) × ((log ≡ Some set) × AppendsFront written written' (frame_text (have_text (summary_of set))))
+NotBegun log written written' (Err fault.Write) = (set : LogMap) × ((log ≡ Some set) × AppendsPrefix written written' (frame_text (have_text (summary_of set))))
 NotBegun log written written' (Err (fault.Talk (Conflict dot))) = ⊥
 NotBegun log written written' (Err (fault.Talk BadMessage)) = ⊥
 NotBegun log written written' (Err (fault.Talk OutOfTurn)) = ⊥

@@ -18,7 +18,7 @@ const PIECE: usize = 65_536;
 /// Nothing is read past the piece with that Bye, of at most 65,536 bytes, after which no byte may follow.
 ///
 /// Refused as the caller's `Talk::call` and each `Talk::feed` are; as `Read` (45) and `Write` (37) where the reader or the
-/// writer has failed; as `Ended` (49) where the input ends before the talk does. After a refusal the writer holds a front of the bytes
+/// writer has failed; as `Ended` (49) where the input ends before the talk does. After a refusal the writer holds a prefix of the bytes
 /// that the conversation calls for, and the editor its own operations and those that came before; where a growth was refused while operations
 /// joined, the editor has failed.
 pub fn converse<A: Allocator + Clone, R: Read, W: Write>(

@@ -11,7 +11,7 @@ returns-then-is_err g c =
     hands_on g.W.Write.contents c.args.output.now c.flush.new.output c.put.new.self c.args.buffer.now.items c.flush.new.buffer.items c.try_extend_from_slice-2.new.self.items [] c.args.bytes.now
     (subst (λ (b : List ℕ). Hands g.W.Write.contents c.args.output.now c.flush.new.output b c.flush.new.buffer.items []) kept c.flush.ensures.hands)
     (put_past g.W.Write.contents c.flush.new.output c.put.new.self c.flush.new.buffer.items c.try_extend_from_slice-2.new.self.items c.args.bytes.now c.put.result
-    c.flush.ensures.empty (still ∙ c.flush.ensures.empty) c.put.ensures.whole c.put.ensures.front c.put.ensures.refused_when_failed c.put.ensures.stays_failed)
+    c.flush.ensures.empty (still ∙ c.flush.ensures.empty) c.put.ensures.whole c.put.ensures.prefix c.put.ensures.refused_when_failed c.put.ensures.stays_failed)
 
 pub returns-else-is_err : goal.returns-else-is_err
 returns-else-is_err g c =

@@ -4,7 +4,7 @@ use Rattle.std.specs.List.{flat_map}
 use Rattle.std.proofs.lemmas.List.{append-nil}
 use Rattle.mt_bwfread.specs.Cues.{cues_of}
 use Rattle.mt_cli.specs.Info.{line, extension_lines, cue_line}
-use Rattle.mt_cli.proofs.Buffering.{then_hands, hands_same, all_written, front_written}
+use Rattle.mt_cli.proofs.Buffering.{then_hands, hands_same, all_written, prefix_written}
 use Rattle.mt_cli.proofs.info.put_info.Goals as goal
 
 pub returns-then-failed-clause-err : goal.returns-then-failed-clause-err
@@ -14,7 +14,7 @@ returns-then-failed-clause-err g c =
     then_hands contents (hands_same contents (ap (line (codes "digest")) c.requires.digest) c.put_line.ensures) (then_hands contents c.put_sound.ensures
     (then_hands contents (hands_same contents (ap extension_lines c.bext.ensures) c.put_extension.ensures)
     (hands_same contents (append-nil (flat_map cue_line (cues_of c.args.wave.now))) (then_hands contents c.put_cues.ensures c.flush.ensures.hands)))) in
-    (refl, sym c.failed.ensures ∙ c.if-failed.true, front_written contents c.new-buffer.ensures lines)
+    (refl, sym c.failed.ensures ∙ c.if-failed.true, prefix_written contents c.new-buffer.ensures lines)
 
 pub returns-clause-ok : goal.returns-clause-ok
 returns-clause-ok g c =

@@ -1,6 +1,6 @@
 use Rattle.std.proofs.Common.{arith, ◌≤◌, ◌+◌, ◌-◌, sym, ap, ◌∙◌, append_assoc}
 use Rattle.mt_cuewrite.specs.File.{frames_from}
-use Rattle.mt_cuewrite.proofs.Putting.{then_puts, puts_same, puts_none, puts_front}
+use Rattle.mt_cuewrite.proofs.Putting.{then_puts, puts_same, puts_none, puts_prefix}
 use Rattle.mt_cuewrite.proofs.Blocks.{frames_none, frames_left, frames_more}
 use Rattle.mt_cuewrite.proofs.block.put_samples.Goals as goal
 
@@ -21,7 +21,7 @@ returns-then-failed g c =
     let within : first + count ≤ all = omega arith in
     let rest = frames_from p (first + count) (all - (first + count)) in
     let parts = append_assoc (frames_from p 0 first) (frames_from p first count) rest ∙ sym (frames_left p first count all within) ∙ ap (frames_from p 0) c.length-frames.ensures.value in
-    puts_same g.W.Write.contents parts (puts_front g.W.Write.contents rest (sym c.failed.ensures ∙ c.if-failed.true) (then_puts g.W.Write.contents c.loop-first.invariant.put c.put_block.ensures))
+    puts_same g.W.Write.contents parts (puts_prefix g.W.Write.contents rest (sym c.failed.ensures ∙ c.if-failed.true) (then_puts g.W.Write.contents c.loop-first.invariant.put c.put_block.ensures))
 
 pub loop-first-preserved : goal.loop-first-preserved
 loop-first-preserved g c =

@@ -10,4 +10,4 @@ returns-in-Ok-put g c =
 
 pub returns-in-Err-put : goal.returns-in-Err-put
 returns-in-Err-put g c =
-    fails _ _ c.args.editor.now.log c.in-Ok.begun c.as_slice.result.now (g.W.Write.contents c.args.writer.now.inner) (g.W.Write.contents c.put.new.self.inner) c.in-Ok.ensures c.as_slice.ensures.value c.in-Err-put.ensures.front
+    fails _ _ c.args.editor.now.log c.in-Ok.begun c.as_slice.result.now (g.W.Write.contents c.args.writer.now.inner) (g.W.Write.contents c.put.new.self.inner) c.in-Ok.ensures c.as_slice.ensures.value c.in-Err-put.ensures.prefix

@@ -1,6 +1,6 @@
 use Rattle.std.proofs.Common.{refl, ◌∙◌, ap, sym, subst, take, [], ℕ, Ok}
 use Rattle.std.specs.Io.KnownBytes.{Appends}
-use Rattle.mt_opcodec.specs.Latch.{AppendsFront}
+use Rattle.mt_latch.specs.Latch.{AppendsPrefix}
 use Rattle.mt_sync.specs.Feeding.{end_of}
 use Rattle.mt_sync.proofs.Pieces.{starts, fed_going, goes_on, is_done, is_unread, is_unfinished, is_unwritten, is_stopped, read_of, feed_stopped}
 use Rattle.mt_sync.proofs.conversing.hold_on.Goals as goal
@@ -49,7 +49,7 @@ returns-in-Err-put g c = record {
       let fed = fed_going (λ v. v.items) (end_of c.loop-piece.talk c.loop-piece.editor.log) (take c.in-Ok.count c.get.new.buffer) (Ok c.in-Ok-feed.reply) (end_of c.feed.new.self c.feed.new.editor.log) c.loop-piece.invariant.0 c.in-Ok-feed.ensures.told in
       is_unwritten (end_of c.args.talk.now c.args.editor.now.log) (g.R.Read.remaining c.args.reader.now.inner) (g.R.Read.remaining c.loop-piece.reader.inner) (g.R.Read.remaining c.get.new.self.inner)
       (g.W.Write.contents c.args.writer.now.inner) (g.W.Write.contents c.loop-piece.writer.inner) (g.W.Write.contents c.put.new.self.inner) (end_of c.loop-piece.talk c.loop-piece.editor.log) (end_of c.feed.new.self c.feed.new.editor.log)
-      (take c.in-Ok.count c.get.new.buffer) c.in-Ok-feed.reply.items c.loop-piece.invariant.2 c.in-Ok.ensures.bytes.0 fed.1 (subst (AppendsFront (g.W.Write.contents c.loop-piece.writer.inner) (g.W.Write.contents c.put.new.self.inner)) c.as_slice.ensures.value c.in-Err-put.ensures.front);
+      (take c.in-Ok.count c.get.new.buffer) c.in-Ok-feed.reply.items c.loop-piece.invariant.2 c.in-Ok.ensures.bytes.0 fed.1 (subst (AppendsPrefix (g.W.Write.contents c.loop-piece.writer.inner) (g.W.Write.contents c.put.new.self.inner)) c.as_slice.ensures.value c.in-Err-put.ensures.prefix);
   name = c.in-Ok-feed.ensures.name ∙ c.loop-piece.invariant.1;
 }
 

@@ -3,9 +3,9 @@ use Rattle.std.proofs.Math.Seq.{take-add}
 use Rattle.std.proofs.lemmas.List.{take_rest}
 use Rattle.std.proofs.KnownBytes.{Appends-trans}
 use Rattle.std.specs.Io.KnownBytes.{Appends}
-use Rattle.mt_opcodec.proofs.latch.Latch.put.Goals as goal
+use Rattle.mt_latch.proofs.latch.Latch.put.Goals as goal
 
--- what was taken so far, and then the front of the rest, is a longer front
+-- what was taken so far, and then a prefix of the rest, is a longer prefix
 pub loop-done-preserved : goal.loop-done-preserved
 loop-done-preserved g c =
     let bytes = c.args.bytes.now in

@@ -1,8 +1,8 @@
 -- A latch: a reader or a writer that stays failed from its first failure on (profile).
 use Rattle.std.specs.Prelude.{ℕ, Bool, false, List, take, Option}
 use Rattle.std.specs.Io.KnownBytes.{Appends, Consumes}
-use Rattle.mt_opcodec.specs.declared.latch.LatchFault.{LatchFault}
-use Rattle.mt_opcodec.specs.declared.latch.LatchFault.TheVariants.{Memory, Write, Read}
+use Rattle.mt_latch.specs.declared.fault.LatchFault.{LatchFault}
+use Rattle.mt_latch.specs.declared.fault.LatchFault.TheVariants.{Memory, Write, Read}
 
 -- the numbers of its refusals (profile)
 abbrev pub number_of : LatchFault → ℕ
@@ -24,10 +24,10 @@ reads_allowed = 16777216
 abbrev pub latched : {T : Type 0} → T → Latched T
 latched x = record { inner = x; failed = false; reads_left = reads_allowed }
 
--- some front of the bytes was appended to what the writer held
-abbrev pub AppendsFront : Option (List ℕ) → Option (List ℕ) → List ℕ → Type 0
-AppendsFront old new bytes = (n : ℕ) × Appends old new (take n bytes)
+-- some prefix of the bytes was appended to what the writer held
+abbrev pub AppendsPrefix : Option (List ℕ) → Option (List ℕ) → List ℕ → Type 0
+AppendsPrefix old new bytes = (n : ℕ) × Appends old new (take n bytes)
 
 -- some bytes were consumed of those that the reader had left
-abbrev pub ConsumesFront : Option (List ℕ) → Option (List ℕ) → Type 0
-ConsumesFront old new = (bytes : List ℕ) × Consumes old new bytes
+abbrev pub ConsumesPrefix : Option (List ℕ) → Option (List ℕ) → Type 0
+ConsumesPrefix old new = (bytes : List ℕ) × Consumes old new bytes

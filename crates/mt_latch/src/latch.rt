@@ -1,33 +1,18 @@
-//! A reader or a writer that stays failed from its first failure on.
-//!
-//! A loop over a plain reader need not end, and after an error nobody can say how far a plain writer
-//! came. A [`Latch`] round either one fails at the first error of the value in it, and from then on
-//! refuses every call and does not ask that value again. So a user passes a refusal on, and nothing
-//! is ever written after a gap.
-//!
-//! ```text
-//! let mut input = Latch::new(file);
-//! let text = input.get_all(rt.alloc())?;
-//! let mut output = Latch::new(socket);
-//! output.put(text.as_slice())?;
-//! ```
-//!
-//! Two things are shown by the tests alone, since no clause can name the error of a reader or writer
-//! of any type: that a latch does not fail by itself, and that an interrupted call is not tried again.
+//! A latch, and what its calls do.
 
 ghost use Rattle.std.specs.Prelude.{◌≡◌, ◌+◌, ◌<◌, ◌≤◌, ◌≢◌, [], length, true, false};
 ghost use Rattle.std.specs.Prelude.{is_err, IfOk, IfErr, IfSome, OnOk};
 ghost use Rattle.std.specs.Io.{ReadsAtMost};
 ghost use Rattle.std.specs.Io.KnownBytes.{Appends, IsAtEnd, ReadConsumes, WriteAppends};
-ghost use Rattle.mt_opcodec.specs.Latch.{number_of, latched, AppendsFront, ConsumesFront};
-ghost use Rattle.mt_opcodec.specs.declared.latch.LatchFault.TheVariants.{Memory};
-ghost use Rattle.mt_opcodec.specs.declared.latch.LatchFault.TheVariants.{Write as WriteFault};
-ghost use Rattle.mt_opcodec.specs.declared.latch.LatchFault.TheVariants.{Read as ReadFault};
+ghost use Rattle.mt_latch.specs.Latch.{latched, AppendsPrefix, ConsumesPrefix};
+ghost use Rattle.mt_latch.specs.declared.fault.LatchFault.TheVariants.{Memory};
+ghost use Rattle.mt_latch.specs.declared.fault.LatchFault.TheVariants.{Write as WriteFault};
+ghost use Rattle.mt_latch.specs.declared.fault.LatchFault.TheVariants.{Read as ReadFault};
 
-use std::alloc::{AllocError, Allocator};
+use crate::fault::LatchFault;
+use std::alloc::Allocator;
 use std::io::{Read, Write};
 use std::marker::Model;
-use thiserror::Error;
 
 /// How many reads a latch allows: 16,777,216.
 const READS_ALLOWED: u32 = 16_777_216;
@@ -35,41 +20,6 @@ const READS_ALLOWED: u32 = 16_777_216;
 /// How many bytes `get_all` asks for in one read: enough that a large file takes few reads, and little
 /// enough to stand among the locals.
 const PIECE: usize = 65_536;
-
-/// Why a latch refused a call.
-#[derive(Clone, Copy, Debug, PartialEq, Eq, Error)]
-pub enum LatchFault {
-    /// A growth was refused.
-    #[error("out of memory")]
-    Memory,
-    /// The latch has failed, and does not write.
-    #[error("the writer has failed")]
-    Write,
-    /// The latch has failed, and does not read.
-    #[error("the reader has failed")]
-    Read,
-}
-
-impl LatchFault {
-    /// The refusal's number: 0, 37 or 45.
-    pub fn number(self) -> u8
-        ensures { result ≡ number_of self }
-    {
-        match self {
-            LatchFault::Memory => 0,
-            LatchFault::Write => 37,
-            LatchFault::Read => 45,
-        }
-    }
-}
-
-impl From<AllocError> for LatchFault {
-    ghost from_gives = { λ _ fault. fault ≡ Memory };
-
-    fn from(_error: AllocError) -> LatchFault {
-        LatchFault::Memory
-    }
-}
 
 /// A reader or a writer that fails once and for all: at the first error of the value in it, of an
 /// interrupted call too, at a write that takes no byte of a piece that has some, and at the read after
@@ -84,7 +34,7 @@ pub struct Latch<T> {
 }
 
 impl<T> Model for Latch<T> {
-    ghost use Rattle.mt_opcodec.specs.Latch.{Latched};
+    ghost use Rattle.mt_latch.specs.Latch.{Latched};
 
     ghost Value = { Latched T };
 
@@ -148,11 +98,11 @@ impl<W: Write> Latch<W> {
     /// Writes all of `bytes`, in as many writes as it takes.
     ///
     /// `Write` (37) where the latch has failed, before or in this call. The writer has then taken a
-    /// front of `bytes`, and was not asked where the latch had failed before.
+    /// prefix of `bytes`, and was not asked where the latch had failed before.
     pub fn put(&mut self, bytes: &[u8]) -> Result<(), LatchFault>
         ensures whole { OnOk result (
             Appends (W.contents self.old.inner) (W.contents self.new.inner) bytes.now) }
-        ensures front { AppendsFront (W.contents self.old.inner) (W.contents self.new.inner) bytes.now }
+        ensures prefix { AppendsPrefix (W.contents self.old.inner) (W.contents self.new.inner) bytes.now }
         ensures refusal { IfErr result (λ fault. fault ≡ WriteFault) }
         ensures refused_when_failed { self.new.failed ≡ is_err result }
         ensures stays_failed { self.old.failed ≡ true → self.new ≡ self.old }
@@ -224,7 +174,7 @@ impl<R: Read> Latch<R> {
         ensures whole { IfOk result (λ bytes.
             IfSome (R.remaining self.old.inner) (λ left. bytes.items ≡ left)) }
         ensures at_end { OnOk result (IsAtEnd (R.remaining self.new.inner)) }
-        ensures front { ConsumesFront (R.remaining self.old.inner) (R.remaining self.new.inner) }
+        ensures prefix { ConsumesPrefix (R.remaining self.old.inner) (R.remaining self.new.inner) }
         ensures never_write { IfErr result (λ fault. fault ≢ WriteFault) }
         ensures refused_when_failed { IfErr result (λ fault.
             fault ≡ ReadFault → self.new.failed ≡ true) }

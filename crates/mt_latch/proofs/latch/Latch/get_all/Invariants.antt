@@ -1,7 +1,7 @@
 -- So far what was consumed is in the vector, and a latch that had failed is as it was.
 use Rattle.std.proofs.Common.{◌≡◌, ◌≤◌, true}
 use Rattle.std.specs.Io.KnownBytes.{Consumes}
-use Rattle.mt_opcodec.proofs.latch.Latch.get_all.Given as goal
+use Rattle.mt_latch.proofs.latch.Latch.get_all.Given as goal
 
 abbrev pub invariant-loop-all : goal.invariant-loop-all
 invariant-loop-all g l =

@@ -1,7 +1,7 @@
--- So far a front of the bytes was taken, and the latch is sound.
+-- So far a prefix of the bytes was taken, and the latch is sound.
 use Rattle.std.proofs.Common.{◌≡◌, ◌-◌, ◌≤◌, length, take, [], false}
 use Rattle.std.specs.Io.KnownBytes.{Appends}
-use Rattle.mt_opcodec.proofs.latch.Latch.put.Given as goal
+use Rattle.mt_latch.proofs.latch.Latch.put.Given as goal
 
 abbrev pub invariant-loop-done : goal.invariant-loop-done
 invariant-loop-done g l =

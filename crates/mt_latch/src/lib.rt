@@ -1,0 +1,27 @@
+//! A reader or a writer that stays failed from its first failure on.
+//!
+//! A loop over a plain reader need not end, and after an error nobody can say how far a plain writer
+//! came. A [`Latch`] round either one fails at the first error of the value in it, and from then on
+//! refuses every call and does not ask that value again. So a user passes a refusal on, and nothing
+//! is ever written after a gap.
+//!
+//! ```rust
+//! fn copy(alloc: Global, text: &[u8]) -> Result<Vec<u8>, LatchFault> {
+//!     let mut input = Latch::new(text);
+//!     let bytes = input.get_all(alloc)?;           // all that is left, or a refusal
+//!     let mut output = Latch::new(Vec::new(alloc));
+//!     output.put(b"copy of ")?;                    // all of it, or a prefix and `output` has failed
+//!     output.put(&bytes)?;
+//!     Ok(output.into_inner())
+//! }
+//! ```
+//!
+//! Two things are shown by the tests alone, since no clause can name the error of a reader or writer
+//! of any type: that a latch does not fail by itself, and that an interrupted call is not tried again.
+#![tactic(auto)]
+
+mod fault;
+mod latch;
+
+pub use fault::LatchFault;
+pub use latch::Latch;
