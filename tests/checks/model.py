@@ -248,6 +248,22 @@ def merges(program, files, wanted, out):
         return file.read() == wanted
 
 
+READS_ALLOWED = 16_777_216
+
+
+def reads_a_large_log(program, folder):
+    """Whether a log of more bytes than a latch allows reads is read, since each read may give many bytes: it is shown, and merged into itself."""
+    ops = [logs.add_marker((number, 1, number), number, "t" * 255) for number in range(1, 60_001)]
+    wanted = logs.log(ops)
+    assert len(wanted) > READS_ALLOWED
+    file = os.path.join(folder, "large")
+    with open(file, "wb") as out:
+        out.write(wanted)
+    told = subprocess.run([program, "view", file], capture_output=True)
+    lines = "".join(logs.marker_line(own, own[0], "t" * 255) for own, _ in ops) + "held 0\n"
+    return told.stdout.decode() == lines and told.returncode == 0 and merges(program, [file], wanted, os.path.join(folder, "again"))
+
+
 def main():
     parser = argparse.ArgumentParser(description=__doc__.split("\n")[0])
     parser.add_argument("program")
@@ -272,6 +288,9 @@ def main():
                 return 1
             shown += wanted.count("\n") - 1
             held += int(wanted.rsplit(" ", 1)[1])
+        if not reads_a_large_log(program, folder):
+            print("a log of more than %d bytes is not read whole" % READS_ALLOWED)
+            return 1
     print("%d sets agree with the model: %d lines of tracks, clips and markers, %d operations held" % (options.sets, shown, held))
     return 0
 
