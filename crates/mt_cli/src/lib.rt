@@ -16,8 +16,6 @@ mod render;
 mod sources;
 mod stop;
 mod tell;
-#[cfg(test)]
-mod tests;
 mod union;
 mod view;
 

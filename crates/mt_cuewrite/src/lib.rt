@@ -22,8 +22,6 @@ mod head;
 mod marks;
 mod put;
 mod size;
-#[cfg(test)]
-mod tests;
 
 pub use fault::{BounceFault, HeadFault};
 pub use file::bounce;

@@ -16,7 +16,5 @@
 mod act;
 mod line;
 mod log_text;
-#[cfg(test)]
-mod tests;
 
 pub use log_text::write_log_text;

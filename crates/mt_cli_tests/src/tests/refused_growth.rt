@@ -1,9 +1,9 @@
 //! Each growth of a view and of a merge refused in turn, until a run meets no refusal.
 use super::views::LATE_TEXT;
 use super::{late, news};
-use crate::{CliFault, merge_logs, view_log, view_logs};
+use mt_cli::{CliFault, merge_logs, view_log, view_logs};
 use mt_opcodec::Latch;
-use mt_testalloc::Refusing;
+use mt_testkit::Refusing;
 use std::test::Fail;
 
 #[test]

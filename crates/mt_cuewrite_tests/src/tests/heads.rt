@@ -1,10 +1,10 @@
 //! Heads: the longest texts, and the first that is not taken.
 
-use super::{RECORDING, log_of_a_clip};
-use crate::{Head, HeadFault, bounce};
+use mt_cuewrite::{Head, HeadFault, bounce};
 use mt_opcodec::Latch;
 use mt_render::{Catalogue, Format, Mix};
 use mt_sessionview::from_scratch;
+use mt_testkit::{RECORDING, log_of_a_clip};
 use std::alloc::Global;
 use std::test::Fail;
 

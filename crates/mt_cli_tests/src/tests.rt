@@ -1,6 +1,5 @@
 //! What no clause says: printed texts that were worked out by hand, which device fails where, each growth refused in
 //! turn.
-mod fakes;
 mod headline;
 mod infos;
 mod merges;
@@ -8,29 +7,14 @@ mod refused_growth;
 mod renders;
 mod views;
 
-use crate::CliFault;
 use mt_bwfread::WaveFault;
-use mt_op::{Body, Digest, Op, OpFault, Title};
+use mt_cli::CliFault;
+use mt_op::{Digest, Op};
 use mt_opcodec::{Log, LogFault, ReadFault};
 use mt_render::MixFault;
-use mt_stamp::{Dot, Replica, Stamp};
+use mt_stamp::{Dot, Stamp};
+use mt_testkit::{A, B, marker, retitle};
 use std::test::Fail;
-
-pub const A: Replica = Replica(10);
-
-pub const B: Replica = Replica(11);
-
-/// A marker at frame 480.
-pub fn marker(rt: &HostRuntime, stamp: Stamp, title: &str) -> Result<Op, OpFault> {
-    let title = Title::new(rt.alloc(), title)?;
-    Op::new(stamp, Body::AddMarker { at: 480, title })
-}
-
-/// A new title for an item.
-pub fn retitle(rt: &HostRuntime, stamp: Stamp, item: Stamp, title: &str) -> Result<Op, OpFault> {
-    let title = Title::new(rt.alloc(), title)?;
-    Op::new(stamp, Body::Retitle { item, title })
-}
 
 /// The text of the log of one operation.
 pub fn log_of(rt: &HostRuntime, op: Op) -> Result<Vec<u8>, Fail> {
@@ -41,18 +25,18 @@ pub fn log_of(rt: &HostRuntime, op: Op) -> Result<Vec<u8>, Fail> {
 
 /// The log of `(1, A, 1)`, a marker at frame 480 with the title `News`.
 pub fn news(rt: &HostRuntime) -> Result<Vec<u8>, Fail> {
-    log_of(rt, marker(rt, Stamp::new(1, A, 1)?, "News")?)
+    log_of(rt, marker(rt.alloc(), Stamp::new(1, A, 1)?, "News")?)
 }
 
 /// The log of `(2, B, 1)`, which gives that marker the title `Late`.
 pub fn late(rt: &HostRuntime) -> Result<Vec<u8>, Fail> {
     let item = Stamp::new(1, A, 1)?;
-    log_of(rt, retitle(rt, Stamp::new(2, B, 1)?, item, "Late")?)
+    log_of(rt, retitle(rt.alloc(), Stamp::new(2, B, 1)?, item, "Late")?)
 }
 
 /// The log of another operation with the dot of that marker.
 pub fn other(rt: &HostRuntime) -> Result<Vec<u8>, Fail> {
-    log_of(rt, marker(rt, Stamp::new(1, A, 1)?, "Other")?)
+    log_of(rt, marker(rt.alloc(), Stamp::new(1, A, 1)?, "Other")?)
 }
 
 #[test]

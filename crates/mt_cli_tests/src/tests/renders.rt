@@ -1,35 +1,18 @@
 //! Rendering over memory and over devices that fail.
-use super::fakes::Slow;
-use super::{A, other};
-use crate::{CliFault, bounce_logs};
+use super::other;
 use mt_bwfread::WaveFault;
+use mt_cli::{CliFault, bounce_logs};
 use mt_cuewrite::Head;
-use mt_op::{Body, Digest, Op, Title};
+use mt_op::Digest;
 use mt_opcodec::{Latch, Log, LogFault};
 use mt_render::{Format, MixFault};
-use mt_stamp::Stamp;
-use mt_testalloc::Refusing;
+use mt_testkit::{RECORDING, Refusing, SlowReader, log_of_a_clip};
 use std::alloc::{Allocator, Global};
 use std::test::Fail;
 
-pub const RECORDING: &[u8] =
-    b"RIFF\xff\xff\0\0WAVEfmt \x10\0\0\0\x01\0\x01\0\x80\xbb\0\0\0\0\0\0\x03\0\x18\0data\x09\0\0\0\x01\0\0\x02\0\0\x03\0\0";
-
 // The log of a track with one clip of the recording.
 fn one_clip(alloc: Global) -> Result<Vec<u8>, Fail> {
-    let mut log = Log::new(alloc);
-    let track = Stamp::new(1, A, 1)?;
-    let title = Title::new(alloc, "Voice")?;
-    let _new = log.add(Op::new(track, Body::AddTrack { after: None, title })?)?;
-    let clip = Body::AddClip {
-        source: Digest::of(RECORDING),
-        track,
-        at: 0,
-        offset: 0,
-        len: 3,
-    };
-    let _new = log.add(Op::new(Stamp::new(2, A, 2)?, clip)?)?;
-    Ok(log.write()?)
+    Ok(log_of_a_clip(alloc, 3)?.write()?)
 }
 
 // The answer for these logs and recordings, and what was written. A text of which only a part is read is a reader that fails.
@@ -41,10 +24,10 @@ fn render<M: Allocator + Clone>(
 ) -> Result<(Result<(), CliFault>, Vec<u8>), Fail> {
     let (mut first, mut second) = (Vec::new(alloc), Vec::new(alloc));
     for (text, good) in logs {
-        first.push(Latch::new(Slow::new(text, *good)))?;
+        first.push(Latch::new(SlowReader::new(text, *good)))?;
     }
     for (text, good) in sources {
-        second.push(Latch::new(Slow::new(text, *good)))?;
+        second.push(Latch::new(SlowReader::new(text, *good)))?;
     }
     let head = Head::new("", "", "", "2000-01-01", "00:00:00", 0)?;
     let mut output = Latch::new(Vec::new(alloc));

@@ -1,9 +1,10 @@
 //! Merges over memory and over devices that fail.
-use super::fakes::{Narrow, Slow};
-use super::{A, news, other};
-use crate::{CliFault, merge_logs};
+use super::{news, other};
+use mt_cli::{CliFault, merge_logs};
 use mt_opcodec::{Latch, Log, LogFault};
 use mt_stamp::Dot;
+use mt_testkit::{A, FailingWriter, SlowReader};
+use std::io::ErrorKind;
 use std::test::Fail;
 
 /// The text of the merge of these logs.
@@ -57,15 +58,15 @@ fn refuses_in_order_and_writes_nothing(rt: HostRuntime) -> Result<(), Fail> {
 fn each_read_and_each_write_fails_in_turn(rt: HostRuntime) -> Result<(), Fail> {
     let news = news(&rt)?;
     for fails_at in 0..news.len() + 1 {
-        let mut inputs = [Latch::new(Slow::new(&news, fails_at))];
+        let mut inputs = [Latch::new(SlowReader::new(&news, fails_at))];
         let mut output = Latch::new(Vec::new(rt.alloc()));
         let merged = merge_logs(rt.alloc(), &mut inputs, &mut output);
         assert_eq!(rt; merged, Err(CliFault::Read(0)), "at {fails_at}");
         assert!(rt; output.into_inner().is_empty());
     }
     for fails_at in 0..news.len() + 1 {
-        let mut inputs = [Latch::new(Slow::new(&news, usize::MAX))];
-        let mut output = Latch::new(Narrow::new(Vec::new(rt.alloc()), fails_at));
+        let mut inputs = [Latch::new(SlowReader::new(&news, usize::MAX))];
+        let mut output = Latch::new(FailingWriter::new(rt.alloc(), fails_at, ErrorKind::Other));
         let merged = merge_logs(rt.alloc(), &mut inputs, &mut output);
         if fails_at < news.len() {
             assert_eq!(rt; merged, Err(CliFault::Write), "at {fails_at}");

@@ -4,38 +4,16 @@ mod fakes;
 mod heads;
 mod writers;
 
-use crate::{BounceFault, Head, HeadFault, bounce};
-use mt_op::{Body, Digest, Op, Title};
+use mt_cuewrite::{BounceFault, Head, HeadFault, bounce};
+use mt_op::{Body, Op, Title};
 use mt_opcodec::{Latch, Log};
 use mt_render::{Catalogue, Format, Mix};
 use mt_sessionview::from_scratch;
-use mt_stamp::{Replica, Stamp};
+use mt_stamp::Stamp;
+use mt_testkit::{A, RECORDING, log_of_a_clip};
 use std::alloc::{Allocator, Global};
 use std::io::Write;
 use std::test::Fail;
-
-const A: Replica = Replica(10);
-
-/// A wave file of 24 bits on one channel, 48,000 frames a second, with the samples 1, 2 and 3.
-pub const RECORDING: &[u8] =
-    b"RIFF\xff\xff\0\0WAVEfmt \x10\0\0\0\x01\0\x01\0\x80\xbb\0\0\0\0\0\0\x03\0\x18\0data\x09\0\0\0\x01\0\0\x02\0\0\x03\0\0";
-
-/// The log of a track with one clip of the recording, of so many frames.
-pub fn log_of_a_clip(alloc: Global, len: u32) -> Result<Log, Fail> {
-    let mut log = Log::new(alloc);
-    let track = Stamp::new(1, A, 1)?;
-    let title = Title::new(alloc, "Voice")?;
-    let _new = log.add(Op::new(track, Body::AddTrack { after: None, title })?)?;
-    let clip = Body::AddClip {
-        source: Digest::of(RECORDING),
-        track,
-        at: 0,
-        offset: 0,
-        len,
-    };
-    let _new = log.add(Op::new(Stamp::new(2, A, 2)?, clip)?)?;
-    Ok(log)
-}
 
 /// Adds the marker of this number.
 fn add_marker(log: &mut Log, alloc: Global, number: u64, at: u32, title: &str) -> Result<(), Fail> {

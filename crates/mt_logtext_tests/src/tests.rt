@@ -1,28 +1,17 @@
 //! Logs of a few operations. The lines of every act are shown by the command line's cases.
 
-use crate::write_log_text;
-use mt_op::{Body, Op, OpFault, Title};
+use mt_logtext::write_log_text;
 use mt_opcodec::{Latch, Log};
 use mt_sessionview::SessionFault;
-use mt_stamp::{Replica, Stamp};
-use mt_testalloc::Refusing;
+use mt_stamp::Stamp;
+use mt_testkit::{A, B, Refusing, retitle};
 use std::alloc::Allocator;
 use std::test::Fail;
-
-const A: Replica = Replica(10);
-
-const B: Replica = Replica(11);
 
 const TEXT: &str = "\
 2.1.00000000-0000-0000-0000-00000000000b held retitle 1.1.00000000-0000-0000-0000-00000000000a Late
 operations 1
 ";
-
-// A Retitle of an item.
-fn retitle<M: Allocator>(memory: M, stamp: Stamp, item: Stamp) -> Result<Op<M>, OpFault> {
-    let title = Title::new(memory, "Late")?;
-    Op::new(stamp, Body::Retitle { item, title })
-}
 
 // The text of the log of one Retitle whose item is not there, all over this memory.
 fn text_of<M: Allocator + Clone>(
@@ -31,7 +20,7 @@ fn text_of<M: Allocator + Clone>(
     item: Stamp,
 ) -> Result<bool, SessionFault> {
     let mut log = Log::new(memory.clone()?);
-    let Ok(op) = retitle(memory.clone()?, stamp, item) else {
+    let Ok(op) = retitle(memory.clone()?, stamp, item, "Late") else {
         return Err(SessionFault::Memory);
     };
     if log.add(op).is_err() {

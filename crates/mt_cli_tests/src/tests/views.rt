@@ -1,8 +1,9 @@
 //! Views over memory and over devices that fail.
-use super::fakes::{Choked, Narrow, Slow};
 use super::{late, news};
-use crate::{CliFault, view_log, view_logs};
+use mt_cli::{CliFault, view_log, view_logs};
 use mt_opcodec::{Latch, LogFault};
+use mt_testkit::{ChokedWriter, FailingWriter, SlowReader};
+use std::io::ErrorKind;
 use std::test::Fail;
 
 pub const NEWS_TEXT: &str =
@@ -17,8 +18,8 @@ fn each_read_fails_in_turn(rt: HostRuntime) -> Result<(), Fail> {
     let (news, late) = (news(&rt)?, late(&rt)?);
     for fails_at in 0..late.len() + 1 {
         let mut inputs = [
-            Latch::new(Slow::new(&news, usize::MAX)),
-            Latch::new(Slow::new(&late, fails_at)),
+            Latch::new(SlowReader::new(&news, usize::MAX)),
+            Latch::new(SlowReader::new(&late, fails_at)),
         ];
         let mut output = Latch::new(Vec::new(rt.alloc()));
         assert_eq!(rt;
@@ -29,7 +30,7 @@ fn each_read_fails_in_turn(rt: HostRuntime) -> Result<(), Fail> {
         assert!(rt; output.into_inner().is_empty());
     }
     for fails_at in 0..late.len() + 1 {
-        let mut input = Latch::new(Slow::new(&late, fails_at));
+        let mut input = Latch::new(SlowReader::new(&late, fails_at));
         let mut output = Latch::new(Vec::new(rt.alloc()));
         assert_eq!(rt;
             view_log(rt.alloc(), &mut input, &mut output),
@@ -62,8 +63,8 @@ fn asks_no_reader_behind_the_one_at_fault(rt: HostRuntime) -> Result<(), Fail> {
 fn each_write_fails_in_turn(rt: HostRuntime) -> Result<(), Fail> {
     let news = news(&rt)?;
     for fails_at in 0..NEWS_TEXT.len() + 1 {
-        let mut input = Latch::new(Slow::new(&news, usize::MAX));
-        let mut output = Latch::new(Narrow::new(Vec::new(rt.alloc()), fails_at));
+        let mut input = Latch::new(SlowReader::new(&news, usize::MAX));
+        let mut output = Latch::new(FailingWriter::new(rt.alloc(), fails_at, ErrorKind::Other));
         let shown = view_log(rt.alloc(), &mut input, &mut output);
         if fails_at < NEWS_TEXT.len() {
             assert_eq!(rt; shown, Err(CliFault::Write), "at {fails_at}");
@@ -76,7 +77,7 @@ fn each_write_fails_in_turn(rt: HostRuntime) -> Result<(), Fail> {
             &NEWS_TEXT.as_bytes()[..fails_at]
         );
     }
-    let mut output = Latch::new(Choked);
+    let mut output = Latch::new(ChokedWriter::new());
     assert_eq!(rt;
         view_log(rt.alloc(), &mut Latch::new(news.as_slice()), &mut output),
         Err(CliFault::Write)

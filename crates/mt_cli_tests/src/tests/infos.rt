@@ -1,8 +1,8 @@
 //! What wave files say of themselves, over memory and over devices that fail.
-use super::fakes::{Choked, Narrow};
-use crate::{CliFault, write_info};
+use mt_cli::{CliFault, write_info};
 use mt_opcodec::Latch;
-use mt_testalloc::Refusing;
+use mt_testkit::{ChokedWriter, FailingWriter, Refusing};
+use std::io::ErrorKind;
 use std::test::Fail;
 
 /// One frame of 8 bits, and no pad byte after it.
@@ -95,7 +95,7 @@ fn info(rt: &HostRuntime, file: &[u8]) -> Result<Vec<u8>, CliFault> {
 #[test]
 fn each_write_fails_in_turn(rt: HostRuntime) -> Result<(), Fail> {
     for fails_at in 0..SMALLEST_TEXT.len() + 1 {
-        let mut output = Latch::new(Narrow::new(Vec::new(rt.alloc()), fails_at));
+        let mut output = Latch::new(FailingWriter::new(rt.alloc(), fails_at, ErrorKind::Other));
         let shown = write_info(rt.alloc(), SMALLEST, &mut output);
         if fails_at < SMALLEST_TEXT.len() {
             assert_eq!(rt; shown, Err(CliFault::Write), "at {fails_at}");
@@ -109,7 +109,7 @@ fn each_write_fails_in_turn(rt: HostRuntime) -> Result<(), Fail> {
         );
     }
     assert_eq!(rt;
-        write_info(rt.alloc(), SMALLEST, &mut Latch::new(Choked)),
+        write_info(rt.alloc(), SMALLEST, &mut Latch::new(ChokedWriter::new())),
         Err(CliFault::Write)
     );
     Ok(())

@@ -1,8 +1,6 @@
 //! Editors that have taken the same operations, in whatever order and however often, show one session, print one text and render
 //! one file.
 
-use super::renders::RECORDING;
-use super::{A, B};
 use mt_cuewrite::{Head, bounce};
 use mt_op::{Digest, Op};
 use mt_opcodec::{Latch, Log};
@@ -11,6 +9,7 @@ use mt_replica::{Change, Editor};
 use mt_script::run;
 use mt_sessionview::{Session, write_text};
 use mt_stamp::{Replica, Stamp};
+use mt_testkit::{A, B, RECORDING};
 use std::alloc::Global;
 use std::test::Fail;
 

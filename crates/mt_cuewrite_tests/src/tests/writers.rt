@@ -1,10 +1,10 @@
 //! Outputs that fail, or take little at once.
 
 use super::fakes::{Counter, FailsAt, Narrow};
-use super::{bounce_log, file_of, log_of_a_clip};
-use crate::BounceFault;
+use super::{bounce_log, file_of};
+use mt_cuewrite::BounceFault;
 use mt_opcodec::{Latch, Log};
-use mt_testalloc::Refusing;
+use mt_testkit::{Refusing, log_of_a_clip};
 use std::alloc::Global;
 use std::test::Fail;
 
