@@ -31,14 +31,14 @@ fault("last_byte_missing", 13, ["view", "log"], files={"log": ONE[:-1]})
 fault("a_title_changed", 13, ["view", "log"], files={"log": ONE.replace(b"News", b"Newt")})
 fault("count_too_great", 14, ["view", "log"], files={"log": seal(head(2) + NEWS[1])})
 fault("count_of_all_bits", 14, ["view", "log"], files={"log": seal(head(2**64 - 1) + NEWS[1])})
-fault("unknown_tag", 14, ["view", "log"], files={"log": seal(head(1) + stamp(1, A, 1) + b"\xff" + NEWS[1][33:])})
+fault("unknown_kind", 14, ["view", "log"], files={"log": seal(head(1) + stamp(1, A, 1) + b"\xff" + NEWS[1][33:])})
 fault("title_with_a_bell", 14, ["view", "log"], files={"log": seal(head(1) + add_marker((1, A, 1), 480, b"\x07ews")[1])})
 fault("title_of_no_text", 14, ["view", "log"], files={"log": seal(head(1) + add_marker((1, A, 1), 480, b"\xc3\x28")[1])})
 fault("clock_0", 14, ["view", "log"], files={"log": seal(head(1) + add_marker((0, A, 1), 480, "News")[1])})
 fault("number_above_2_62", 14, ["view", "log"], files={"log": seal(head(1) + add_marker((1, A, 2**62 + 1), 480, "News")[1])})
 fault("name_not_older", 14, ["view", "log"], files={"log": seal(head(1) + retitle((2, B, 1), (2, A, 1), "Late")[1])})
-bad_record("tag_byte_0", stamp(2, B, 1) + b"\x00" + stamp(1, A, 1))
-bad_record("tag_byte_13", stamp(2, B, 1) + b"\x0d" + stamp(1, A, 1))
+bad_record("kind_byte_0", stamp(2, B, 1) + b"\x00" + stamp(1, A, 1))
+bad_record("kind_byte_13", stamp(2, B, 1) + b"\x0d" + stamp(1, A, 1))
 bad_record("remove_of_no_tag", remove((2, B, 1), M, [])[1])
 bad_record("equal_tags", remove((2, B, 1), M, [M, M])[1])
 bad_record("falling_tags", remove((4, C, 1), M, [(3, B, 1), (2, B, 2)])[1])
@@ -61,7 +61,7 @@ bad_record("moved_marker_with_clock_0", move_marker((2, B, 1), (0, A, 1), 960)[1
 bad_record("clock_of_a_restore_above_2_62", restore((2**62 + 1, B, 1), M)[1])
 GONE = remove((3, B, 1), M, [M, (2, A, 2)])[1]
 assert len(GONE) == 32 + 1 + 32 + 2 + 2 * 32
-for place, length in [("behind_the_tag_byte", 33), ("in_the_item", 64), ("before_the_count", 65), ("in_the_count", 66), ("before_the_tags", 67), ("before_the_last_tag", 99), ("in_the_last_tag", 130)]:
+for place, length in [("behind_the_kind_byte", 33), ("in_the_item", 64), ("before_the_count", 65), ("in_the_count", 66), ("before_the_tags", 67), ("before_the_last_tag", 99), ("in_the_last_tag", 130)]:
     bad_record("remove_cut_" + place, GONE[:length])
 bad_record("65535_tags_promised", GONE[:65] + b"\xff\xff" + stamp(1, A, 1))
 bad_record("three_tags_promised", GONE[:65] + b"\x00\x03" + GONE[67:])

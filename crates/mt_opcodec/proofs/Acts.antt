@@ -11,7 +11,7 @@ use Rattle.mt_opcodec.proofs.Fields.{Takes}
 abbrev pub act_is_older : Moment → Act → Bool
 act_is_older stamp act = names_are_older (record { stamp = stamp; act = act })
 
--- what reading a tag and its fields gave, in an operation of this stamp
+-- what reading a kind byte and its fields gave, in an operation of this stamp
 pub record Read (stamp : Moment) (bytes : List ℕ) (x : Act × List ℕ) : Type 0 where
   pub front : Takes bytes (act_bytes x.0) x.1
   pub fields : AreFields x.0
@@ -19,9 +19,9 @@ pub record Read (stamp : Moment) (bytes : List ℕ) (x : Act × List ℕ) : Type
   pub length : length_is_good x.0 ≡ true
   pub tags : tags_are_good x.0 ≡ true
 
--- the same of the fields alone, after their tag
+-- the same of the fields alone, after their kind byte
 abbrev pub Found : Moment → ℕ → List ℕ → Act × List ℕ → Type 0
-Found stamp tag bytes x = Read stamp (tag ∷ bytes) x
+Found stamp kind bytes x = Read stamp (kind ∷ bytes) x
 
-pub tagged : (tag : ℕ) (bytes text rest : List ℕ) → Takes bytes text rest → Takes (tag ∷ bytes) (tag ∷ text) rest
-tagged tag bytes text rest t = record { parts = ap (λ (l : List ℕ). tag ∷ l) t.parts; rest_fits = t.rest_fits }
+pub with_kind : (kind : ℕ) (bytes text rest : List ℕ) → Takes bytes text rest → Takes (kind ∷ bytes) (kind ∷ text) rest
+with_kind kind bytes text rest t = record { parts = ap (λ (l : List ℕ). kind ∷ l) t.parts; rest_fits = t.rest_fits }

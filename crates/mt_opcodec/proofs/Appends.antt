@@ -6,17 +6,17 @@ use Rattle.mt_op.specs.Operation.{Operation}
 use Rattle.mt_opcodec.specs.LogText.{log_body, log_text}
 use Rattle.std.proofs.lemmas.List.{flat_map_more, take_more}
 
--- a tag and two pieces
-pub tagged_pieces : (old with_tag with_first new first second : List ℕ) (tag : ℕ) → with_tag ≡ old ++ tag ∷ [] → with_first ≡ with_tag ++ first → new ≡ with_first ++ second → new ≡ old ++ (tag ∷ (first ++ second))
-tagged_pieces old with_tag with_first new first second tag a b c =
+-- a kind byte and two pieces
+pub kind_and_pieces : (old with_kind with_first new first second : List ℕ) (kind : ℕ) → with_kind ≡ old ++ kind ∷ [] → with_first ≡ with_kind ++ first → new ≡ with_first ++ second → new ≡ old ++ (kind ∷ (first ++ second))
+kind_and_pieces old with_kind with_first new first second kind a b c =
     c ∙ ap (λ (l : List ℕ). l ++ second) (b ∙ ap (λ (l : List ℕ). l ++ first) a)
-    ∙ append_assoc (old ++ tag ∷ []) first second ∙ append_assoc old (tag ∷ []) (first ++ second)
+    ∙ append_assoc (old ++ kind ∷ []) first second ∙ append_assoc old (kind ∷ []) (first ++ second)
 
--- a tag and three pieces
-pub tagged_three : (old with_tag with_first with_second new first second third : List ℕ) (tag : ℕ)
-    → with_tag ≡ old ++ tag ∷ [] → with_first ≡ with_tag ++ first → with_second ≡ with_first ++ second → new ≡ with_second ++ third → new ≡ old ++ (tag ∷ (first ++ (second ++ third)))
-tagged_three old with_tag with_first with_second new first second third tag a b c d =
-    tagged_pieces old with_tag with_first new first (second ++ third) tag a b (d ∙ ap (λ (l : List ℕ). l ++ third) c ∙ append_assoc with_first second third)
+-- a kind byte and three pieces
+pub kind_and_three_pieces : (old with_kind with_first with_second new first second third : List ℕ) (kind : ℕ)
+    → with_kind ≡ old ++ kind ∷ [] → with_first ≡ with_kind ++ first → with_second ≡ with_first ++ second → new ≡ with_second ++ third → new ≡ old ++ (kind ∷ (first ++ (second ++ third)))
+kind_and_three_pieces old with_kind with_first with_second new first second third kind a b c d =
+    kind_and_pieces old with_kind with_first new first (second ++ third) kind a b (d ∙ ap (λ (l : List ℕ). l ++ third) c ∙ append_assoc with_first second third)
 
 -- one more piece of a list's texts
 pub piece_more : {X : Type 0} (f : X → List ℕ) (head : List ℕ) (xs : List X) (i : ℕ) (x : X) (so_far new : List ℕ) → i < length xs → x ≡ get_or xs i x → so_far ≡ head ++ flat_map f (take i xs) → new ≡ so_far ++ f x → new ≡ head ++ flat_map f (take (i + 1) xs)

@@ -7,11 +7,11 @@ use Rattle.mt_op.specs.Digest.{IsDigest}
 use Rattle.mt_op.specs.Valid.{IsFrame}
 use Rattle.mt_op.specs.Operation.{Act, AddClip, MoveClip, TrimClip}
 use Rattle.mt_opcodec.specs.declared.fault.ReadFault.{ReadFault}
-use Rattle.mt_opcodec.specs.OpText.{stamp_bytes, frame_bytes, trim_bytes, add_clip_tag, move_clip_tag, trim_clip_tag}
+use Rattle.mt_opcodec.specs.OpText.{stamp_bytes, frame_bytes, trim_bytes, add_clip_kind, move_clip_kind, trim_clip_kind}
 use Rattle.mt_opcodec.specs.OpReading.{◌>>=◌, number_at, positive_at, older_stamp_at, digest_at, trim_at, add_clip_at, move_clip_at, trim_clip_at}
 use Rattle.mt_opcodec.proofs.Fields.{IsBytes, bind_ok, ok_is, Takes, Takes-then, wide32, number_takes, number_again, positive_takes, positive_again, digest_takes, digest_again}
 use Rattle.mt_opcodec.proofs.Stamps.{older_takes, older_again}
-use Rattle.mt_opcodec.proofs.Acts.{act_is_older, Found, tagged}
+use Rattle.mt_opcodec.proofs.Acts.{act_is_older, Found, with_kind}
 
 -- ---- what a clip plays
 
@@ -39,7 +39,7 @@ trim_again offset len rest offset_fits len_fits from =
 
 -- ---- what is read is spelled so
 
-pub add_clip_takes : (stamp : Moment) (bytes : List ℕ) (x : Act × List ℕ) → IsBytes bytes → add_clip_at stamp.clock bytes ≡ Ok x → Found stamp add_clip_tag bytes x
+pub add_clip_takes : (stamp : Moment) (bytes : List ℕ) (x : Act × List ℕ) → IsBytes bytes → add_clip_at stamp.clock bytes ≡ Ok x → Found stamp add_clip_kind bytes x
 unfolding add_clip_at
 add_clip_takes stamp bytes x fits e =
     let a = bind_ok (digest_at bytes) _ x e in
@@ -56,9 +56,9 @@ add_clip_takes stamp bytes x fits e =
     let all = Takes-then bytes a.0.0.0 a.0.1 (stamp_bytes b.0.0 ++ (frame_bytes c.0.0 ++ trim)) d.0.1 t0.0 from_track in
     let made : Act × List ℕ = (AddClip a.0.0 b.0.0 c.0.0 d.0.0.0 d.0.0.1, d.0.1) in
     let older : act_is_older stamp (AddClip a.0.0 b.0.0 c.0.0 d.0.0.0 d.0.0.1) ≡ true = rw t1.2 refl in
-    subst (Found stamp add_clip_tag bytes) (ok_is made x d.2) (record { front = tagged add_clip_tag bytes _ _ all; fields = (t0.1, (t1.1, (t2.1, (t3.1, t3.2)))); older = older; length = t3.3; tags = refl })
+    subst (Found stamp add_clip_kind bytes) (ok_is made x d.2) (record { front = with_kind add_clip_kind bytes _ _ all; fields = (t0.1, (t1.1, (t2.1, (t3.1, t3.2)))); older = older; length = t3.3; tags = refl })
 
-pub move_clip_takes : (stamp : Moment) (bytes : List ℕ) (x : Act × List ℕ) → IsBytes bytes → move_clip_at stamp.clock bytes ≡ Ok x → Found stamp move_clip_tag bytes x
+pub move_clip_takes : (stamp : Moment) (bytes : List ℕ) (x : Act × List ℕ) → IsBytes bytes → move_clip_at stamp.clock bytes ≡ Ok x → Found stamp move_clip_kind bytes x
 unfolding move_clip_at
 move_clip_takes stamp bytes x fits e =
     let a = bind_ok (older_stamp_at stamp.clock bytes) _ x e in
@@ -71,9 +71,9 @@ move_clip_takes stamp bytes x fits e =
     let all = Takes-then bytes (stamp_bytes a.0.0) a.0.1 (stamp_bytes b.0.0 ++ frame_bytes c.0.0) c.0.1 t0.0 from_track in
     let made : Act × List ℕ = (MoveClip a.0.0 b.0.0 c.0.0, c.0.1) in
     let older : act_is_older stamp (MoveClip a.0.0 b.0.0 c.0.0) ≡ true = rw (t0.2, t1.2) refl in
-    subst (Found stamp move_clip_tag bytes) (ok_is made x c.2) (record { front = tagged move_clip_tag bytes _ _ all; fields = (t0.1, (t1.1, t2.1)); older = older; length = refl; tags = refl })
+    subst (Found stamp move_clip_kind bytes) (ok_is made x c.2) (record { front = with_kind move_clip_kind bytes _ _ all; fields = (t0.1, (t1.1, t2.1)); older = older; length = refl; tags = refl })
 
-pub trim_clip_takes : (stamp : Moment) (bytes : List ℕ) (x : Act × List ℕ) → IsBytes bytes → trim_clip_at stamp.clock bytes ≡ Ok x → Found stamp trim_clip_tag bytes x
+pub trim_clip_takes : (stamp : Moment) (bytes : List ℕ) (x : Act × List ℕ) → IsBytes bytes → trim_clip_at stamp.clock bytes ≡ Ok x → Found stamp trim_clip_kind bytes x
 unfolding trim_clip_at
 trim_clip_takes stamp bytes x fits e =
     let a = bind_ok (older_stamp_at stamp.clock bytes) _ x e in
@@ -83,7 +83,7 @@ trim_clip_takes stamp bytes x fits e =
     let both = Takes-then bytes (stamp_bytes a.0.0) a.0.1 (trim_bytes b.0.0.0 b.0.0.1) b.0.1 t0.0 t1.0 in
     let made : Act × List ℕ = (TrimClip a.0.0 b.0.0.0 b.0.0.1, b.0.1) in
     let older : act_is_older stamp (TrimClip a.0.0 b.0.0.0 b.0.0.1) ≡ true = rw t0.2 refl in
-    subst (Found stamp trim_clip_tag bytes) (ok_is made x b.2) (record { front = tagged trim_clip_tag bytes _ _ both; fields = (t0.1, (t1.1, t1.2)); older = older; length = t1.3; tags = refl })
+    subst (Found stamp trim_clip_kind bytes) (ok_is made x b.2) (record { front = with_kind trim_clip_kind bytes _ _ both; fields = (t0.1, (t1.1, t1.2)); older = older; length = t1.3; tags = refl })
 
 -- ---- what is spelled so is read
 

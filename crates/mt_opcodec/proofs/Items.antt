@@ -9,18 +9,18 @@ use Rattle.mt_op.specs.declared.need.Role.TheVariants.{TagOf}
 use Rattle.mt_op.specs.Operation.{Act, Remove, Restore, Retitle}
 use Rattle.mt_op.proofs.TagLists.{all_needs}
 use Rattle.mt_opcodec.specs.declared.fault.ReadFault.{ReadFault}
-use Rattle.mt_opcodec.specs.OpText.{stamp_bytes, title_bytes, tags_bytes, remove_tag, restore_tag, retitle_tag}
+use Rattle.mt_opcodec.specs.OpText.{stamp_bytes, title_bytes, tags_bytes, remove_kind, restore_kind, retitle_kind}
 use Rattle.mt_opcodec.specs.OpReading.{◌>>=◌, older_stamp_at, title_at, tags_at, remove_at, restore_at, retitle_at}
 use Rattle.mt_opcodec.proofs.Fields.{IsBytes, bind_ok, ok_is, Takes-then, title_takes, title_again}
 use Rattle.mt_opcodec.proofs.Stamps.{older_takes, older_again}
 use Rattle.mt_opcodec.proofs.Tags.{are_older, tags_takes, tags_again}
-use Rattle.mt_opcodec.proofs.Acts.{act_is_older, Found, tagged}
+use Rattle.mt_opcodec.proofs.Acts.{act_is_older, Found, with_kind}
 
 -- a Remove names older stamps where its item and its tags are older
 pub remove_is_older : (stamp item : Moment) (tags : List Moment) → act_is_older stamp (Remove item tags) ≡ (ltb item.clock stamp.clock && are_older stamp.clock tags)
 remove_is_older stamp item tags = ap (λ (b : Bool). ltb item.clock stamp.clock && b) (all_needs (TagOf item) stamp.clock tags)
 
-pub remove_takes : (stamp : Moment) (bytes : List ℕ) (x : Act × List ℕ) → IsBytes bytes → remove_at stamp.clock bytes ≡ Ok x → Found stamp remove_tag bytes x
+pub remove_takes : (stamp : Moment) (bytes : List ℕ) (x : Act × List ℕ) → IsBytes bytes → remove_at stamp.clock bytes ≡ Ok x → Found stamp remove_kind bytes x
 unfolding remove_at
 remove_takes stamp bytes x fits e =
     let a = bind_ok (older_stamp_at stamp.clock bytes) _ x e in
@@ -30,18 +30,18 @@ remove_takes stamp bytes x fits e =
     let both = Takes-then bytes (stamp_bytes a.0.0) a.0.1 (tags_bytes b.0.0) b.0.1 t0.0 t1.0 in
     let made : Act × List ℕ = (Remove a.0.0 b.0.0, b.0.1) in
     let older : act_is_older stamp (Remove a.0.0 b.0.0) ≡ true = remove_is_older stamp a.0.0 b.0.0 ∙ rw (t0.2, t1.2) refl in
-    subst (Found stamp remove_tag bytes) (ok_is made x b.2) (record { front = tagged remove_tag bytes _ _ both; fields = (t0.1, t1.1); older = older; length = refl; tags = t1.3 })
+    subst (Found stamp remove_kind bytes) (ok_is made x b.2) (record { front = with_kind remove_kind bytes _ _ both; fields = (t0.1, t1.1); older = older; length = refl; tags = t1.3 })
 
-pub restore_takes : (stamp : Moment) (bytes : List ℕ) (x : Act × List ℕ) → IsBytes bytes → restore_at stamp.clock bytes ≡ Ok x → Found stamp restore_tag bytes x
+pub restore_takes : (stamp : Moment) (bytes : List ℕ) (x : Act × List ℕ) → IsBytes bytes → restore_at stamp.clock bytes ≡ Ok x → Found stamp restore_kind bytes x
 unfolding restore_at
 restore_takes stamp bytes x fits e =
     let a = bind_ok (older_stamp_at stamp.clock bytes) _ x e in
     let t = older_takes stamp.clock bytes a.0 fits a.1 in
     let made : Act × List ℕ = (Restore a.0.0, a.0.1) in
     let older : act_is_older stamp (Restore a.0.0) ≡ true = rw t.2 refl in
-    subst (Found stamp restore_tag bytes) (ok_is made x a.2) (record { front = tagged restore_tag bytes _ _ t.0; fields = t.1; older = older; length = refl; tags = refl })
+    subst (Found stamp restore_kind bytes) (ok_is made x a.2) (record { front = with_kind restore_kind bytes _ _ t.0; fields = t.1; older = older; length = refl; tags = refl })
 
-pub retitle_takes : (stamp : Moment) (bytes : List ℕ) (x : Act × List ℕ) → IsBytes bytes → retitle_at stamp.clock bytes ≡ Ok x → Found stamp retitle_tag bytes x
+pub retitle_takes : (stamp : Moment) (bytes : List ℕ) (x : Act × List ℕ) → IsBytes bytes → retitle_at stamp.clock bytes ≡ Ok x → Found stamp retitle_kind bytes x
 unfolding retitle_at
 retitle_takes stamp bytes x fits e =
     let a = bind_ok (older_stamp_at stamp.clock bytes) _ x e in
@@ -51,7 +51,7 @@ retitle_takes stamp bytes x fits e =
     let both = Takes-then bytes (stamp_bytes a.0.0) a.0.1 (title_bytes b.0.0) b.0.1 t0.0 t1.0 in
     let made : Act × List ℕ = (Retitle a.0.0 b.0.0, b.0.1) in
     let older : act_is_older stamp (Retitle a.0.0 b.0.0) ≡ true = rw t0.2 refl in
-    subst (Found stamp retitle_tag bytes) (ok_is made x b.2) (record { front = tagged retitle_tag bytes _ _ both; fields = (t0.1, t1.1); older = older; length = refl; tags = refl })
+    subst (Found stamp retitle_kind bytes) (ok_is made x b.2) (record { front = with_kind retitle_kind bytes _ _ both; fields = (t0.1, t1.1); older = older; length = refl; tags = refl })
 
 pub remove_again : (clock : ℕ) (item : Moment) (tags : List Moment) (rest : List ℕ) → IsMoment item → AllByRecursion IsMoment tags → ltb item.clock clock ≡ true → are_older clock tags ≡ true → are_tags tags ≡ true
     → remove_at clock ((stamp_bytes item ++ tags_bytes tags) ++ rest) ≡ Ok (Remove item tags, rest)

@@ -6,13 +6,13 @@ use Rattle.mt_stamp.specs.Moment.{Moment, IsMoment}
 use Rattle.mt_op.specs.Title.{is_title}
 use Rattle.mt_op.specs.Operation.{Act, AddMarker, MoveMarker}
 use Rattle.mt_opcodec.specs.declared.fault.ReadFault.{ReadFault}
-use Rattle.mt_opcodec.specs.OpText.{stamp_bytes, title_bytes, frame_bytes, add_marker_tag, move_marker_tag}
+use Rattle.mt_opcodec.specs.OpText.{stamp_bytes, title_bytes, frame_bytes, add_marker_kind, move_marker_kind}
 use Rattle.mt_opcodec.specs.OpReading.{◌>>=◌, number_at, older_stamp_at, title_at, add_marker_at, move_marker_at}
 use Rattle.mt_opcodec.proofs.Fields.{IsBytes, bind_ok, ok_is, Takes-then, wide32, number_takes, number_again, title_takes, title_again}
 use Rattle.mt_opcodec.proofs.Stamps.{older_takes, older_again}
-use Rattle.mt_opcodec.proofs.Acts.{act_is_older, Found, tagged}
+use Rattle.mt_opcodec.proofs.Acts.{act_is_older, Found, with_kind}
 
-pub add_marker_takes : (stamp : Moment) (bytes : List ℕ) (x : Act × List ℕ) → IsBytes bytes → add_marker_at bytes ≡ Ok x → Found stamp add_marker_tag bytes x
+pub add_marker_takes : (stamp : Moment) (bytes : List ℕ) (x : Act × List ℕ) → IsBytes bytes → add_marker_at bytes ≡ Ok x → Found stamp add_marker_kind bytes x
 unfolding add_marker_at
 add_marker_takes stamp bytes x fits e =
     let a = bind_ok (number_at w32 bytes) _ x e in
@@ -21,9 +21,9 @@ add_marker_takes stamp bytes x fits e =
     let t1 = title_takes a.0.1 b.0.0 b.0.1 t0.0.rest_fits b.1 in
     let both = Takes-then bytes (frame_bytes a.0.0) a.0.1 (title_bytes b.0.0) b.0.1 t0.0 t1.0 in
     let made : Act × List ℕ = (AddMarker a.0.0 b.0.0, b.0.1) in
-    subst (Found stamp add_marker_tag bytes) (ok_is made x b.2) (record { front = tagged add_marker_tag bytes _ _ both; fields = (t0.1, t1.1); older = refl; length = refl; tags = refl })
+    subst (Found stamp add_marker_kind bytes) (ok_is made x b.2) (record { front = with_kind add_marker_kind bytes _ _ both; fields = (t0.1, t1.1); older = refl; length = refl; tags = refl })
 
-pub move_marker_takes : (stamp : Moment) (bytes : List ℕ) (x : Act × List ℕ) → IsBytes bytes → move_marker_at stamp.clock bytes ≡ Ok x → Found stamp move_marker_tag bytes x
+pub move_marker_takes : (stamp : Moment) (bytes : List ℕ) (x : Act × List ℕ) → IsBytes bytes → move_marker_at stamp.clock bytes ≡ Ok x → Found stamp move_marker_kind bytes x
 unfolding move_marker_at
 move_marker_takes stamp bytes x fits e =
     let a = bind_ok (older_stamp_at stamp.clock bytes) _ x e in
@@ -33,7 +33,7 @@ move_marker_takes stamp bytes x fits e =
     let both = Takes-then bytes (stamp_bytes a.0.0) a.0.1 (frame_bytes b.0.0) b.0.1 t0.0 t1.0 in
     let made : Act × List ℕ = (MoveMarker a.0.0 b.0.0, b.0.1) in
     let older : act_is_older stamp (MoveMarker a.0.0 b.0.0) ≡ true = rw t0.2 refl in
-    subst (Found stamp move_marker_tag bytes) (ok_is made x b.2) (record { front = tagged move_marker_tag bytes _ _ both; fields = (t0.1, t1.1); older = older; length = refl; tags = refl })
+    subst (Found stamp move_marker_kind bytes) (ok_is made x b.2) (record { front = with_kind move_marker_kind bytes _ _ both; fields = (t0.1, t1.1); older = older; length = refl; tags = refl })
 
 pub add_marker_again : (at : ℕ) (title rest : List ℕ) → at < 2 ^ 32 → IsTrue (is_title title) → add_marker_at ((frame_bytes at ++ title_bytes title) ++ rest) ≡ Ok (AddMarker at title, rest)
 unfolding add_marker_at

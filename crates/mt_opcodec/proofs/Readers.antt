@@ -60,20 +60,20 @@ all_read_well stamp = (
   ),
 )
 
-fields_take : (stamp : Moment) (table : List Reader) → AllByRecursion (ReadsWell stamp) table → (tag : ℕ) (bytes : List ℕ) (x : Act × List ℕ) → IsBytes bytes → fields_at table tag stamp.clock bytes ≡ Ok x → Found stamp tag bytes x
-fields_take stamp [] well tag bytes x fits e = absurd cc
-fields_take stamp (reader ∷ others) well tag bytes x fits e = by (eqb tag reader.0) refl (λ later. fields_take stamp others well.1 tag bytes x fits later)
+fields_take : (stamp : Moment) (table : List Reader) → AllByRecursion (ReadsWell stamp) table → (kind : ℕ) (bytes : List ℕ) (x : Act × List ℕ) → IsBytes bytes → fields_at table kind stamp.clock bytes ≡ Ok x → Found stamp kind bytes x
+fields_take stamp [] well kind bytes x fits e = absurd cc
+fields_take stamp (reader ∷ others) well kind bytes x fits e = by (eqb kind reader.0) refl (λ later. fields_take stamp others well.1 kind bytes x fits later)
   where
-    by : (b : Bool) → eqb tag reader.0 ≡ b → (fields_at others tag stamp.clock bytes ≡ Ok x → Found stamp tag bytes x) → Found stamp tag bytes x
+    by : (b : Bool) → eqb kind reader.0 ≡ b → (fields_at others kind stamp.clock bytes ≡ Ok x → Found stamp kind bytes x) → Found stamp kind bytes x
     by true is later =
         let read : reader.1 stamp.clock bytes ≡ Ok x = rw is at e in
-        subst (λ (t : ℕ). Found stamp t bytes x) (sym (eqb-true tag reader.0 is)) (well.0 bytes x fits read)
+        subst (λ (t : ℕ). Found stamp t bytes x) (sym (eqb-true kind reader.0 is)) (well.0 bytes x fits read)
     by false is later = later (rw is at e)
 
 pub act_takes : (stamp : Moment) (bytes : List ℕ) (x : Act × List ℕ) → IsBytes bytes → act_at stamp.clock bytes ≡ Ok x → Read stamp bytes x
 unfolding act_at
 act_takes stamp [] x fits e = absurd cc
-act_takes stamp (tag ∷ bytes) x fits e = fields_take stamp readers (all_read_well stamp) tag bytes x (IsBytes-rest tag bytes fits) e
+act_takes stamp (kind ∷ bytes) x fits e = fields_take stamp readers (all_read_well stamp) kind bytes x (IsBytes-rest kind bytes fits) e
 
 pub act_again : (stamp : Moment) (act : Act) (rest : List ℕ) → AreFields act → act_is_older stamp act ≡ true → length_is_good act ≡ true → tags_are_good act ≡ true → act_at stamp.clock (act_bytes act ++ rest) ≡ Ok (act, rest)
 unfolding act_at

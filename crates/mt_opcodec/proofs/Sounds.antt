@@ -6,11 +6,11 @@ use Rattle.mt_stamp.specs.Moment.{Moment, IsMoment}
 use Rattle.mt_op.specs.Gain.{Ratio, IsRatio}
 use Rattle.mt_op.specs.Operation.{Act, SetGain, SetMute}
 use Rattle.mt_opcodec.specs.declared.fault.ReadFault.{ReadFault}
-use Rattle.mt_opcodec.specs.OpText.{stamp_bytes, flag_bytes, gain_bytes, set_gain_tag, set_mute_tag}
+use Rattle.mt_opcodec.specs.OpText.{stamp_bytes, flag_bytes, gain_bytes, set_gain_kind, set_mute_kind}
 use Rattle.mt_opcodec.specs.OpReading.{◌>>=◌, number_at, positive_at, flag_at, older_stamp_at, gain_at, set_gain_at, set_mute_at}
 use Rattle.mt_opcodec.proofs.Fields.{IsBytes, bind_ok, ok_is, Takes, Takes-then, wide16, number_takes, number_again, positive_takes, positive_again, flag_takes, flag_again}
 use Rattle.mt_opcodec.proofs.Stamps.{older_takes, older_again}
-use Rattle.mt_opcodec.proofs.Acts.{act_is_older, Found, tagged}
+use Rattle.mt_opcodec.proofs.Acts.{act_is_older, Found, with_kind}
 
 -- ---- gains
 
@@ -35,7 +35,7 @@ gain_again gain rest is =
 
 -- ---- what is read is spelled so
 
-pub set_gain_takes : (stamp : Moment) (bytes : List ℕ) (x : Act × List ℕ) → IsBytes bytes → set_gain_at stamp.clock bytes ≡ Ok x → Found stamp set_gain_tag bytes x
+pub set_gain_takes : (stamp : Moment) (bytes : List ℕ) (x : Act × List ℕ) → IsBytes bytes → set_gain_at stamp.clock bytes ≡ Ok x → Found stamp set_gain_kind bytes x
 unfolding set_gain_at
 set_gain_takes stamp bytes x fits e =
     let a = bind_ok (older_stamp_at stamp.clock bytes) _ x e in
@@ -45,9 +45,9 @@ set_gain_takes stamp bytes x fits e =
     let both = Takes-then bytes (stamp_bytes a.0.0) a.0.1 (gain_bytes b.0.0) b.0.1 t0.0 t1.0 in
     let made : Act × List ℕ = (SetGain a.0.0 b.0.0, b.0.1) in
     let older : act_is_older stamp (SetGain a.0.0 b.0.0) ≡ true = rw t0.2 refl in
-    subst (Found stamp set_gain_tag bytes) (ok_is made x b.2) (record { front = tagged set_gain_tag bytes _ _ both; fields = (t0.1, t1.1); older = older; length = refl; tags = refl })
+    subst (Found stamp set_gain_kind bytes) (ok_is made x b.2) (record { front = with_kind set_gain_kind bytes _ _ both; fields = (t0.1, t1.1); older = older; length = refl; tags = refl })
 
-pub set_mute_takes : (stamp : Moment) (bytes : List ℕ) (x : Act × List ℕ) → IsBytes bytes → set_mute_at stamp.clock bytes ≡ Ok x → Found stamp set_mute_tag bytes x
+pub set_mute_takes : (stamp : Moment) (bytes : List ℕ) (x : Act × List ℕ) → IsBytes bytes → set_mute_at stamp.clock bytes ≡ Ok x → Found stamp set_mute_kind bytes x
 unfolding set_mute_at
 set_mute_takes stamp bytes x fits e =
     let a = bind_ok (older_stamp_at stamp.clock bytes) _ x e in
@@ -57,7 +57,7 @@ set_mute_takes stamp bytes x fits e =
     let both = Takes-then bytes (stamp_bytes a.0.0) a.0.1 (flag_bytes b.0.0) b.0.1 t0.0 t1 in
     let made : Act × List ℕ = (SetMute a.0.0 b.0.0, b.0.1) in
     let older : act_is_older stamp (SetMute a.0.0 b.0.0) ≡ true = rw t0.2 refl in
-    subst (Found stamp set_mute_tag bytes) (ok_is made x b.2) (record { front = tagged set_mute_tag bytes _ _ both; fields = t0.1; older = older; length = refl; tags = refl })
+    subst (Found stamp set_mute_kind bytes) (ok_is made x b.2) (record { front = with_kind set_mute_kind bytes _ _ both; fields = t0.1; older = older; length = refl; tags = refl })
 
 -- ---- what is spelled so is read
 

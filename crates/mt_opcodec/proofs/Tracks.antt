@@ -5,14 +5,14 @@ use Rattle.mt_stamp.specs.Moment.{Moment, IsMoment}
 use Rattle.mt_op.specs.Title.{is_title}
 use Rattle.mt_op.specs.Operation.{Act, AddTrack, MoveTrack}
 use Rattle.mt_opcodec.specs.declared.fault.ReadFault.{ReadFault}
-use Rattle.mt_opcodec.specs.OpText.{stamp_bytes, place_bytes, title_bytes, add_track_tag, move_track_tag}
+use Rattle.mt_opcodec.specs.OpText.{stamp_bytes, place_bytes, title_bytes, add_track_kind, move_track_kind}
 use Rattle.mt_opcodec.specs.OpReading.{◌>>=◌, older_stamp_at, place_at, title_at, add_track_at, move_track_at}
 use Rattle.mt_opcodec.proofs.Fields.{IsBytes, bind_ok, ok_is, Takes-then, title_takes, title_again}
 use Rattle.mt_opcodec.proofs.Stamps.{older_takes, older_again}
 use Rattle.mt_opcodec.proofs.Places.{place_is_older, place_takes, place_again}
-use Rattle.mt_opcodec.proofs.Acts.{act_is_older, Found, tagged}
+use Rattle.mt_opcodec.proofs.Acts.{act_is_older, Found, with_kind}
 
-pub add_track_takes : (stamp : Moment) (bytes : List ℕ) (x : Act × List ℕ) → IsBytes bytes → add_track_at stamp.clock bytes ≡ Ok x → Found stamp add_track_tag bytes x
+pub add_track_takes : (stamp : Moment) (bytes : List ℕ) (x : Act × List ℕ) → IsBytes bytes → add_track_at stamp.clock bytes ≡ Ok x → Found stamp add_track_kind bytes x
 unfolding add_track_at
 add_track_takes stamp bytes x fits e =
     let a = bind_ok (place_at stamp.clock bytes) _ x e in
@@ -21,9 +21,9 @@ add_track_takes stamp bytes x fits e =
     let t1 = title_takes a.0.1 b.0.0 b.0.1 t0.0.rest_fits b.1 in
     let both = Takes-then bytes (place_bytes a.0.0) a.0.1 (title_bytes b.0.0) b.0.1 t0.0 t1.0 in
     let made : Act × List ℕ = (AddTrack a.0.0 b.0.0, b.0.1) in
-    subst (Found stamp add_track_tag bytes) (ok_is made x b.2) (record { front = tagged add_track_tag bytes _ _ both; fields = (t0.1, t1.1); older = t0.2; length = refl; tags = refl })
+    subst (Found stamp add_track_kind bytes) (ok_is made x b.2) (record { front = with_kind add_track_kind bytes _ _ both; fields = (t0.1, t1.1); older = t0.2; length = refl; tags = refl })
 
-pub move_track_takes : (stamp : Moment) (bytes : List ℕ) (x : Act × List ℕ) → IsBytes bytes → move_track_at stamp.clock bytes ≡ Ok x → Found stamp move_track_tag bytes x
+pub move_track_takes : (stamp : Moment) (bytes : List ℕ) (x : Act × List ℕ) → IsBytes bytes → move_track_at stamp.clock bytes ≡ Ok x → Found stamp move_track_kind bytes x
 unfolding move_track_at
 move_track_takes stamp bytes x fits e =
     let a = bind_ok (older_stamp_at stamp.clock bytes) _ x e in
@@ -33,7 +33,7 @@ move_track_takes stamp bytes x fits e =
     let both = Takes-then bytes (stamp_bytes a.0.0) a.0.1 (place_bytes b.0.0) b.0.1 t0.0 t1.0 in
     let made : Act × List ℕ = (MoveTrack a.0.0 b.0.0, b.0.1) in
     let older : act_is_older stamp (MoveTrack a.0.0 b.0.0) ≡ true = rw t0.2 t1.2 in
-    subst (Found stamp move_track_tag bytes) (ok_is made x b.2) (record { front = tagged move_track_tag bytes _ _ both; fields = (t0.1, t1.1); older = older; length = refl; tags = refl })
+    subst (Found stamp move_track_kind bytes) (ok_is made x b.2) (record { front = with_kind move_track_kind bytes _ _ both; fields = (t0.1, t1.1); older = older; length = refl; tags = refl })
 
 pub add_track_again : (clock : ℕ) (after : Option Moment) (title rest : List ℕ) → IfSome after IsMoment → place_is_older clock after ≡ true → IsTrue (is_title title)
     → add_track_at clock ((place_bytes after ++ title_bytes title) ++ rest) ≡ Ok (AddTrack after title, rest)

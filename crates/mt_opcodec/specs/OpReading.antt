@@ -9,7 +9,7 @@ use Rattle.mt_op.specs.declared.digest.Digest.{Digest}
 use Rattle.mt_op.specs.Operation.{Act, AddTrack, MoveTrack, AddClip, MoveClip, TrimClip, SetGain, SetMute, Remove, Restore, AddMarker, MoveMarker, Retitle, Operation}
 use Rattle.mt_opcodec.specs.declared.fault.ReadFault.{ReadFault}
 use Rattle.mt_opcodec.specs.declared.fault.ReadFault.TheVariants.{Truncated, BadTag, BadField, Memory}
-use Rattle.mt_opcodec.specs.OpText.{add_track_tag, move_track_tag, add_clip_tag, move_clip_tag, trim_clip_tag, set_gain_tag, set_mute_tag, remove_tag, restore_tag, add_marker_tag, move_marker_tag, retitle_tag}
+use Rattle.mt_opcodec.specs.OpText.{add_track_kind, move_track_kind, add_clip_kind, move_clip_kind, trim_clip_kind, set_gain_kind, set_mute_kind, remove_kind, restore_kind, add_marker_kind, move_marker_kind, retitle_kind}
 
 -- a value and the bytes after it, or the first fault
 abbrev pub Reads : Type 0 → Type 0
@@ -202,34 +202,34 @@ retitle_at clock bytes = do
   title ← title_at item.1
   Ok (Retitle item.0 title.0, title.1)
 
--- a tag, and what reads the fields that it calls for, given the operation's clock
+-- a kind byte, and what reads the fields that it calls for, given the operation's clock
 abbrev pub Reader : Type 0
 Reader = ℕ × (ℕ → List ℕ → Reads Act)
 
 abbrev pub readers : List Reader
 readers =
-    (add_track_tag, add_track_at) ∷
-    (move_track_tag, move_track_at) ∷
-    (add_clip_tag, add_clip_at) ∷
-    (move_clip_tag, move_clip_at) ∷
-    (trim_clip_tag, trim_clip_at) ∷
-    (set_gain_tag, set_gain_at) ∷
-    (set_mute_tag, set_mute_at) ∷
-    (remove_tag, remove_at) ∷
-    (restore_tag, restore_at) ∷
-    (add_marker_tag, λ clock. add_marker_at) ∷
-    (move_marker_tag, move_marker_at) ∷
-    (retitle_tag, retitle_at) ∷ []
+    (add_track_kind, add_track_at) ∷
+    (move_track_kind, move_track_at) ∷
+    (add_clip_kind, add_clip_at) ∷
+    (move_clip_kind, move_clip_at) ∷
+    (trim_clip_kind, trim_clip_at) ∷
+    (set_gain_kind, set_gain_at) ∷
+    (set_mute_kind, set_mute_at) ∷
+    (remove_kind, remove_at) ∷
+    (restore_kind, restore_at) ∷
+    (add_marker_kind, λ clock. add_marker_at) ∷
+    (move_marker_kind, move_marker_at) ∷
+    (retitle_kind, retitle_at) ∷ []
 
--- the fields that the first of these readers with this tag reads
+-- the fields that the first of these readers with this kind byte reads
 abbrev pub fields_at : List Reader → ℕ → ℕ → List ℕ → Reads Act
-fields_at [] tag clock bytes = Err BadTag
-fields_at (reader ∷ others) tag clock bytes = if tag == reader.0 then reader.1 clock bytes else fields_at others tag clock bytes
+fields_at [] kind clock bytes = Err BadTag
+fields_at (reader ∷ others) kind clock bytes = if kind == reader.0 then reader.1 clock bytes else fields_at others kind clock bytes
 
--- a tag, and the fields that it calls for
+-- a kind byte, and the fields that it calls for
 unfoldable pub act_at : ℕ → List ℕ → Reads Act
 act_at clock [] = Err Truncated
-act_at clock (tag ∷ rest) = fields_at readers tag clock rest
+act_at clock (kind ∷ rest) = fields_at readers kind clock rest
 
 -- what stands after a stamp, with that stamp
 abbrev pub op_after : Moment → List ℕ → Reads Operation

@@ -40,57 +40,57 @@ gain_bytes gain = to_be_bytes w16 gain.num ++ to_be_bytes w16 gain.den
 abbrev pub tags_bytes : List Moment → List ℕ
 tags_bytes tags = to_be_bytes w16 (length tags) ++ flat_map stamp_bytes tags
 
--- the tag of each act
-abbrev pub add_track_tag : ℕ
-add_track_tag = 1
+-- the kind byte of each act
+abbrev pub add_track_kind : ℕ
+add_track_kind = 1
 
-abbrev pub move_track_tag : ℕ
-move_track_tag = 2
+abbrev pub move_track_kind : ℕ
+move_track_kind = 2
 
-abbrev pub add_clip_tag : ℕ
-add_clip_tag = 3
+abbrev pub add_clip_kind : ℕ
+add_clip_kind = 3
 
-abbrev pub move_clip_tag : ℕ
-move_clip_tag = 4
+abbrev pub move_clip_kind : ℕ
+move_clip_kind = 4
 
-abbrev pub trim_clip_tag : ℕ
-trim_clip_tag = 5
+abbrev pub trim_clip_kind : ℕ
+trim_clip_kind = 5
 
-abbrev pub set_gain_tag : ℕ
-set_gain_tag = 6
+abbrev pub set_gain_kind : ℕ
+set_gain_kind = 6
 
-abbrev pub set_mute_tag : ℕ
-set_mute_tag = 7
+abbrev pub set_mute_kind : ℕ
+set_mute_kind = 7
 
-abbrev pub remove_tag : ℕ
-remove_tag = 8
+abbrev pub remove_kind : ℕ
+remove_kind = 8
 
-abbrev pub restore_tag : ℕ
-restore_tag = 9
+abbrev pub restore_kind : ℕ
+restore_kind = 9
 
-abbrev pub add_marker_tag : ℕ
-add_marker_tag = 10
+abbrev pub add_marker_kind : ℕ
+add_marker_kind = 10
 
-abbrev pub move_marker_tag : ℕ
-move_marker_tag = 11
+abbrev pub move_marker_kind : ℕ
+move_marker_kind = 11
 
-abbrev pub retitle_tag : ℕ
-retitle_tag = 12
+abbrev pub retitle_kind : ℕ
+retitle_kind = 12
 
--- the tag, and the fields in their order; a digest stands as its bytes
+-- the kind byte, and the fields in their order; a digest stands as its bytes
 abbrev pub act_bytes : Act → List ℕ
-act_bytes (AddTrack after title) = add_track_tag ∷ (place_bytes after ++ title_bytes title)
-act_bytes (MoveTrack track after) = move_track_tag ∷ (stamp_bytes track ++ place_bytes after)
-act_bytes (AddClip source track at offset len) = add_clip_tag ∷ (source.0 ++ (stamp_bytes track ++ (frame_bytes at ++ trim_bytes offset len)))
-act_bytes (MoveClip clip track at) = move_clip_tag ∷ (stamp_bytes clip ++ (stamp_bytes track ++ frame_bytes at))
-act_bytes (TrimClip clip offset len) = trim_clip_tag ∷ (stamp_bytes clip ++ trim_bytes offset len)
-act_bytes (SetGain item gain) = set_gain_tag ∷ (stamp_bytes item ++ gain_bytes gain)
-act_bytes (SetMute item on) = set_mute_tag ∷ (stamp_bytes item ++ flag_bytes on)
-act_bytes (Remove item tags) = remove_tag ∷ (stamp_bytes item ++ tags_bytes tags)
-act_bytes (Restore item) = restore_tag ∷ stamp_bytes item
-act_bytes (AddMarker at title) = add_marker_tag ∷ (frame_bytes at ++ title_bytes title)
-act_bytes (MoveMarker marker at) = move_marker_tag ∷ (stamp_bytes marker ++ frame_bytes at)
-act_bytes (Retitle item title) = retitle_tag ∷ (stamp_bytes item ++ title_bytes title)
+act_bytes (AddTrack after title) = add_track_kind ∷ (place_bytes after ++ title_bytes title)
+act_bytes (MoveTrack track after) = move_track_kind ∷ (stamp_bytes track ++ place_bytes after)
+act_bytes (AddClip source track at offset len) = add_clip_kind ∷ (source.0 ++ (stamp_bytes track ++ (frame_bytes at ++ trim_bytes offset len)))
+act_bytes (MoveClip clip track at) = move_clip_kind ∷ (stamp_bytes clip ++ (stamp_bytes track ++ frame_bytes at))
+act_bytes (TrimClip clip offset len) = trim_clip_kind ∷ (stamp_bytes clip ++ trim_bytes offset len)
+act_bytes (SetGain item gain) = set_gain_kind ∷ (stamp_bytes item ++ gain_bytes gain)
+act_bytes (SetMute item on) = set_mute_kind ∷ (stamp_bytes item ++ flag_bytes on)
+act_bytes (Remove item tags) = remove_kind ∷ (stamp_bytes item ++ tags_bytes tags)
+act_bytes (Restore item) = restore_kind ∷ stamp_bytes item
+act_bytes (AddMarker at title) = add_marker_kind ∷ (frame_bytes at ++ title_bytes title)
+act_bytes (MoveMarker marker at) = move_marker_kind ∷ (stamp_bytes marker ++ frame_bytes at)
+act_bytes (Retitle item title) = retitle_kind ∷ (stamp_bytes item ++ title_bytes title)
 
 abbrev pub op_text : Operation → List ℕ
 op_text o = stamp_bytes o.stamp ++ act_bytes o.act

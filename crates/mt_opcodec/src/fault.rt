@@ -9,7 +9,7 @@ use std::alloc::{AllocError, AllocFailed};
 use thiserror::Error;
 
 /// Why bytes do not begin with the text of an operation: the fault of the first field, from left to right,
-/// that has one. A stamp is one field, and so are a title with its length, a digest, a number, a flag and the tag byte.
+/// that has one. A stamp is one field, and so are a title with its length, a digest, a number, a flag and the kind byte.
 /// So a place is a flag and, where that is 1, a stamp; a gain is two numbers; and of a Remove's tags their count and each
 /// of them are fields of their own.
 #[derive(Clone, Copy, Debug, PartialEq, Eq, Error)]
@@ -20,10 +20,10 @@ pub enum ReadFault {
     /// The bytes end before the field does.
     #[error("the operation is cut short")]
     Truncated,
-    /// The tag byte is none of 1 to 12.
-    #[error("no operation has this tag")]
+    /// The kind byte is none of 1 to 12.
+    #[error("no operation has this kind byte")]
     BadTag,
-    /// A complete field other than the tag byte is not allowed: a stamp whose clock or sequence number is 0 or
+    /// A complete field other than the kind byte is not allowed: a stamp whose clock or sequence number is 0 or
     /// above 2^62, a named stamp whose clock is not smaller than the operation's own, a flag that is neither 0 nor 1,
     /// a clip's length of 0, a gain's divisor of 0, a Remove's count of 0, a tag of a Remove that is not greater than
     /// the one before, or a title that is not UTF-8 or holds a character below 0x20 or 0x7F.

@@ -3,7 +3,7 @@
 //! Numbers have their greatest byte first. A stamp is its clock in 8 bytes, its replica in 16 and its
 //! sequence number in 8. A title is its length in one byte, and that many bytes. A flag is one byte, 0 or 1. A place
 //! is the flag 0 for the head of the tracks, or the flag 1 and the stamp that it comes after. A digest is its 32 bytes.
-//! A frame, an offset and a length are 4 bytes each. The text of an operation is its stamp, its tag byte, and what that
+//! A frame, an offset and a length are 4 bytes each. The text of an operation is its stamp, its kind byte, and what that
 //! calls for:
 //!
 //! - 1, an AddTrack: the place, and the title;

@@ -235,7 +235,7 @@ pub(crate) fn op_of<A: Allocator>(alloc: A, bytes: &[u8]) -> Result<(Op<A>, &[u8
 /// Reads the operation that stands at the front of the bytes, and says how many bytes its text has; what
 /// follows is not looked at. Where the bytes do not begin with one, the first field at fault, from left to
 /// right, is refused: as `Truncated` (8) where the bytes end before it does, as `BadTag` (9) where it is the
-/// tag byte and none of 1 to 12, and as `BadField` (10) where it is another and not allowed. `Memory` (0) is answered
+/// kind byte and none of 1 to 12, and as `BadField` (10) where it is another and not allowed. `Memory` (0) is answered
 /// where the growth of the title or of the tags was refused. Memory is taken tag by tag, never for the number of
 /// them that the bytes give.
 pub fn read_op<A: Allocator>(alloc: A, bytes: &[u8]) -> Result<(Op<A>, usize), ReadFault>

@@ -1,7 +1,7 @@
 use Rattle.std.proofs.lemmas.Result.{on_ok_weaker}
-use Rattle.mt_opcodec.proofs.Appends.{tagged_three}
+use Rattle.mt_opcodec.proofs.Appends.{kind_and_three_pieces}
 use Rattle.mt_opcodec.proofs.op_writer.put_move_clip.Goals as goal
 
 pub returns : goal.returns
 returns g c =
-    on_ok_weaker c.put_frame.result (λ e. tagged_three c.args.out.now.items _ _ _ _ _ _ _ 4 c.in_ok-push.ensures.items c.in_ok-put_stamp.ensures c.in_ok-put_stamp-2.ensures e) c.put_frame.ensures
+    on_ok_weaker c.put_frame.result (λ e. kind_and_three_pieces c.args.out.now.items _ _ _ _ _ _ _ 4 c.in_ok-push.ensures.items c.in_ok-put_stamp.ensures c.in_ok-put_stamp-2.ensures e) c.put_frame.ensures
