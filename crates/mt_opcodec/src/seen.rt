@@ -11,6 +11,7 @@ ghost use Rattle.mt_opcodec.specs.Runs.{run_ops};
 ghost use Rattle.mt_opcodec.specs.Seen.{AreSeen, seen_after};
 ghost use Rattle.mt_opcodec.specs.Union.{AllAgree, FirstClash};
 
+use crate::agreeing::all_agree;
 use crate::log::Log;
 use crate::run::Run;
 use mt_op::Op;
@@ -93,6 +94,9 @@ pub(crate) fn first_clash<A: Allocator, B: Allocator + Clone>(
 ) -> Result<Option<Dot>, AllocError>
     ensures { IfOk result (λ dot. MatchOption dot (AllAgree logs.now) (FirstClash logs.now)) }
 {
+    if all_agree(&alloc, logs)? {
+        return Ok(None);
+    }
     let mut seen = BTreeMap::new(alloc);
     for log in logs {
         if let Some(dot) = first_other(&seen, log.runs()) {
