@@ -86,8 +86,8 @@ fn note_runs<'a, A: Allocator, B: Allocator + Clone>(
     Ok(())
 }
 
-// The first dot at which one of the logs clashes with those before it, or none where all agree. Takes memory for a reference to
-// each operation; its time is n log n for n of them, however many logs there are.
+// The first dot at which one of the logs clashes with those before it, or none where all agree, which is seen first. Only where
+// they do not, it takes a map of references to all operations, to see which clash is the first: n log n for n of them.
 pub(crate) fn first_clash<A: Allocator, B: Allocator + Clone>(
     alloc: B,
     logs: &[Log<A>],
