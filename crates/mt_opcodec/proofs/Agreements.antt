@@ -17,10 +17,10 @@ in_first x y o e = subst (λ (z : Option Operation). cond (is_some z) z y ≡ So
 in_second : (x y : Option Operation) → x ≡ None → cond (is_some x) x y ≡ y
 in_second x y e = subst (λ (z : Option Operation). cond (is_some z) z y ≡ y) (sym e) refl
 
-of_first : (a b c : LogMap) → Agree (union a b) c → Agree a c
+pub of_first : (a b c : LogMap) → Agree (union a b) c → Agree a c
 of_first a b c h dot o p at_a at_c = h dot o p (get-union a b dot ∙ in_first (fin.get a dot) (fin.get b dot) o at_a) at_c
 
-of_second : (a b c : LogMap) → Agree a b → Agree (union a b) c → Agree b c
+pub of_second : (a b c : LogMap) → Agree a b → Agree (union a b) c → Agree b c
 of_second a b c ab h dot o p at_b at_c = by (fin.get a dot) refl
   where
     by : (x : Option Operation) → fin.get a dot ≡ x → o ≡ p

@@ -48,7 +48,7 @@ one_failed all log rest logs h faults.Trailing f = absurd f
 
 -- ---- in pairs
 
-none_first : (a : LogMap) → union fin.empty a ≡ a
+pub none_first : (a : LogMap) → union fin.empty a ≡ a
 none_first a = same_log (union fin.empty a) a (λ dot. get-union fin.empty a dot ∙ ap (λ (x : Option Operation). cond (is_some x) x (fin.get a dot)) (fin.get-empty dot_cmp dot))
 
 or_none : (x : Option Operation) → cond (is_some x) x None ≡ x
@@ -64,7 +64,7 @@ joined_from a (b ∷ logs) =
     joined_from (union a b) logs ∙ union_is_union.associative a b (union_all logs)
     ∙ ap (union a) (sym (ap (λ (m : LogMap). union_from m logs) (none_first b) ∙ joined_from b logs))
 
-first_apart : (a : LogMap) (logs : List LogMap) → union_all (a ∷ logs) ≡ union a (union_all logs)
+pub first_apart : (a : LogMap) (logs : List LogMap) → union_all (a ∷ logs) ≡ union a (union_all logs)
 first_apart a logs = ap (λ (m : LogMap). union_from m logs) (none_first a) ∙ joined_from a logs
 
 last_apart : (logs : List LogMap) (a : LogMap) → union_all (logs ++ a ∷ []) ≡ union (union_all logs) a
@@ -75,7 +75,7 @@ last_apart (b ∷ logs) a =
 with_nothing : (a : LogMap) → Agree a fin.empty
 with_nothing a dot o p at none = absurd (none-some p (sym (fin.get-empty dot_cmp dot) ∙ none))
 
-with_all : (a : LogMap) (logs : List LogMap) → AllByRecursion (Agree a) logs → Agree a (union_all logs)
+pub with_all : (a : LogMap) (logs : List LogMap) → AllByRecursion (Agree a) logs → Agree a (union_all logs)
 with_all a [] all = with_nothing a
 with_all a (b ∷ logs) all = subst (Agree a) (sym (first_apart b logs)) (flip (union b (union_all logs)) a (of_both b (union_all logs) a (flip a b all.0) (flip a (union_all logs) (with_all a logs all.1))))
 

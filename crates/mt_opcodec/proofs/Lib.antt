@@ -34,3 +34,4 @@ pub mod RunLogs
 pub mod Refs
 pub mod JoiningAll
 pub mod Seeing
+pub mod SeenRefs

@@ -66,7 +66,8 @@ impl<A: Allocator + Clone> Log<A> {
     /// `Memory` (0) where a growth was refused; all are then dropped.
     ///
     /// Eight logs or fewer are joined one after another. Of more it is first seen whether they agree, which takes memory
-    /// for a reference to each operation, and then they are joined in pairs: n operations in k logs cost n log n and n log k moves.
+    /// for two references to each operation, and then they are joined in pairs: n operations in k logs cost n log k looks and
+    /// as many moves, and n log n looks in a map of references more where they do not agree.
     pub fn join_all(alloc: A, logs: Vec<Log<A>, A>) -> Result<Log<A>, LogFault>
         ensures ok { IfOk result (λ all. AllAgree logs.items × (all ≡ union_all logs.items)) }
         ensures err { IfErr result (JoinAllFails logs.items) }

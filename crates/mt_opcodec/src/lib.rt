@@ -23,6 +23,7 @@
 //! dot, and the 32 bytes of the SHA-256 of all that stands before it.
 #![tactic(auto)]
 
+mod agreeing;
 mod clash;
 mod copy;
 mod fault;

@@ -11,6 +11,7 @@ ghost use Rattle.mt_opcodec.specs.Runs.{run_ops};
 ghost use Rattle.mt_opcodec.specs.Seen.{AreSeen, seen_after};
 ghost use Rattle.mt_opcodec.specs.Union.{AllAgree, FirstClash};
 
+use crate::agreeing::all_agree;
 use crate::log::Log;
 use crate::run::Run;
 use mt_op::Op;
@@ -85,14 +86,17 @@ fn note_runs<'a, A: Allocator, B: Allocator + Clone>(
     Ok(())
 }
 
-// The first dot at which one of the logs clashes with those before it, or none where all agree. Takes memory for a reference to
-// each operation; its time is n log n for n of them, however many logs there are.
+// The first dot at which one of the logs clashes with those before it, or none where all agree, which is seen first. Only where
+// they do not, it takes a map of references to all operations, to see which clash is the first: n log n for n of them.
 pub(crate) fn first_clash<A: Allocator, B: Allocator + Clone>(
     alloc: B,
     logs: &[Log<A>],
 ) -> Result<Option<Dot>, AllocError>
     ensures { IfOk result (λ dot. MatchOption dot (AllAgree logs.now) (FirstClash logs.now)) }
 {
+    if all_agree(&alloc, logs)? {
+        return Ok(None);
+    }
     let mut seen = BTreeMap::new(alloc);
     for log in logs {
         if let Some(dot) = first_other(&seen, log.runs()) {
