@@ -7,7 +7,7 @@ use Rattle.mt_op.specs.Operation.{Operation}
 use Rattle.mt_op.specs.Dots.{entry_of, op_dot, dots_rise}
 use Rattle.mt_op.specs.Valid.{IsOperation}
 use Rattle.mt_opcodec.specs.declared.fault.LogFault.{LogFault}
-use Rattle.mt_opcodec.specs.declared.fault.LogFault.TheVariants.{Memory, BadMagic, BadVersion, Damaged, BadRecord, OutOfOrder, Trailing, Conflict}
+use Rattle.mt_opcodec.specs.declared.fault.LogFault.TheVariants.{Memory, Conflict}
 
 -- a consistent set of operations: no two of them have one dot
 abbrev pub LogMap : Type 0
@@ -32,9 +32,4 @@ Adds op log (Ok true) = map.get log (op_dot op) ≡ None
 Adds op log (Ok false) = map.get log (op_dot op) ≡ Some op
 Adds op log (Err Memory) = map.get log (op_dot op) ≡ None
 Adds op log (Err (Conflict dot)) = (dot ≡ op_dot op) × ((other : Operation) × ((map.get log dot ≡ Some other) × (other ≢ op)))
-Adds op log (Err BadMagic) = ⊥
-Adds op log (Err BadVersion) = ⊥
-Adds op log (Err Damaged) = ⊥
-Adds op log (Err (BadRecord index cause)) = ⊥
-Adds op log (Err (OutOfOrder index)) = ⊥
-Adds op log (Err Trailing) = ⊥
+Adds op log (Err _) = ⊥

@@ -8,7 +8,7 @@ use Rattle.mt_stamp.specs.Moment.{dot_cmp}
 use Rattle.mt_op.specs.Operation.{Operation}
 use Rattle.mt_opcodec.specs.LogValue.{LogMap}
 use Rattle.mt_opcodec.specs.declared.fault.LogFault.{LogFault}
-use Rattle.mt_opcodec.specs.declared.fault.LogFault.TheVariants.{Memory, BadMagic, BadVersion, Damaged, BadRecord, OutOfOrder, Trailing, Conflict}
+use Rattle.mt_opcodec.specs.declared.fault.LogFault.TheVariants.{Memory, Conflict}
 
 -- Two logs clash at a dot that names an operation in one and another operation in the other.
 abbrev pub ClashesAt : LogMap → LogMap → Dot → Type 0
@@ -31,12 +31,7 @@ union a b = map.from_entries {R = dot_cmp} (map.entries a ++ map.entries b)
 abbrev pub MergeFails : LogMap → LogMap → LogFault → Type 0
 MergeFails a b Memory = Unit {0}
 MergeFails a b (Conflict dot) = IsFirstClash a b dot
-MergeFails a b BadMagic = ⊥
-MergeFails a b BadVersion = ⊥
-MergeFails a b Damaged = ⊥
-MergeFails a b (BadRecord index cause) = ⊥
-MergeFails a b (OutOfOrder index) = ⊥
-MergeFails a b Trailing = ⊥
+MergeFails a b _ = ⊥
 
 -- the operations of a log and of the logs that follow it
 abbrev pub union_from : LogMap → List LogMap → LogMap

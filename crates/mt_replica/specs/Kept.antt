@@ -17,7 +17,7 @@ use Rattle.mt_replica.specs.Edit.{Edit}
 use Rattle.mt_replica.specs.Made.{made}
 use Rattle.mt_replica.specs.Joins.{joins_of, raised}
 use Rattle.mt_replica.specs.declared.fault.EditorFault.{EditorFault}
-use Rattle.mt_replica.specs.declared.fault.EditorFault.TheVariants.{Memory, Failed, Conflict, ZeroLength, NoSuchItem, Absent, TooManyTags, ClockFull, SeqFull}
+use Rattle.mt_replica.specs.declared.fault.EditorFault.TheVariants.{Memory, Failed, Conflict}
 use Rattle.mt_replica.specs.declared.taken.Taken.{Taken}
 use Rattle.mt_replica.specs.declared.taken.Taken.TheVariants.{Already, Held, Applied}
 
@@ -94,13 +94,7 @@ TakeOf log op (Ok Held) = (map.get log (op_dot op) ≡ None) × (is_ready_in log
 TakeOf log op (Ok (Applied stamps)) = (map.get log (op_dot op) ≡ None) × ((is_ready_in log op ≡ true) × (stamps ≡ newly_ready log op))
 TakeOf log op (Err (Conflict dot)) = (dot ≡ op_dot op) × ((other : Operation) × ((map.get log dot ≡ Some other) × (other ≢ op)))
 TakeOf log op (Err Memory) = map.get log (op_dot op) ≡ None
-TakeOf log op (Err Failed) = ⊥
-TakeOf log op (Err ZeroLength) = ⊥
-TakeOf log op (Err (NoSuchItem item)) = ⊥
-TakeOf log op (Err (Absent item)) = ⊥
-TakeOf log op (Err TooManyTags) = ⊥
-TakeOf log op (Err ClockFull) = ⊥
-TakeOf log op (Err SeqFull) = ⊥
+TakeOf log op (Err _) = ⊥
 
 abbrev pub TakeGives : {A : Type 0} → Option LogMap → Operation → Result (Taken A) EditorFault → Type 0
 TakeGives None op result = result ≡ Err Failed

@@ -56,12 +56,7 @@ NotBegun log written written' (Err (fault.Talk Memory)) = written' ≡ written
 NotBegun log written written' (Err (fault.Talk Failed)) = (log ≡ None) × (written' ≡ written)
 NotBegun log written written' (Err (fault.Talk FrameTooLong)) = (set : LogMap) × ((log ≡ Some set) × ((can_say (summary_of set) ≡ false) × (written' ≡ written)))
 NotBegun log written written' (Err fault.Write) = (set : LogMap) × ((log ≡ Some set) × AppendsPrefix written written' (frame_text (have_text (summary_of set))))
-NotBegun log written written' (Err (fault.Talk (Conflict dot))) = ⊥
-NotBegun log written written' (Err (fault.Talk BadMessage)) = ⊥
-NotBegun log written written' (Err (fault.Talk OutOfTurn)) = ⊥
-NotBegun log written written' (Err fault.Read) = ⊥
-NotBegun log written written' (Err fault.Ended) = ⊥
-NotBegun log written written' (Ok _) = ⊥
+NotBegun log written written' _ = ⊥
 
 -- what the beginning of a caller answers
 abbrev pub BeginsWith : {X : Type 0} → (X → Talking) → Option LogMap → Option (List ℕ) → Option (List ℕ) → Result X SyncFault → Type 0
@@ -82,8 +77,7 @@ abbrev pub TakesAll : Told → Result (Unit {0}) SyncFault → Option LogMap →
 TakesAll t (Ok _) new = (t.0.turn ≡ ended) × (t.0.set ≡ new)
 TakesAll t (Err (fault.Talk by)) new = StopsBy t.0 new by
 TakesAll t (Err fault.Ended) new = IsOpen t.0.turn × (t.0.set ≡ new)
-TakesAll t (Err fault.Read) new = ⊥
-TakesAll t (Err fault.Write) new = ⊥
+TakesAll t (Err _) new = ⊥
 
 -- the one Have that bytes are
 abbrev pub asked_in : Option Message → Option Summary

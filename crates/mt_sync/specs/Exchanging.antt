@@ -5,7 +5,7 @@ use Rattle.mt_opcodec.specs.LogValue.{LogMap, AreLogged}
 use Rattle.mt_opcodec.specs.Union.{union}
 use Rattle.mt_summary.specs.Summary.{summary_of}
 use Rattle.mt_sync.specs.declared.fault.TalkFault.{TalkFault}
-use Rattle.mt_sync.specs.declared.fault.TalkFault.TheVariants.{Memory, Conflict, Failed, BadMessage, OutOfTurn, FrameTooLong}
+use Rattle.mt_sync.specs.declared.fault.TalkFault.TheVariants.{Memory, Failed, FrameTooLong}
 use Rattle.mt_sync.specs.Conversation.{can_say, joined}
 
 -- where memory ran out: as it was, with all that it lacked, or failed
@@ -18,10 +18,7 @@ abbrev pub ExchangesSets : LogMap → LogMap → Result (Unit {0}) TalkFault →
 ExchangesSets a b (Ok _) a' b' = ((can_say (summary_of a) ≡ true) × (can_say (summary_of b) ≡ true)) × ((a' ≡ Some (union a b)) × (b' ≡ Some (union b a)))
 ExchangesSets a b (Err FrameTooLong) a' b' = ((can_say (summary_of a) ≡ false) ⊎ (can_say (summary_of b) ≡ false)) × ((a' ≡ Some a) × (b' ≡ Some b))
 ExchangesSets a b (Err Memory) a' b' = IsLeftOf a b a' × IsLeftOf b a b'
-ExchangesSets a b (Err (Conflict dot)) a' b' = ⊥
-ExchangesSets a b (Err Failed) a' b' = ⊥
-ExchangesSets a b (Err BadMessage) a' b' = ⊥
-ExchangesSets a b (Err OutOfTurn) a' b' = ⊥
+ExchangesSets a b (Err _) a' b' = ⊥
 
 -- the same, of editors of which one may have failed: then nothing changes
 abbrev pub Exchanges : Option LogMap → Option LogMap → Result (Unit {0}) TalkFault → Option LogMap → Option LogMap → Type 0
@@ -39,10 +36,7 @@ abbrev pub FindsMissing : {X : Type 0} → (X → List Operation) → LogMap →
 FindsMissing view own other (Ok x) = (can_say (summary_of own) ≡ true) × IsMissing own other (view x)
 FindsMissing view own other (Err Memory) = Unit {0}
 FindsMissing view own other (Err FrameTooLong) = can_say (summary_of own) ≡ false
-FindsMissing view own other (Err (Conflict dot)) = ⊥
-FindsMissing view own other (Err Failed) = ⊥
-FindsMissing view own other (Err BadMessage) = ⊥
-FindsMissing view own other (Err OutOfTurn) = ⊥
+FindsMissing view own other (Err _) = ⊥
 
 abbrev pub FindsLacking : {X : Type 0} → (X → List Operation) → Option LogMap → Option LogMap → Result X TalkFault → Type 0
 FindsLacking view None other result = result ≡ Err Failed

@@ -23,21 +23,16 @@ turn_of (kept.Stopped fault) = stopped fault
 abbrev pub IsOpen : Turn → Type 0
 IsOpen (greets side) = Unit {0}
 IsOpen (takes owed) = Unit {0}
-IsOpen ended = ⊥
-IsOpen (stopped fault) = ⊥
+IsOpen _ = ⊥
 
 -- it has met no fault
 abbrev pub IsGoing : Turn → Type 0
-IsGoing (greets side) = Unit {0}
-IsGoing (takes owed) = Unit {0}
-IsGoing ended = Unit {0}
 IsGoing (stopped fault) = ⊥
+IsGoing _ = Unit {0}
 
 abbrev pub HasStopped : Turn → Type 0
-HasStopped (greets side) = ⊥
-HasStopped (takes owed) = ⊥
-HasStopped ended = ⊥
 HasStopped (stopped fault) = Unit {0}
+HasStopped _ = ⊥
 
 abbrev pub IsFaultOf : FrameFault → TalkFault → Type 0
 IsFaultOf frame.Memory fault = fault ≡ Memory
@@ -120,10 +115,7 @@ abbrev pub Says : Bool → Result (Unit {0}) TalkFault → List ℕ → List ℕ
 Says says (Ok _) text old new = (says ≡ true) × (new ≡ old ++ text)
 Says says (Err Memory) text old new = Unit {0}
 Says says (Err FrameTooLong) text old new = says ≡ false
-Says says (Err (Conflict dot)) text old new = ⊥
-Says says (Err Failed) text old new = ⊥
-Says says (Err BadMessage) text old new = ⊥
-Says says (Err OutOfTurn) text old new = ⊥
+Says says (Err _) text old new = ⊥
 
 -- the same as `Hears`, of replies that are given
 abbrev pub HearsAll : {X : Type 0} → (X → List ℕ) → Told → Result X TalkFault → Turn → List ℕ → Option LogMap → Type 0
@@ -140,10 +132,7 @@ abbrev pub CallsFrom : {X : Type 0} → (X → Talking) → (X → List ℕ) →
 CallsFrom talk bytes set (Ok x) = (talk x ≡ record { turn = greets Caller; rest = [] }) × (can_say (summary_of set) ≡ true) × (bytes x ≡ frame_text (have_text (summary_of set)))
 CallsFrom talk bytes set (Err Memory) = Unit {0}
 CallsFrom talk bytes set (Err FrameTooLong) = can_say (summary_of set) ≡ false
-CallsFrom talk bytes set (Err (Conflict dot)) = ⊥
-CallsFrom talk bytes set (Err Failed) = ⊥
-CallsFrom talk bytes set (Err BadMessage) = ⊥
-CallsFrom talk bytes set (Err OutOfTurn) = ⊥
+CallsFrom talk bytes set (Err _) = ⊥
 
 abbrev pub Calls : {X : Type 0} → (X → Talking) → (X → List ℕ) → Option LogMap → Result X TalkFault → Type 0
 Calls talk bytes None result = result ≡ Err Failed

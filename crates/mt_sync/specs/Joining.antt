@@ -6,36 +6,27 @@ use Rattle.mt_op.specs.Operation.{Operation}
 use Rattle.mt_op.specs.Dots.{op_dot}
 use Rattle.mt_opcodec.specs.LogValue.{LogMap}
 use Rattle.mt_sync.specs.declared.fault.TalkFault.{TalkFault}
-use Rattle.mt_sync.specs.declared.fault.TalkFault.TheVariants.{Memory, Conflict, Failed, BadMessage, OutOfTurn, FrameTooLong}
+use Rattle.mt_sync.specs.declared.fault.TalkFault.TheVariants.{Memory, Conflict, Failed}
 use Rattle.mt_sync.specs.Conversation.{clashes, with_op, joined}
 
 abbrev pub JoinsOne : LogMap → Operation → Result (Unit {0}) TalkFault → LogMap → Type 0
 JoinsOne set o (Ok _) new = (clashes (map.get set (op_dot o)) o ≡ false) × (new ≡ with_op set o)
 JoinsOne set o (Err Memory) new = new ≡ set
 JoinsOne set o (Err (Conflict dot)) new = (clashes (map.get set (op_dot o)) o ≡ true) × (dot ≡ op_dot o) × (new ≡ set)
-JoinsOne set o (Err Failed) new = ⊥
-JoinsOne set o (Err BadMessage) new = ⊥
-JoinsOne set o (Err OutOfTurn) new = ⊥
-JoinsOne set o (Err FrameTooLong) new = ⊥
+JoinsOne set o (Err _) new = ⊥
 
 abbrev pub Joins : LogMap × Option Dot → Result (Unit {0}) TalkFault → LogMap → Type 0
 Joins j (Ok _) new = j ≡ (new, None)
 Joins j (Err Memory) new = Unit {0}
 Joins j (Err (Conflict dot)) new = j ≡ (new, Some dot)
-Joins j (Err Failed) new = ⊥
-Joins j (Err BadMessage) new = ⊥
-Joins j (Err OutOfTurn) new = ⊥
-Joins j (Err FrameTooLong) new = ⊥
+Joins j (Err _) new = ⊥
 
 -- the same, of the set of an editor, which does not change where memory runs out
 abbrev pub JoinsSet : LogMap × Option Dot → LogMap → Result (Unit {0}) TalkFault → Option LogMap → Type 0
 JoinsSet j set (Ok _) new = (j.1 ≡ None) × (new ≡ Some j.0)
 JoinsSet j set (Err Memory) new = new ≡ Some set
 JoinsSet j set (Err (Conflict dot)) new = (j.1 ≡ Some dot) × (new ≡ Some j.0)
-JoinsSet j set (Err Failed) new = ⊥
-JoinsSet j set (Err BadMessage) new = ⊥
-JoinsSet j set (Err OutOfTurn) new = ⊥
-JoinsSet j set (Err FrameTooLong) new = ⊥
+JoinsSet j set (Err _) new = ⊥
 
 abbrev pub JoinsIn : Option LogMap → List Operation → Result (Unit {0}) TalkFault → Option LogMap → Type 0
 JoinsIn None list result new = (result ≡ Err Failed) × (new ≡ None)

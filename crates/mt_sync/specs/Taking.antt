@@ -4,7 +4,7 @@ use Rattle.mt_stamp.specs.declared.name.Dot.{Dot}
 use Rattle.mt_op.specs.Operation.{Operation}
 use Rattle.mt_opcodec.specs.LogValue.{LogMap}
 use Rattle.mt_sync.specs.declared.fault.TalkFault.{TalkFault}
-use Rattle.mt_sync.specs.declared.fault.TalkFault.TheVariants.{Memory, Conflict, Failed, BadMessage, OutOfTurn, FrameTooLong}
+use Rattle.mt_sync.specs.declared.fault.TalkFault.TheVariants.{Memory, Conflict, Failed}
 use Rattle.mt_sync.specs.Conversation.{joined}
 
 -- they have joined the set, or those before the first clash have; where memory ran out the editor has failed
@@ -12,10 +12,7 @@ abbrev pub TakesSet : LogMap × Option Dot → Result (Unit {0}) TalkFault → O
 TakesSet j (Ok _) new = (j.1 ≡ None) × (new ≡ Some j.0)
 TakesSet j (Err Memory) new = new ≡ None
 TakesSet j (Err (Conflict dot)) new = (j.1 ≡ Some dot) × (new ≡ Some j.0)
-TakesSet j (Err Failed) new = ⊥
-TakesSet j (Err BadMessage) new = ⊥
-TakesSet j (Err OutOfTurn) new = ⊥
-TakesSet j (Err FrameTooLong) new = ⊥
+TakesSet j (Err _) new = ⊥
 
 abbrev pub TakesIn : Option LogMap → List Operation → Result (Unit {0}) TalkFault → Option LogMap → Type 0
 TakesIn None list result new = (result ≡ Err Failed) × (new ≡ None)
