@@ -54,8 +54,6 @@ mod place;
 mod read;
 mod session;
 mod subject;
-#[cfg(test)]
-mod tests;
 mod track;
 
 pub use before::Stood;

@@ -5,8 +5,8 @@ ghost use Rattle.mt_items.specs.Noting.{AreNoted, MayFollow, is_noted};
 ghost use Rattle.mt_mending.specs.Mending.{session_in};
 ghost use Rattle.mt_mending.specs.Before.{ArePlacesOf};
 
-use crate::{add_place, mend, stood, subject_of};
 use mt_items::Items;
+use mt_mending::{add_place, mend, stood, subject_of};
 use mt_op::{Body, Digest, Gain, Op, Title};
 use mt_opcodec::Log;
 use mt_sessionview::{Session, SessionFault, from_scratch};

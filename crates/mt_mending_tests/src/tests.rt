@@ -5,8 +5,8 @@ ghost use Rattle.mt_sessionview.specs.Noted.{markers_in};
 mod clips;
 mod session;
 
-use crate::{laws, marker_position, mend_markers, subject_of};
 use mt_items::Items;
+use mt_mending::{laws, marker_position, mend_markers, subject_of};
 use mt_op::{Body, Op, Title};
 use mt_opcodec::Log;
 use mt_sessionview::{Session, SessionFault, from_scratch};

@@ -3,8 +3,8 @@ ghost use Rattle.std.specs.List.{cons_option};
 ghost use Rattle.mt_items.specs.Noting.{AreNoted, MayFollow};
 ghost use Rattle.mt_sessionview.specs.Noted.{tracks_in};
 
-use crate::{mend_clips, placed_clip, subject_of, whole_track};
 use mt_items::Items;
+use mt_mending::{mend_clips, placed_clip, subject_of, whole_track};
 use mt_op::{Body, Digest, Need, Op, Role, Title};
 use mt_opcodec::Log;
 use mt_sessionview::{Session, SessionFault, TrackView, from_scratch};

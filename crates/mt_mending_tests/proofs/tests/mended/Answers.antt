@@ -3,7 +3,7 @@ use Rattle.std.specs.BTreeSet.{contains}
 use Rattle.mt_stamp.specs.Moment.{stamp_cmp, stamp_eq}
 use Rattle.mt_items.specs.Noting.{is_noted}
 use Rattle.mt_items.proofs.Fresh.{one_more_known}
-use Rattle.mt_mending.proofs.tests.mended.Goals as goal
+use Rattle.mt_mending_tests.proofs.tests.mended.Goals as goal
 
 pub note_next-requires-clause-follows : goal.note_next-requires-clause-follows
 note_next-requires-clause-follows g c =

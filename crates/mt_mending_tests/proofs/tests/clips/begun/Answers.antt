@@ -8,7 +8,7 @@ use Rattle.mt_sessionview.specs.Noted.{tracks_in}
 use Rattle.mt_sessionview.specs.Changing.{put}
 use Rattle.mt_mending.specs.Mending.{subject_of, track_entry, track_order}
 use Rattle.mt_mending.proofs.Tracks.{tracks_are_mended}
-use Rattle.mt_mending.proofs.tests.clips.begun.Goals as goal
+use Rattle.mt_mending_tests.proofs.tests.clips.begun.Goals as goal
 
 -- the tracks of one operation are that of its item, if there is one
 first_track : (ops : List Operation) (o : Operation) (item : Moment) → ops ≡ o ∷ [] → AreNoted ops → item ≡ subject_of o → cons_option (track_entry ops item) [] ≡ tracks_in ops
