@@ -14,6 +14,7 @@ use Rattle.sha2.proofs.Facts256.{length-sha256}
 use Rattle.mt_stamp.specs.declared.name.Dot.{Dot}
 use Rattle.mt_stamp.specs.Moment.{dot_cmp}
 use Rattle.mt_stamp.proofs.Order.{dot_cmp_total}
+use Rattle.mt_op.specs.Rising.{is_after}
 use Rattle.mt_op.specs.Operation.{Operation}
 use Rattle.mt_op.specs.Dots.{op_dot, entry_of, dots_rise}
 use Rattle.mt_op.specs.Valid.{IsOperation}
@@ -25,7 +26,7 @@ use Rattle.mt_opcodec.specs.declared.fault.LogFault.TheVariants.{BadMagic, BadVe
 use Rattle.mt_opcodec.specs.OpText.{op_text}
 use Rattle.mt_opcodec.specs.OpReading.{op_at}
 use Rattle.mt_opcodec.specs.LogText.{magic, version, log_head, log_body, log_text}
-use Rattle.mt_opcodec.specs.LogReading.{◌>>=◌, is_after, record_of, records_at, head_len, digest_len, body_of, is_sealed, sealed_at, counted_at, log_at, LogFails, LogGives}
+use Rattle.mt_opcodec.specs.LogReading.{◌>>=◌, record_of, records_at, head_len, digest_len, body_of, is_sealed, sealed_at, counted_at, log_at, LogFails, LogGives}
 use Rattle.mt_opcodec.specs.LogValue.{AreLogged}
 use Rattle.mt_opcodec.proofs.Fields.{IsBytes, IsBytes-take, IsBytes-drop, wide64}
 use Rattle.mt_opcodec.proofs.Operations.{op_takes, op_again}
@@ -41,7 +42,7 @@ bind_ok (Err d) f y e = absurd cc
 
 abbrev pub Chain : Option Dot → List Operation → Type 0
 Chain last [] = Unit {0}
-Chain last (o ∷ ops) = IsTrue (is_after last (op_dot o)) × Chain (Some (op_dot o)) ops
+Chain last (o ∷ ops) = IsTrue (is_after dot_cmp last (op_dot o)) × Chain (Some (op_dot o)) ops
 
 less : (o : Ordering) → is_lt o ≡ true → o ≡ Less
 less Less e = refl
@@ -70,23 +71,23 @@ chain_rises last (o ∷ ops) h =
     let others : dots_rise ops ≡ true = chain_rises (Some (op_dot o)) ops h.1 in
     rw (first, others) refl
 
-pub rises_chain : (last : Option Dot) (ops : List Operation) → IsTrue (dots_rise ops) → ((o : Operation) (rest : List Operation) → ops ≡ o ∷ rest → IsTrue (is_after last (op_dot o))) → Chain last ops
+pub rises_chain : (last : Option Dot) (ops : List Operation) → IsTrue (dots_rise ops) → ((o : Operation) (rest : List Operation) → ops ≡ o ∷ rest → IsTrue (is_after dot_cmp last (op_dot o))) → Chain last ops
 rises_chain last [] rise first = tt
 rises_chain last (o ∷ ops) rise first = (first o ops refl, rises_chain (Some (op_dot o)) ops (and_second _ _ rise) (next ops (and_first _ _ rise)))
   where
-    next : (ops : List Operation) → below_all dot_cmp (op_dot o) (map entry_of ops) ≡ true → (p : Operation) (rest : List Operation) → ops ≡ p ∷ rest → IsTrue (is_after (Some (op_dot o)) (op_dot p))
+    next : (ops : List Operation) → below_all dot_cmp (op_dot o) (map entry_of ops) ≡ true → (p : Operation) (rest : List Operation) → ops ≡ p ∷ rest → IsTrue (is_after dot_cmp (Some (op_dot o)) (op_dot p))
     next ops b p rest is = and_first _ _ (subst (λ (l : List Operation). below_all dot_cmp (op_dot o) (map entry_of l) ≡ true) is b)
 
 -- ---- records
 
-pub record_ok : (index : ℕ) (last : Option Dot) (r : Result (Operation × List ℕ) ReadFault) (x : Operation × List ℕ) → record_of index last r ≡ Ok x → (r ≡ Ok x) × IsTrue (is_after last (op_dot x.0))
-record_ok index last (Ok y) x e = step (is_after last (op_dot y.0)) refl
+pub record_ok : (index : ℕ) (last : Option Dot) (r : Result (Operation × List ℕ) ReadFault) (x : Operation × List ℕ) → record_of index last r ≡ Ok x → (r ≡ Ok x) × IsTrue (is_after dot_cmp last (op_dot x.0))
+record_ok index last (Ok y) x e = step (is_after dot_cmp last (op_dot y.0)) refl
   where
-    step : (b : Bool) → is_after last (op_dot y.0) ≡ b → ◌≡◌ {A = Result (Operation × List ℕ) ReadFault} (Ok y) (Ok x) × IsTrue (is_after last (op_dot x.0))
+    step : (b : Bool) → is_after dot_cmp last (op_dot y.0) ≡ b → ◌≡◌ {A = Result (Operation × List ℕ) ReadFault} (Ok y) (Ok x) × IsTrue (is_after dot_cmp last (op_dot x.0))
     step true is =
         let same : ◌≡◌ {A = Result (Operation × List ℕ) LogFault} (Ok y) (Ok x) = rw is at e in
         let is_x : y ≡ x = cc in
-        (ap (λ (z : Operation × List ℕ). Ok z) is_x, subst (λ (z : Operation × List ℕ). IsTrue (is_after last (op_dot z.0))) is_x is)
+        (ap (λ (z : Operation × List ℕ). Ok z) is_x, subst (λ (z : Operation × List ℕ). IsTrue (is_after dot_cmp last (op_dot z.0))) is_x is)
     step false is = let wrong : ◌≡◌ {A = Result (Operation × List ℕ) LogFault} (Err (OutOfOrder index)) (Ok x) = rw is at e in absurd cc
 record_ok index last (Err cause) x e = absurd cc
 

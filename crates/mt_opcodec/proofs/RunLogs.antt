@@ -12,10 +12,10 @@ use Rattle.mt_stamp.specs.declared.name.Dot.{Dot}
 use Rattle.mt_stamp.specs.declared.name.Replica.{Replica}
 use Rattle.mt_stamp.specs.Moment.{dot_cmp}
 use Rattle.mt_stamp.proofs.Order.{dot_cmp_total}
+use Rattle.mt_op.specs.Rising.{is_after}
 use Rattle.mt_op.specs.Operation.{Operation}
 use Rattle.mt_op.specs.Dots.{op_dot, dots_rise, IsGapFor}
 use Rattle.mt_op.proofs.Dots.{dots_rise-at}
-use Rattle.mt_opcodec.specs.LogReading.{is_after}
 use Rattle.mt_opcodec.specs.LogText.{op_texts}
 use Rattle.mt_opcodec.specs.LogValue.{LogMap, operations, log_of, AreLogged, Adds}
 use Rattle.mt_opcodec.specs.Runs.{RunOf, IsRun, AreAbove, RunsRise, AreRuns, run_ops}
@@ -60,7 +60,7 @@ module _ (log : LogMap) (o : Operation) (logged : AreLogged (operations log)) (w
 
 -- a dot that is greater than the last is greater than all
 abbrev pub EndsAt : Option Dot → List Operation → Type 0
-EndsAt last ops = (q : Dot) → is_after last q ≡ true → AllByRecursion (λ (o : Operation). dot_cmp (op_dot o) q ≡ Less) ops
+EndsAt last ops = (q : Dot) → is_after dot_cmp last q ≡ true → AllByRecursion (λ (o : Operation). dot_cmp (op_dot o) q ≡ Less) ops
 
 pub ends_at_none : EndsAt None (operations fin.empty)
 ends_at_none q after = subst (AllByRecursion (λ (o : Operation). dot_cmp (op_dot o) q ≡ Less)) (sym no_operations) tt
@@ -69,7 +69,7 @@ all_and_one : (q : Dot) (o : Operation) (ops : List Operation) → AllByRecursio
 all_and_one q o [] all less = (less, tt)
 all_and_one q o (p ∷ ops) all less = (dot_cmp_total.trans (op_dot p) (op_dot o) q all.0 less, all_and_one q o ops all.1 less)
 
-pub ends_at_more : (last : Option Dot) (ops new : List Operation) (o : Operation) (dot : Dot) → EndsAt last ops → is_after last (op_dot o) ≡ true → new ≡ ops ++ (o ∷ []) → dot ≡ op_dot o → EndsAt (Some dot) new
+pub ends_at_more : (last : Option Dot) (ops new : List Operation) (o : Operation) (dot : Dot) → EndsAt last ops → is_after dot_cmp last (op_dot o) ≡ true → new ≡ ops ++ (o ∷ []) → dot ≡ op_dot o → EndsAt (Some dot) new
 ends_at_more last ops new o dot ends after more same q greater =
     let less : dot_cmp (op_dot o) q ≡ Less = is_less _ (subst (λ (d : Dot). is_lt (dot_cmp d q) ≡ true) same greater) in
     subst (AllByRecursion (λ (p : Operation). dot_cmp (op_dot p) q ≡ Less)) (sym more) (all_and_one q o ops (ends (op_dot o) after) less)
@@ -79,7 +79,7 @@ all_at q [] all k p e = absurd (none-some p e)
 all_at q (x ∷ ops) all zero p e = subst (λ (y : Operation). dot_cmp (op_dot y) q ≡ Less) (same_Some x p e) all.0
 all_at q (x ∷ ops) all (suc k) p e = all_at q ops all.1 k p e
 
-pub gap_after : (last : Option Dot) (ops : List Operation) (o : Operation) → EndsAt last ops → is_after last (op_dot o) ≡ true → IsGapFor ops (op_dot o) (length ops)
+pub gap_after : (last : Option Dot) (ops : List Operation) (o : Operation) → EndsAt last ops → is_after dot_cmp last (op_dot o) ≡ true → IsGapFor ops (op_dot o) (length ops)
 gap_after last ops o ends after = record {
   in_range = omega arith;
   smaller_before = λ k p lt e. all_at (op_dot o) ops (ends (op_dot o) after) k p e;

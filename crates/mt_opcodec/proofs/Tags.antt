@@ -4,8 +4,9 @@ use Rattle.std.specs.Int.{w16, to_be_bytes}
 use Rattle.std.specs.List.{flat_map, list_all, AllByRecursion}
 use Rattle.std.proofs.lemmas.Bool.{le-leb, leb-true, eqb-false, ne_eqb}
 use Rattle.std.proofs.lemmas.List.{append-nil}
-use Rattle.mt_stamp.specs.Moment.{Moment, IsMoment}
-use Rattle.mt_op.specs.Tags.{is_after, rises_from, stamps_rise, greatest_tag_count, are_tags}
+use Rattle.mt_stamp.specs.Moment.{Moment, IsMoment, stamp_cmp}
+use Rattle.mt_op.specs.Rising.{is_after, rises_from}
+use Rattle.mt_op.specs.Tags.{stamps_rise, greatest_tag_count, are_tags}
 use Rattle.mt_op.proofs.Needs.{and_first, and_second}
 use Rattle.mt_opcodec.specs.declared.fault.ReadFault.{ReadFault}
 use Rattle.mt_opcodec.specs.declared.fault.ReadFault.TheVariants.{BadField}
@@ -22,15 +23,15 @@ are_older clock tags = list_all (λ (tag : Moment). ltb tag.clock clock) tags
 -- ---- one tag
 
 tag_takes : (clock : ℕ) (last : Option Moment) (bytes : List ℕ) (x : Moment × List ℕ) → IsBytes bytes → tag_at clock last bytes ≡ Ok x
-    → Takes bytes (stamp_bytes x.0) x.1 × IsMoment x.0 × (ltb x.0.clock clock ≡ true) × (is_after last x.0 ≡ true)
+    → Takes bytes (stamp_bytes x.0) x.1 × IsMoment x.0 × (ltb x.0.clock clock ≡ true) × (is_after stamp_cmp last x.0 ≡ true)
 unfolding tag_at
 tag_takes clock last bytes x fits e =
     let a = bind_ok (older_stamp_at clock bytes) _ x e in
     let t = older_takes clock bytes a.0 fits a.1 in
-    let g = refuses_false (is_after last a.0.0) BadField a.0 x a.2 in
-    subst (λ (y : Moment × List ℕ). Takes bytes (stamp_bytes y.0) y.1 × IsMoment y.0 × (ltb y.0.clock clock ≡ true) × (is_after last y.0 ≡ true)) g.1 (t.0, t.1, t.2, g.0)
+    let g = refuses_false (is_after stamp_cmp last a.0.0) BadField a.0 x a.2 in
+    subst (λ (y : Moment × List ℕ). Takes bytes (stamp_bytes y.0) y.1 × IsMoment y.0 × (ltb y.0.clock clock ≡ true) × (is_after stamp_cmp last y.0 ≡ true)) g.1 (t.0, t.1, t.2, g.0)
 
-tag_again : (clock : ℕ) (last : Option Moment) (m : Moment) (rest : List ℕ) → IsMoment m → ltb m.clock clock ≡ true → is_after last m ≡ true → tag_at clock last (stamp_bytes m ++ rest) ≡ Ok (m, rest)
+tag_again : (clock : ℕ) (last : Option Moment) (m : Moment) (rest : List ℕ) → IsMoment m → ltb m.clock clock ≡ true → is_after stamp_cmp last m ≡ true → tag_at clock last (stamp_bytes m ++ rest) ≡ Ok (m, rest)
 unfolding tag_at
 tag_again clock last m rest is older after = rw (older_again clock m rest is older, after) refl
 
@@ -42,7 +43,7 @@ record Stamps (count clock : ℕ) (last : Option Moment) (bytes : List ℕ) (x :
   len : length x.0 ≡ count
   valid : AllByRecursion IsMoment x.0
   older : are_older clock x.0 ≡ true
-  rise : rises_from last x.0 ≡ true
+  rise : rises_from stamp_cmp last x.0 ≡ true
 
 stamps_takes : (count clock : ℕ) (last : Option Moment) (bytes : List ℕ) (x : List Moment × List ℕ) → IsBytes bytes → stamps_at count clock last bytes ≡ Ok x → Stamps count clock last bytes x
 unfolding stamps_at
@@ -57,10 +58,10 @@ stamps_takes (suc count) clock last bytes x fits e =
     let both = Takes-then bytes (stamp_bytes a.0.0) a.0.1 (flat_map stamp_bytes b.0.0) b.0.1 t.0 s.front in
     let made : List Moment × List ℕ = (a.0.0 ∷ b.0.0, b.0.1) in
     let older : are_older clock (a.0.0 ∷ b.0.0) ≡ true = rw (t.2, s.older) refl in
-    let rise : rises_from last (a.0.0 ∷ b.0.0) ≡ true = rw (t.3, s.rise) refl in
+    let rise : rises_from stamp_cmp last (a.0.0 ∷ b.0.0) ≡ true = rw (t.3, s.rise) refl in
     subst (Stamps (suc count) clock last bytes) (ok_is made x b.2) (record { front = both; len = ap suc s.len; valid = (t.1, s.valid); older = older; rise = rise })
 
-stamps_again : (clock : ℕ) (last : Option Moment) (tags : List Moment) (rest : List ℕ) → AllByRecursion IsMoment tags → are_older clock tags ≡ true → rises_from last tags ≡ true
+stamps_again : (clock : ℕ) (last : Option Moment) (tags : List Moment) (rest : List ℕ) → AllByRecursion IsMoment tags → are_older clock tags ≡ true → rises_from stamp_cmp last tags ≡ true
     → stamps_at (length tags) clock last (flat_map stamp_bytes tags ++ rest) ≡ Ok (tags, rest)
 unfolding stamps_at
 stamps_again clock last [] rest valid older rise = refl

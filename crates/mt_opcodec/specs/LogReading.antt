@@ -1,13 +1,13 @@
 -- Reading a log, with its refusals in their order (profile).
-use Rattle.std.specs.Prelude.{◌≡◌, ℕ, zero, suc, ◌+◌, ◌-◌, Bool, true, List, [], ◌∷◌, ◌++◌, length, take, drop, Option, Some, None, Result, Ok, Err, nat_lt, nat_eq, not, if◌then◌else◌}
+use Rattle.std.specs.Prelude.{◌≡◌, ℕ, zero, suc, ◌+◌, ◌-◌, Bool, List, [], ◌∷◌, ◌++◌, length, take, drop, Option, Some, None, Result, Ok, Err, nat_lt, nat_eq, not, if◌then◌else◌}
 use Rattle.std.specs.Int.{w64, from_be_bytes}
-use Rattle.std.specs.Ordering.{is_lt}
 use Rattle.std.specs.Cmp.Lexicographic.{pointwise}
 use Rattle.std.specs.List.{starts_with}
 use Rattle.sha2.specs.Sha256.{sha256}
 use Rattle.mt_stamp.specs.declared.name.Dot.{Dot}
 use Rattle.mt_stamp.specs.Moment.{dot_cmp}
 use Rattle.mt_op.specs.Operation.{Operation}
+use Rattle.mt_op.specs.Rising.{is_after}
 use Rattle.mt_op.specs.Dots.{op_dot}
 use Rattle.mt_opcodec.specs.declared.fault.ReadFault.{ReadFault}
 use Rattle.mt_opcodec.specs.declared.fault.ReadFault.TheVariants as read
@@ -16,11 +16,6 @@ use Rattle.mt_opcodec.specs.declared.fault.LogFault.TheVariants.{Memory, BadMagi
 use Rattle.mt_opcodec.specs.OpReading.{op_at}
 use Rattle.mt_opcodec.specs.LogText.{magic, version}
 
--- whether a dot is greater than the one before, if there is one
-abbrev pub is_after : Option Dot → Dot → Bool
-is_after None dot = true
-is_after (Some last) dot = is_lt (dot_cmp last dot)
-
 infixl 10 ◌>>=◌
 abbrev pub ◌>>=◌ : {A B : Type 0} → Result A LogFault → (A → Result B LogFault) → Result B LogFault
 (Ok x) >>= f = f x
@@ -28,7 +23,7 @@ abbrev pub ◌>>=◌ : {A B : Type 0} → Result A LogFault → (A → Result B 
 
 -- one operation after the dot `last`, as record `index`
 abbrev pub in_order : ℕ → Option Dot → Operation × List ℕ → Result (Operation × List ℕ) LogFault
-in_order index last x = if is_after last (op_dot x.0) then Ok x else Err (OutOfOrder index)
+in_order index last x = if is_after dot_cmp last (op_dot x.0) then Ok x else Err (OutOfOrder index)
 
 abbrev pub record_of : ℕ → Option Dot → Result (Operation × List ℕ) ReadFault → Result (Operation × List ℕ) LogFault
 record_of index last (Ok x) = in_order index last x

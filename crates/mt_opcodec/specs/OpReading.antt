@@ -1,9 +1,9 @@
 -- Reading an operation from left to right, field by field, with the first fault that is met (profile).
 use Rattle.std.specs.Prelude.{◌≡◌, ℕ, zero, suc, Bool, true, false, List, [], ◌∷◌, Option, Some, None, length, take, drop, Result, Ok, Err, nat_lt, nat_le, ◌==◌, ◌&&◌, if◌then◌else◌}
 use Rattle.std.specs.Int.{Width, w16, w32, w64, w128, byte_len, from_be_bytes}
-use Rattle.mt_stamp.specs.Moment.{Moment, greatest}
+use Rattle.mt_stamp.specs.Moment.{Moment, stamp_cmp, greatest}
 use Rattle.mt_op.specs.Title.{is_title}
-use Rattle.mt_op.specs.Tags.{is_after}
+use Rattle.mt_op.specs.Rising.{is_after}
 use Rattle.mt_op.specs.Gain.{Ratio}
 use Rattle.mt_op.specs.declared.digest.Digest.{Digest}
 use Rattle.mt_op.specs.Operation.{Act, AddTrack, MoveTrack, AddClip, MoveClip, TrimClip, SetGain, SetMute, Remove, Restore, AddMarker, MoveMarker, Retitle, Operation}
@@ -110,7 +110,7 @@ gain_at bytes = do
 unfoldable pub tag_at : ℕ → Option Moment → List ℕ → Reads Moment
 tag_at clock last bytes = do
   tag ← older_stamp_at clock bytes
-  if is_after last tag.0 then Ok tag else Err BadField
+  if is_after stamp_cmp last tag.0 then Ok tag else Err BadField
 
 -- this many tags, after the one before
 unfoldable pub stamps_at : ℕ → ℕ → Option Moment → List ℕ → Reads (List Moment)

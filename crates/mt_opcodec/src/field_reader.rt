@@ -2,7 +2,8 @@
 
 ghost use Rattle.std.specs.Prelude.{◌≡◌, Some, None, ◌==◌, if◌then◌else◌};
 ghost use Rattle.std.specs.Int.{w16, w32, w64, w128};
-ghost use Rattle.mt_op.specs.Tags.{is_after};
+ghost use Rattle.mt_stamp.specs.Moment.{stamp_cmp};
+ghost use Rattle.mt_op.specs.Rising.{is_after};
 ghost use Rattle.mt_opcodec.specs.OpReading.{Gives, number_at, positive_at, flag_at, moment_at, is_stamp, stamp_at, older_stamp_at, after_at, place_at, title_of_bytes, title_at, digest_at, trim_at, gain_at, tag_at, stamps_at, tags_at};
 
 use crate::fault::ReadFault;
@@ -209,7 +210,7 @@ pub(crate) fn gain_of(bytes: &[u8]) -> Result<(Gain, &[u8]), ReadFault>
 
 // Whether a stamp is greater than the one before it, where there is one.
 fn is_after(last: Option<Stamp>, tag: Stamp) -> bool
-    ensures { result ≡ is_after last tag }
+    ensures { result ≡ is_after stamp_cmp last tag }
 {
     match last {
         Some(last) => last.cmp(&tag).is_lt(),

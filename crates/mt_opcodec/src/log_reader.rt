@@ -5,8 +5,10 @@ ghost use Rattle.std.specs.Cmp.Lexicographic.{pointwise};
 ghost use Rattle.sha2.specs.Sha256.{sha256};
 ghost use Rattle.mt_opcodec.specs.OpReading.{op_at};
 ghost use Rattle.mt_opcodec.specs.LogText.{log_text};
-ghost use Rattle.mt_opcodec.specs.LogReading.{LogGives, is_after, record_of, fault_of, records_at, sealed_at, counted_at, log_at};
+ghost use Rattle.mt_opcodec.specs.LogReading.{LogGives, record_of, fault_of, records_at, sealed_at, counted_at, log_at};
+ghost use Rattle.mt_stamp.specs.Moment.{dot_cmp};
 ghost use Rattle.mt_op.specs.Operation.{Operation};
+ghost use Rattle.mt_op.specs.Rising.{is_after};
 ghost use Rattle.mt_opcodec.specs.LogValue.{operations};
 
 use crate::fault::{LogFault, ReadFault};
@@ -18,7 +20,7 @@ use sha2::{Digest, Sha256};
 use std::alloc::Allocator;
 
 fn is_after(last: Option<Dot>, dot: Dot) -> bool
-    ensures { result ≡ is_after last dot }
+    ensures { result ≡ is_after dot_cmp last dot }
 {
     match last {
         None => true,

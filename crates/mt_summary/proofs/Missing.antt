@@ -1,16 +1,15 @@
 -- A walk of a log and a summary together.
-use Rattle.std.proofs.Common.{◌≡◌, ℕ, ◌+◌, ◌<◌, ◌≤◌, Bool, true, false, cond, eqb, ltb, not, ◌&&◌, ◌||◌, List, [], ◌∷◌, ◌++◌, length, get_or, drop, Option, Some, None, refl, sym, ap, ap₂, ◌∙◌, subst, append_assoc, append-nil, arith, inl, inr, zero, suc}
-use Rattle.std.specs.Prelude.{IsTrue}
+use Rattle.std.proofs.Common.{◌≡◌, ℕ, ◌+◌, ◌<◌, ◌≤◌, Bool, true, false, cond, ltb, not, ◌||◌, List, [], ◌∷◌, ◌++◌, length, get_or, drop, Option, Some, None, refl, sym, ap, ap₂, ◌∙◌, subst, append_assoc, append-nil, arith, zero, suc}
 use Rattle.std.specs.List.{filter, AllByRecursion}
 use Rattle.std.proofs.lemmas.Bool.{ltb-true, ltb-false, ne_eqb}
 use Rattle.std.proofs.lemmas.List.{drop_more, drop_all}
 use Rattle.mt_stamp.specs.declared.name.Dot.{Dot}
 use Rattle.mt_op.specs.Operation.{Operation}
 use Rattle.mt_op.specs.Dots.{op_dot, dots_rise}
-use Rattle.mt_op.proofs.Needs.{and_first, and_second}
-use Rattle.mt_summary.specs.Summary.{Numbers, Summary, has_number, covers_dot, covers, AreNumbers, is_after, SummaryRises, IsSummary}
+use Rattle.mt_op.proofs.Needs.{and_first}
+use Rattle.mt_summary.specs.Summary.{Numbers, Summary, covers_dot, covers, AreNumbers, SummaryRises, IsSummary}
 use Rattle.mt_summary.specs.Walking.{past_replicas, front_covers}
-use Rattle.mt_summary.proofs.Order.{drop_rises, replicas_from}
+use Rattle.mt_summary.proofs.Order.{is_smaller, drop_rises, replicas_from}
 
 -- the numbers at a place of a summary
 pub numbers_at : (last : Option ℕ) (s : Summary) (i : ℕ) (n : Numbers) → SummaryRises last s → i < length s → n ≡ get_or s i n → AreNumbers n
@@ -22,7 +21,7 @@ numbers_at last (m ∷ s) (suc i) n rise lt is = numbers_at (Some m.replica.0) s
 pub none_past : (last : ℕ) (s : Summary) (dot : Dot) → SummaryRises (Some last) s → dot.replica.0 ≤ last → covers s dot ≡ false
 none_past last [] dot rise le = refl
 none_past last (n ∷ s) dot rise le =
-    let lt : last < n.replica.0 = ltb-true last n.replica.0 rise.0 in
+    let lt : last < n.replica.0 = is_smaller last n.replica.0 rise.0 in
     rw (ne_eqb n.replica.0 dot.replica.0 (λ e. omega (arith, e, lt, le))) (none_past n.replica.0 s dot rise.2 (omega (arith, lt, le)))
 
 or_false : (b c : Bool) → c ≡ false → (b || c) ≡ b

@@ -1,6 +1,5 @@
 -- Dots in their order, by their parts.
-use Rattle.std.proofs.Common.{◌≡◌, ℕ, zero, suc, ◌+◌, ◌<◌, ◌≤◌, Bool, true, false, List, [], ◌∷◌, map, drop, refl, sym, ap, ap₂, ◌∙◌, subst, arith, inl, inr}
-use Rattle.std.specs.Prelude.{IsTrue}
+use Rattle.std.proofs.Common.{◌≡◌, ℕ, zero, suc, ◌<◌, ◌≤◌, true, false, List, [], ◌∷◌, map, drop, refl, sym, ap, ap₂, ◌∙◌, arith, inl, inr}
 use Rattle.std.specs.Cmp.{nat_cmp_is}
 use Rattle.std.specs.FinMap.Entries.{below_all}
 use Rattle.std.specs.List.{AllByRecursion}
@@ -24,6 +23,22 @@ not_less e = cc
 
 not_tied : Equal ≡ Less → ⊥
 not_tied e = cc
+
+never : false ≡ true → ⊥
+never e = cc
+
+-- numbers in their order
+pub comes_before : (x y : ℕ) → x < y → is_lt (nat_cmp x y) ≡ true
+comes_before x y lt = sym (ap is_lt (nat_cmp_is x y Less lt))
+
+pub is_smaller : (x y : ℕ) → is_lt (nat_cmp x y) ≡ true → x < y
+is_smaller x y e = elim (cases_lt x y) [
+  | inl lt ↦ lt
+  | inr ge ↦ elim (cases_lt y x) [
+    | inl gt ↦ absurd (never (ap is_lt (nat_cmp_is x y Greater gt) ∙ e))
+    | inr le ↦ absurd (never (ap is_lt (nat_cmp_is x y Equal (omega (arith, ge, le))) ∙ e))
+  ]
+]
 
 pub replica_le : (a b : Dot) → dot_cmp a b ≡ Less → a.replica.0 ≤ b.replica.0
 replica_le a b e = elim (cases_lt b.replica.0 a.replica.0) [

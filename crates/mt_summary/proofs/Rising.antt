@@ -1,10 +1,12 @@
 -- What a walk over operations by rising dot says is a summary.
-use Rattle.std.proofs.Common.{◌≡◌, ◌≢◌, ℕ, zero, suc, ◌+◌, ◌<◌, ◌≤◌, ◌^◌, Bool, true, false, cond, eqb, List, [], ◌∷◌, ◌++◌, length, Option, Some, None, refl, sym, ap, ◌∙◌, subst, arith, inl, inr}
+use Rattle.std.proofs.Common.{◌≡◌, ℕ, ◌+◌, ◌<◌, ◌≤◌, ◌^◌, Bool, true, false, cond, eqb, List, [], ◌∷◌, ◌++◌, length, Option, Some, None, refl, sym, ◌∙◌, subst, arith}
 use Rattle.std.specs.Prelude.{IsTrue}
 use Rattle.std.specs.List.{AllByRecursion}
-use Rattle.std.proofs.lemmas.Bool.{eqb-true, eqb-false, lt-ltb}
+use Rattle.std.proofs.lemmas.Bool.{eqb-true, eqb-false}
 use Rattle.std.proofs.lemmas.List.{length-append}
 use Rattle.std.specs.declared.cmp.Ordering.TheVariants.{Less}
+use Rattle.std.specs.Ordering.{nat_cmp}
+use Rattle.mt_op.specs.Rising.{is_after}
 use Rattle.mt_stamp.specs.declared.name.Dot.{Dot}
 use Rattle.mt_stamp.specs.Moment.{greatest, dot_cmp}
 use Rattle.mt_op.specs.Operation.{Operation}
@@ -12,8 +14,8 @@ use Rattle.mt_op.specs.Dots.{op_dot}
 use Rattle.mt_op.specs.Valid.{IsOperation}
 use Rattle.mt_opcodec.specs.LogValue.{LogMap, AreLogged, operations}
 use Rattle.mt_opcodec.proofs.LogTexts.{Chain, rises_chain}
-use Rattle.mt_summary.specs.Summary.{Numbers, Summary, with_number, numbers_of, summary_after, summary_of, ExtrasRise, AreNumbers, is_after, SummaryRises, IsSummary}
-use Rattle.mt_summary.proofs.Order.{is_less, replica_le, seq_lt}
+use Rattle.mt_summary.specs.Summary.{Numbers, with_number, numbers_of, summary_after, summary_of, ExtrasRise, AreNumbers, SummaryRises, IsSummary}
+use Rattle.mt_summary.proofs.Order.{is_less, comes_before, replica_le, seq_lt}
 
 -- extras rise up to a number
 abbrev RiseTo : ℕ → ℕ → List ℕ → Type 0
@@ -66,7 +68,7 @@ up_to_next n top dot same fits run extras past small = by (eqb dot.seq (n.run + 
 up_to_first : (dot : Dot) → dot.replica.0 < 2 ^ 128 → 0 < dot.seq → dot.seq ≤ greatest → AreUpTo (numbers_of dot) dot
 up_to_first dot fits from to = up_to_next (record { replica = dot.replica; run = 0; extras = [] }) 0 dot refl fits (omega arith) tt from to
 
-after_rises : (before : Option ℕ) (n : Numbers) (dot : Dot) (ops : List Operation) → IsTrue (is_after before n.replica.0) → AreUpTo n dot → Chain (Some dot) ops → AllByRecursion IsOperation ops → SummaryRises before (summary_after (Some n) ops)
+after_rises : (before : Option ℕ) (n : Numbers) (dot : Dot) (ops : List Operation) → IsTrue (is_after nat_cmp before n.replica.0) → AreUpTo n dot → Chain (Some dot) ops → AllByRecursion IsOperation ops → SummaryRises before (summary_after (Some n) ops)
 after_rises before n dot [] after h chain valid = (after, numbers_rise n dot h, tt)
 after_rises before n dot (o ∷ ops) after h chain valid =
     let less : dot_cmp dot (op_dot o) ≡ Less = is_less (dot_cmp dot (op_dot o)) chain.0 in
@@ -75,18 +77,18 @@ after_rises before n dot (o ∷ ops) after h chain valid =
     (λ up after. after_rises (Some n.replica.0) (numbers_of (op_dot o)) (op_dot o) ops after up chain.1 valid.1)
   where
     by : (b : Bool) → eqb n.replica.0 (op_dot o).replica.0 ≡ b → dot_cmp dot (op_dot o) ≡ Less
-        → (AreUpTo (with_number n (op_dot o).seq) (op_dot o) → IsTrue (is_after before (with_number n (op_dot o).seq).replica.0) → SummaryRises before (summary_after (Some (with_number n (op_dot o).seq)) ops))
-        → (AreUpTo (numbers_of (op_dot o)) (op_dot o) → IsTrue (is_after (Some n.replica.0) (numbers_of (op_dot o)).replica.0) → SummaryRises (Some n.replica.0) (summary_after (Some (numbers_of (op_dot o))) ops))
+        → (AreUpTo (with_number n (op_dot o).seq) (op_dot o) → IsTrue (is_after nat_cmp before (with_number n (op_dot o).seq).replica.0) → SummaryRises before (summary_after (Some (with_number n (op_dot o).seq)) ops))
+        → (AreUpTo (numbers_of (op_dot o)) (op_dot o) → IsTrue (is_after nat_cmp (Some n.replica.0) (numbers_of (op_dot o)).replica.0) → SummaryRises (Some n.replica.0) (summary_after (Some (numbers_of (op_dot o))) ops))
         → SummaryRises before (cond b (summary_after (Some (with_number n (op_dot o).seq)) ops) (n ∷ summary_after (Some (numbers_of (op_dot o))) ops))
     by true is less on_same on_next =
         let same : n.replica.0 ≡ (op_dot o).replica.0 = eqb-true n.replica.0 (op_dot o).replica.0 is in
         let up = up_to_next n dot.seq (op_dot o) same h.fits h.run h.extras (seq_lt dot (op_dot o) (sym h.same ∙ same) less) valid.0.stamp.seq_to in
-        on_same up (subst (λ (r : ℕ). IsTrue (is_after before r)) (same ∙ sym up.same) after)
+        on_same up (subst (λ (r : ℕ). IsTrue (is_after nat_cmp before r)) (same ∙ sym up.same) after)
     by false is less on_same on_next =
         let apart : n.replica.0 ≡ (op_dot o).replica.0 → ⊥ = eqb-false n.replica.0 (op_dot o).replica.0 is in
         let up = up_to_first (op_dot o) valid.0.stamp.replica_fits valid.0.stamp.seq_from valid.0.stamp.seq_to in
         let lt : n.replica.0 < (numbers_of (op_dot o)).replica.0 = omega (arith, replica_le dot (op_dot o) less, h.same, up.same, apart) in
-        (after, numbers_rise n dot h, on_next up (lt-ltb n.replica.0 (numbers_of (op_dot o)).replica.0 lt))
+        (after, numbers_rise n dot h, on_next up (comes_before n.replica.0 (numbers_of (op_dot o)).replica.0 lt))
 
 pub rises : (ops : List Operation) → AreLogged ops → IsSummary (summary_after None ops)
 rises [] logged = tt

@@ -1,11 +1,12 @@
 -- A message that is read is spelled so, and a message that is spelled so is read.
-use Rattle.std.proofs.Common.{◌≡◌, ℕ, zero, suc, ◌+◌, ◌-◌, ◌^◌, ◌<◌, ◌≤◌, Bool, true, false, cond, ltb, leb, eqb, ◌&&◌, List, [], ◌∷◌, ◌++◌, length, take, drop, Option, Some, None, Result, Ok, Err, refl, sym, ap, subst, ◌∙◌, append_assoc, append-nil, arith}
+use Rattle.std.proofs.Common.{◌≡◌, ℕ, zero, suc, ◌+◌, ◌-◌, ◌^◌, ◌<◌, ◌≤◌, Bool, true, false, cond, ltb, leb, eqb, ◌&&◌, List, [], ◌∷◌, ◌++◌, length, Option, Some, None, Result, Ok, Err, refl, sym, ap, subst, ◌∙◌, append_assoc, append-nil, arith}
 use Rattle.std.specs.Prelude.{IsTrue}
 use Rattle.std.specs.List.{flat_map, AllByRecursion}
 use Rattle.std.specs.Int.{w32, w64, w128, to_be_bytes}
-use Rattle.std.proofs.lemmas.Bool.{lt-ltb, le-leb, ltb-true, leb-true, eqb-true, eqb-false, ne_eqb, ltb-false, le-ltb}
+use Rattle.std.proofs.lemmas.Bool.{lt-ltb, le-leb, ltb-true, leb-true, eqb-true, eqb-false, ne_eqb, le-ltb}
 use Rattle.std.proofs.lemmas.List.{length-append}
-use Rattle.mt_stamp.specs.declared.name.Replica.{Replica}
+use Rattle.std.specs.Ordering.{nat_cmp}
+use Rattle.mt_op.specs.Rising.{is_after}
 use Rattle.mt_stamp.specs.Moment.{greatest}
 use Rattle.mt_op.specs.Operation.{Operation}
 use Rattle.mt_op.proofs.Needs.{and_first, and_second}
@@ -18,9 +19,9 @@ use Rattle.mt_opcodec.specs.LogValue.{AreLogged}
 use Rattle.mt_opcodec.specs.LogReading.{records_at}
 use Rattle.mt_opcodec.specs.OpReading.{◌>>=◌, number_at}
 use Rattle.mt_opcodec.proofs.Fields.{IsBytes, IsBytes-rest, bind_ok, refuses_false, ok_is, Takes, Takes-then, number_takes, number_again, wide32, wide64, wide128}
-use Rattle.mt_opcodec.proofs.LogTexts.{AreRead, Chain, chain_rises, rises_chain, records_take, records_again}
+use Rattle.mt_opcodec.proofs.LogTexts.{chain_rises, rises_chain, records_take, records_again}
 use Rattle.mt_frames.specs.Frames.{longest_body}
-use Rattle.mt_summary.specs.Summary.{Numbers, Summary, is_after, ExtrasRise, AreNumbers, SummaryRises, IsSummary}
+use Rattle.mt_summary.specs.Summary.{Numbers, Summary, ExtrasRise, AreNumbers, SummaryRises, IsSummary}
 use Rattle.mt_summary.specs.Messages.{Message, have, ops, bye, numbers_text, have_text, ops_text, bye_text, message_text, extra_at, extras_at, run_at, has_some, said, numbers_at, next_at, summary_at, counted_at, whole_have, listed, counted_ops, tagged_at, message_at, IsMessage}
 
 -- ---- what fits a body is few
@@ -163,15 +164,15 @@ record Summed (count : ℕ) (last : Option ℕ) (bytes : List ℕ) (x : Summary 
   len : length x.0 ≡ count
   rise : SummaryRises last x.0
 
-next_takes : (last : Option ℕ) (bytes : List ℕ) (x : Numbers × List ℕ) → IsBytes bytes → next_at last bytes ≡ Ok x → Takes bytes (numbers_text x.0) x.1 × AreNumbers x.0 × IsTrue (is_after last x.0.replica.0)
+next_takes : (last : Option ℕ) (bytes : List ℕ) (x : Numbers × List ℕ) → IsBytes bytes → next_at last bytes ≡ Ok x → Takes bytes (numbers_text x.0) x.1 × AreNumbers x.0 × IsTrue (is_after nat_cmp last x.0.replica.0)
 unfolding next_at
 next_takes last bytes x fits e =
     let a = bind_ok (numbers_at bytes) _ x e in
     let t = numbers_take bytes a.0 fits a.1 in
-    let g = refuses_false (is_after last a.0.0.replica.0) BadField a.0 x a.2 in
-    subst (λ (y : Numbers × List ℕ). Takes bytes (numbers_text y.0) y.1 × AreNumbers y.0 × IsTrue (is_after last y.0.replica.0)) g.1 (t.0, t.1, g.0)
+    let g = refuses_false (is_after nat_cmp last a.0.0.replica.0) BadField a.0 x a.2 in
+    subst (λ (y : Numbers × List ℕ). Takes bytes (numbers_text y.0) y.1 × AreNumbers y.0 × IsTrue (is_after nat_cmp last y.0.replica.0)) g.1 (t.0, t.1, g.0)
 
-next_again : (last : Option ℕ) (h : Numbers) (rest : List ℕ) → AreNumbers h → IsFew h → IsTrue (is_after last h.replica.0) → next_at last (numbers_text h ++ rest) ≡ Ok (h, rest)
+next_again : (last : Option ℕ) (h : Numbers) (rest : List ℕ) → AreNumbers h → IsFew h → IsTrue (is_after nat_cmp last h.replica.0) → next_at last (numbers_text h ++ rest) ≡ Ok (h, rest)
 unfolding next_at
 next_again last h rest is few after = rw (numbers_again h rest is few, after) refl
 

@@ -1,13 +1,14 @@
 -- There is one summary that covers what it does.
-use Rattle.std.proofs.Common.{◌≡◌, ℕ, zero, suc, ◌+◌, ◌<◌, ◌≤◌, Bool, true, false, cond, eqb, ltb, leb, ◌&&◌, ◌||◌, List, [], ◌∷◌, length, Option, Some, None, refl, sym, ap, ap₂, ◌∙◌, subst, arith, inl, inr}
-use Rattle.std.specs.Prelude.{IsTrue, slice_get}
+use Rattle.std.proofs.Common.{◌≡◌, ℕ, zero, suc, ◌+◌, ◌<◌, ◌≤◌, Bool, true, false, eqb, ltb, leb, ◌&&◌, ◌||◌, List, [], ◌∷◌, length, Option, Some, refl, sym, ap, ap₂, ◌∙◌, subst, arith, inl, inr}
+use Rattle.std.specs.Prelude.{slice_get}
 use Rattle.std.specs.List.{list_any}
-use Rattle.std.proofs.lemmas.Bool.{cases_lt, eqb-true, eqb-false, ne_eqb, eq-eqb, lt-ltb, le-leb, ltb-true, lt-leb, leb-false}
+use Rattle.std.proofs.lemmas.Bool.{cases_lt, eqb-true, eqb-false, ne_eqb, eq-eqb, lt-ltb, le-leb, lt-leb}
 use Rattle.std.proofs.lemmas.Option.{same_Some, none-some}
 use Rattle.mt_stamp.specs.declared.name.Replica.{Replica}
 use Rattle.mt_stamp.specs.declared.name.Dot.{Dot}
-use Rattle.mt_summary.specs.Summary.{Numbers, Summary, has_number, covers_dot, covers, ExtrasRise, AreNumbers, is_after, SummaryRises, IsSummary}
+use Rattle.mt_summary.specs.Summary.{Numbers, Summary, has_number, covers_dot, covers, ExtrasRise, AreNumbers, SummaryRises}
 use Rattle.mt_summary.proofs.Missing.{none_past}
+use Rattle.mt_summary.proofs.Order.{is_smaller}
 
 abbrev dot_at : Replica → ℕ → Dot
 dot_at replica seq = record { replica = replica; seq = seq }
@@ -142,8 +143,8 @@ same_summary last (m ∷ s) (n ∷ t) a b same =
 
 greater_at : (last : ℕ) (s : Summary) (i : ℕ) (n : Numbers) → SummaryRises (Some last) s → slice_get s i ≡ Some n → last < n.replica.0
 greater_at last [] i n rise at = absurd (none-some n at)
-greater_at last (m ∷ s) zero n rise at = subst (λ (k : Numbers). last < k.replica.0) (same_Some m n at) (ltb-true last m.replica.0 rise.0)
-greater_at last (m ∷ s) (suc i) n rise at = omega (arith, ltb-true last m.replica.0 rise.0, greater_at m.replica.0 s i n rise.2 at)
+greater_at last (m ∷ s) zero n rise at = subst (λ (k : Numbers). last < k.replica.0) (same_Some m n at) (is_smaller last m.replica.0 rise.0)
+greater_at last (m ∷ s) (suc i) n rise at = omega (arith, is_smaller last m.replica.0 rise.0, greater_at m.replica.0 s i n rise.2 at)
 
 pub run_ends : (last : Option ℕ) (s : Summary) (i : ℕ) (n : Numbers) → SummaryRises last s → slice_get s i ≡ Some n → covers s (dot_at n.replica (n.run + 1)) ≡ false
 run_ends last [] i n rise at = absurd (none-some n at)

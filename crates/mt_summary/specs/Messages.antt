@@ -1,11 +1,11 @@
 -- Messages and their texts (profile). Numbers have their greatest byte first.
-use Rattle.std.specs.Prelude.{ℕ, zero, suc, ◌+◌, ◌*◌, ◌^◌, ◌<◌, ◌≤◌, IsTrue, Bool, true, false, List, [], ◌∷◌, ◌++◌, length, map, take, drop, Option, Some, None, Result, Ok, Err, nat_lt, nat_le, nat_eq, not, ◌==◌, ◌&&◌, ◌||◌, if◌then◌else◌}
+use Rattle.std.specs.Prelude.{ℕ, zero, suc, ◌+◌, ◌<◌, Bool, true, List, [], ◌∷◌, ◌++◌, length, Option, Some, None, Result, Ok, Err, nat_lt, nat_le, ◌==◌, ◌&&◌, if◌then◌else◌}
 use Rattle.std.specs.List.{flat_map}
-use Rattle.std.specs.Int.{Width, w32, w64, w128, to_be_bytes}
-use Rattle.mt_stamp.specs.declared.name.Replica.{Replica}
+use Rattle.std.specs.Int.{w32, w64, w128, to_be_bytes}
 use Rattle.mt_stamp.specs.Moment.{greatest}
+use Rattle.std.specs.Ordering.{nat_cmp}
+use Rattle.mt_op.specs.Rising.{is_after}
 use Rattle.mt_op.specs.Operation.{Operation}
-use Rattle.mt_opcodec.specs.OpText.{op_text}
 use Rattle.mt_opcodec.specs.LogText.{op_texts}
 use Rattle.mt_opcodec.specs.OpReading.{Reads, ◌>>=◌, number_at}
 use Rattle.mt_opcodec.specs.declared.fault.ReadFault.TheVariants.{BadField}
@@ -13,7 +13,7 @@ use Rattle.mt_opcodec.specs.LogReading.{records_at}
 use Rattle.mt_opcodec.specs.LogValue.{AreLogged}
 use Rattle.mt_opcodec.specs.declared.fault.LogFault.{LogFault}
 use Rattle.mt_frames.specs.Frames.{longest_body, frame_text}
-use Rattle.mt_summary.specs.Summary.{Numbers, Summary, is_after, IsSummary}
+use Rattle.mt_summary.specs.Summary.{Numbers, Summary, IsSummary}
 
 pub data Message : Type 0 where
   have : Summary → Message
@@ -80,7 +80,7 @@ numbers_at bytes = do
 unfoldable pub next_at : Option ℕ → List ℕ → Reads Numbers
 next_at last bytes = do
   numbers ← numbers_at bytes
-  if is_after last numbers.0.replica.0 then Ok numbers else Err BadField
+  if is_after nat_cmp last numbers.0.replica.0 then Ok numbers else Err BadField
 
 -- this many replicas
 unfoldable pub summary_at : ℕ → Option ℕ → List ℕ → Reads Summary

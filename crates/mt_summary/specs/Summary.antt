@@ -1,10 +1,12 @@
 -- What a summary says of a set of operations (profile): of each replica the longest run 1, 2 .. n of numbers that the set has, and
 -- which others it has.
-use Rattle.std.specs.Prelude.{ℕ, ◌+◌, ◌<◌, ◌≤◌, ◌^◌, Bool, true, List, [], ◌∷◌, ◌++◌, length, map, nat_le, nat_lt, not, ◌==◌, ◌&&◌, ◌||◌, if◌then◌else◌, Option, Some, None, IsTrue}
+use Rattle.std.specs.Prelude.{ℕ, ◌+◌, ◌<◌, ◌≤◌, ◌^◌, Bool, List, [], ◌∷◌, ◌++◌, length, nat_le, nat_lt, not, ◌==◌, ◌&&◌, ◌||◌, if◌then◌else◌, Option, Some, None, IsTrue}
 use Rattle.std.specs.List.{filter, list_any}
+use Rattle.std.specs.Ordering.{nat_cmp}
 use Rattle.mt_stamp.specs.declared.name.Replica.{Replica}
 use Rattle.mt_stamp.specs.declared.name.Dot.{Dot}
 use Rattle.mt_stamp.specs.Moment.{greatest}
+use Rattle.mt_op.specs.Rising.{is_after}
 use Rattle.mt_op.specs.Operation.{Operation}
 use Rattle.mt_op.specs.Dots.{op_dot}
 use Rattle.mt_opcodec.specs.LogValue.{LogMap, operations}
@@ -70,14 +72,10 @@ pub record AreNumbers (n : Numbers) : Type 0 where
   pub extras : ExtrasRise (n.run + 1) n.extras
   pub some : 0 < n.run + length n.extras
 
-abbrev pub is_after : Option ℕ → ℕ → Bool
-is_after None n = true
-is_after (Some last) n = nat_lt last n
-
 -- each replica is greater than the one before
 abbrev pub SummaryRises : Option ℕ → Summary → Type 0
 SummaryRises last [] = Unit {0}
-SummaryRises last (n ∷ summary) = IsTrue (is_after last n.replica.0) × AreNumbers n × SummaryRises (Some n.replica.0) summary
+SummaryRises last (n ∷ summary) = IsTrue (is_after nat_cmp last n.replica.0) × AreNumbers n × SummaryRises (Some n.replica.0) summary
 
 abbrev pub IsSummary : Summary → Type 0
 IsSummary summary = SummaryRises None summary

@@ -2,10 +2,11 @@
 
 ghost use Rattle.std.specs.Prelude.{◌≡◌, ◌<◌, ◌+◌, ◌≤◌, ◌^◌, length, IfOk, IsTrue, None};
 ghost use Rattle.std.specs.Int.{w32, w64, w128};
+ghost use Rattle.std.specs.Ordering.{nat_cmp};
 ghost use Rattle.mt_stamp.specs.Moment.{greatest};
+ghost use Rattle.mt_op.specs.Rising.{is_after};
 ghost use Rattle.mt_opcodec.specs.OpReading.{Gives, number_at};
 ghost use Rattle.mt_summary.specs.Messages.{extra_at, extras_at, run_at, has_some, said, numbers_at, next_at, summary_at, counted_at};
-ghost use Rattle.mt_summary.specs.Summary.{is_after};
 
 use crate::numbers::Numbers;
 use mt_opcodec::ReadFault;
@@ -116,10 +117,10 @@ fn numbers_of<A: Allocator + Clone>(
 }
 
 fn is_after(last: Option<u128>, replica: u128) -> bool
-    ensures { result ≡ is_after last replica }
+    ensures { result ≡ is_after nat_cmp last replica }
 {
     match last {
-        Some(last) => last < replica,
+        Some(last) => last.cmp(&replica).is_lt(),
         None => true,
     }
 }
