@@ -1,5 +1,5 @@
 -- Joining by the greater keeps the greatest.
-use Rattle.std.proofs.Common.{◌≡◌, ℕ, zero, suc, ◌<◌, Bool, true, false, List, [], ◌∷◌, length, refl, sym, ap, ◌∙◌, arith, inl, inr, ◌⊎◌}
+use Rattle.std.proofs.Common.{◌≡◌, ℕ, zero, suc, ◌<◌, false, List, [], ◌∷◌, length, refl, sym, ap, ◌∙◌, arith, inl, inr, ◌⊎◌}
 use Rattle.std.specs.Prelude.{slice_index_or, if◌then◌else◌}
 use Rattle.std.specs.List.{Contains}
 use Rattle.std.specs.Ordering.{ordering_reverse, is_lt, is_gt}
@@ -7,7 +7,7 @@ use Rattle.std.specs.declared.cmp.Ordering.{Ordering}
 use Rattle.std.specs.declared.cmp.Ordering.TheVariants.{Less, Equal, Greater}
 use Rattle.std.specs.Cmp.{IsTotalOrder, tied_itself, tied_back, upto}
 use Rattle.mt_cells.specs.Folds.{join_all, IsGreatest}
-use Rattle.mt_cells.specs.Pairs.{greater}
+use Rattle.mt_stamp.specs.Written.{greater}
 
 module _ {K : Type 0} {R : K → K → Ordering} (o : IsTotalOrder R) where
   one_of : (a b : K) → (greater R a b ≡ a) ⊎ (greater R a b ≡ b)

@@ -14,7 +14,7 @@ use Rattle.mt_stamp.specs.Moment.{Moment, stamp_cmp, stamp_eq}
 use Rattle.mt_stamp.proofs.Order.{stamp_cmp_total, stamp_cmp-IsAntisymmetric, stamp_eq-true, stamp_eq-itself}
 use Rattle.mt_cells.specs.declared.stamp_set.Kept.{Kept}
 use Rattle.mt_cells.specs.Marks.{stamps_in}
-use Rattle.mt_cells.specs.Together.{same_set, contains-union, is_within, within}
+use Rattle.mt_cells.specs.Together.{same_set, contains-union, is_within, within, either_way, first, second, both as both_hold, one_answer}
 
 abbrev Stamps : Type 0
 Stamps = set.FinSet stamp_cmp
@@ -43,32 +43,15 @@ or_second : (a b : Bool) → b ≡ true → (a || b) ≡ true
 or_second true b holds = refl
 or_second false b holds = holds
 
-first_true : (a b : Bool) → (a && b) ≡ true → a ≡ true
-first_true true b holds = refl
-first_true false b holds = holds
-
-second_true : (a b : Bool) → (a && b) ≡ true → b ≡ true
-second_true true b holds = holds
-second_true false b holds = cc
-
-both_true : (a b : Bool) → a ≡ true → b ≡ true → (a && b) ≡ true
-both_true true b one other = other
-both_true false b one other = one
-
 -- subsets
 
 or_false : (b : Bool) → (b || false) ≡ b
 or_false true = refl
 or_false false = refl
 
-same_answer : (a b : Bool) → (a ≡ true → b ≡ true) → (b ≡ true → a ≡ true) → a ≡ b
-same_answer true b there back = sym (there refl)
-same_answer false true there back = back refl
-same_answer false false there back = refl
-
 subset_lists : (ks others : List Moment) (b : Bool) → IsTrue b ↔ ((stamp : Moment) → IsTrue (listed ks stamp) → IsTrue (listed others stamp)) → b ≡ set.is_subset (set.from_list {R = stamp_cmp} ks) (set.from_list others)
 subset_lists ks others b says =
-    same_answer b (set.is_subset (set.from_list ks) (set.from_list others))
+    one_answer b (set.is_subset (set.from_list ks) (set.from_list others))
     (λ holds. is_within (set.from_list ks) (set.from_list others) (λ stamp has. contains-list others stamp ∙ says.0 holds stamp (sym (contains-list ks stamp) ∙ has)))
     (λ subset. says.1 (λ stamp has. sym (contains-list others stamp) ∙ within (set.from_list ks) (set.from_list others) subset stamp (contains-list ks stamp ∙ has)))
 
@@ -86,7 +69,7 @@ its one stamp in_it = stamp_cmp-IsAntisymmetric stamp one ((Equal-is (stamp_cmp 
 -- a set of one stamp is in every set that has it
 pub subset_one : (one : Moment) (seen other : Stamps) → set.from_list (one ∷ []) ≡ seen → set.contains other one ≡ set.is_subset seen other
 subset_one one seen other view =
-    same_answer (set.contains other one) (set.is_subset seen other)
+    one_answer (set.contains other one) (set.is_subset seen other)
     (λ holds. is_within seen other (λ stamp in_it. ap (set.contains other) (its one stamp (has (one ∷ []) seen stamp view ∙ in_it)) ∙ holds))
     (λ subset. within seen other subset one (sym (has (one ∷ []) seen one view) ∙ ap (λ (b : Bool). b || false) (ap is_eq (tied_itself stamp_cmp_total one))))
 
@@ -145,13 +128,13 @@ all_in_one : (one : Moment) (ks : List Moment) → IsTrue (are_one one ks) → (
 unfolding are_one
 all_in_one one [] all stamp in_it = absurd (true≢false (sym in_it))
 all_in_one one (k ∷ ks) all stamp in_it =
-    one_in one k ks stamp (eq_by_cmp stamp_cmp stamp k) (stamp_eq-true k one (first_true (stamp_eq k one) (are_one one ks) all)) refl in_it (all_in_one one ks (second_true (stamp_eq k one) (are_one one ks) all) stamp)
+    one_in one k ks stamp (eq_by_cmp stamp_cmp stamp k) (stamp_eq-true k one (first (stamp_eq k one) (are_one one ks) all)) refl in_it (all_in_one one ks (second (stamp_eq k one) (are_one one ks) all) stamp)
 
 one_has_all : (one : Moment) (ks : List Moment) → ((stamp : Moment) → IsTrue (listed ks stamp) → IsTrue (listed (one ∷ []) stamp)) → IsTrue (are_one one ks)
 unfolding are_one
 one_has_all one [] each = refl
 one_has_all one (k ∷ ks) each =
-    both_true (stamp_eq k one) (are_one one ks)
+    both_hold (stamp_eq k one) (are_one one ks)
     (ap (λ (x : Moment). stamp_eq x one) (its one k (each k (ap (λ (b : Bool). b || listed ks k) (ap is_eq (tied_itself stamp_cmp_total k))))) ∙ stamp_eq-itself one)
     (one_has_all one ks (λ stamp in_it. each stamp (or_second (eq_by_cmp stamp_cmp stamp k) (listed ks stamp) in_it)))
 
@@ -178,7 +161,7 @@ all_are_one one ks left all ended is was = (λ _. (are_one-each one ks).0 (ap (a
 
 -- a set of one stamp has this alone
 pub has_one : (one : Moment) (seen : Stamps) (stamp : Moment) → set.from_list (one ∷ []) ≡ seen → stamp_eq stamp one ≡ set.contains seen stamp
-has_one one seen stamp view = same_answer (stamp_eq stamp one) (listed (one ∷ []) stamp) (λ same. alike (stamp_eq-true stamp one same)) (λ in_it. ap (λ (x : Moment). stamp_eq x one) (its one stamp in_it) ∙ stamp_eq-itself one) ∙ has (one ∷ []) seen stamp view
+has_one one seen stamp view = one_answer (stamp_eq stamp one) (listed (one ∷ []) stamp) (λ same. alike (stamp_eq-true stamp one same)) (λ in_it. ap (λ (x : Moment). stamp_eq x one) (its one stamp in_it) ∙ stamp_eq-itself one) ∙ has (one ∷ []) seen stamp view
   where
     alike : stamp ≡ one → listed (one ∷ []) stamp ≡ true
     alike is = ap (λ (x : Moment). listed (one ∷ []) x) is ∙ ap (λ (b : Bool). b || false) (ap is_eq (tied_itself stamp_cmp_total one))
@@ -210,12 +193,6 @@ or_grouped : (a b c : Bool) → (a || b) ≡ true → (a || (b || c)) ≡ true
 or_grouped true b c holds = refl
 or_grouped false true c holds = refl
 or_grouped false false c holds = cc
-
-either_way : (a b : Bool) → (a || b) ≡ (b || a)
-either_way true true = refl
-either_way true false = refl
-either_way false true = refl
-either_way false false = refl
 
 contains-empty : (stamp : Moment) → set.contains (set.from_list {R = stamp_cmp} []) stamp ≡ false
 contains-empty stamp = contains-list [] stamp

@@ -5,11 +5,12 @@ use Rattle.std.specs.declared.cmp.Ordering.{Ordering}
 use Rattle.std.specs.declared.cmp.Ordering.TheVariants.{Less, Equal, Greater}
 use Rattle.std.specs.Cmp.{IsTotalOrder, then_total, on_total, tied_itself, alike_right, Equal-is}
 use Rattle.mt_stamp.proofs.Order.{stamp_cmp_total}
-use Rattle.mt_cells.specs.Pairs.{Timestamped, timestamped_cmp, greater}
+use Rattle.mt_stamp.specs.Written.{Written, greater}
+use Rattle.mt_cells.specs.Pairs.{written_cmp}
 use mathlib.Core.Path.{sym, ap, ◌∙◌}
 
-pub timestamped_total : {T : Type 0} {cmp : T → T → Ordering} → IsTotalOrder cmp → IsTotalOrder (timestamped_cmp cmp)
-timestamped_total {T} o = then_total (on_total (λ (w : Timestamped T). w.stamp) stamp_cmp_total) (on_total (λ (w : Timestamped T). w.value) o)
+pub written_total : {T : Type 0} {cmp : T → T → Ordering} → IsTotalOrder cmp → IsTotalOrder (written_cmp cmp)
+written_total {T} o = then_total (on_total (λ (w : Written T). w.writer) stamp_cmp_total) (on_total (λ (w : Written T). w.value) o)
 
 module _ {K : Type 0} {R : K → K → Ordering} (o : IsTotalOrder R) where
   -- the greater, by what the order says

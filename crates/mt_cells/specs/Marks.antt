@@ -1,9 +1,10 @@
 -- What an item's presence holds: its tags, and the removed ones (INRIA RR-7506, section 3.3.5: Observed-Remove Set (OR-Set)).
-use Rattle.std.specs.Prelude.{Bool, not, ◌&&◌, List, [], ◌∷◌, IsTrue, refl}
+use Rattle.std.specs.Prelude.{Bool, ◌&&◌, List, [], ◌∷◌, refl}
 use Rattle.std.specs.Coded.{Coded, code_by, coded×}
 use Rattle.std.specs.FinSet as set
 use Rattle.mt_stamp.specs.Moment.{Moment, stamp_cmp}
 use Rattle.mt_stamp.specs.Codes.{moment_code}
+use Rattle.mt_stamp.specs.Presence as presence
 use Rattle.mt_cells.specs.declared.stamp_set.Kept.{Kept}
 use Rattle.mt_cells.specs.declared.stamp_set.Kept.TheVariants.{Nothing, One, Many}
 
@@ -17,11 +18,11 @@ unmarked = record { tags = set.empty; removed = set.empty }
 
 -- a tag that was not removed
 abbrev pub is_live : Marks → Moment → Bool
-is_live marks stamp = set.contains marks.tags stamp && not (set.contains marks.removed stamp)
+is_live marks = presence.is_live (set.contains marks.tags) (set.contains marks.removed)
 
 -- the item is present while one of its tags is live
 abbrev pub IsPresent : Marks → Type 0
-IsPresent marks = (stamp : Moment) × IsTrue (is_live marks stamp)
+IsPresent marks = presence.IsPresent (set.contains marks.tags) (set.contains marks.removed)
 
 -- the marks of both
 abbrev pub together : Marks → Marks → Marks

@@ -17,7 +17,7 @@ pub contains-union : (s t : Stamps) (stamp : Moment) → set.contains (set.union
 contains-union s t stamp = set.contains-union stamp_cmp_total s t stamp
 
 -- or, in any order and grouping and with repeats
-either_way : (a b : Bool) → (a || b) ≡ (b || a)
+pub either_way : (a b : Bool) → (a || b) ≡ (b || a)
 either_way true true = refl
 either_way true false = refl
 either_way false true = refl
@@ -32,19 +32,19 @@ repeated true = refl
 repeated false = refl
 
 -- both parts of a test that is passed
-first : (a b : Bool) → (a && b) ≡ true → a ≡ true
+pub first : (a b : Bool) → (a && b) ≡ true → a ≡ true
 first true b passes = refl
 first false b passes = passes
 
-second : (a b : Bool) → (a && b) ≡ true → b ≡ true
+pub second : (a b : Bool) → (a && b) ≡ true → b ≡ true
 second true b passes = passes
 second false b passes = cc
 
-both : (a b : Bool) → a ≡ true → b ≡ true → (a && b) ≡ true
+pub both : (a b : Bool) → a ≡ true → b ≡ true → (a && b) ≡ true
 both true b one other = other
 both false b one other = one
 
-one_answer : (a b : Bool) → (a ≡ true → b ≡ true) → (b ≡ true → a ≡ true) → a ≡ b
+pub one_answer : (a b : Bool) → (a ≡ true → b ≡ true) → (b ≡ true → a ≡ true) → a ≡ b
 one_answer true b there back = sym (there refl)
 one_answer false true there back = back refl
 one_answer false false there back = refl

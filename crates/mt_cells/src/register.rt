@@ -1,7 +1,7 @@
 //! The last-writer register.
 
 ghost use Rattle.std.specs.Prelude.{◌≡◌};
-ghost use Rattle.mt_cells.specs.Pairs.{timestamped_cmp};
+ghost use Rattle.mt_cells.specs.Pairs.{written_cmp};
 
 use crate::fault::CellFault;
 use crate::join::Join;
@@ -18,24 +18,24 @@ pub struct Register<T: Ord> {
 }
 
 impl<T: Ord> Model for Register<T> {
-    ghost use Rattle.mt_cells.specs.Pairs.{Timestamped};
+    ghost use Rattle.mt_stamp.specs.Written.{Written};
 
-    ghost Value = { Timestamped T };
+    ghost Value = { Written T };
 
-    ghost view = { λ r. record { stamp = r.stamp; value = r.value } };
+    ghost view = { λ r. record { writer = r.stamp; value = r.value } };
 }
 
 impl<T: Ord> Register<T> {
     /// A register that holds this value, written by the operation of this stamp.
     pub fn new(stamp: Stamp, value: T) -> Self
-        ensures { result ≡ record { stamp = stamp; value = value } }
+        ensures { result ≡ record { writer = stamp; value = value } }
     {
         Register { stamp, value }
     }
 
     /// The stamp of the operation that wrote the value.
     pub fn stamp(&self) -> Stamp
-        ensures { result ≡ self.now.stamp }
+        ensures { result ≡ self.now.writer }
     {
         self.stamp
     }
@@ -49,7 +49,7 @@ impl<T: Ord> Register<T> {
 
     // By stamp, and then by value.
     fn compare(&self, other: &Self) -> Ordering
-        ensures { result ≡ timestamped_cmp T.cmp self.now other.now }
+        ensures { result ≡ written_cmp T.cmp self.now other.now }
     {
         self.stamp
             .cmp(&other.stamp)
@@ -60,11 +60,11 @@ impl<T: Ord> Register<T> {
 impl<T: Ord> PartialEq for Register<T> {
     ghost use Rattle.std.specs.Ordering.{eq_by_cmp};
     ghost use Rattle.std.specs.Cmp.{partial_equiv_from_equiv, eq_by_cmp_equiv};
-    ghost use Rattle.mt_cells.specs.Greater.{timestamped_total};
+    ghost use Rattle.mt_cells.specs.Greater.{written_total};
 
-    ghost eq = { eq_by_cmp (timestamped_cmp T.cmp) };
+    ghost eq = { eq_by_cmp (written_cmp T.cmp) };
 
-    ghost laws = { partial_equiv_from_equiv (eq_by_cmp_equiv (timestamped_total T.total)) };
+    ghost laws = { partial_equiv_from_equiv (eq_by_cmp_equiv (written_total T.total)) };
 
     fn eq(&self, other: &Self) -> bool {
         self.compare(other).is_eq()
@@ -73,27 +73,27 @@ impl<T: Ord> PartialEq for Register<T> {
 
 impl<T: Ord> Eq for Register<T> {
     ghost use Rattle.std.specs.Cmp.{eq_by_cmp_equiv};
-    ghost use Rattle.mt_cells.specs.Greater.{timestamped_total};
+    ghost use Rattle.mt_cells.specs.Greater.{written_total};
 
-    ghost laws = { eq_by_cmp_equiv (timestamped_total T.total) };
+    ghost laws = { eq_by_cmp_equiv (written_total T.total) };
 }
 
 impl<T: Ord + Drop> Join for Register<T> {
     ghost use Rattle.std.specs.Prelude.{false};
-    ghost use Rattle.mt_cells.specs.Pairs.{greater};
-    ghost use Rattle.mt_cells.specs.Greater.{timestamped_total, greater_commutative, greater_idempotent, greater_respects, greater_associates};
+    ghost use Rattle.mt_stamp.specs.Written.{greater};
+    ghost use Rattle.mt_cells.specs.Greater.{written_total, greater_commutative, greater_idempotent, greater_respects, greater_associates};
 
-    ghost joined = { greater (timestamped_cmp T.cmp) };
+    ghost joined = { greater (written_cmp T.cmp) };
 
     ghost takes_memory = { false };
 
-    ghost commutative = { greater_commutative (timestamped_total T.total) };
+    ghost commutative = { greater_commutative (written_total T.total) };
 
-    ghost associative = { greater_associates (timestamped_total T.total) };
+    ghost associative = { greater_associates (written_total T.total) };
 
-    ghost idempotent = { greater_idempotent (timestamped_total T.total) };
+    ghost idempotent = { greater_idempotent (written_total T.total) };
 
-    ghost respects = { greater_respects (timestamped_total T.total) };
+    ghost respects = { greater_respects (written_total T.total) };
 
     fn join(&mut self, other: Self) -> Result<(), CellFault> {
         if self.compare(&other).is_lt() {

@@ -1,5 +1,5 @@
 -- The answers to questions do not depend on the order in which operations were noted.
-use Rattle.std.proofs.Common.{◌≡◌, ℕ, zero, suc, Bool, List, [], ◌∷◌, ◌||◌, not, Some, map, sym, ap, ◌∙◌, true, true≢false}
+use Rattle.std.proofs.Common.{◌≡◌, ℕ, zero, suc, Bool, List, [], ◌∷◌, ◌||◌, Some, map, sym, ap, ◌∙◌, true, true≢false}
 use Rattle.std.specs.Prelude.{slice_get}
 use Rattle.std.specs.Cmp.{on_total}
 use Rattle.std.specs.List.{filter, list_any, All, AllByRecursion}
@@ -13,6 +13,7 @@ use Rattle.mt_stamp.proofs.Differing.{all_kept}
 use Rattle.mt_stamp.proofs.SameItems.{SameItems, same_filter, same_map, same_flat_map, same_any}
 use Rattle.mt_stamp.proofs.Sorting.{sort_same}
 use Rattle.mt_op.specs.declared.need.Role.{Role}
+use Rattle.mt_stamp.specs.Presence.{is_left}
 use Rattle.mt_op.specs.Operation.{Operation}
 use Rattle.mt_op.specs.ByStamp.{stamp_of, op_cmp}
 use Rattle.mt_op.specs.Needs.{fits, meets, is_tag_of}
@@ -47,9 +48,9 @@ live_same r u same item tag =
     let tagged = same_map (filter (λ (o : Operation). is_tag_of item o.stamp o.act) r) (filter (λ (o : Operation). is_tag_of item o.stamp o.act) u) (same_filter r u same (λ o. is_tag_of item o.stamp o.act)) (λ (o : Operation). o.stamp) in
     let removed = same_flat_map r u same (λ (o : Operation). tags_removed item o.act) in
     let listed : (t : Moment) → is_listed (removed_tags item r) t ≡ is_listed (removed_tags item u) t = λ t. same_any (removed_tags item r) (removed_tags item u) removed _ in
-    let live : Moment → Bool = λ t. not (is_listed (removed_tags item r) t) in
+    let live : Moment → Bool = is_left (is_listed (removed_tags item r)) in
     same_any (live_tags item r) (filter live (tags item u)) (same_filter (tags item r) (tags item u) tagged live) (stamp_eq tag)
-    ∙ (λ i. list_any (stamp_eq tag) (filter (λ t. not (listed t i)) (tags item u)))
+    ∙ (λ i. list_any (stamp_eq tag) (filter (is_left (λ t. listed t i)) (tags item u)))
 
 -- ---- the same operations
 

@@ -38,7 +38,7 @@ other_clip item o ops c other held = record {
   positive = held.positive;
   gain = other_held gain_written (at_subject gain_in) item o ops c.gain other held.gain;
   mute = other_held mute_written (at_subject mute_in) item o ops c.mute other held.mute;
-  source = other_held source_written (at_subject source_in) item o ops (record { stamp = item; value = c.source }) other held.source;
+  source = other_held source_written (at_subject source_in) item o ops (record { writer = item; value = c.source }) other held.source;
   presence = other_tags item o ops c.presence other held.presence;
 }
 

@@ -1,11 +1,12 @@
 -- What is read of cells.
 use Rattle.std.proofs.Common.{◌≡◌, false, List, Option, Some, None, ◌||◌, sym, ap, ◌∙◌}
 use Rattle.mt_stamp.specs.Moment.{Moment}
+use Rattle.mt_stamp.specs.Written.{Written}
 use Rattle.mt_op.specs.declared.need.Role.{Role}
 use Rattle.mt_op.specs.declared.need.Role.TheVariants.{Track, Clip, Marker, Mixable, Titled, Item}
 use Rattle.mt_op.specs.Operation.{Act, Operation}
 use Rattle.mt_op.specs.Needs.{need_of}
-use Rattle.mt_op.specs.Writes.{Write, Written, last_write}
+use Rattle.mt_op.specs.Writes.{Write, last_write}
 use Rattle.mt_items.specs.Noting.{is_need_met, AreNoted}
 use Rattle.mt_items.proofs.Roles.{OfKind, none_written, mixable_is, titled_is, item_apart}
 

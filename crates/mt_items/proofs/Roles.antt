@@ -5,6 +5,8 @@ use Rattle.mt_stamp.specs.Moment.{Moment, stamp_eq}
 use Rattle.mt_stamp.proofs.Order.{stamp_eq-true, stamp_eq-itself}
 use Rattle.mt_op.specs.declared.need.Role.{Role}
 use Rattle.mt_op.specs.declared.need.Role.TheVariants.{Track, Clip, Marker, Mixable, Titled, Item, TagOf}
+use Rattle.mt_op.specs.declared.value.Placement.{Placement}
+use Rattle.mt_op.specs.declared.value.TrimRange.{TrimRange}
 use Rattle.mt_op.specs.Operation.{Act, AddTrack, MoveTrack, AddClip, MoveClip, TrimClip, SetGain, SetMute, Remove, Restore, AddMarker, MoveMarker, Retitle, Operation}
 use Rattle.mt_op.specs.Needs.{need_of, needs_of, act_fits, fits, is_tag_of}
 use Rattle.mt_op.specs.Presence.{is_listed, tags, tags_removed}
@@ -167,13 +169,13 @@ track_places ops item own (MoveTrack i after) met here before = other_item item 
 track_places ops item own _ met here before = refl
 
 pub clip_places : OfKind Clip clip_place_written
-clip_places ops item own (AddClip source track at offset len) met here before = own_item item own (track, at) clip_place_written here
-clip_places ops item own (MoveClip i track at) met here before = other_item item i own (track, at) clip_place_written (not_needed Clip ops item i _ before met)
+clip_places ops item own (AddClip source track at offset len) met here before = own_item {X = Placement} item own (record { track = track; at = at }) clip_place_written here
+clip_places ops item own (MoveClip i track at) met here before = other_item {X = Placement} item i own (record { track = track; at = at }) clip_place_written (not_needed Clip ops item i _ before met)
 clip_places ops item own _ met here before = refl
 
 pub trims : OfKind Clip trim_written
-trims ops item own (AddClip source track at offset len) met here before = own_item item own (offset, len) trim_written here
-trims ops item own (TrimClip i offset len) met here before = other_item item i own (offset, len) trim_written (not_needed Clip ops item i _ before met)
+trims ops item own (AddClip source track at offset len) met here before = own_item {X = TrimRange} item own (record { offset = offset; len = len }) trim_written here
+trims ops item own (TrimClip i offset len) met here before = other_item {X = TrimRange} item i own (record { offset = offset; len = len }) trim_written (not_needed Clip ops item i _ before met)
 trims ops item own _ met here before = refl
 
 pub sources : OfKind Clip source_written

@@ -26,10 +26,10 @@ pub record HoldsMarker {A : Type 0} (item : Moment) (ops : List Operation) (cell
 pub record HoldsClip {A : Type 0} (item : Moment) (ops : List Operation) (cells : ClipCells A) : Type 0 where
   pub place : HoldsLast clip_place_written item ops cells.place
   pub trim : HoldsLast trim_written item ops cells.trim
-  pub positive : 1 ≤ cells.trim.value.1
+  pub positive : 1 ≤ cells.trim.value.len
   pub gain : HoldsLast gain_written item ops cells.gain
   pub mute : HoldsLast mute_written item ops cells.mute
-  pub source : HoldsLast source_written item ops (record { stamp = item; value = cells.source })
+  pub source : HoldsLast source_written item ops (record { writer = item; value = cells.source })
   pub presence : HoldsTags item ops cells.presence
 
 -- A working predicate: the cells of a track.

@@ -3,16 +3,16 @@
 ghost use Rattle.std.specs.Prelude.{◌≡◌, List, [], ◌∷◌, Some, ◌≤◌, IfOk, IfErr, IfSome, MatchOption, option_map, slice_get};
 ghost use Rattle.std.specs.List.Sorted.{IsStrictlySortedBy};
 ghost use Rattle.mt_stamp.specs.Moment.{Moment, stamp_cmp};
+ghost use Rattle.mt_stamp.specs.Written.{Written};
 ghost use Rattle.mt_op.specs.declared.need.Role.TheVariants.{Track, Place, Clip, Marker, Mixable, Titled, Item, TagOf};
 ghost use Rattle.mt_op.specs.Operation.{Operation};
 ghost use Rattle.mt_op.specs.Needs.{need_of, needs};
 ghost use Rattle.mt_op.specs.declared.need.Need.{Need as NeedOf};
 ghost use Rattle.mt_op.specs.Presence.{is_present, is_listed, live_tags};
-ghost use Rattle.mt_op.specs.Writes.{Written, title_written, gain_written, mute_written, track_place_written, clip_place_written, trim_written, source_written, position_written, last_write};
+ghost use Rattle.mt_op.specs.Writes.{title_written, gain_written, mute_written, track_place_written, clip_place_written, trim_written, source_written, position_written, last_write};
 ghost use Rattle.mt_cells.specs.Marks.{unmarked};
 ghost use Rattle.mt_items.specs.Noting.{MayFollow, AreNoted, is_need_met, are_needs_met};
 ghost use Rattle.mt_items.specs.Cells.{items_of};
-ghost use Rattle.mt_items.specs.Fields.{written};
 ghost use Rattle.mt_items.specs.Tags.{HoldsTags};
 
 use crate::cells::{ClipCells, MarkerCells, TrackCells};
@@ -25,7 +25,7 @@ use crate::marks::ItemMarks;
 use crate::place::note as note_place;
 use crate::track::note as note_track;
 use mt_cells::Register;
-use mt_op::{Digest, Gain, Need, Op, Role, Title};
+use mt_op::{Digest, Gain, Need, Op, Placement, Role, Title, TrimRange};
 use mt_stamp::Stamp;
 use std::alloc::{Allocator, Global};
 use std::collections::{BTreeMap, BTreeSet};
@@ -258,7 +258,7 @@ impl<A: Allocator> Items<A> {
 
     /// The last write of the title of a track or marker. `None` where the stamp names neither.
     pub fn title(&self, item: Stamp) -> Option<&Register<Title<A>>>
-        ensures { option_map (λ r. written r.now) result ≡ last_write title_written item self.now }
+        ensures { option_map (λ r. r.now) result ≡ last_write title_written item self.now }
     {
         match self.tracks.get(&item) {
             Some(track) => Some(&track.title),
@@ -271,7 +271,7 @@ impl<A: Allocator> Items<A> {
 
     /// The last write of the gain of a track or clip. `None` where the stamp names neither.
     pub fn gain(&self, item: Stamp) -> Option<&Register<Gain>>
-        ensures { option_map (λ r. written r.now) result ≡ last_write gain_written item self.now }
+        ensures { option_map (λ r. r.now) result ≡ last_write gain_written item self.now }
     {
         match self.tracks.get(&item) {
             Some(track) => Some(&track.gain),
@@ -284,7 +284,7 @@ impl<A: Allocator> Items<A> {
 
     /// The last write of the mute of a track or clip. `None` where the stamp names neither.
     pub fn mute(&self, item: Stamp) -> Option<&Register<bool>>
-        ensures { option_map (λ r. written r.now) result ≡ last_write mute_written item self.now }
+        ensures { option_map (λ r. r.now) result ≡ last_write mute_written item self.now }
     {
         match self.tracks.get(&item) {
             Some(track) => Some(&track.mute),
@@ -298,7 +298,7 @@ impl<A: Allocator> Items<A> {
     /// The last write of a track's place: its stamp is the track's current place, and its value the place that this
     /// one was put after, none for the head. `None` where the stamp names no track.
     pub fn track_place(&self, track: Stamp) -> Option<&Register<Option<Stamp>>>
-        ensures { option_map (λ r. written r.now) result ≡ last_write track_place_written track self.now }
+        ensures { option_map (λ r. r.now) result ≡ last_write track_place_written track self.now }
     {
         match self.tracks.get(&track) {
             Some(found) => Some(&found.place),
@@ -319,8 +319,8 @@ impl<A: Allocator> Items<A> {
 
     /// The last write of a clip's place: its track, and the frame of the session at which it begins. `None` where the
     /// stamp names no clip.
-    pub fn clip_place(&self, clip: Stamp) -> Option<&Register<(Stamp, u32)>>
-        ensures { option_map (λ r. written r.now) result ≡ last_write clip_place_written clip self.now }
+    pub fn clip_place(&self, clip: Stamp) -> Option<&Register<Placement>>
+        ensures { option_map (λ r. r.now) result ≡ last_write clip_place_written clip self.now }
     {
         match self.clips.get(&clip) {
             Some(cells) => Some(&cells.place),
@@ -330,9 +330,9 @@ impl<A: Allocator> Items<A> {
 
     /// The last write of a clip's trim: the first frame of its recording that it plays, and how many frames,
     /// at least 1. `None` where the stamp names no clip.
-    pub fn trim(&self, clip: Stamp) -> Option<&Register<(u32, u32)>>
-        ensures write { option_map (λ r. written r.now) result ≡ last_write trim_written clip self.now }
-        ensures positive { IfSome result (λ r. 1 ≤ r.now.value.1) }
+    pub fn trim(&self, clip: Stamp) -> Option<&Register<TrimRange>>
+        ensures write { option_map (λ r. r.now) result ≡ last_write trim_written clip self.now }
+        ensures positive { IfSome result (λ r. 1 ≤ r.now.value.len) }
     {
         match self.clips.get(&clip) {
             Some(cells) => Some(&cells.trim),
@@ -352,7 +352,7 @@ impl<A: Allocator> Items<A> {
 
     /// The last write of a marker's position, in frames of the session. `None` where the stamp names no marker.
     pub fn position(&self, marker: Stamp) -> Option<&Register<u32>>
-        ensures { option_map (λ r. written r.now) result ≡ last_write position_written marker self.now }
+        ensures { option_map (λ r. r.now) result ≡ last_write position_written marker self.now }
     {
         match self.markers.get(&marker) {
             Some(cells) => Some(&cells.position),

@@ -1,5 +1,5 @@
 -- What was not added has no clips.
-use Rattle.std.proofs.Common.{◌≡◌, ℕ, Bool, true, false, cond, List, [], ◌∷◌, map, Some, sym, ap, ◌∙◌, subst, inl, inr, true≢false}
+use Rattle.std.proofs.Common.{◌≡◌, Bool, true, false, cond, List, [], ◌∷◌, map, Some, sym, ap, ◌∙◌, subst, inl, inr, true≢false}
 use Rattle.std.specs.Prelude.{unwrap_or, Option}
 use Rattle.std.specs.List.{AllByRecursion, filter}
 use Rattle.std.proofs.lemmas.Option.{same_Some, none-some}
@@ -7,11 +7,13 @@ use Rattle.mt_stamp.specs.Moment.{Moment, stamp_eq}
 use Rattle.mt_stamp.specs.Sorting.{sort_by}
 use Rattle.mt_stamp.proofs.Order.{stamp_eq-true}
 use Rattle.mt_stamp.proofs.Members.{IsMember}
+use Rattle.mt_stamp.specs.Written.{Written}
 use Rattle.mt_op.specs.declared.need.Need.{Need}
 use Rattle.mt_op.specs.declared.need.Role.TheVariants.{Track as TrackRole, Clip as ClipRole, Marker as MarkerRole, Mixable as MixableRole, Item as ItemRole}
+use Rattle.mt_op.specs.declared.value.Placement.{Placement}
 use Rattle.mt_op.specs.Operation.{Act, AddClip, MoveClip, Operation}
 use Rattle.mt_op.specs.Needs.{need_of, needs, needs_of, meets, adds_clip}
-use Rattle.mt_op.specs.Writes.{Write, Written, clip_place_written}
+use Rattle.mt_op.specs.Writes.{Write, clip_place_written}
 use Rattle.mt_op.proofs.Needs.{and_first, and_second}
 use Rattle.mt_op.proofs.WriteOf.{is_write_of}
 use Rattle.mt_items.specs.Noting.{AreNoted, is_need_met}
@@ -34,9 +36,9 @@ all_met (o ∷ ops) noted x (inl same) =
 all_met (o ∷ ops) noted x (inr later) = later_met o ops x (all_met ops noted.1 x later)
 
 -- what puts a clip on a track needs the track
-track_needed : (P : Need → Type 0) (own : Moment) (act : Act) (w : Write (Moment × ℕ)) → clip_place_written own act ≡ Some w → AllByRecursion P (needs_of act) → P (need_of TrackRole w.value.0)
-track_needed P own (AddClip source track at offset len) w is all = subst (λ (v : Write (Moment × ℕ)). P (need_of TrackRole v.value.0)) (same_Some _ w is) all.0
-track_needed P own (MoveClip clip track at) w is all = subst (λ (v : Write (Moment × ℕ)). P (need_of TrackRole v.value.0)) (same_Some _ w is) all.1.0
+track_needed : (P : Need → Type 0) (own : Moment) (act : Act) (w : Write Placement) → clip_place_written own act ≡ Some w → AllByRecursion P (needs_of act) → P (need_of TrackRole w.value.track)
+track_needed P own (AddClip source track at offset len) w is all = subst (λ (v : Write Placement). P (need_of TrackRole v.value.track)) (same_Some _ w is) all.0
+track_needed P own (MoveClip clip track at) w is all = subst (λ (v : Write Placement). P (need_of TrackRole v.value.track)) (same_Some _ w is) all.1.0
 track_needed P own _ w is all = absurd (none-some w is)
 
 none_stay : {X : Type 0} (p : X → Bool) (xs : List X) → AllByRecursion (λ x. p x ≡ false) xs → filter p xs ≡ []
@@ -51,9 +53,9 @@ module _ (r : List Operation) (noted : AreNoted r) (track : Moment) where
       let writer = given.given.0 in
       let wrote = is_write_of clip_place_written o.stamp writer given.write given.given.2 in
       let met = track_needed (λ need. is_need_met r need ≡ true) writer.stamp writer.act wrote.write wrote.made (all_met r noted writer given.given.1) in
-      let place_is : clip_place_in r o.stamp ≡ given.write = ap (λ (l : Option (Written (Moment × ℕ))). unwrap_or l (record { writer = o.stamp; value = (o.stamp, 0) })) given.is in
-      let same : wrote.write.value.0 ≡ track =
-      ap (λ (v : Written (Moment × ℕ)). v.value.0) (sym (place_is ∙ wrote.value_is)) ∙ stamp_eq-true (clip_place_in r o.stamp).value.0 track (and_second (is_shown_in r adds_clip o) (stamp_eq (clip_place_in r o.stamp).value.0 track) on) in
+      let place_is : clip_place_in r o.stamp ≡ given.write = ap (λ (l : Option (Written Placement)). unwrap_or l (record { writer = o.stamp; value = record { track = o.stamp; at = 0 } })) given.is in
+      let same : wrote.write.value.track ≡ track =
+      ap (λ (v : Written Placement). v.value.track) (sym (place_is ∙ wrote.value_is)) ∙ stamp_eq-true (clip_place_in r o.stamp).value.track track (and_second (is_shown_in r adds_clip o) (stamp_eq (clip_place_in r o.stamp).value.track track) on) in
       ap (λ (t : Moment). is_need_met r (need_of TrackRole t)) (sym same) ∙ met
 
   pub no_clips : is_need_met r (need_of ItemRole track) ≡ false → clips_in r track ≡ []

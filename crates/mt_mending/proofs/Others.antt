@@ -1,21 +1,23 @@
 -- What an operation leaves of the items that it is not about, and which operation its own item is.
-use Rattle.std.proofs.Common.{◌≡◌, ℕ, Bool, true, false, cond, not, ◌&&◌, ◌||◌, List, [], ◌∷◌, ◌++◌, Option, ◌⊎◌, map, refl, sym, ap, ◌∙◌, inl, inr, true≢false}
+use Rattle.std.proofs.Common.{◌≡◌, Bool, true, false, cond, ◌&&◌, ◌||◌, List, [], ◌∷◌, ◌++◌, Option, ◌⊎◌, map, refl, sym, ap, ◌∙◌, inl, inr, true≢false}
 use Rattle.std.specs.Prelude.{option_map, unwrap_or}
 use Rattle.std.specs.List.{filter, list_any}
 use Rattle.mt_stamp.specs.Moment.{Moment, stamp_eq}
 use Rattle.mt_stamp.proofs.Order.{stamp_eq-true}
 use Rattle.mt_stamp.proofs.Members.{IsMember}
+use Rattle.mt_stamp.specs.Written.{Written}
+use Rattle.mt_stamp.specs.Presence.{is_left}
 use Rattle.mt_op.specs.declared.need.Role.{Role}
 use Rattle.mt_op.specs.Gain.{unchanged}
+use Rattle.mt_op.specs.declared.value.Placement.{Placement}
 use Rattle.mt_op.specs.Operation.{Act, Operation}
 use Rattle.mt_op.specs.Needs.{need_of, meets, fits, is_tag_of, adds_clip}
 use Rattle.mt_op.specs.Presence.{is_listed, is_any, tags, removed_tags, is_present}
-use Rattle.mt_op.specs.Writes.{Write, Written, title_in, gain_in, mute_in, track_place_in as track_place_value, clip_place_in as clip_place_value, trim_in, position_in, title_written, gain_written, mute_written, track_place_written, clip_place_written, trim_written, position_written, last_write}
+use Rattle.mt_op.specs.Writes.{Write, title_in, gain_in, mute_in, track_place_in as track_place_value, clip_place_in as clip_place_value, trim_in, source_in, position_in, title_written, gain_written, mute_written, track_place_written, clip_place_written, trim_written, source_written, position_written, last_write}
 use Rattle.mt_op.proofs.Needs.{and_first, and_second}
 use Rattle.mt_items.specs.Noting.{AreNoted, is_noted, is_need_met, subject}
 use Rattle.mt_items.proofs.Noting.{unmet, either_true, subject_noted, AtSubject, at_subject, last_same, other_write}
 use Rattle.mt_items.proofs.Marking.{other_tag}
-use Rattle.mt_sessionview.specs.Session.{source_of}
 use Rattle.mt_sessionview.specs.Noted.{value_in, is_shown_in, marker_in, clip_place_in, clip_in, is_clip_on_in, track_place_in}
 use Rattle.mt_sessionview.proofs.Items.{stamp_eq_same}
 use Rattle.mt_sessionview.proofs.InOrder.{one_op}
@@ -68,10 +70,10 @@ module _ (o : Operation) (r : List Operation) (noted : AreNoted (o ∷ r)) where
         let none = other_tag x o.stamp o.act (not_item x other) in
         let tagged : tags x (o ∷ r) ≡ tags x r = ap (λ (b : Bool). map (λ (z : Operation). z.stamp) (cond b (o ∷ filter (λ z. is_tag_of x z.stamp z.act) r) (filter (λ z. is_tag_of x z.stamp z.act) r))) none.0 in
         let untagged : removed_tags x (o ∷ r) ≡ removed_tags x r = ap (λ (l : List Moment). l ++ removed_tags x r) none.1 in
-        λ i. is_any (filter (λ tag. not (is_listed (untagged i) tag)) (tagged i))
+        λ i. is_any (filter (is_left (is_listed (untagged i))) (tagged i))
 
     pub place_same : clip_place_in (o ∷ r) x ≡ clip_place_in r x
-    place_same = ap (λ (w : Option (Written (Moment × ℕ))). unwrap_or w (record { writer = x; value = (x, 0) })) (write_same clip_place_written (at_subject clip_place_value))
+    place_same = ap (λ (w : Option (Written Placement)). unwrap_or w (record { writer = x; value = record { track = x; at = 0 } })) (write_same clip_place_written (at_subject clip_place_value))
 
     pub track_place_same : track_place_in (o ∷ r) x ≡ track_place_in r x
     track_place_same = ap (λ (l : Option (Written (Option Moment))). unwrap_or (option_map (λ (w : Written (Option Moment)). w.writer) l) x) (write_same track_place_written (at_subject track_place_value))
@@ -90,18 +92,19 @@ module _ (o : Operation) (r : List Operation) (noted : AreNoted (o ∷ r)) where
     clip_same =
         let place = place_same x.stamp other in
         let trim = value_same x.stamp other trim_written (at_subject trim_in) in
+        let source = value_same x.stamp other source_written (at_subject source_in) in
         let gain = value_same x.stamp other gain_written (at_subject gain_in) in
         let mute = value_same x.stamp other mute_written (at_subject mute_in) in
         λ i. record {
           clip = x.stamp;
           place = (place i).writer;
-          at = (place i).value.1;
-          offset = (unwrap_or (trim i) (0, 0)).0;
-          len = (unwrap_or (trim i) (0, 0)).1;
+          at = (place i).value.at;
+          offset = (unwrap_or (trim i) (record { offset = 0; len = 0 })).offset;
+          len = (unwrap_or (trim i) (record { offset = 0; len = 0 })).len;
           gain = unwrap_or (gain i) unchanged;
           mute = unwrap_or (mute i) false;
-          source = source_of x.act;
+          source = unwrap_or (source i) (record { 0 = [] });
         }
 
     pub on_same : (track : Moment) → is_clip_on_in (o ∷ r) track x ≡ is_clip_on_in r track x
-    on_same track = λ i. shown_same adds_clip i && stamp_eq (place_same x.stamp other i).value.0 track
+    on_same track = λ i. shown_same adds_clip i && stamp_eq (place_same x.stamp other i).value.track track

@@ -15,10 +15,11 @@ use Rattle.mt_stamp.proofs.Members.{IsMember, AreApart, member_of_kept, sort_str
 use Rattle.mt_stamp.proofs.Tree.{trees_are_ordered}
 use Rattle.mt_tracklist.specs.declared.track_list.Placed.{Placed}
 use Rattle.mt_tracklist.specs.Ordered.{IsOrdered}
+use Rattle.mt_stamp.specs.Written.{Written}
 use Rattle.mt_op.specs.ByStamp.{stamp_of}
 use Rattle.mt_op.specs.Operation.{Operation}
 use Rattle.mt_op.specs.Needs.{adds_track}
-use Rattle.mt_op.specs.Writes.{Write, Written, track_place_written}
+use Rattle.mt_op.specs.Writes.{Write, track_place_written}
 use Rattle.mt_op.proofs.WriteOf.{is_write_of}
 use Rattle.mt_op.proofs.Needs.{and_first}
 use Rattle.mt_items.specs.Noting.{AreNoted}

@@ -10,13 +10,14 @@ use Rattle.mt_stamp.specs.Tree.{tree_cmp}
 use Rattle.mt_stamp.proofs.Order.{stamp_eq-true}
 use Rattle.mt_stamp.proofs.Members.{IsMember, member_kept, member_of_kept, member_sorted}
 use Rattle.mt_stamp.proofs.SameItems.{GivenBy}
+use Rattle.mt_stamp.specs.Written.{Written}
 use Rattle.mt_op.specs.declared.need.Role.TheVariants.{Track as TrackRole}
 use Rattle.mt_op.specs.ByStamp.{stamp_of}
 use Rattle.mt_op.specs.Gain.{unchanged}
 use Rattle.mt_op.specs.Operation.{Operation}
 use Rattle.mt_op.specs.Needs.{adds_track}
 use Rattle.mt_op.specs.Presence.{is_present}
-use Rattle.mt_op.specs.Writes.{Written, title_in, gain_in, mute_in, title_written, gain_written, mute_written, track_place_written, last_write}
+use Rattle.mt_op.specs.Writes.{title_in, gain_in, mute_in, title_written, gain_written, mute_written, track_place_written, last_write}
 use Rattle.mt_items.specs.Noting.{AreNoted, is_noted}
 use Rattle.mt_items.proofs.Noting.{at_subject, writer_noted}
 use Rattle.mt_items.proofs.PerKind.{track_own}

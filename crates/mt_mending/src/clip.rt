@@ -42,16 +42,16 @@ pub fn placed_clip<A: Allocator>(items: &Items<A>, item: Stamp) -> Option<Placed
     let Some(source) = items.source(item) else {
         return None;
     };
-    let (track, at) = *place.get();
-    let (offset, len) = *trim.get();
+    let put = *place.get();
+    let range = *trim.get();
     Some(PlacedClip {
-        track,
+        track: put.track,
         clip: ClipView {
             clip: item,
             place: place.stamp(),
-            at,
-            offset,
-            len,
+            at: put.at,
+            offset: range.offset,
+            len: range.len,
             gain: value_or(items.gain(item), Gain::UNCHANGED),
             mute: value_or(items.mute(item), false),
             source,

@@ -7,7 +7,6 @@ ghost use Rattle.mt_op.specs.declared.need.Role.TheVariants.{Marker as MarkerRol
 ghost use Rattle.mt_op.specs.Needs.{need_of};
 ghost use Rattle.mt_op.specs.Presence.{is_present};
 ghost use Rattle.mt_op.specs.Writes.{title_written, last_write};
-ghost use Rattle.mt_items.specs.Fields.{written};
 ghost use Rattle.mt_items.specs.Noting.{is_need_met};
 ghost use Rattle.mt_sessionview.specs.Content.{marker_cmp};
 ghost use Rattle.mt_sessionview.specs.Noted.{markers_in};
@@ -26,7 +25,7 @@ use std::alloc::Allocator;
 
 // The title of a marker, where one of this stamp is present.
 fn marker_title<A: Allocator>(items: &Items<A>, item: Stamp) -> Option<&Register<Title<A>>>
-    ensures { option_map (λ r. written r.now) result ≡ (if is_need_met items.now (need_of MarkerRole item) && is_present items.now item then last_write title_written item items.now else None) }
+    ensures { option_map (λ r. r.now) result ≡ (if is_need_met items.now (need_of MarkerRole item) && is_present items.now item then last_write title_written item items.now else None) }
 {
     let need = Need {
         stamp: item,

@@ -8,7 +8,8 @@ use Rattle.std.specs.declared.cmp.Ordering.{Ordering}
 use Rattle.std.specs.declared.cmp.Ordering.TheVariants.{Less, Equal, Greater}
 use Rattle.mt_stamp.specs.Moment.{Moment, stamp_cmp}
 use Rattle.mt_stamp.proofs.Order.{stamp_cmp_total}
-use Rattle.mt_op.specs.Writes.{Written, later, latest}
+use Rattle.mt_stamp.specs.Written.{Written}
+use Rattle.mt_op.specs.Writes.{later, latest}
 use Rattle.mt_op.specs.Laws.{IsLatest, LatestIsGreatest}
 
 is_less : (r : Ordering) → is_lt r ≡ true → r ≡ Less

@@ -7,8 +7,9 @@ use Rattle.std.proofs.lemmas.List.Elements.{Contains-append_right}
 use Rattle.std.proofs.lemmas.Option.{same_Some}
 use Rattle.mt_stamp.specs.Moment.{Moment, stamp_eq, stamp_cmp}
 use Rattle.mt_stamp.proofs.Order.{stamp_eq-true, stamp_eq-itself}
+use Rattle.mt_stamp.specs.Written.{Written}
 use Rattle.mt_op.specs.Operation.{Act, Operation}
-use Rattle.mt_op.specs.Writes.{Value, Write, Written, sets, writes, kept, written_by}
+use Rattle.mt_op.specs.Writes.{Value, Write, sets, writes, kept, written_by}
 use Rattle.mt_op.specs.Laws.{IsFieldOf, LastWriteIsGreatest}
 use Rattle.mt_op.proofs.LastWrite.{latest_is_greatest}
 use Rattle.mt_op.proofs.Written.{at_place}

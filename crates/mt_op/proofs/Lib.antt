@@ -9,3 +9,4 @@ pub mod LastWriter
 pub mod TagLists
 pub mod WriteOf
 pub mod SameWrites
+pub mod Presence

@@ -1,5 +1,5 @@
 -- The last write of a field and the presence of an item do not depend on how operations are put in order.
-use Rattle.std.proofs.Common.{◌≡◌, ℕ, zero, suc, Bool, true, false, not, ◌||◌, List, [], ◌∷◌, Option, Some, None, refl, sym, ap, ◌∙◌, true≢false}
+use Rattle.std.proofs.Common.{◌≡◌, ℕ, zero, suc, Bool, true, false, ◌||◌, List, [], ◌∷◌, Option, Some, None, refl, sym, ap, ◌∙◌, true≢false}
 use Rattle.std.specs.Prelude.{slice_get}
 use Rattle.std.specs.List.{AllByRecursion, filter, filter_map, list_any}
 use Rattle.std.specs.Ordering.{is_lt, ordering_reverse}
@@ -8,10 +8,12 @@ use Rattle.std.specs.declared.cmp.Ordering.TheVariants.{Less, Equal, Greater}
 use Rattle.std.proofs.lemmas.Option.{same_Some, none-some}
 use Rattle.mt_stamp.specs.Moment.{Moment, stamp_cmp}
 use Rattle.mt_stamp.proofs.Order.{stamp_cmp_total, stamp_cmp-IsAntisymmetric}
+use Rattle.mt_stamp.specs.Written.{Written}
+use Rattle.mt_stamp.specs.Presence.{is_left}
 use Rattle.mt_op.specs.Operation.{Act, Operation}
 use Rattle.mt_op.specs.Needs.{is_tag_of}
 use Rattle.mt_op.specs.Presence.{is_listed, tags_removed, tags, removed_tags, live_tags, is_any, is_present}
-use Rattle.mt_op.specs.Writes.{Write, Written, latest, written_by, last_write}
+use Rattle.mt_op.specs.Writes.{Write, latest, written_by, last_write}
 use Rattle.mt_op.proofs.LastWrite.{latest_is_greatest}
 use Rattle.mt_op.proofs.WriteOf.{is_write_of}
 use Rattle.mt_stamp.proofs.SameItems.{SameItems, GivenBy, same_filter, same_map, same_filter_map, same_flat_map, same_any, all_filter_map, all_here}
@@ -101,8 +103,8 @@ present_same r u same item =
     let tagged = same_map (filter (λ (o : Operation). is_tag_of item o.stamp o.act) r) (filter (λ (o : Operation). is_tag_of item o.stamp o.act) u) (same_filter r u same (λ o. is_tag_of item o.stamp o.act)) (λ (o : Operation). o.stamp) in
     let removed = same_flat_map r u same (λ (o : Operation). tags_removed item o.act) in
     let listed : (tag : Moment) → is_listed (removed_tags item r) tag ≡ is_listed (removed_tags item u) tag = λ tag. same_any (removed_tags item r) (removed_tags item u) removed _ in
-    let live : Moment → Bool = λ tag. not (is_listed (removed_tags item r) tag) in
+    let live : Moment → Bool = is_left (is_listed (removed_tags item r)) in
     any_items (live_tags item r)
     ∙ same_any (live_tags item r) (filter live (tags item u)) (same_filter (tags item r) (tags item u) tagged live) (λ x. true)
-    ∙ (λ i. list_any (λ (x : Moment). true) (filter (λ tag. not (listed tag i)) (tags item u)))
+    ∙ (λ i. list_any (λ (x : Moment). true) (filter (is_left (λ tag. listed tag i)) (tags item u)))
     ∙ sym (any_items (live_tags item u))

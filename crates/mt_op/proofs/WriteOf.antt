@@ -2,9 +2,10 @@
 use Rattle.std.proofs.Common.{◌≡◌, Bool, true, false, cond, Option, Some, None, refl, sym}
 use Rattle.std.proofs.lemmas.Option.{same_Some, none-some}
 use Rattle.mt_stamp.specs.Moment.{Moment}
+use Rattle.mt_stamp.specs.Written.{Written}
 use Rattle.mt_op.specs.Operation.{Act, Operation}
 use Rattle.mt_op.specs.Needs.{stamp_eq}
-use Rattle.mt_op.specs.Writes.{Write, Written, kept, written_by}
+use Rattle.mt_op.specs.Writes.{Write, kept, written_by}
 use Rattle.mt_op.proofs.Needs.{stamp_eq-true}
 
 module _ {X : Type 0} (field : Moment → Act → Option (Write X)) where

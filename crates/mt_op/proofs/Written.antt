@@ -9,6 +9,8 @@ use Rattle.std.proofs.lemmas.Option.{same_Some, slice_get_read}
 use Rattle.mt_stamp.specs.Moment.{Moment}
 use Rattle.mt_op.specs.Gain.{Ratio}
 use Rattle.mt_op.specs.declared.digest.Digest.{Digest}
+use Rattle.mt_op.specs.declared.value.Placement.{Placement}
+use Rattle.mt_op.specs.declared.value.TrimRange.{TrimRange}
 use Rattle.mt_op.specs.Operation.{Act, AddTrack}
 use Rattle.mt_op.specs.Writes.{Value, Title, Gain, Mute, TrackPlace, ClipPlace, Trim, Source, Position, Write, sets, writes, or_later, first_of, title_in, gain_in, mute_in, track_place_in, clip_place_in, trim_in, source_in, position_in, title_written, gain_written, mute_written, track_place_written, clip_place_written, trim_written, source_written, position_written}
 use Rattle.mt_op.specs.Laws.{IsFieldOf}
@@ -99,14 +101,14 @@ track_place_made _ x e = absurd cc
 pub track_places : IsFieldOf TrackPlace track_place_written
 track_places = is_field TrackPlace track_place_in track_place_made (λ x. refl) (λ x y. refl)
 
-clip_place_made : (v : Value) (x : Moment × ℕ) → clip_place_in v ≡ Some x → v ≡ ClipPlace x
+clip_place_made : (v : Value) (x : Placement) → clip_place_in v ≡ Some x → v ≡ ClipPlace x
 clip_place_made (ClipPlace y) x e = cc e
 clip_place_made _ x e = absurd cc
 
 pub clip_places : IsFieldOf ClipPlace clip_place_written
 clip_places = is_field ClipPlace clip_place_in clip_place_made (λ x. refl) (λ x y. refl)
 
-trim_made : (v : Value) (x : ℕ × ℕ) → trim_in v ≡ Some x → v ≡ Trim x
+trim_made : (v : Value) (x : TrimRange) → trim_in v ≡ Some x → v ≡ Trim x
 trim_made (Trim y) x e = cc e
 trim_made _ x e = absurd cc
 

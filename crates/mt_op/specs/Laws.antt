@@ -1,9 +1,12 @@
 -- What holds of every set of operations.
-use Rattle.std.specs.Prelude.{◌≡◌, ℕ, false, List, [], Option, Some, None, IsTrue}
+use Rattle.std.specs.Prelude.{◌≡◌, ◌↔◌, ℕ, false, List, [], Option, Some, None, IsTrue}
 use Rattle.std.specs.List.{AllByRecursion, Contains, slice_get}
 use Rattle.std.specs.Ordering.{is_lt}
 use Rattle.mt_stamp.specs.Moment.{Moment, stamp_cmp}
-use Rattle.mt_op.specs.Writes.{Value, Write, Written, sets, writes, latest, last_write}
+use Rattle.mt_stamp.specs.Written.{Written}
+use Rattle.mt_stamp.specs.Presence.{is_live, IsPresent}
+use Rattle.mt_op.specs.Presence.{is_listed, tags, removed_tags, live_tags, is_present}
+use Rattle.mt_op.specs.Writes.{Value, Write, sets, writes, latest, last_write}
 use Rattle.mt_op.specs.Operation.{Act, Operation}
 use Rattle.mt_op.specs.Needs.{needs, meets, clock_of, names_are_older}
 use Rattle.mt_op.specs.Ready.{IsTheOnlyReady}
@@ -42,3 +45,8 @@ pub record IsLastWrite {X : Type 0} (make : X → Value) (item : Moment) (ops : 
 pub record LastWriteIsGreatest {X : Type 0} (make : X → Value) (field : Moment → Act → Option (Write X)) : Type 0 where
   pub is_last : (item : Moment) (ops : List Operation) (w : Written X) → last_write field item ops ≡ Some w → IsLastWrite make item ops w
   pub none : (item : Moment) (ops : List Operation) → last_write field item ops ≡ None → (o : Operation) (value : X) → Contains ops o → Contains (writes o.stamp o.act) (sets item (make value)) → ⊥
+
+-- The live tags of an item are listed, and it is present where one of its tags is live.
+pub record PresenceIsOfTags : Type 0 where
+  pub live : (item : Moment) (ops : List Operation) (tag : Moment) → is_listed (live_tags item ops) tag ≡ is_live (is_listed (tags item ops)) (is_listed (removed_tags item ops)) tag
+  pub present : (item : Moment) (ops : List Operation) → IsTrue (is_present ops item) ↔ IsPresent (is_listed (tags item ops)) (is_listed (removed_tags item ops))

@@ -2,6 +2,7 @@ pub mod Title
 pub mod Gain
 pub mod Operation
 pub mod Bodies
+pub mod Rising
 pub mod Tags
 pub mod Needs
 pub mod Ready

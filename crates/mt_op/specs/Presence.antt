@@ -1,7 +1,8 @@
 -- Which tags of an item are left (OR-Set: INRIA RR-7506, section 3.3.5).
-use Rattle.std.specs.Prelude.{Bool, true, false, not, List, [], ◌∷◌, map, filter, if◌then◌else◌}
+use Rattle.std.specs.Prelude.{Bool, true, false, List, [], ◌∷◌, map, filter, if◌then◌else◌}
 use Rattle.std.specs.List.{list_any, flat_map}
 use Rattle.mt_stamp.specs.Moment.{Moment}
+use Rattle.mt_stamp.specs.Presence.{is_left}
 use Rattle.mt_op.specs.Operation.{Act, Remove, Operation}
 use Rattle.mt_op.specs.Needs.{stamp_eq, is_tag_of}
 
@@ -22,9 +23,9 @@ tags item ops = map (λ (o : Operation). o.stamp) (filter (λ o. is_tag_of item 
 abbrev pub removed_tags : Moment → List Operation → List Moment
 removed_tags item ops = flat_map (λ o. tags_removed item o.act) ops
 
--- the tags that are not removed
+-- the tags that are live
 abbrev pub live_tags : Moment → List Operation → List Moment
-live_tags item ops = filter (λ tag. not (is_listed (removed_tags item ops) tag)) (tags item ops)
+live_tags item ops = filter (λ tag. is_left (is_listed (removed_tags item ops)) tag) (tags item ops)
 
 -- whether there is one
 abbrev pub is_any : List Moment → Bool

@@ -1,21 +1,11 @@
 -- Which lists of tags an operation may hold (profile).
-use Rattle.std.specs.Prelude.{ℕ, Bool, true, List, [], ◌∷◌, Option, Some, None, length, nat_le, ◌&&◌}
-use Rattle.std.specs.Ordering.{is_lt}
+use Rattle.std.specs.Prelude.{ℕ, Bool, List, None, length, nat_le, ◌&&◌}
 use Rattle.mt_stamp.specs.Moment.{Moment, stamp_cmp}
-
--- whether a stamp is greater than the one before it, where there is one
-abbrev pub is_after : Option Moment → Moment → Bool
-is_after None tag = true
-is_after (Some last) tag = is_lt (stamp_cmp last tag)
-
--- whether each stamp is greater than the one before it, the first one's being given
-abbrev pub rises_from : Option Moment → List Moment → Bool
-rises_from last [] = true
-rises_from last (tag ∷ tags) = is_after last tag && rises_from (Some tag) tags
+use Rattle.mt_op.specs.Rising.{rises_from}
 
 -- whether each stamp is greater than the one before it
 abbrev pub stamps_rise : List Moment → Bool
-stamps_rise tags = rises_from None tags
+stamps_rise tags = rises_from stamp_cmp None tags
 
 -- how many tags one Remove may list
 abbrev pub greatest_tag_count : ℕ

@@ -1,10 +1,12 @@
 -- What an operation writes, and the value that the last writer gave (LWW-Register: INRIA RR-7506, section 3.2.1).
 use Rattle.std.specs.Prelude.{ℕ, Bool, false, List, [], ◌∷◌, Option, Some, None, if◌then◌else◌}
 use Rattle.std.specs.List.{filter_map}
-use Rattle.std.specs.Ordering.{is_lt}
-use Rattle.mt_stamp.specs.Moment.{Moment, stamp_cmp}
+use Rattle.mt_stamp.specs.Moment.{Moment}
+use Rattle.mt_stamp.specs.Written.{Written, writer_cmp, greater}
 use Rattle.mt_op.specs.Gain.{Ratio, unchanged}
 use Rattle.mt_op.specs.declared.digest.Digest.{Digest}
+use Rattle.mt_op.specs.declared.value.Placement.{Placement}
+use Rattle.mt_op.specs.declared.value.TrimRange.{TrimRange}
 use Rattle.mt_op.specs.Operation.{Act, AddTrack, MoveTrack, AddClip, MoveClip, TrimClip, SetGain, SetMute, AddMarker, MoveMarker, Retitle, Operation}
 use Rattle.mt_op.specs.Needs.{stamp_eq}
 
@@ -16,9 +18,9 @@ pub data Value : Type 0 where
   -- the place that a track stands after, none for the head
   TrackPlace : Option Moment → Value
   -- the track that a clip is on, and at which frame of the session
-  ClipPlace : Moment × ℕ → Value
+  ClipPlace : Placement → Value
   -- the first frame of the recording that a clip plays, and how many it plays
-  Trim : ℕ × ℕ → Value
+  Trim : TrimRange → Value
   -- the recording that a clip plays
   Source : Digest → Value
   -- the frame of the session at which a marker stands
@@ -36,9 +38,9 @@ sets item value = record { item = item; value = value }
 abbrev pub writes : Moment → Act → List (Write Value)
 writes own (AddTrack after title) = sets own (TrackPlace after) ∷ sets own (Title title) ∷ sets own (Gain unchanged) ∷ sets own (Mute false) ∷ []
 writes own (MoveTrack track after) = sets track (TrackPlace after) ∷ []
-writes own (AddClip source track at offset len) = sets own (ClipPlace (track, at)) ∷ sets own (Trim (offset, len)) ∷ sets own (Source source) ∷ sets own (Gain unchanged) ∷ sets own (Mute false) ∷ []
-writes own (MoveClip clip track at) = sets clip (ClipPlace (track, at)) ∷ []
-writes own (TrimClip clip offset len) = sets clip (Trim (offset, len)) ∷ []
+writes own (AddClip source track at offset len) = sets own (ClipPlace (record { track = track; at = at })) ∷ sets own (Trim (record { offset = offset; len = len })) ∷ sets own (Source source) ∷ sets own (Gain unchanged) ∷ sets own (Mute false) ∷ []
+writes own (MoveClip clip track at) = sets clip (ClipPlace (record { track = track; at = at })) ∷ []
+writes own (TrimClip clip offset len) = sets clip (Trim (record { offset = offset; len = len })) ∷ []
 writes own (SetGain item gain) = sets item (Gain gain) ∷ []
 writes own (SetMute item on) = sets item (Mute on) ∷ []
 writes own (AddMarker at title) = sets own (Position at) ∷ sets own (Title title) ∷ []
@@ -72,11 +74,11 @@ abbrev pub track_place_in : Value → Option (Option Moment)
 track_place_in (TrackPlace after) = Some after
 track_place_in _ = None
 
-abbrev pub clip_place_in : Value → Option (Moment × ℕ)
+abbrev pub clip_place_in : Value → Option Placement
 clip_place_in (ClipPlace place) = Some place
 clip_place_in _ = None
 
-abbrev pub trim_in : Value → Option (ℕ × ℕ)
+abbrev pub trim_in : Value → Option TrimRange
 trim_in (Trim trim) = Some trim
 trim_in _ = None
 
@@ -101,10 +103,10 @@ mute_written own act = first_of mute_in (writes own act)
 abbrev pub track_place_written : Moment → Act → Option (Write (Option Moment))
 track_place_written own act = first_of track_place_in (writes own act)
 
-abbrev pub clip_place_written : Moment → Act → Option (Write (Moment × ℕ))
+abbrev pub clip_place_written : Moment → Act → Option (Write Placement)
 clip_place_written own act = first_of clip_place_in (writes own act)
 
-abbrev pub trim_written : Moment → Act → Option (Write (ℕ × ℕ))
+abbrev pub trim_written : Moment → Act → Option (Write TrimRange)
 trim_written own act = first_of trim_in (writes own act)
 
 abbrev pub source_written : Moment → Act → Option (Write Digest)
@@ -113,15 +115,10 @@ source_written own act = first_of source_in (writes own act)
 abbrev pub position_written : Moment → Act → Option (Write ℕ)
 position_written own act = first_of position_in (writes own act)
 
--- a value with the stamp of its writer
-pub record Written (X : Type 0) : Type 0 where
-  pub writer : Moment
-  pub value : X
-
--- the greater of two by their writers, the second where they tie
+-- the later of two by their writers, the second where they tie
 abbrev pub later : {X : Type 0} → Written X → Option (Written X) → Option (Written X)
 later w None = Some w
-later w (Some v) = if is_lt (stamp_cmp v.writer w.writer) then Some w else Some v
+later w (Some v) = Some (greater writer_cmp v w)
 
 -- the one with the greatest writer
 abbrev pub latest : {X : Type 0} → List (Written X) → Option (Written X)

@@ -6,10 +6,12 @@ ghost use Rattle.std.specs.Ordering.{nat_cmp, ordering_then};
 ghost use Rattle.mt_stamp.specs.Moment.{Moment};
 ghost use Rattle.mt_op.specs.Gain.{Ratio, unchanged};
 ghost use Rattle.mt_op.specs.declared.digest.Digest.{Digest as DigestOf};
+ghost use Rattle.mt_op.specs.declared.value.Placement.{Placement};
+ghost use Rattle.mt_op.specs.declared.value.TrimRange.{TrimRange};
 ghost use Rattle.std.specs.Cmp.Lexicographic.{slice_cmp};
 ghost use Rattle.mt_op.specs.Bodies.{act_of};
 ghost use Rattle.mt_op.specs.Writes as field;
-ghost use Rattle.mt_op.specs.Laws.{IsFieldOf, LastWriteIsGreatest, LatestIsGreatest, ReadyIsDefined};
+ghost use Rattle.mt_op.specs.Laws.{IsFieldOf, LastWriteIsGreatest, LatestIsGreatest, PresenceIsOfTags, ReadyIsDefined};
 
 use crate::body::Body;
 use crate::digest::Digest;
@@ -43,8 +45,8 @@ pub fn last_write()
     ensures gains { LatestIsGreatest Ratio }
     ensures mutes { LatestIsGreatest Bool }
     ensures track_places { LatestIsGreatest (Option Moment) }
-    ensures clip_places { LatestIsGreatest (Moment × ℕ) }
-    ensures trims { LatestIsGreatest (ℕ × ℕ) }
+    ensures clip_places { LatestIsGreatest Placement }
+    ensures trims { LatestIsGreatest TrimRange }
     ensures sources { LatestIsGreatest DigestOf }
     ensures positions { LatestIsGreatest ℕ }
 {}
@@ -60,6 +62,11 @@ pub fn last_writer()
     ensures trims { LastWriteIsGreatest field.Trim field.trim_written }
     ensures sources { LastWriteIsGreatest field.Source field.source_written }
     ensures positions { LastWriteIsGreatest field.Position field.position_written }
+{}
+
+/// The live tags of an item are those that an operation gives it and none removes, and it is present exactly where it has one.
+pub fn presence()
+    ensures { PresenceIsOfTags }
 {}
 
 /// Titles are equal where their bytes are.

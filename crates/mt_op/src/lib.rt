@@ -11,6 +11,7 @@ mod need;
 mod op;
 mod tags;
 mod title;
+mod value;
 
 pub use body::Body;
 pub use digest::Digest;
@@ -20,3 +21,4 @@ pub use gain::Gain;
 pub use need::{Need, Role};
 pub use op::Op;
 pub use title::Title;
+pub use value::{Placement, TrimRange};

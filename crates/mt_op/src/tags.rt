@@ -2,8 +2,9 @@
 
 ghost use Rattle.std.specs.Prelude.{◌≡◌, Option, Some, None, IsTrue, nat_lt};
 ghost use Rattle.std.specs.List.{list_all, AllByRecursion};
-ghost use Rattle.mt_stamp.specs.Moment.{Moment, IsMoment};
-ghost use Rattle.mt_op.specs.Tags.{is_after, stamps_rise, are_tags};
+ghost use Rattle.mt_stamp.specs.Moment.{Moment, IsMoment, stamp_cmp};
+ghost use Rattle.mt_op.specs.Rising.{is_after};
+ghost use Rattle.mt_op.specs.Tags.{stamps_rise, are_tags};
 
 use mt_stamp::Stamp;
 
@@ -12,7 +13,7 @@ const GREATEST_COUNT: usize = 65_535;
 
 // Whether a stamp is greater than the one before it, where there is one.
 fn is_after(last: Option<Stamp>, tag: Stamp) -> bool
-    ensures { result ≡ is_after last tag }
+    ensures { result ≡ is_after stamp_cmp last tag }
 {
     match last {
         Some(last) => last.cmp(&tag).is_lt(),

@@ -13,12 +13,14 @@ use Rattle.mt_stamp.proofs.Order.{stamp_cmp_total, stamp_cmp-IsAntisymmetric}
 use Rattle.mt_stamp.proofs.Sorting.{sort_same}
 use Rattle.mt_stamp.proofs.Members.{IsMember, member_at, one_list, sort_strict, member_sorted, member_unsorted}
 use Rattle.mt_stamp.proofs.SameItems.{SameItems, same_any, same_filter, same_map, same_flat_map, same_filter_map}
+use Rattle.mt_stamp.specs.Written.{Written}
+use Rattle.mt_stamp.specs.Presence.{is_left}
 use Rattle.mt_op.specs.declared.need.Need.{Need}
 use Rattle.mt_op.specs.Operation as act
-use Rattle.mt_op.specs.Operation.{Act, Operation}
+use Rattle.mt_op.specs.Operation.{Operation}
 use Rattle.mt_op.specs.Needs.{meets, is_tag_of}
 use Rattle.mt_op.specs.Presence.{tags, live_tags, tags_removed, removed_tags, is_listed}
-use Rattle.mt_op.specs.Writes.{Written, track_place_written, written_by, latest}
+use Rattle.mt_op.specs.Writes.{track_place_written, written_by, latest}
 use Rattle.mt_op.proofs.LastWrite.{latest_is_greatest}
 use Rattle.mt_op.specs.ByStamp.{stamp_of}
 use Rattle.mt_op.proofs.Needs.{stamp_eq-true}
@@ -85,8 +87,8 @@ live_same r u same item =
     let tagged = same_map (filter (λ (o : Operation). is_tag_of item o.stamp o.act) r) (filter (λ (o : Operation). is_tag_of item o.stamp o.act) u) (same_filter r u same (λ o. is_tag_of item o.stamp o.act)) (λ (o : Operation). o.stamp) in
     let removed = same_flat_map r u same (λ (o : Operation). tags_removed item o.act) in
     let listed : (t : Moment) → is_listed (removed_tags item r) t ≡ is_listed (removed_tags item u) t = λ t. same_any (removed_tags item r) (removed_tags item u) removed (stamp_eq t) in
-    let live : Moment → Bool = λ t. not (is_listed (removed_tags item r) t) in
-    λ f. same_filter (tags item r) (tags item u) tagged live f ∙ (λ i. sum_by f (filter (λ t. not (listed t i)) (tags item u)))
+    let live : Moment → Bool = is_left (is_listed (removed_tags item r)) in
+    λ f. same_filter (tags item r) (tags item u) tagged live f ∙ (λ i. sum_by f (filter (is_left (λ t. listed t i)) (tags item u)))
 
 -- ---- the last writer
 

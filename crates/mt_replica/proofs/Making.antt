@@ -6,6 +6,8 @@ use Rattle.std.proofs.lemmas.Option.{none-some}
 use Rattle.std.proofs.lemmas.Bool.{false≢true, lt-ltb}
 use Rattle.std.proofs.Math.Nat.{le-max_left, le-max_right}
 use Rattle.mt_stamp.specs.Moment.{Moment, stamp_cmp, stamp_eq}
+use Rattle.mt_stamp.specs.Written.{Written}
+use Rattle.mt_stamp.specs.Presence.{is_left}
 use Rattle.mt_op.specs.declared.need.Role.TheVariants.{Track, Place, TagOf}
 use Rattle.mt_op.specs.declared.need.Need.{Need}
 use Rattle.mt_op.specs.Needs.{need_of, place_needs, needs_of, needs, meets, clock_of, fits, act_fits, adds_place, is_tag_of}
@@ -16,7 +18,7 @@ use Rattle.mt_sessionview.proofs.Items.{stamp_eq_same}
 use Rattle.mt_op.specs.Operation as act
 use Rattle.mt_op.specs.Operation.{Act, Operation}
 use Rattle.mt_op.specs.Presence.{is_present, live_tags, tags, is_listed, removed_tags}
-use Rattle.mt_op.specs.Writes.{Write, Written, track_place_written, written_by, last_write}
+use Rattle.mt_op.specs.Writes.{Write, track_place_written, written_by, last_write}
 use Rattle.mt_op.proofs.LastWrite.{latest_is_greatest}
 use Rattle.mt_op.proofs.Needs.{and_first, and_second, stamp_eq-true}
 use Rattle.mt_sessionview.specs.Session.{ready_ops}
@@ -128,7 +130,7 @@ module _ (ops : List Operation) where
   tag_met : (item t : Moment) → IsMember t (rising_tags (ready_ops ops) item) → Met (need_of (TagOf item) t)
   tag_met item t m =
       let live = member_unsorted stamp_cmp stamp_cmp_total t (live_tags item (ready_ops ops)) m in
-      let tag = member_of_kept (λ tag. not (is_listed (removed_tags item (ready_ops ops)) tag)) (tags item (ready_ops ops)) t live in
+      let tag = member_of_kept (is_left (is_listed (removed_tags item (ready_ops ops)))) (tags item (ready_ops ops)) t live in
       let given = mapped_member (λ (o : Operation). o.stamp) (filter (λ o. is_tag_of item o.stamp o.act) (ready_ops ops)) t tag.0 in
       let o : Operation = given.0 in
       let there = member_of_kept (λ (o : Operation). is_tag_of item o.stamp o.act) (ready_ops ops) o given.1.0 in

@@ -7,6 +7,7 @@ use Rattle.std.proofs.lemmas.Bool.{false≢true, le-leb}
 use Rattle.mt_stamp.specs.declared.name.Replica.{Replica}
 use Rattle.mt_stamp.specs.Moment.{Moment, greatest, stamp_cmp}
 use Rattle.mt_stamp.proofs.Order.{stamp_cmp_total, stamp_cmp-IsAntisymmetric}
+use Rattle.mt_stamp.specs.Presence.{is_left}
 use Rattle.mt_op.specs.declared.need.Need.{Need}
 use Rattle.mt_op.specs.declared.need.Role.TheVariants.{Item}
 use Rattle.mt_op.specs.Needs.{need_of, needs, meets, clock_of, is_tag_of, names_are_older}
@@ -14,7 +15,8 @@ use Rattle.mt_op.specs.Ready.{is_ready}
 use Rattle.mt_op.specs.Operation.{Operation}
 use Rattle.mt_op.specs.Dots.{dots_rise}
 use Rattle.mt_op.specs.Presence.{is_present, is_any, is_listed, live_tags, removed_tags, tags}
-use Rattle.mt_op.specs.Tags.{rises_from, stamps_rise}
+use Rattle.mt_op.specs.Rising.{rises_from}
+use Rattle.mt_op.specs.Tags.{stamps_rise}
 use Rattle.mt_op.specs.Valid.{length_is_good, tags_are_good}
 use Rattle.mt_sessionview.specs.Session.{ready_ops}
 use Rattle.mt_stamp.specs.Sorting.{sort_by, RisesStrictly, DifferBy}
@@ -37,7 +39,7 @@ apart_stamps (x ∷ xs) differ = (each xs differ.0, apart_stamps xs differ.1)
     each [] all = tt
     each (y ∷ ys) all = ((λ tied. all.0 (stamp_cmp-IsAntisymmetric x y tied)), each ys all.1)
 
-rises_on : (last : Moment) (xs : List Moment) → AllByRecursion (λ y. stamp_cmp last y ≡ Less) xs → RisesStrictly stamp_cmp xs → rises_from (Some last) xs ≡ true
+rises_on : (last : Moment) (xs : List Moment) → AllByRecursion (λ y. stamp_cmp last y ≡ Less) xs → RisesStrictly stamp_cmp xs → rises_from stamp_cmp (Some last) xs ≡ true
 rises_on last [] above rise = refl
 rises_on last (x ∷ xs) above rise = rw (above.0) (rises_on x xs rise.0 rise.1)
 
@@ -62,7 +64,7 @@ fit_or_more false e = refl
 pub live_differ : (ops : List Operation) → DifferBy stamp_of ops → (item : Moment) → DifferBy (λ (m : Moment). m) (live_tags item ops)
 live_differ ops differ item =
     let given : DifferBy stamp_of (filter (λ o. is_tag_of item o.stamp o.act) ops) = differ_kept stamp_of (λ o. is_tag_of item o.stamp o.act) ops differ in
-    differ_kept (λ (m : Moment). m) (λ tag. not (is_listed (removed_tags item ops) tag)) (tags item ops)
+    differ_kept (λ (m : Moment). m) (is_left (is_listed (removed_tags item ops))) (tags item ops)
     (differ_mapped (λ (o : Operation). o.stamp) (λ (m : Moment). m) (filter (λ o. is_tag_of item o.stamp o.act) ops) given)
 
 module _ (ops : List Operation) where

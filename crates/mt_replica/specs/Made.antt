@@ -3,13 +3,14 @@ use Rattle.std.specs.Prelude.{ℕ, suc, Bool, true, false, not, ◌==◌, ◌||�
 use Rattle.std.specs.List.{list_any}
 use Rattle.mt_stamp.specs.declared.name.Replica.{Replica}
 use Rattle.mt_stamp.specs.Moment.{Moment, greatest, stamp_cmp}
+use Rattle.mt_stamp.specs.Written.{Written}
 use Rattle.mt_op.specs.declared.need.Role.TheVariants.{Track, Clip, Marker, Mixable, Titled, Item}
 use Rattle.mt_op.specs.declared.need.Need.{Need}
 use Rattle.mt_op.specs.Needs.{need_of, meets, clock_of}
 use Rattle.mt_op.specs.Operation as act
 use Rattle.mt_op.specs.Operation.{Act, Operation}
 use Rattle.mt_op.specs.Presence.{is_present, live_tags}
-use Rattle.mt_op.specs.Writes.{Written, track_place_written, last_write}
+use Rattle.mt_op.specs.Writes.{track_place_written, last_write}
 use Rattle.mt_op.specs.Tags.{greatest_tag_count}
 use Rattle.mt_sessionview.specs.Session.{ready_ops}
 use Rattle.mt_stamp.specs.Sorting.{sort_by}

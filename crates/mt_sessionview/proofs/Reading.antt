@@ -7,7 +7,6 @@ use Rattle.std.specs.List.Sorted.{IsPermutation, IsSorted}
 use Rattle.std.specs.declared.cmp.Ordering.{Ordering}
 use Rattle.std.specs.declared.cmp.Ordering.TheVariants.{Equal}
 use Rattle.std.proofs.lemmas.Cmp.{on_total}
-use Rattle.std.proofs.lemmas.Option.{same_Some}
 use Rattle.std.proofs.lemmas.List.Elements.{All-from_recursion}
 use Rattle.mt_stamp.specs.Moment.{Moment, stamp_eq}
 use Rattle.mt_stamp.specs.Sorting.{sort_by}
@@ -17,18 +16,19 @@ use Rattle.mt_stamp.proofs.Differing.{all_sorted}
 use Rattle.mt_stamp.proofs.SameItems.{SameItems, same_filter, same_map, all_passing}
 use Rattle.mt_stamp.proofs.Sorting.{sorts, sorted_is_sort_by, sort_same}
 use Rattle.mt_op.specs.declared.need.Role.{Role}
+use Rattle.mt_stamp.specs.Written.{Written}
 use Rattle.mt_op.specs.declared.need.Role.TheVariants.{Clip as ClipRole, Marker as MarkerRole}
 use Rattle.mt_op.specs.declared.digest.Digest.{Digest}
+use Rattle.mt_op.specs.declared.value.Placement.{Placement}
+use Rattle.mt_op.specs.declared.value.TrimRange.{TrimRange}
 use Rattle.mt_op.specs.ByStamp.{stamp_of, op_cmp}
 use Rattle.mt_op.specs.Gain.{unchanged}
 use Rattle.mt_op.specs.Operation.{Act, AddClip, AddMarker, Operation}
 use Rattle.mt_op.specs.Needs.{fits, adds_clip, adds_marker}
 use Rattle.mt_op.specs.Presence.{is_present}
-use Rattle.mt_op.specs.Writes.{Write, Written, title_written, gain_written, mute_written, clip_place_written, trim_written, source_written, position_written, last_write}
-use Rattle.mt_op.proofs.WriteOf.{is_write_of}
+use Rattle.mt_op.specs.Writes.{title_written, gain_written, mute_written, clip_place_written, trim_written, source_written, position_written, last_write}
 use Rattle.mt_items.specs.Cells.{items_of}
 use Rattle.mt_sessionview.specs.Content.{Clip, Marker, clip_cmp, marker_cmp}
-use Rattle.mt_sessionview.specs.Session.{source_of}
 use Rattle.mt_sessionview.specs.Noted.{value_in, is_shown_in, marker_in, markers_in, clip_place_in, clip_in, is_clip_on_in, clips_in}
 use Rattle.mt_sessionview.specs.Read.{marker_from, marker_read, clip_from, if_on, clip_on}
 use Rattle.mt_sessionview.specs.declared.clip.OnTrack.{OnTrack}
@@ -110,37 +110,32 @@ module _ (r : List Operation) (one : (a b : Operation) → IsMember a r → IsMe
   clip_trim o m adds = by o.act refl adds
     where
       by : (act : Act) → o.act ≡ act → adds_clip act ≡ true → IsGiven r one trim_written o.stamp
-      by (AddClip source track at offset len) is added = given_last r one trim_written o (offset, len) m (ap (trim_written o.stamp) is)
+      by (AddClip source track at offset len) is added = given_last r one {X = TrimRange} trim_written o (record { offset = offset; len = len }) m (ap (trim_written o.stamp) is)
       by _ is added = cc added
 
-  -- what an operation alone writes of its own item
-  own_source : (own : Moment) (act : Act) (w : Write Digest) → source_written own act ≡ Some w → (own ≡ w.item) × (source_of act ≡ w.value)
-  own_source own (AddClip source track at offset len) w is =
-      let same : record { item = own; value = source } ≡ w = same_Some _ w is in (ap (λ (v : Write Digest). v.item) same, ap (λ (v : Write Digest). v.value) same)
-  own_source own _ w is = absurd cc
-
-  clip_source : (o : Operation) → IsMember o r → adds_clip o.act ≡ true → (w : Written Digest) × (last_write source_written o.stamp r ≡ Some w) × (w.value ≡ source_of o.act)
-  clip_source o m adds = by o.act refl adds
+  clip_recording : (o : Operation) → IsMember o r → adds_clip o.act ≡ true → IsGiven r one source_written o.stamp
+  clip_recording o m adds = by o.act refl adds
     where
-      by : (act : Act) → o.act ≡ act → adds_clip act ≡ true → (w : Written Digest) × (last_write source_written o.stamp r ≡ Some w) × (w.value ≡ source_of o.act)
-      by (AddClip source track at offset len) is added =
-          let g = given_last r one source_written o source m (ap (source_written o.stamp) is) in
-          let write = is_write_of source_written o.stamp g.given.0 g.write g.given.2 in
-          let own = own_source g.given.0.stamp g.given.0.act write.write write.made in
-          let same : g.given.0 ≡ o = one g.given.0 o g.given.1 m (own.0 ∙ write.item_is) in
-          (g.write, g.is, ap (λ (v : Written Digest). v.value) write.value_is ∙ sym own.1 ∙ ap (λ (x : Operation). source_of x.act) same)
+      by : (act : Act) → o.act ≡ act → adds_clip act ≡ true → IsGiven r one source_written o.stamp
+      by (AddClip source track at offset len) is added = given_last r one source_written o source m (ap (source_written o.stamp) is)
       by _ is added = cc added
 
-  abbrev no_place : Moment → Written (Moment × ℕ)
-  no_place clip = record { writer = clip; value = (clip, 0) }
+  abbrev no_place : Moment → Written Placement
+  no_place clip = record { writer = clip; value = record { track = clip; at = 0 } }
+
+  abbrev no_trim : TrimRange
+  no_trim = record { offset = 0; len = 0 }
+
+  abbrev no_source : Digest
+  no_source = record { 0 = [] }
 
   abbrev found_in : List Operation → Operation → OnTrack
-  found_in ops o = record { track = (clip_place_in ops o.stamp).value.0; clip = clip_in ops o }
+  found_in ops o = record { track = (clip_place_in ops o.stamp).value.track; clip = clip_in ops o }
 
   pub clip_reads : (track : Moment) (o : Operation) → IsMember o r → fits ClipRole o ≡ true → clip_on r track o.stamp ≡ cond (is_clip_on_in r track o) (Some (clip_in r o)) None
   clip_reads track o m adds =
       ap (λ (v : Option OnTrack). if_on r track (cond (is_present r o.stamp) v None)) is ∙ by (is_present r o.stamp)
-      ∙ ap (λ (b : Bool). cond ((b && is_present r o.stamp) && stamp_eq (clip_place_in r o.stamp).value.0 track) (Some (clip_in r o)) None) (sym adds)
+      ∙ ap (λ (b : Bool). cond ((b && is_present r o.stamp) && stamp_eq (clip_place_in r o.stamp).value.track track) (Some (clip_in r o)) None) (sym adds)
     where
       place : IsGiven r one clip_place_written o.stamp
       place = clip_given r one o m adds
@@ -148,32 +143,32 @@ module _ (r : List Operation) (one : (a b : Operation) → IsMember a r → IsMe
       trim : IsGiven r one trim_written o.stamp
       trim = clip_trim o m adds
 
-      source : (w : Written Digest) × (last_write source_written o.stamp r ≡ Some w) × (w.value ≡ source_of o.act)
-      source = clip_source o m adds
+      source : IsGiven r one source_written o.stamp
+      source = clip_recording o m adds
 
       is : clip_from r o.stamp (last_write clip_place_written o.stamp r) (last_write trim_written o.stamp r) (last_write source_written o.stamp r) ≡ Some (found_in r o)
       is =
-          (λ i. clip_from r o.stamp (place.is i) (trim.is i) (source.1 i))
+          (λ i. clip_from r o.stamp (place.is i) (trim.is i) (source.is i))
           ∙ (λ i. Some (record {
-            track = (unwrap_or (sym place.is i) (no_place o.stamp)).value.0;
+            track = (unwrap_or (sym place.is i) (no_place o.stamp)).value.track;
             clip = record {
               clip = o.stamp;
               place = (unwrap_or (sym place.is i) (no_place o.stamp)).writer;
-              at = (unwrap_or (sym place.is i) (no_place o.stamp)).value.1;
-              offset = (unwrap_or (option_map (λ (w : Written (ℕ × ℕ)). w.value) (sym trim.is i)) (0, 0)).0;
-              len = (unwrap_or (option_map (λ (w : Written (ℕ × ℕ)). w.value) (sym trim.is i)) (0, 0)).1;
+              at = (unwrap_or (sym place.is i) (no_place o.stamp)).value.at;
+              offset = (unwrap_or (option_map (λ (w : Written TrimRange). w.value) (sym trim.is i)) no_trim).offset;
+              len = (unwrap_or (option_map (λ (w : Written TrimRange). w.value) (sym trim.is i)) no_trim).len;
               gain = unwrap_or (value_in r gain_written o.stamp) unchanged;
               mute = unwrap_or (value_in r mute_written o.stamp) false;
-              source = source.2 i;
+              source = unwrap_or (option_map (λ (w : Written Digest). w.value) (sym source.is i)) no_source;
             };
           }))
 
-      by : (b : Bool) → if_on r track (cond b (Some (found_in r o)) None) ≡ cond ((true && b) && stamp_eq (clip_place_in r o.stamp).value.0 track) (Some (clip_in r o)) None
+      by : (b : Bool) → if_on r track (cond b (Some (found_in r o)) None) ≡ cond ((true && b) && stamp_eq (clip_place_in r o.stamp).value.track track) (Some (clip_in r o)) None
       by true = refl
       by false = refl
 
   pub off_track : (track : Moment) (o : Operation) → fits ClipRole o ≡ false → is_clip_on_in r track o ≡ false
-  off_track track o none = ap (λ (b : Bool). b && stamp_eq (clip_place_in r o.stamp).value.0 track) (unshown adds_clip o none)
+  off_track track o none = ap (λ (b : Bool). b && stamp_eq (clip_place_in r o.stamp).value.track track) (unshown adds_clip o none)
 
   pub clips_sorted : (track : Moment) (made sorted : List Clip) → made ≡ filter_map (clip_on r track) (items_of ClipRole r) → IsPermutation made sorted → IsSorted clip_cmp sorted → sorted ≡ clips_in r track
   clips_sorted track = read_sorted r ClipRole (clip_on r track) (is_clip_on_in r track) (clip_in r) (off_track track) (clip_reads track) clip_cmp clip_cmp_total (IsClipIn r one) (one_clip r one) (all_clips r one track)

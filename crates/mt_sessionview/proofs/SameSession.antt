@@ -1,21 +1,25 @@
 -- The session does not depend on how operations are put in order.
-use Rattle.std.proofs.Common.{◌≡◌, ℕ, Bool, false, ◌&&◌, List, [], Option, map, sym, ap, ◌∙◌}
+use Rattle.std.proofs.Common.{◌≡◌, Bool, false, ◌&&◌, List, [], Option, map, sym, ap, ◌∙◌}
 use Rattle.std.specs.Prelude.{option_map, unwrap_or}
 use Rattle.std.specs.List.{AllByRecursion, filter}
 use Rattle.std.proofs.lemmas.List.Sorted.{sum_by-IsPermutation, All-permutation}
 use Rattle.std.proofs.lemmas.List.Elements.{recursion_from_All, All-from_recursion}
 use Rattle.mt_stamp.specs.Moment.{Moment, stamp_eq}
+use Rattle.mt_stamp.specs.Written.{Written}
 use Rattle.mt_stamp.specs.Tree.{tree_cmp}
 use Rattle.mt_op.specs.Gain.{unchanged}
+use Rattle.mt_op.specs.declared.digest.Digest.{Digest}
+use Rattle.mt_op.specs.declared.value.Placement.{Placement}
+use Rattle.mt_op.specs.declared.value.TrimRange.{TrimRange}
 use Rattle.mt_op.specs.Operation.{Act, Operation}
 use Rattle.mt_op.specs.Needs.{needs, meets, clock_of, adds_track, adds_clip, adds_marker}
 use Rattle.mt_op.specs.Ready.{is_ready}
-use Rattle.mt_op.specs.Writes.{Write, Written, title_written, gain_written, mute_written, track_place_written, clip_place_written, trim_written, position_written, last_write}
+use Rattle.mt_op.specs.Writes.{Write, title_written, gain_written, mute_written, track_place_written, clip_place_written, trim_written, source_written, position_written, last_write}
 use Rattle.mt_sessionview.specs.Content.{clip_cmp, marker_cmp}
-use Rattle.mt_sessionview.specs.Session.{ready_ops, source_of, place_added, session_of}
+use Rattle.mt_sessionview.specs.Session.{ready_ops, place_added, session_of}
 use Rattle.mt_stamp.specs.Sorting.{sort_by}
 use Rattle.mt_sessionview.specs.SessionLaws.{AnyListing}
-use Rattle.mt_sessionview.specs.Noted.{value_in, is_shown_in, marker_in, markers_in, clip_place_in, clip_in, is_clip_on_in, clips_in, places_in, track_place_in, track_cmp_in, track_in, tracks_in}
+use Rattle.mt_sessionview.specs.Noted.{value_in, is_shown_in, marker_in, markers_in, clip_place_in, clip_trim_in, clip_source_in, clip_in, is_clip_on_in, clips_in, places_in, track_place_in, track_cmp_in, track_in, tracks_in}
 use Rattle.mt_sessionview.proofs.FromReady.{markers_are, tracks_are}
 use Rattle.mt_sessionview.proofs.Orders.{marker_cmp_total, clip_cmp_total, track_cmp_total}
 use Rattle.mt_stamp.proofs.Members.{IsMember, member_stands, member_kept, member_of_kept}
@@ -62,22 +66,28 @@ module _ (r u : List Operation) (same : SameItems r u) (all_u : AllByRecursion (
   -- ---- clips
 
   clip_place_same : (clip : Moment) → clip_place_in r clip ≡ clip_place_in u clip
-  clip_place_same clip = ap (λ (w : Option (Written (Moment × ℕ))). unwrap_or w (record { writer = clip; value = (clip, 0) })) (write_same clip_place_written clip)
+  clip_place_same clip = ap (λ (w : Option (Written Placement)). unwrap_or w (record { writer = clip; value = record { track = clip; at = 0 } })) (write_same clip_place_written clip)
+
+  clip_trim_same : (clip : Moment) → clip_trim_in r clip ≡ clip_trim_in u clip
+  clip_trim_same clip = ap (λ (v : Option TrimRange). unwrap_or v (record { offset = 0; len = 0 })) (value_same trim_written clip)
+
+  clip_source_same : (clip : Moment) → clip_source_in r clip ≡ clip_source_in u clip
+  clip_source_same clip = ap (λ (v : Option Digest). unwrap_or v (record { 0 = [] })) (value_same source_written clip)
 
   clip_same : (o : Operation) → clip_in r o ≡ clip_in u o
   clip_same o = λ i. record {
     clip = o.stamp;
     place = (clip_place_same o.stamp i).writer;
-    at = (clip_place_same o.stamp i).value.1;
-    offset = (unwrap_or (value_same trim_written o.stamp i) (0, 0)).0;
-    len = (unwrap_or (value_same trim_written o.stamp i) (0, 0)).1;
+    at = (clip_place_same o.stamp i).value.at;
+    offset = (clip_trim_same o.stamp i).offset;
+    len = (clip_trim_same o.stamp i).len;
     gain = unwrap_or (value_same gain_written o.stamp i) unchanged;
     mute = unwrap_or (value_same mute_written o.stamp i) false;
-    source = source_of o.act;
+    source = clip_source_same o.stamp i;
   }
 
   on_same : (track : Moment) (o : Operation) → is_clip_on_in r track o ≡ is_clip_on_in u track o
-  on_same track o = λ i. shown_same adds_clip o i && stamp_eq (clip_place_same o.stamp i).value.0 track
+  on_same track o = λ i. shown_same adds_clip o i && stamp_eq (clip_place_same o.stamp i).value.track track
 
   clips_same : (track : Moment) → clips_in r track ≡ clips_in u track
   clips_same track =

@@ -1,5 +1,5 @@
 -- Items of operations, no two of which have one stamp.
-use Rattle.std.proofs.Common.{◌≡◌, ℕ, true, List, Option, Some, None, map, refl, sym, ap, ◌∙◌}
+use Rattle.std.proofs.Common.{◌≡◌, true, List, Option, Some, None, map, refl, sym, ap, ◌∙◌}
 use Rattle.std.specs.Prelude.{option_map, unwrap_or}
 use Rattle.std.specs.List.{AllByRecursion, filter, filter_map}
 use Rattle.std.specs.Ordering.{nat_cmp}
@@ -9,9 +9,11 @@ use Rattle.mt_stamp.specs.Moment.{Moment, stamp_cmp}
 use Rattle.mt_stamp.specs.Tree.{TreePlace}
 use Rattle.mt_stamp.proofs.Order.{stamp_cmp-IsAntisymmetric}
 use Rattle.mt_stamp.proofs.Tree.{trees_are_ordered}
+use Rattle.mt_stamp.specs.Written.{Written}
+use Rattle.mt_op.specs.declared.value.Placement.{Placement}
 use Rattle.mt_op.specs.Operation.{Act, AddTrack, AddClip, Operation}
 use Rattle.mt_op.specs.Needs.{adds_track, adds_clip, adds_marker}
-use Rattle.mt_op.specs.Writes.{Write, Written, track_place_written, clip_place_written, written_by, last_write}
+use Rattle.mt_op.specs.Writes.{Write, track_place_written, clip_place_written, written_by, last_write}
 use Rattle.mt_op.proofs.LastWrite.{latest_is_greatest}
 use Rattle.mt_op.proofs.Needs.{and_first}
 use Rattle.mt_sessionview.specs.Content.{Clip, Marker, clip_cmp, marker_cmp}
@@ -74,14 +76,14 @@ module _ (r : List Operation) (one : (a b : Operation) → IsMember a r → IsMe
   clip_given o m adds = by o.act refl adds
     where
       by : (act : Act) → o.act ≡ act → adds_clip act ≡ true → IsGiven clip_place_written o.stamp
-      by (AddClip source track at offset len) is added = given_last clip_place_written o (track, at) m (ap (clip_place_written o.stamp) is)
+      by (AddClip source track at offset len) is added = given_last {X = Placement} clip_place_written o (record { track = track; at = at }) m (ap (clip_place_written o.stamp) is)
       by _ is added = cc added
 
   abbrev pub IsClipIn : Clip → Type 0
   IsClipIn c = (o : Operation) × IsMember o r × (adds_clip o.act ≡ true) × (c ≡ clip_in r o)
 
   pub placed_by : (o : Operation) (g : IsGiven clip_place_written o.stamp) → (clip_in r o).place ≡ g.write.writer
-  placed_by o g = ap (λ (w : Option (Written (Moment × ℕ))). (unwrap_or w (record { writer = o.stamp; value = (o.stamp, 0) })).writer) g.is
+  placed_by o g = ap (λ (w : Option (Written Placement)). (unwrap_or w (record { writer = o.stamp; value = record { track = o.stamp; at = 0 } })).writer) g.is
 
   pub one_clip : (a b : Clip) → IsClipIn a → IsClipIn b → clip_cmp a b ≡ Equal → a ≡ b
   one_clip a b of_a of_b tied =

@@ -17,12 +17,13 @@ use Rattle.mt_stamp.proofs.Order.{stamp_eq-true}
 use Rattle.mt_stamp.proofs.Tree.{trees_are_ordered}
 use Rattle.mt_stamp.proofs.Differing.{differ_kept}
 use Rattle.mt_stamp.proofs.Members.{IsMember, AreApart, member_kept, member_of_kept, one_list, sort_strict, member_sorted, member_unsorted}
+use Rattle.mt_stamp.specs.Written.{Written}
 use Rattle.mt_op.specs.declared.need.Role.TheVariants.{Track as TrackRole, Place}
 use Rattle.mt_op.specs.ByStamp.{stamp_of}
 use Rattle.mt_op.specs.Operation.{Act, AddTrack, MoveTrack, Operation}
 use Rattle.mt_op.specs.Needs.{need_of, meets, fits, adds_track, adds_place}
 use Rattle.mt_op.specs.Presence.{is_present}
-use Rattle.mt_op.specs.Writes.{Write, Written, title_written, track_place_written, last_write}
+use Rattle.mt_op.specs.Writes.{Write, title_written, track_place_written, last_write}
 use Rattle.mt_op.proofs.Needs.{and_first, and_second}
 use Rattle.mt_op.proofs.WriteOf.{is_write_of}
 use Rattle.mt_items.specs.Noting.{AreNoted, is_need_met}

@@ -1,17 +1,21 @@
 -- What a session shows, of its ready operations alone. Working definitions: those of Session.antt, of the ready operations in any order.
-use Rattle.std.specs.Prelude.{ℕ, Bool, false, ◌&&◌, List, [], map, Option, option_map, unwrap_or}
+use Rattle.std.specs.Prelude.{Bool, false, ◌&&◌, List, [], map, Option, option_map, unwrap_or}
 use Rattle.std.specs.List.{filter, filter_map}
 use Rattle.std.specs.declared.cmp.Ordering.{Ordering}
 use Rattle.mt_stamp.specs.Moment.{Moment}
+use Rattle.mt_stamp.specs.Written.{Written}
 use Rattle.mt_stamp.specs.Tree.{TreePlace, tree_cmp}
 use Rattle.mt_op.specs.Gain.{unchanged}
+use Rattle.mt_op.specs.declared.digest.Digest.{Digest}
+use Rattle.mt_op.specs.declared.value.Placement.{Placement}
+use Rattle.mt_op.specs.declared.value.TrimRange.{TrimRange}
 use Rattle.mt_op.specs.Operation.{Act, Operation}
 use Rattle.mt_op.specs.declared.need.Role.TheVariants.{Place}
 use Rattle.mt_op.specs.Needs.{stamp_eq, adds_track, adds_clip, adds_marker, fits}
-use Rattle.mt_op.specs.Writes.{Write, Written, title_written, gain_written, mute_written, track_place_written, clip_place_written, trim_written, position_written, last_write}
+use Rattle.mt_op.specs.Writes.{Write, title_written, gain_written, mute_written, track_place_written, clip_place_written, trim_written, source_written, position_written, last_write}
 use Rattle.mt_op.specs.Presence.{is_present}
 use Rattle.mt_sessionview.specs.Content.{Clip, Track, Marker, clip_cmp, marker_cmp}
-use Rattle.mt_sessionview.specs.Session.{source_of, place_added}
+use Rattle.mt_sessionview.specs.Session.{place_added}
 use Rattle.mt_stamp.specs.Sorting.{sort_by}
 
 -- the definitions of specs/Session.antt, of the ready operations
@@ -35,23 +39,29 @@ module _ (r : List Operation) where
   abbrev pub markers_in : List Marker
   markers_in = sort_by marker_cmp (map marker_in (shown_in adds_marker))
 
-  abbrev pub clip_place_in : Moment → Written (Moment × ℕ)
-  clip_place_in clip = unwrap_or (last_write clip_place_written clip r) (record { writer = clip; value = (clip, 0) })
+  abbrev pub clip_place_in : Moment → Written Placement
+  clip_place_in clip = unwrap_or (last_write clip_place_written clip r) (record { writer = clip; value = record { track = clip; at = 0 } })
+
+  abbrev pub clip_trim_in : Moment → TrimRange
+  clip_trim_in clip = unwrap_or (value_in trim_written clip) (record { offset = 0; len = 0 })
+
+  abbrev pub clip_source_in : Moment → Digest
+  clip_source_in clip = unwrap_or (value_in source_written clip) (record { 0 = [] })
 
   abbrev pub clip_in : Operation → Clip
   clip_in o = record {
     clip = o.stamp;
     place = (clip_place_in o.stamp).writer;
-    at = (clip_place_in o.stamp).value.1;
-    offset = (unwrap_or (value_in trim_written o.stamp) (0, 0)).0;
-    len = (unwrap_or (value_in trim_written o.stamp) (0, 0)).1;
+    at = (clip_place_in o.stamp).value.at;
+    offset = (clip_trim_in o.stamp).offset;
+    len = (clip_trim_in o.stamp).len;
     gain = unwrap_or (value_in gain_written o.stamp) unchanged;
     mute = unwrap_or (value_in mute_written o.stamp) false;
-    source = source_of o.act;
+    source = clip_source_in o.stamp;
   }
 
   abbrev pub is_clip_on_in : Moment → Operation → Bool
-  is_clip_on_in track o = is_shown_in adds_clip o && stamp_eq (clip_place_in o.stamp).value.0 track
+  is_clip_on_in track o = is_shown_in adds_clip o && stamp_eq (clip_place_in o.stamp).value.track track
 
   abbrev pub clips_in : Moment → List Clip
   clips_in track = sort_by clip_cmp (map clip_in (filter (is_clip_on_in track) r))

@@ -3,13 +3,16 @@ use Rattle.std.specs.Prelude.{◌≡◌, ℕ, Bool, false, ◌&&◌, List, [], �
 use Rattle.std.specs.BTreeMap.{BTreeMap, get}
 use Rattle.std.specs.List.{filter_map}
 use Rattle.mt_stamp.specs.Moment.{Moment, stamp_cmp, stamp_eq}
+use Rattle.mt_stamp.specs.Written.{Written}
 use Rattle.mt_stamp.specs.Tree.{TreePlace}
 use Rattle.mt_op.specs.Gain.{unchanged}
 use Rattle.mt_op.specs.declared.digest.Digest.{Digest}
+use Rattle.mt_op.specs.declared.value.Placement.{Placement}
+use Rattle.mt_op.specs.declared.value.TrimRange.{TrimRange}
 use Rattle.mt_op.specs.declared.need.Role.TheVariants.{Clip as ClipRole}
 use Rattle.mt_op.specs.Operation.{Act, AddTrack, MoveTrack, AddMarker, Operation}
 use Rattle.mt_op.specs.Presence.{is_present}
-use Rattle.mt_op.specs.Writes.{Written, title_written, gain_written, mute_written, track_place_written, clip_place_written, trim_written, source_written, position_written, last_write}
+use Rattle.mt_op.specs.Writes.{title_written, gain_written, mute_written, track_place_written, clip_place_written, trim_written, source_written, position_written, last_write}
 use Rattle.mt_sessionview.specs.Content.{Clip, Track, Marker}
 use Rattle.mt_items.specs.Cells.{items_of}
 use Rattle.mt_sessionview.specs.Noted.{value_in, clips_in}
@@ -25,15 +28,15 @@ module _ (noted : List Operation) where
   marker_read marker = if is_present noted marker then marker_from marker (last_write title_written marker noted) else None
 
   -- a clip that is present, with the track that it is on
-  abbrev pub clip_from : Moment → Option (Written (Moment × ℕ)) → Option (Written (ℕ × ℕ)) → Option (Written Digest) → Option OnTrack
+  abbrev pub clip_from : Moment → Option (Written Placement) → Option (Written TrimRange) → Option (Written Digest) → Option OnTrack
   clip_from clip (Some place) (Some trim) (Some source) = Some (record {
-    track = place.value.0;
+    track = place.value.track;
     clip = record {
       clip = clip;
       place = place.writer;
-      at = place.value.1;
-      offset = trim.value.0;
-      len = trim.value.1;
+      at = place.value.at;
+      offset = trim.value.offset;
+      len = trim.value.len;
       gain = unwrap_or (value_in noted gain_written clip) unchanged;
       mute = unwrap_or (value_in noted mute_written clip) false;
       source = source.value;

@@ -1,15 +1,18 @@
 -- The session of a set of operations.
-use Rattle.std.specs.Prelude.{ℕ, Bool, false, ◌&&◌, List, map, filter, length, Option, option_map, unwrap_or, []}
+use Rattle.std.specs.Prelude.{Bool, false, ◌&&◌, List, map, filter, length, Option, option_map, unwrap_or, []}
 use Rattle.std.specs.List.{filter_map}
 use Rattle.std.specs.declared.cmp.Ordering.{Ordering}
 use Rattle.mt_stamp.specs.Moment.{Moment}
+use Rattle.mt_stamp.specs.Written.{Written}
 use Rattle.mt_stamp.specs.Tree.{TreePlace, tree_cmp}
 use Rattle.mt_op.specs.Gain.{unchanged}
 use Rattle.mt_op.specs.declared.digest.Digest.{Digest}
-use Rattle.mt_op.specs.Operation.{Act, AddClip, Operation}
+use Rattle.mt_op.specs.declared.value.Placement.{Placement}
+use Rattle.mt_op.specs.declared.value.TrimRange.{TrimRange}
+use Rattle.mt_op.specs.Operation.{Act, Operation}
 use Rattle.mt_op.specs.Needs.{needs, meets, clock_of, stamp_eq, adds_track, adds_clip, adds_marker}
 use Rattle.mt_op.specs.Ready.{ready, held}
-use Rattle.mt_op.specs.Writes.{Write, Written, title_written, gain_written, mute_written, track_place_written, clip_place_written, trim_written, position_written, last_write}
+use Rattle.mt_op.specs.Writes.{Write, title_written, gain_written, mute_written, track_place_written, clip_place_written, trim_written, source_written, position_written, last_write}
 use Rattle.mt_op.specs.Presence.{is_present}
 use Rattle.mt_stamp.specs.Sorting.{sort_by}
 use Rattle.mt_sessionview.specs.Content.{Clip, Track, Marker, Content, clip_cmp, marker_cmp}
@@ -55,30 +58,33 @@ marker_of s o = record {
 -- ---- clips
 
 -- where a clip is, its track and its frame, with the stamp of the operation that put it there
-abbrev pub clip_place : List Operation → Moment → Written (Moment × ℕ)
-clip_place s clip = unwrap_or (field_write clip_place_written s clip) (record { writer = clip; value = (clip, 0) })
+abbrev pub clip_place : List Operation → Moment → Written Placement
+clip_place s clip = unwrap_or (field_write clip_place_written s clip) (record { writer = clip; value = record { track = clip; at = 0 } })
 
--- the recording that an AddClip names, which no other operation writes
-abbrev pub source_of : Act → Digest
-source_of (AddClip source track at offset len) = source
-source_of _ = record { 0 = [] }
+-- what a clip plays of its recording
+abbrev pub clip_trim : List Operation → Moment → TrimRange
+clip_trim s clip = unwrap_or (field_value trim_written s clip) (record { offset = 0; len = 0 })
+
+-- the recording that a clip plays
+abbrev pub clip_source : List Operation → Moment → Digest
+clip_source s clip = unwrap_or (field_value source_written s clip) (record { 0 = [] })
 
 -- a clip with the values of its fields, which its own AddClip writes first
 abbrev pub clip_of : List Operation → Operation → Clip
 clip_of s o = record {
   clip = o.stamp;
   place = (clip_place s o.stamp).writer;
-  at = (clip_place s o.stamp).value.1;
-  offset = (unwrap_or (field_value trim_written s o.stamp) (0, 0)).0;
-  len = (unwrap_or (field_value trim_written s o.stamp) (0, 0)).1;
+  at = (clip_place s o.stamp).value.at;
+  offset = (clip_trim s o.stamp).offset;
+  len = (clip_trim s o.stamp).len;
   gain = unwrap_or (field_value gain_written s o.stamp) unchanged;
   mute = unwrap_or (field_value mute_written s o.stamp) false;
-  source = source_of o.act;
+  source = clip_source s o.stamp;
 }
 
 -- whether an operation added a clip that is present and on this track
 abbrev pub is_clip_on : List Operation → Moment → Operation → Bool
-is_clip_on s track o = is_shown adds_clip s o && stamp_eq (clip_place s o.stamp).value.0 track
+is_clip_on s track o = is_shown adds_clip s o && stamp_eq (clip_place s o.stamp).value.track track
 
 -- the clips of a track, by position and then by the stamp that gave their place
 abbrev pub clips_on : List Operation → Moment → List Clip

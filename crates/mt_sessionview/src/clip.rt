@@ -39,16 +39,16 @@ fn clip_at<A: Allocator>(items: &Items<A>, clip: Stamp) -> Option<OnTrack>
     let Some(source) = items.source(clip) else {
         return None;
     };
-    let (track, at) = *place.get();
-    let (offset, len) = *trim.get();
+    let put = *place.get();
+    let range = *trim.get();
     Some(OnTrack {
-        track,
+        track: put.track,
         clip: ClipView {
             clip,
             place: place.stamp(),
-            at,
-            offset,
-            len,
+            at: put.at,
+            offset: range.offset,
+            len: range.len,
             gain: value_or(items.gain(clip), Gain::UNCHANGED),
             mute: value_or(items.mute(clip), false),
             source,

@@ -9,3 +9,5 @@ pub mod TreeLaws
 pub mod TreeExamples
 pub mod Sorting
 pub mod ListLends
+pub mod Written
+pub mod Presence

@@ -2,7 +2,7 @@
 
 use super::{NoFixture, left_by, op, ops, ready, stamp};
 use mt_items::Items;
-use mt_op::{Digest, Gain, Need, Role};
+use mt_op::{Digest, Gain, Need, Role, TrimRange};
 use mt_stamp::Stamp;
 use std::alloc::Allocator;
 use std::test::Fail;
@@ -145,8 +145,8 @@ fn clip_place<M: Allocator + Clone>(
     let items = left_by(memory, names)?;
     match items.clip_place(clip) {
         Some(place) => {
-            let (track, at) = *place.get();
-            Ok(Some((place.stamp(), track, at)))
+            let put = *place.get();
+            Ok(Some((place.stamp(), put.track, put.at)))
         }
         None => Ok(None),
     }
@@ -178,7 +178,7 @@ fn trim<M: Allocator + Clone>(
     memory: M,
     names: &str,
     clip: Stamp,
-) -> Result<Option<(u32, u32)>, NoFixture> {
+) -> Result<Option<TrimRange>, NoFixture> {
     let items = left_by(memory, names)?;
     match items.trim(clip) {
         Some(trim) => Ok(Some(*trim.get())),
@@ -212,8 +212,17 @@ fn source<M: Allocator + Clone>(
 #[test]
 fn trims_a_clip(rt: HostRuntime) -> Result<(), Fail> {
     let clip = stamp('c')?;
-    assert_eq!(rt; trim(rt.alloc(), "tuc", clip), Ok(Some((0, 50))));
-    assert_eq!(rt; trim(rt.alloc(), "tuced", clip), Ok(Some((10, 20))));
+    assert_eq!(rt;
+        trim(rt.alloc(), "tuc", clip),
+        Ok(Some(TrimRange { offset: 0, len: 50 }))
+    );
+    assert_eq!(rt;
+        trim(rt.alloc(), "tuced", clip),
+        Ok(Some(TrimRange {
+            offset: 10,
+            len: 20
+        }))
+    );
     Ok(())
 }
 

@@ -1,6 +1,6 @@
-use Rattle.mt_cells.specs.Greater.{timestamped_total}
+use Rattle.mt_cells.specs.Greater.{written_total}
 use Rattle.mt_cells.proofs.Greatest.{keeps_greatest}
 use Rattle.mt_cells.proofs.laws.greatest_pair.Goals as goal
 
 pub returns : goal.returns
-returns g c = keeps_greatest (timestamped_total g.met.T.Ord.total)
+returns g c = keeps_greatest (written_total g.met.T.Ord.total)

@@ -3,6 +3,8 @@ use Rattle.std.specs.Prelude.{Option}
 use Rattle.mt_stamp.specs.Moment.{Moment}
 use Rattle.mt_op.specs.Gain.{Ratio}
 use Rattle.mt_op.specs.declared.digest.Digest.{Digest}
+use Rattle.mt_op.specs.declared.value.Placement.{Placement}
+use Rattle.mt_op.specs.declared.value.TrimRange.{TrimRange}
 use Rattle.mt_op.proofs.LastWrite.{latest_is_greatest}
 use Rattle.mt_op.proofs.laws.last_write.Goals as goal
 
@@ -19,10 +21,10 @@ pub returns-clause-track_places : goal.returns-clause-track_places
 returns-clause-track_places c = latest_is_greatest (Option Moment)
 
 pub returns-clause-clip_places : goal.returns-clause-clip_places
-returns-clause-clip_places c = latest_is_greatest (Moment × ℕ)
+returns-clause-clip_places c = latest_is_greatest Placement
 
 pub returns-clause-trims : goal.returns-clause-trims
-returns-clause-trims c = latest_is_greatest (ℕ × ℕ)
+returns-clause-trims c = latest_is_greatest TrimRange
 
 pub returns-clause-sources : goal.returns-clause-sources
 returns-clause-sources c = latest_is_greatest Digest

@@ -1,6 +1,8 @@
 use Rattle.std.proofs.Common.{◌≡◌, drop}
-use Rattle.mt_op.specs.Tags.{stamps_rise, rises_from}
+use Rattle.mt_stamp.specs.Moment.{stamp_cmp}
+use Rattle.mt_op.specs.Rising.{rises_from}
+use Rattle.mt_op.specs.Tags.{stamps_rise}
 use Rattle.mt_op.proofs.tags.rise.Given as goal
 
 abbrev pub invariant-loop-tag : goal.invariant-loop-tag
-invariant-loop-tag l = stamps_rise l.tags ≡ rises_from l.last (drop l.tag-index l.tags)
+invariant-loop-tag l = stamps_rise l.tags ≡ rises_from stamp_cmp l.last (drop l.tag-index l.tags)
