@@ -12,7 +12,7 @@ use std::collections::VecDeque;
 
 // Up to so many logs are joined from left to right: a walk over what was joined before costs less then than a look at each
 // operation of all logs.
-const FEW: usize = 8;
+const FEW: usize = 4;
 
 // The union of the logs, joined from left to right.
 fn join_from_left<A: Allocator + Clone>(alloc: A, logs: Vec<Log<A>, A>) -> Result<Log<A>, LogFault>
@@ -65,7 +65,7 @@ impl<A: Allocator + Clone> Log<A> {
     /// another operation under a dot than the logs before it, with the least such dot of the first such log, and as
     /// `Memory` (0) where a growth was refused; all are then dropped.
     ///
-    /// Eight logs or fewer are joined one after another. Of more it is first seen whether they agree, which takes memory
+    /// Four logs or fewer are joined one after another. Of more it is first seen whether they agree, which takes memory
     /// for two references to each operation, and then they are joined in pairs: n operations in k logs cost n log k looks and
     /// as many moves, and n log n looks in a map of references more where they do not agree.
     pub fn join_all(alloc: A, logs: Vec<Log<A>, A>) -> Result<Log<A>, LogFault>
