@@ -1,7 +1,7 @@
 -- What an item that is offered changes in a hold-back.
-use Rattle.std.proofs.Common.{◌≡◌, ℕ, suc, ◌+◌, ◌<◌, ◌≤◌, Bool, true, false, not, cond, ◌||◌, List, [], ◌∷◌, ◌++◌, filter, refl, sym, ap, ◌∙◌, subst, arith, true≢false, lt-ltb, le-ltb}
-use Rattle.std.specs.Prelude.{insert, ltb, length}
-use Rattle.std.specs.List.{AllByRecursion, list_any, prefix_len}
+use Rattle.std.proofs.Common.{◌≡◌, ℕ, suc, ◌+◌, ◌<◌, ◌≤◌, Bool, true, false, not, cond, ◌||◌, List, [], ◌∷◌, ◌++◌, filter, refl, sym, ap, ◌∙◌, subst, arith, true≢false, lt-ltb, le-ltb, ◌&&◌, append_assoc}
+use Rattle.std.specs.Prelude.{insert, ltb, length, Result, Ok, Err, OnOk}
+use Rattle.std.specs.List.{AllByRecursion, list_all, list_any, prefix_len}
 use Rattle.std.specs.Ordering.{is_lt, ordering_reverse, ordering_then, nat_cmp, MatchOrdering}
 use Rattle.std.specs.declared.cmp.Ordering.{Ordering}
 use Rattle.std.specs.declared.cmp.Ordering.TheVariants.{Less, Equal, Greater}
@@ -9,12 +9,18 @@ use Rattle.std.proofs.lemmas.Cmp.{ranked}
 use Rattle.std.proofs.lemmas.List.{length-append}
 use Rattle.mt_stamp.specs.Moment.{Moment, stamp_cmp, stamp_eq}
 use Rattle.mt_stamp.proofs.Order.{stamp_cmp_total, stamp_cmp-IsAntisymmetric, stamp_eq-itself}
-use Rattle.mt_holdback.specs.Waiting.{NamesOlder, clock_of, meets, is_ready}
-use Rattle.mt_holdback.specs.Laws.{passed, ClocksRise}
+use Rattle.mt_holdback.specs.Waiting.{NamesOlder, clock_of, meets, is_ready, AllNameOlder}
+use Rattle.mt_holdback.specs.Laws.{is_met_by, passed, ClocksRise}
 use Rattle.mt_holdback.specs.Passing.{left}
+use Rattle.mt_holdback.specs.Queue.{Takes, NoneIsMet}
 use Rattle.mt_holdback.specs.HoldBack.{Kept, offered, knows, KeysRise, queued, offered_with, newly_ready, kept_with, IsHoldBack, OfferKeepsTheRule, HeldReleasesNothing}
-use Rattle.mt_holdback.proofs.Readiness.{held_changes_nothing, one_pass_finds_all, one_pass_leaves}
+use Rattle.mt_holdback.proofs.Readiness.{held_changes_nothing, one_pass_finds_all, one_pass_leaves, met_is_ready, named_later, filter_push, filter_whole}
 use Rattle.mt_holdback.proofs.Listings.{IsWithin, or_left, or_middle, any_append, any_parts, ready_within, ready_same}
+
+-- what follows from two facts that an `Ok` brings
+pub on_both : {X E P Q S : Type 0} (r : Result X E) → (P → Q → S) → OnOk r P → OnOk r Q → OnOk r S
+on_both (Ok x) gives p q = gives p q
+on_both (Err e) gives p q = tt
 
 turned : (a : Bool) → not a ≡ true → a ≡ false
 turned true h = sym h
@@ -271,3 +277,67 @@ module _ {T R : Type 0} (key : T → Moment) (needs : T → List (Moment × R)) 
   pub ready_of : (kept after : Kept T) (t : T) → IsHoldBack key needs fits kept → NamesOlder (key t) (needs t) → after ≡ kept_with key needs fits kept t
       → ltb (length kept.released) (length after.released) ≡ is_ready key needs fits (offered_with key needs fits kept t) t
   ready_of kept after t is names_older is_after = ap (λ (k : Kept T). ltb (length kept.released) (length k.released)) is_after ∙ released_more kept t is names_older
+
+  -- none of those that wait is met by what was released
+  none_met : (all : List T) (older : AllNameOlder key needs fits all) (released seen waiting : List T) → all ≡ seen ++ waiting → filter (is_ready key needs fits all) seen ≡ released
+      → AllNameOlder key needs fits waiting → ClocksRise key needs fits waiting → AllByRecursion (λ u. is_ready key needs fits all u ≡ false) waiting → NoneIsMet key needs fits released waiting
+  none_met all older released seen [] cut is_released names_older rise held = tt
+  none_met all older released seen (u ∷ waiting) cut is_released names_older rise held = (
+    ap (λ (rs : List T). is_met_by key needs fits rs u) (sym is_released) ∙ met_is_ready key needs fits all older u seen (u ∷ waiting) cut (omega arith, rise.0) names_older.0 ∙ held.0,
+    none_met all older released (seen ++ u ∷ []) waiting (cut ∙ sym (append_assoc seen (u ∷ []) waiting))
+        (filter_push (is_ready key needs fits all) seen u ∙ ap (λ (b : Bool). cond b (filter (is_ready key needs fits all) seen ++ u ∷ []) (filter (is_ready key needs fits all) seen)) held.0 ∙ is_released)
+        names_older.1 rise.1 held.1,
+  )
+
+  or_neither : (a : Bool) → (a || (false || false)) ≡ a
+  or_neither true = refl
+  or_neither false = refl
+
+  -- one that is not older is named by none of these needs
+  not_named : (released : List T) (t : T) (c : ℕ) → c ≤ clock_of key needs fits t → (ns : List (Moment × R)) → AllByRecursion (λ need. need.0.clock < c) ns
+      → list_all (λ need. list_any (meets key needs fits need) (released ++ t ∷ [])) ns ≡ list_all (λ need. list_any (meets key needs fits need) released) ns
+  not_named released t c above [] older = refl
+  not_named released t c above (need ∷ ns) older =
+      let one : list_any (meets key needs fits need) (released ++ t ∷ []) ≡ list_any (meets key needs fits need) released =
+      any_append (meets key needs fits need) released (t ∷ [])
+      ∙ ap (λ (b : Bool). list_any (meets key needs fits need) released || (b || false)) (named_later key needs fits c need older.0 (t ∷ []) (above, tt)).0
+      ∙ or_neither (list_any (meets key needs fits need) released) in
+      λ i. one i && not_named released t c above ns older.1 i
+
+  -- an item that is met can be released first: a pass goes on over the others as it does with the item among them
+  module _ (released : List T) (t : T) (met : is_met_by key needs fits released t ≡ true) where
+    is_less : (o : Ordering) → is_lt o ≡ true → o ≡ Less
+    is_less Less h = refl
+    is_less Equal h = absurd (true≢false (sym h))
+    is_less Greater h = absurd (true≢false (sym h))
+
+    first : (waiting : List T) → Takes key needs fits released t (t ∷ waiting) waiting
+    first waiting = record {
+      passed = ap (λ (b : Bool). passed key needs fits (cond b (released ++ t ∷ []) released) waiting) met;
+      left = ap (λ (b : Bool). cond b (left key needs fits (released ++ t ∷ []) waiting) (t ∷ left key needs fits released waiting)) met;
+    }
+
+    goes_first : (waiting : List T) → NoneIsMet key needs fits released waiting → AllNameOlder key needs fits waiting → Takes key needs fits released t (queued key needs fits t waiting) waiting
+    goes_first [] none older = first []
+    goes_first (u ∷ waiting) none older =
+        subst (λ (before : List T). Takes key needs fits released t before (u ∷ waiting)) (sym (queued_is t u waiting)) (by (is_lt (stamp_cmp (key u) (key t))) refl (goes_first waiting none.1 older.1))
+      where
+        by : (b : Bool) → is_lt (stamp_cmp (key u) (key t)) ≡ b → Takes key needs fits released t (queued key needs fits t waiting) waiting
+            → Takes key needs fits released t (cond b (u ∷ queued key needs fits t waiting) (t ∷ u ∷ waiting)) (u ∷ waiting)
+        by false is rest = first (u ∷ waiting)
+        by true is rest =
+            let unmet : is_met_by key needs fits (released ++ t ∷ []) u ≡ false =
+            not_named released t (key u).clock (less_clock (key u) (key t) (is_less (stamp_cmp (key u) (key t)) is)) (needs u) older.0 ∙ none.0 in record {
+              passed = ap (λ (b : Bool). passed key needs fits (cond b (released ++ u ∷ []) released) (queued key needs fits t waiting)) none.0 ∙ rest.passed
+                  ∙ sym (ap (λ (b : Bool). passed key needs fits (cond b ((released ++ t ∷ []) ++ u ∷ []) (released ++ t ∷ [])) waiting) unmet);
+              left = ap (λ (b : Bool). cond b (left key needs fits (released ++ u ∷ []) (queued key needs fits t waiting)) (u ∷ left key needs fits released (queued key needs fits t waiting))) none.0
+                  ∙ ap (λ (us : List T). u ∷ us) rest.left
+                  ∙ sym (ap (λ (b : Bool). cond b (left key needs fits ((released ++ t ∷ []) ++ u ∷ []) waiting) (u ∷ left key needs fits (released ++ t ∷ []) waiting)) unmet);
+            }
+
+  pub met_goes_first : (kept : Kept T) (t : T) → IsHoldBack key needs fits kept → is_met_by key needs fits kept.released t ≡ true → Takes key needs fits kept.released t (queued key needs fits t kept.waiting) kept.waiting
+  met_goes_first kept t is met =
+      let older : AllNameOlder key needs fits kept.waiting = all_rest (λ u. NamesOlder (key u) (needs u)) kept.released kept.waiting is.older in
+      goes_first kept.released t met kept.waiting
+      (none_met (offered key needs fits kept) is.older kept.released kept.released kept.waiting refl (filter_whole (is_ready key needs fits (offered key needs fits kept)) kept.released is.ready) older (clocks_rise kept.waiting is.rise) is.held)
+      older

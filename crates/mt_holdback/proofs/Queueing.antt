@@ -563,7 +563,7 @@ module _ {T R : Type 0} (key : T → Moment) (needs : T → List (Moment × R)) 
       any_append (λ t. stamp_eq (key t) q) released (items_of es)
       ∙ (λ i. sym (works.finds.known q) i || items_known released lists woken q es works.each i)
 
-  -- one more item is to be looked at
+  -- one more item waits, or is released at once
 
   first_false : (a b : Bool) → (a || b) ≡ false → a ≡ false
   first_false true b h = absurd (true≢false h)
@@ -592,9 +592,8 @@ module _ {T R : Type 0} (key : T → Moment) (needs : T → List (Moment × R)) 
           ∙ ap (λ (ts : List T). e.1.item ∷ ts) rest
           ∙ ap (λ (o : Ordering). cond (is_lt o) (e.1.item ∷ queued key needs fits w.item (items_of es)) (w.item ∷ e.1.item ∷ items_of es)) (sym (stamp_cmp_total.antisymm e.0 (key w.item) ∙ ap ordering_reverse is))
 
-  module _ (released : List T) (place : Moment → Option ℕ) (es fs : List (Moment × Waiter T)) (lists : Moment → Moment → Bool) (woken woken' : Moment → Bool) (t : T)
-      (works : Works key needs fits released place es lists woken) (unknown : list_any (λ u. stamp_eq (key u) (key t)) (released ++ items_of es) ≡ false)
-      (put : fs ≡ insert_entry stamp_cmp es (key t) (record { item = t; met = 0 })) where
+  module _ (released : List T) (place : Moment → Option ℕ) (es : List (Moment × Waiter T)) (lists : Moment → Moment → Bool) (woken : Moment → Bool) (t : T)
+      (works : Works key needs fits released place es lists woken) (unknown : list_any (λ u. stamp_eq (key u) (key t)) (released ++ items_of es) ≡ false) where
     apart : AllByRecursion (λ e. is_eq (stamp_cmp (key t) e.0) ≡ false) es
     apart = none_found (key t) es (absent (lookup (is_at (stamp_cmp (key t))) es) (second_false _ _ (sym (works_known released place es lists woken (key t) works) ∙ unknown)))
       where
@@ -602,26 +601,34 @@ module _ {T R : Type 0} (key : T → Moment) (needs : T → List (Moment × R)) 
         absent None h = refl
         absent (Some v) h = absurd (true≢false h)
 
-    pub put_works : NamesOlder (key t) (needs t) → ((q : Moment) → woken' q ≡ cond (is_eq (stamp_cmp (key t) q)) true (woken q)) → IsStrictlySortedBy stamp_cmp (keys_of fs) → Works key needs fits released place fs lists woken'
-    put_works older noted sorted = record {
-      finds = works.finds;
-      sorted = sorted;
-      each = subst (λ (gs : List (Moment × Waiter T)). AllByRecursion (Stands key needs fits released lists woken') gs) (sym put)
-          (all_inserted (Stands key needs fits released lists woken') (key t) (record { item = t; met = 0 }) es (record {
-            own = refl;
-            older = older;
-            fresh = first_false _ _ (sym (any_append (λ u. stamp_eq (key u) (key t)) released (items_of es)) ∙ unknown);
-            met = refl;
-            waits = inl (noted (key t) ∙ ap (λ (b : Bool). cond b true (woken (key t))) (is_itself (key t)));
-          }) (stands_more released lists lists woken woken' (λ s q h. h) (λ q h. noted q ∙ by (is_eq (stamp_cmp (key t) q)) (woken q) h) es works.each));
-    }
-      where
-        by : (a b : Bool) → b ≡ true → cond a true b ≡ true
-        by true b h = refl
-        by false b h = h
+    pub new_fresh : list_any (λ u. stamp_eq (key u) (key t)) released ≡ false
+    new_fresh = first_false _ _ (sym (any_append (λ u. stamp_eq (key u) (key t)) released (items_of es)) ∙ unknown)
 
-    pub put_items : items_of fs ≡ queued key needs fits t (items_of es)
-    put_items = ap items_of put ∙ queued_items released lists woken (record { item = t; met = 0 }) es works.each apart
+    pub new_others : AllByRecursion (λ e. stamp_eq e.0 (key t) ≡ false) es
+    new_others = by es apart
+      where
+        by : (gs : List (Moment × Waiter T)) → AllByRecursion (λ e. is_eq (stamp_cmp (key t) e.0) ≡ false) gs → AllByRecursion (λ e. stamp_eq e.0 (key t) ≡ false) gs
+        by [] all = tt
+        by (g ∷ gs) all = (eq_turned g.0 (key t) ∙ same_test (key t) g.0 ∙ all.0, by gs all.1)
+
+    module _ (fs : List (Moment × Waiter T)) (i : ℕ) (put : fs ≡ insert_entry stamp_cmp es (key t) (record { item = t; met = i })) where
+      pub put_works : (lists' : Moment → Moment → Bool) (stamp : Moment) → NamesOlder (key t) (needs t) → MetTo key needs fits released t i → LacksAt key needs fits released t i stamp
+          → ((s q : Moment) → lists s q ≡ true → lists' s q ≡ true) → lists' stamp (key t) ≡ true → IsStrictlySortedBy stamp_cmp (keys_of fs) → Works key needs fits released place fs lists' woken
+      put_works lists' stamp older met lack stay there sorted = record {
+        finds = works.finds;
+        sorted = sorted;
+        each = subst (λ (gs : List (Moment × Waiter T)). AllByRecursion (Stands key needs fits released lists' woken) gs) (sym put)
+            (all_inserted (Stands key needs fits released lists' woken) (key t) (record { item = t; met = i }) es (record {
+              own = refl;
+              older = older;
+              fresh = new_fresh;
+              met = met;
+              waits = inr (record { stamp = stamp; lacks = lack; under = there });
+            }) (stands_more released lists lists' woken woken stay (λ q h. h) es works.each));
+      }
+
+      pub put_items : items_of fs ≡ queued key needs fits t (items_of es)
+      put_items = ap items_of put ∙ queued_items released lists woken (record { item = t; met = i }) es works.each apart
 
   -- nothing waits yet
   pub none_yet : (released : List T) (place : Moment → Option ℕ) (es : List (Moment × Waiter T)) (lists : Moment → Moment → Bool) (woken : Moment → Bool) → released ≡ [] → ((q : Moment) → place q ≡ None) → es ≡ []

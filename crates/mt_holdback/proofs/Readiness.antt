@@ -64,7 +64,7 @@ module _ {D : Type 0} where
       by true rest = ap (λ (b : Bool). r x || b) rest
       by false rest = rest
 
-  filter_push : (r : D → Bool) (xs : List D) (d : D) → filter r (xs ++ d ∷ []) ≡ cond (r d) (filter r xs ++ d ∷ []) (filter r xs)
+  pub filter_push : (r : D → Bool) (xs : List D) (d : D) → filter r (xs ++ d ∷ []) ≡ cond (r d) (filter r xs ++ d ∷ []) (filter r xs)
   filter_push r [] d = refl
   filter_push r (x ∷ xs) d = by (r x) (r d) (filter_push r xs d)
     where
@@ -78,6 +78,9 @@ module _ {D : Type 0} where
   filter_all : (r : D → Bool) (xs ys : List D) → AllByRecursion (λ t. r t ≡ true) xs → filter r (xs ++ ys) ≡ xs ++ filter r ys
   filter_all r [] ys all = refl
   filter_all r (x ∷ xs) ys all = ap (λ (b : Bool). cond b (x ∷ filter r (xs ++ ys)) (filter r (xs ++ ys))) all.0 ∙ ap (λ (zs : List D). x ∷ zs) (filter_all r xs ys all.1)
+
+  pub filter_whole : (r : D → Bool) (xs : List D) → AllByRecursion (λ t. r t ≡ true) xs → filter r xs ≡ xs
+  filter_whole r xs all = ap (filter r) (sym (append-nil xs)) ∙ filter_all r xs [] all ∙ append-nil xs
 
   all_append : (P : D → Type 0) (xs ys : List D) → AllByRecursion P (xs ++ ys) → AllByRecursion P ys
   all_append P [] ys all = all
@@ -131,7 +134,7 @@ module _ {T R : Type 0} (key : T → Moment) (needs : T → List (Moment × R)) 
       (ready_is_defined items older.1).only r (rule_without r t items held items (ready_is_defined (t ∷ items) older).satisfies.1)
 
   -- no item that waits from here on is named by one of these needs
-  named_later : (c : ℕ) (need : Moment × R) → need.0.clock < c → (later : List T) → AllByRecursion (λ u. c ≤ clock_of key needs fits u) later → AllByRecursion (λ u. meets key needs fits need u ≡ false) later
+  pub named_later : (c : ℕ) (need : Moment × R) → need.0.clock < c → (later : List T) → AllByRecursion (λ u. c ≤ clock_of key needs fits u) later → AllByRecursion (λ u. meets key needs fits need u ≡ false) later
   named_later c need smaller [] greater = tt
   named_later c need smaller (u ∷ later) greater = (by (meets key needs fits need u) refl, named_later c need smaller later greater.1)
     where
@@ -189,16 +192,14 @@ module _ {T R : Type 0} (key : T → Moment) (needs : T → List (Moment × R)) 
       → left key needs fits taken waiting ≡ filter (λ u. not (is_ready key needs fits (taken ++ waiting) u)) waiting
   one_pass_leaves taken waiting older ready rise =
       let all : List T = taken ++ waiting in
-      let whole : filter (is_ready key needs fits all) taken ≡ taken =
-      ap (filter (is_ready key needs fits all)) (sym (append-nil taken)) ∙ filter_all (is_ready key needs fits all) taken [] ready ∙ append-nil taken in
+      let whole : filter (is_ready key needs fits all) taken ≡ taken = filter_whole (is_ready key needs fits all) taken ready in
       ap (λ (xs : List T). left key needs fits xs waiting) (sym whole)
       ∙ left_from all older taken waiting refl (all_append (λ t. NamesOlder (key t) (needs t)) taken waiting older) rise
 
   pub one_pass_finds_all : OnePassFindsAll key needs fits
   one_pass_finds_all taken waiting older ready rise =
       let all : List T = taken ++ waiting in
-      let whole : filter (is_ready key needs fits all) taken ≡ taken =
-      ap (filter (is_ready key needs fits all)) (sym (append-nil taken)) ∙ filter_all (is_ready key needs fits all) taken [] ready ∙ append-nil taken in
+      let whole : filter (is_ready key needs fits all) taken ≡ taken = filter_whole (is_ready key needs fits all) taken ready in
       ap (λ (xs : List T). passed key needs fits xs waiting) (sym whole)
       ∙ pass_from all older taken waiting refl (all_append (λ t. NamesOlder (key t) (needs t)) taken waiting older) rise
       ∙ filter_all (is_ready key needs fits all) taken waiting ready

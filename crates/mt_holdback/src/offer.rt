@@ -5,12 +5,14 @@ ghost use Rattle.std.specs.BTreeMap.{get};
 ghost use Rattle.std.specs.BTreeSet.{contains};
 ghost use Rattle.mt_stamp.specs.Moment.{stamp_cmp};
 ghost use Rattle.mt_holdback.specs.Waiting.{NamesOlder, is_ready};
+ghost use Rattle.mt_holdback.specs.Laws.{passed};
+ghost use Rattle.mt_holdback.specs.Passing.{left};
 ghost use Rattle.mt_holdback.specs.HoldBack.{KeysRise, knows, queued, newly_ready, kept_with, offered_with, IsHoldBack};
 ghost use Rattle.mt_holdback.specs.State.{items_in};
-ghost use Rattle.mt_holdback.specs.Queue.{items_of, listed, Works};
+ghost use Rattle.mt_holdback.specs.Queue.{items_of, listed, MetTo, LacksAt, Works};
 
 use crate::fault::HoldBackFault;
-use crate::queue::{Queue, Waiter, settle};
+use crate::queue::{Lack, Queue, Waiter, first_lack, put_under, release, settle};
 use crate::waits::Waits;
 use std::alloc::Allocator;
 use std::collections::{BTreeMap, BTreeSet};
@@ -36,22 +38,49 @@ fn queue_of<T: Waits + Drop, A: Allocator + Clone>(
     }
 }
 
-// What waits, with one item more that is to be looked at.
-fn put_in<T: Waits + Drop, A: Allocator + Clone>(
+// Holds an item back that lacks a need, listed under the stamp that it lacks.
+fn hold<T: Waits + Drop, A: Allocator + Clone>(
+    alloc: &A,
     released: &[T],
     queue: &mut Queue<T, A>,
     item: T,
+    lack: Lack,
 ) -> Result<(), HoldBackFault>
     requires works { Works T.key_of T.needs_of T.fits_role released.now (get stamp_cmp queue.old.places) queue.old.items.entries (listed (λ v. v.items) (get stamp_cmp queue.old.lacking)) (contains stamp_cmp queue.old.woken) }
     requires unknown { knows T.key_of T.needs_of T.fits_role (record { released = released.now; waiting = items_of queue.old.items.entries }) (T.key_of item) ≡ false }
-    ensures older { NamesOlder (T.key_of item) (T.needs_of item) }
+    requires lacks { MetTo T.key_of T.needs_of T.fits_role released.now item lack.place × LacksAt T.key_of T.needs_of T.fits_role released.now item lack.place lack.stamp }
     ensures works { OnOk result (Works T.key_of T.needs_of T.fits_role released.now (get stamp_cmp queue.new.places) queue.new.items.entries (listed (λ v. v.items) (get stamp_cmp queue.new.lacking)) (contains stamp_cmp queue.new.woken)) }
     ensures queued { OnOk result (items_of queue.new.items.entries ≡ queued T.key_of T.needs_of T.fits_role item (items_of queue.old.items.entries)) }
 {
     let key = item.key();
-    queue.woken.insert(key)?;
-    queue.items.insert(key, Waiter { item, met: 0 })?;
+    put_under(alloc, &mut queue.lacking, lack.stamp, key)?;
+    let met = lack.place;
+    queue.items.insert(key, Waiter { item, met })?;
     Ok(())
+}
+
+// Releases an item whose needs are met, and wakes what waited for it; holds another back. What a pass over those that wait takes
+// and leaves from then on is what it would have with the item among them.
+fn admit<T: Waits + Drop, A: Allocator + Clone>(
+    alloc: &A,
+    released: &mut Vec<T, A>,
+    queue: &mut Queue<T, A>,
+    item: T,
+) -> Result<(), HoldBackFault>
+    requires rule { IsHoldBack T.key_of T.needs_of T.fits_role (record { released = released.old.items; waiting = items_of queue.old.items.entries }) }
+    requires works { Works T.key_of T.needs_of T.fits_role released.old.items (get stamp_cmp queue.old.places) queue.old.items.entries (listed (λ v. v.items) (get stamp_cmp queue.old.lacking)) (contains stamp_cmp queue.old.woken) }
+    requires unknown { knows T.key_of T.needs_of T.fits_role (record { released = released.old.items; waiting = items_of queue.old.items.entries }) (T.key_of item) ≡ false }
+    ensures older { NamesOlder (T.key_of item) (T.needs_of item) }
+    ensures works { OnOk result (Works T.key_of T.needs_of T.fits_role released.new.items (get stamp_cmp queue.new.places) queue.new.items.entries (listed (λ v. v.items) (get stamp_cmp queue.new.lacking)) (contains stamp_cmp queue.new.woken)) }
+    ensures passes { OnOk result (passed T.key_of T.needs_of T.fits_role released.old.items (queued T.key_of T.needs_of T.fits_role item (items_of queue.old.items.entries)) ≡ passed T.key_of T.needs_of T.fits_role released.new.items (items_of queue.new.items.entries)) }
+    ensures leaves { OnOk result (left T.key_of T.needs_of T.fits_role released.old.items (queued T.key_of T.needs_of T.fits_role item (items_of queue.old.items.entries)) ≡ left T.key_of T.needs_of T.fits_role released.new.items (items_of queue.new.items.entries)) }
+{
+    // brings that it names older ones
+    let _ = item.key();
+    match first_lack(released, &queue.places, &item, 0) {
+        None => release(alloc, released, queue, item),
+        Some(lack) => hold(alloc, released, queue, item, lack),
+    }
 }
 
 // Releases what one item more makes ready, and gives back what waits from then on.
@@ -71,7 +100,7 @@ pub(crate) fn take_in<T: Waits + Drop, A: Allocator + Clone>(
 {
     let alloc = released.allocator().clone()?;
     let mut queue = queue_of(&alloc, released, waiting)?;
-    put_in(released, &mut queue, item)?;
+    admit(&alloc, released, &mut queue, item)?;
     settle(&alloc, released, &mut queue)?;
     Ok(queue)
 }

@@ -37,9 +37,9 @@ pub(crate) struct Queue<T, A: Allocator> {
 
 // A need that no item meets: its place among the needs, and the stamp that it names.
 #[derive(Clone, Copy)]
-struct Lack {
-    place: usize,
-    stamp: Stamp,
+pub(crate) struct Lack {
+    pub(crate) place: usize,
+    pub(crate) stamp: Stamp,
 }
 
 // How many items wait.
@@ -93,7 +93,7 @@ fn lacks_at<T: Waits, A: Allocator>(
 }
 
 // The first need from a place on that is not met.
-fn first_lack<T: Waits, A: Allocator>(
+pub(crate) fn first_lack<T: Waits, A: Allocator>(
     released: &[T],
     places: &BTreeMap<Stamp, usize, A>,
     item: &T,
@@ -127,7 +127,7 @@ fn keys_under<A: Allocator + Clone>(
 }
 
 // Lists a key under a stamp.
-fn put_under<A: Allocator + Clone>(
+pub(crate) fn put_under<A: Allocator + Clone>(
     alloc: &A,
     lacking: &mut BTreeMap<Stamp, Vec<Stamp, A>, A>,
     stamp: Stamp,
@@ -215,7 +215,7 @@ fn next_ready<T: Waits + Drop, A: Allocator + Clone>(
 }
 
 // Releases an item, and wakes what waited for it.
-fn release<T: Waits + Drop, A: Allocator + Clone>(
+pub(crate) fn release<T: Waits + Drop, A: Allocator + Clone>(
     alloc: &A,
     released: &mut Vec<T, A>,
     queue: &mut Queue<T, A>,

@@ -1,6 +1,7 @@
 pub mod Noting
 pub mod Marking
 pub mod Each
+pub mod Entries
 pub mod PerKind
 pub mod Roles
 pub mod EmptyStruct

@@ -1,6 +1,8 @@
 //! The state of items.
 
-ghost use Rattle.std.specs.Prelude.{◌≡◌, List, [], ◌∷◌, Some, ◌≤◌, IfOk, IfErr, IfSome, MatchOption, option_map, slice_get};
+ghost use Rattle.std.specs.Prelude.{◌≡◌, false, List, [], ◌∷◌, Some, ◌≤◌, IfOk, IfErr, IfSome, MatchOption, option_map, slice_get};
+ghost use Rattle.std.specs.BTreeMap.{keys};
+ghost use Rattle.std.specs.List.{AllByRecursion};
 ghost use Rattle.std.specs.List.Sorted.{IsStrictlySortedBy};
 ghost use Rattle.mt_stamp.specs.Moment.{Moment, stamp_cmp};
 ghost use Rattle.mt_stamp.specs.Written.{Written};
@@ -12,7 +14,7 @@ ghost use Rattle.mt_op.specs.Presence.{is_present, is_listed, live_tags};
 ghost use Rattle.mt_op.specs.Writes.{title_written, gain_written, mute_written, track_place_written, clip_place_written, trim_written, source_written, position_written, last_write};
 ghost use Rattle.mt_cells.specs.Marks.{unmarked};
 ghost use Rattle.mt_items.specs.Noting.{MayFollow, AreNoted, is_need_met, are_needs_met};
-ghost use Rattle.mt_items.specs.Cells.{items_of};
+ghost use Rattle.mt_items.specs.Cells.{HoldsTrack, HoldsClip, HoldsMarker, items_of};
 ghost use Rattle.mt_items.specs.Tags.{HoldsTags};
 
 use crate::cells::{ClipCells, MarkerCells, TrackCells};
@@ -358,6 +360,34 @@ impl<A: Allocator> Items<A> {
             Some(cells) => Some(&cells.position),
             None => None,
         }
+    }
+
+    /// The cells of a track, present or not: all its fields by one search. `None` where the stamp names no track.
+    pub fn track_cells(&self, track: Stamp) -> Option<&TrackCells<A>>
+        ensures { MatchOption result (is_need_met self.now (need_of Track track) ≡ false) (λ cells. HoldsTrack track self.now cells.now) }
+    {
+        let _ = &self.noted;
+        self.tracks.get(&track)
+    }
+
+    /// The clips with their cells, present or not, from the least stamp to the greatest.
+    pub fn clip_cells(&self) -> &BTreeMap<Stamp, ClipCells<A>, A>
+        ensures clips { keys result.now ≡ items_of Clip self.now }
+        ensures each { AllByRecursion (λ e. HoldsClip e.0 self.now e.1) result.now.entries }
+    {
+        // brings that the stamps rise
+        let (_noted, _count) = (&self.noted, self.clips.len());
+        &self.clips
+    }
+
+    /// The markers with their cells, present or not, from the least stamp to the greatest.
+    pub fn marker_cells(&self) -> &BTreeMap<Stamp, MarkerCells<A>, A>
+        ensures markers { keys result.now ≡ items_of Marker self.now }
+        ensures each { AllByRecursion (λ e. HoldsMarker e.0 self.now e.1) result.now.entries }
+    {
+        // brings that the stamps rise
+        let (_noted, _count) = (&self.noted, self.markers.len());
+        &self.markers
     }
 
     /// The stamps of the tracks, present or not, from the least to the greatest. Refused only as `Memory` (0), where

@@ -36,6 +36,8 @@ mod place;
 mod ready;
 mod track;
 
+pub use cells::{ClipCells, MarkerCells, TrackCells};
 pub use fault::ItemsFault;
 pub use items::Items;
+pub use marks::ItemMarks;
 pub use ready::items_of_ready;

@@ -15,10 +15,10 @@ use mt_stamp::Stamp;
 use std::alloc::Allocator;
 use std::marker::Model;
 
-// The tags of an item that was added, and those that were removed. Its own stamp is its first tag; it takes memory from the
-// first other tag or removal on: a block for the marks, and what they hold.
+/// The tags of an item that was added, and those that were removed. Its own stamp is its first tag; it takes memory from the
+/// first other tag or removal on: a block for the marks, and what they hold.
 #[derive(Drop)]
-pub(crate) struct ItemMarks<A: Allocator> {
+pub struct ItemMarks<A: Allocator> {
     own: Stamp,
     noted: Option<Box<Presence<A>, A>>,
 }
@@ -53,8 +53,8 @@ impl<A: Allocator> ItemMarks<A> {
         }
     }
 
-    // Whether the item is there: whether a tag is live.
-    pub(crate) fn is_present(&self) -> bool
+    /// Whether the item is there: whether a tag is live.
+    pub fn is_present(&self) -> bool
         ensures { IsTrue result ↔ IsPresent self.now }
     {
         match &self.noted {

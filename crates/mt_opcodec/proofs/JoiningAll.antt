@@ -1,11 +1,10 @@
--- Joining logs gives the union of them all, from left to right and in pairs.
-use Rattle.std.proofs.Common.{◌≡◌, cond, List, [], ◌∷◌, ◌++◌, Option, Some, None, refl, sym, ap, ◌∙◌, inr, inl, subst}
+-- Joining logs gives the union of them all.
+use Rattle.std.proofs.Common.{◌≡◌, cond, List, [], ◌∷◌, Option, Some, None, refl, sym, ap, ◌∙◌, inr, inl, subst}
 use Rattle.std.specs.Prelude.{is_some}
 use Rattle.std.specs.List.{AllByRecursion}
 use Rattle.std.specs.FinMap as fin
 use Rattle.mt_stamp.specs.declared.name.Dot.{Dot}
 use Rattle.mt_opcodec.specs.LogValue.{LogMap}
-use Rattle.mt_opcodec.specs.Laws.{PairsAgree}
 use Rattle.mt_opcodec.specs.Union.{Agree, union, union_from, union_all, AgreeFrom, AllAgree, MergeFails, FirstClashFrom, FirstClash, JoinAllFails}
 use Rattle.mt_opcodec.specs.declared.fault.LogFault.{LogFault}
 use Rattle.mt_opcodec.specs.declared.fault.LogFault.TheVariants as faults
@@ -13,7 +12,7 @@ use Rattle.std.proofs.lemmas.Option.{none-some}
 use Rattle.mt_stamp.specs.Moment.{dot_cmp}
 use Rattle.mt_op.specs.Operation.{Operation}
 use Rattle.mt_opcodec.proofs.Union.{get-union, same_log, union_is_union}
-use Rattle.mt_opcodec.proofs.Agreements.{flip, of_both, each_both}
+use Rattle.mt_opcodec.proofs.Agreements.{flip, of_both}
 
 -- ---- from left to right
 
@@ -46,7 +45,7 @@ one_failed all log rest logs h (faults.BadRecord index cause) f = absurd f
 one_failed all log rest logs h (faults.OutOfOrder index) f = absurd f
 one_failed all log rest logs h faults.Trailing f = absurd f
 
--- ---- in pairs
+-- ---- some of them first
 
 pub none_first : (a : LogMap) → union fin.empty a ≡ a
 none_first a = same_log (union fin.empty a) a (λ dot. get-union fin.empty a dot ∙ ap (λ (x : Option Operation). cond (is_some x) x (fin.get a dot)) (fin.get-empty dot_cmp dot))
@@ -67,57 +66,9 @@ joined_from a (b ∷ logs) =
 pub first_apart : (a : LogMap) (logs : List LogMap) → union_all (a ∷ logs) ≡ union a (union_all logs)
 first_apart a logs = ap (λ (m : LogMap). union_from m logs) (none_first a) ∙ joined_from a logs
 
-last_apart : (logs : List LogMap) (a : LogMap) → union_all (logs ++ a ∷ []) ≡ union (union_all logs) a
-last_apart [] a = none_first a ∙ sym (none_first a)
-last_apart (b ∷ logs) a =
-    first_apart b (logs ++ a ∷ []) ∙ ap (union b) (last_apart logs a) ∙ sym (union_is_union.associative b (union_all logs) a) ∙ ap (λ (m : LogMap). union m a) (sym (first_apart b logs))
-
-with_nothing : (a : LogMap) → Agree a fin.empty
+pub with_nothing : (a : LogMap) → Agree a fin.empty
 with_nothing a dot o p at none = absurd (none-some p (sym (fin.get-empty dot_cmp dot) ∙ none))
 
 pub with_all : (a : LogMap) (logs : List LogMap) → AllByRecursion (Agree a) logs → Agree a (union_all logs)
 with_all a [] all = with_nothing a
 with_all a (b ∷ logs) all = subst (Agree a) (sym (first_apart b logs)) (flip (union b (union_all logs)) a (of_both b (union_all logs) a (flip a b all.0) (flip a (union_all logs) (with_all a logs all.1))))
-
-put_last : (a : LogMap) (logs : List LogMap) → AllByRecursion (Agree a) logs → PairsAgree logs → PairsAgree (logs ++ a ∷ [])
-put_last a [] all pairs = (tt, tt)
-put_last a (b ∷ logs) all pairs = (each_more b logs pairs.0 (flip a b all.0), put_last a logs all.1 pairs.1)
-  where
-    each_more : (c : LogMap) (rest : List LogMap) → AllByRecursion (Agree c) rest → Agree c a → AllByRecursion (Agree c) (rest ++ a ∷ [])
-    each_more c [] h one = (one, tt)
-    each_more c (d ∷ rest) h one = (h.0, each_more c rest h.1 one)
-
--- Logs that agree, of which some are joined, come to what all the logs come to.
-pub record ArePaired (rest logs : List LogMap) : Type 0 where
-  pub agree : PairsAgree rest
-  pub is : union_all rest ≡ union_all logs
-
-pub none_paired : (logs : List LogMap) → PairsAgree logs → ArePaired logs logs
-none_paired logs agree = record { agree = agree; is = refl }
-
--- the first two of them agree
-pub first_two : (a b : LogMap) (rest logs : List LogMap) → ArePaired (a ∷ b ∷ rest) logs → Agree a b
-first_two a b rest logs h = h.agree.0.0
-
--- joined, they go behind the others
-pub two_paired : (a b both : LogMap) (rest logs : List LogMap) → both ≡ union a b → ArePaired (a ∷ b ∷ rest) logs → ArePaired (rest ++ both ∷ []) logs
-two_paired a b both rest logs is h =
-    let pairs = h.agree in
-    let each = each_both a b rest pairs.0.1 pairs.1.0 in
-    subst (λ (m : LogMap). ArePaired (rest ++ m ∷ []) logs) (sym is)
-    (record {
-      agree = put_last (union a b) rest each pairs.1.1;
-      is = last_apart rest (union a b)
-          ∙ union_is_union.commutative (union_all rest) (union a b) (flip (union a b) (union_all rest) (with_all (union a b) rest each))
-          ∙ union_is_union.associative a b (union_all rest)
-          ∙ ap (union a) (sym (first_apart b rest))
-          ∙ sym (first_apart a (b ∷ rest))
-          ∙ h.is;
-    })
-
--- one that is left is the union of all
-pub one_left : (a : LogMap) (logs : List LogMap) → ArePaired (a ∷ []) logs → a ≡ union_all logs
-one_left a logs h = sym (none_first a) ∙ h.is
-
-pub none_left : (logs : List LogMap) → ArePaired [] logs → fin.empty ≡ union_all logs
-none_left logs h = h.is

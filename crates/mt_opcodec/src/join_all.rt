@@ -41,23 +41,25 @@ fn join_agreeing<A: Allocator + Clone>(first: Log<A>, second: Log<A>) -> Result<
     }
 }
 
-// The union of logs that agree, joined in pairs, and these in pairs again: each operation is walked once for each doubling of the
-// number of logs.
-fn join_in_pairs<A: Allocator + Clone>(alloc: A, logs: Vec<Log<A>, A>) -> Result<Log<A>, LogFault>
+// The union of logs that agree: those of one half are joined, then those of the other, and then both, so that each operation is
+// walked once for each doubling of the number of logs, and what was joined last is joined next.
+fn join_halves<A: Allocator + Clone>(alloc: A, logs: Vec<Log<A>, A>) -> Result<Log<A>, LogFault>
     requires agree { PairsAgree logs.items }
     ensures ok { IfOk result (λ all. all ≡ union_all logs.items) }
     ensures err { IfErr result (λ fault. fault ≡ LogFault.Memory) }
 {
-    let mut rest = VecDeque::from(logs);
-    loop {
-        let Some(first) = rest.pop_front() else {
-            return Ok(Log::new(alloc));
+    let mut first = logs;
+    if first.len() <= 1 {
+        return match first.pop() {
+            Some(log) => Ok(log),
+            None => Ok(Log::new(alloc)),
         };
-        let Some(second) = rest.pop_front() else {
-            return Ok(first);
-        };
-        rest.push_back(join_agreeing(first, second)?)?;
     }
+    let half = first.len() / 2;
+    let second = first.split_off(half)?;
+    let left = join_halves(alloc.clone()?, first)?;
+    let right = join_halves(alloc, second)?;
+    join_agreeing(left, right)
 }
 
 impl<A: Allocator + Clone> Log<A> {
@@ -66,7 +68,7 @@ impl<A: Allocator + Clone> Log<A> {
     /// `Memory` (0) where a growth was refused; all are then dropped.
     ///
     /// Four logs or fewer are joined one after another. Of more it is first seen whether they agree, which takes memory
-    /// for two references to each operation, and then they are joined in pairs: n operations in k logs cost n log k looks and
+    /// for two references to each operation, and then they are joined by halves: n operations in k logs cost n log k looks and
     /// as many moves, and n log n looks in a map of references more where they do not agree.
     pub fn join_all(alloc: A, logs: Vec<Log<A>, A>) -> Result<Log<A>, LogFault>
         ensures ok { IfOk result (λ all. AllAgree logs.items × (all ≡ union_all logs.items)) }
@@ -77,7 +79,7 @@ impl<A: Allocator + Clone> Log<A> {
         }
         match first_clash(alloc.clone()?, &logs)? {
             Some(dot) => Err(LogFault::Conflict(dot)),
-            None => Ok(join_in_pairs(alloc, logs)?),
+            None => Ok(join_halves(alloc, logs)?),
         }
     }
 }

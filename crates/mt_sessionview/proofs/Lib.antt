@@ -12,6 +12,7 @@ pub mod Shown
 pub mod SameSession
 pub mod Reading
 pub mod InOrder
+pub mod ItemCells
 pub mod Refs
 pub mod Passing
 pub mod PlacedOps

@@ -1,17 +1,17 @@
 //! Clips.
 
-ghost use Rattle.std.specs.Prelude.{◌≡◌, ◌++◌, [], ◌∷◌, unwrap_or, option_map, if◌then◌else◌, IfOk, IfErr, OnOk};
+ghost use Rattle.std.specs.Prelude.{◌≡◌, ◌≤◌, ◌++◌, List as ListOf, [], ◌∷◌, unwrap_or, option_map, if◌then◌else◌, IfOk, IfErr, OnOk};
 ghost use Rattle.std.specs.BTreeMap.{get};
 ghost use Rattle.std.specs.List.Sorted.{IsPermutation, IsSorted};
 ghost use Rattle.mt_stamp.specs.Moment.{Moment, stamp_cmp, stamp_eq};
+ghost use Rattle.mt_op.specs.Operation.{Operation};
+ghost use Rattle.mt_items.specs.Cells.{HoldsClip};
 ghost use Rattle.mt_sessionview.specs.Content.{clip_cmp};
 ghost use Rattle.mt_sessionview.specs.Read.{clip_read, AreTheClips};
 
 use crate::fault::SessionFault;
-use crate::read::value_or;
 use crate::session::ClipView;
-use mt_items::Items;
-use mt_op::Gain;
+use mt_items::{ClipCells, Items};
 use mt_stamp::{List, Stamp};
 use std::alloc::Allocator;
 use std::collections::BTreeMap;
@@ -23,35 +23,27 @@ struct OnTrack {
     clip: ClipView,
 }
 
-// The clip of a stamp with its track, where it is present.
-fn clip_at<A: Allocator>(items: &Items<A>, clip: Stamp) -> Option<OnTrack>
-    ensures { result ≡ clip_read items.now clip }
+// A clip with its track, from its cells, where it is present.
+fn clip_at<A: Allocator>(clip: Stamp, cells: &ClipCells<A>) -> Option<OnTrack>
+    requires positive { 1 ≤ cells.now.trim.value.len }
+    ensures { (ops : ListOf Operation) → HoldsClip clip ops cells.now → result ≡ clip_read ops clip }
 {
-    if !items.is_present(clip) {
+    if !cells.presence.is_present() {
         return None;
     }
-    let Some(place) = items.clip_place(clip) else {
-        return None;
-    };
-    let Some(trim) = items.trim(clip) else {
-        return None;
-    };
-    let Some(source) = items.source(clip) else {
-        return None;
-    };
-    let put = *place.get();
-    let range = *trim.get();
+    let put = *cells.place.get();
+    let range = *cells.trim.get();
     Some(OnTrack {
         track: put.track,
         clip: ClipView {
             clip,
-            place: place.stamp(),
+            place: cells.place.stamp(),
             at: put.at,
             offset: range.offset,
             len: range.len,
-            gain: value_or(items.gain(clip), Gain::UNCHANGED),
-            mute: value_or(items.mute(clip), false),
-            source,
+            gain: *cells.gain.get(),
+            mute: *cells.mute.get(),
+            source: cells.source,
         },
     })
 }
@@ -94,8 +86,8 @@ pub(crate) fn clips_by_track<A: Allocator + Clone>(
     ensures err { IfErr result (λ fault. fault ≡ SessionFault.Memory) }
 {
     let mut table = BTreeMap::new(alloc.clone()?);
-    for clip in &items.clips()? {
-        if let Some(found) = clip_at(items, *clip) {
+    for (clip, cells) in items.clip_cells() {
+        if let Some(found) = clip_at(*clip, cells) {
             note_clip(alloc, &mut table, found)?;
         }
     }

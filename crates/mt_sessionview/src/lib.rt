@@ -13,7 +13,6 @@ pub mod laws;
 mod marker;
 mod placed;
 mod places;
-mod read;
 mod readiness;
 mod ready;
 mod scratch;

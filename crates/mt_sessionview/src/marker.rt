@@ -1,40 +1,37 @@
 //! Markers.
 
-ghost use Rattle.std.specs.Prelude.{◌≡◌, IfOk, IfErr, OnOk};
+ghost use Rattle.std.specs.Prelude.{◌≡◌, List, IfOk, IfErr, OnOk};
 ghost use Rattle.std.specs.List.{filter_map};
 ghost use Rattle.std.specs.List.Sorted.{IsPermutation, IsSorted};
 ghost use Rattle.mt_op.specs.declared.need.Role.TheVariants.{Marker};
-ghost use Rattle.mt_items.specs.Cells.{items_of};
+ghost use Rattle.mt_op.specs.Operation.{Operation};
+ghost use Rattle.mt_items.specs.Cells.{HoldsMarker, items_of};
 ghost use Rattle.mt_sessionview.specs.Content.{marker_cmp};
 ghost use Rattle.mt_sessionview.specs.Read.{marker_read};
 
 use crate::fault::SessionFault;
-use crate::read::value_or;
 use crate::session::MarkerView;
-use mt_items::Items;
+use mt_items::{Items, MarkerCells};
 use mt_stamp::Stamp;
 use std::alloc::Allocator;
 
-// The marker of a stamp, where it is present.
+// A marker, from its cells, where it is present.
 fn marker_at<A: Allocator + Clone>(
-    items: &Items<A>,
     marker: Stamp,
+    cells: &MarkerCells<A>,
 ) -> Result<Option<MarkerView<A>>, SessionFault>
-    ensures ok { IfOk result (λ view. view ≡ marker_read items.now marker) }
+    ensures ok { IfOk result (λ view. (ops : List Operation) → HoldsMarker marker ops cells.now → view ≡ marker_read ops marker) }
     ensures err { IfErr result (λ fault. fault ≡ SessionFault.Memory) }
 {
-    if !items.is_present(marker) {
+    if !cells.presence.is_present() {
         return Ok(None);
     }
-    let Some(title) = items.title(marker) else {
-        return Ok(None);
-    };
-    let Ok(title) = title.get().try_clone() else {
+    let Ok(title) = cells.title.get().try_clone() else {
         return Err(SessionFault::Memory);
     };
     Ok(Some(MarkerView {
         marker,
-        at: value_or(items.position(marker), 0),
+        at: *cells.position.get(),
         title,
     }))
 }
@@ -48,8 +45,8 @@ pub(crate) fn markers<A: Allocator + Clone>(
     ensures err { IfErr result (λ fault. fault ≡ SessionFault.Memory) }
 {
     let mut markers = Vec::new(alloc);
-    for marker in &items.markers()? {
-        if let Some(view) = marker_at(items, *marker)? {
+    for (marker, cells) in items.marker_cells() {
+        if let Some(view) = marker_at(*marker, cells)? {
             markers.push(view)?;
         }
     }

@@ -1,21 +1,29 @@
 //! Tracks.
 
-ghost use Rattle.std.specs.Prelude.{◌≡◌, map, IfOk, IfErr};
+ghost use Rattle.std.specs.Prelude.{◌≡◌, List as ListOf, Some, None, map, IfOk, IfErr, IfSome, IfNone};
 ghost use Rattle.std.specs.List.{filter_map};
+ghost use Rattle.mt_op.specs.Operation.{Operation};
 ghost use Rattle.mt_op.specs.Writes.{title_written, last_write};
+ghost use Rattle.mt_items.specs.Cells.{HoldsTrack};
 ghost use Rattle.mt_items.specs.Noting.{AreNoted};
 ghost use Rattle.mt_sessionview.specs.Content.{AreClips};
 ghost use Rattle.mt_sessionview.specs.Read.{placed_track, stands_at, standing, track_from, AreTheClips, track_read};
 
 use crate::clip::sorted_clips;
 use crate::fault::SessionFault;
-use crate::read::value_or;
 use crate::session::{ClipView, TrackView};
-use mt_items::Items;
-use mt_op::{Body, Gain, Op};
+use mt_items::{Items, TrackCells};
+use mt_op::{Body, Op};
 use mt_stamp::{List, Stamp};
 use std::alloc::Allocator;
 use std::collections::BTreeMap;
+
+// A track, and its cells.
+#[derive(Drop)]
+struct TrackHere<'a, A: Allocator> {
+    track: Stamp,
+    cells: &'a TrackCells<A>,
+}
 
 // The track to which an operation gives a place.
 fn placed_track<A: Allocator>(op: &Op<A>) -> Option<Stamp>
@@ -28,49 +36,47 @@ fn placed_track<A: Allocator>(op: &Op<A>) -> Option<Stamp>
     }
 }
 
-// Whether a present track stands at a place.
-fn stands_at<A: Allocator>(items: &Items<A>, track: Stamp, place: Stamp) -> bool
-    ensures { result ≡ stands_at items.now track place }
-{
-    match items.current_place(track) {
-        Some(current) => current == place && items.is_present(track),
-        None => false,
-    }
-}
-
-// The present track that stands where an operation put it.
-fn standing<A: Allocator>(items: &Items<A>, op: &Op<A>) -> Option<Stamp>
-    ensures { result ≡ standing items.now op.now }
-{
-    match placed_track(op) {
-        Some(track) if stands_at(items, track, op.stamp()) => Some(track),
-        _ => None,
-    }
-}
-
-// A track with these clips.
-fn track_with<A: Allocator + Clone>(
-    items: &Items<A>,
+// A track with these clips, from its cells.
+fn track_from<A: Allocator + Clone>(
     track: Stamp,
+    cells: &TrackCells<A>,
     clips: Vec<ClipView, A>,
-) -> Result<Option<TrackView<A>>, SessionFault>
+) -> Result<TrackView<A>, SessionFault>
     requires clips { AreClips clips.items }
-    ensures ok { IfOk result (λ view. view ≡ track_from items.now track clips.items (last_write title_written track items.now)) }
+    ensures ok { IfOk result (λ view. (ops : ListOf Operation) → HoldsTrack track ops cells.now → Some view ≡ track_from ops track clips.items (last_write title_written track ops)) }
     ensures err { IfErr result (λ fault. fault ≡ SessionFault.Memory) }
 {
-    let Some(title) = items.title(track) else {
-        return Ok(None);
-    };
-    let Ok(title) = title.get().try_clone() else {
+    let Ok(title) = cells.title.get().try_clone() else {
         return Err(SessionFault::Memory);
     };
-    Ok(Some(TrackView {
+    Ok(TrackView {
         track,
         title,
-        gain: value_or(items.gain(track), Gain::UNCHANGED),
-        mute: value_or(items.mute(track), false),
+        gain: *cells.gain.get(),
+        mute: *cells.mute.get(),
         clips: List::new(clips),
-    }))
+    })
+}
+
+// Whether a track is present and stands at a place, from its cells.
+fn stands_at<A: Allocator>(track: Stamp, cells: &TrackCells<A>, place: Stamp) -> bool
+    ensures { (ops : ListOf Operation) → HoldsTrack track ops cells.now → result ≡ stands_at ops track place }
+{
+    cells.place.stamp() == place && cells.presence.is_present()
+}
+
+// The present track that stands where an operation put it, with its cells.
+fn standing<'a, A: Allocator>(items: &'a Items<A>, op: &Op<A>) -> Option<TrackHere<'a, A>>
+    requires noted { AreNoted items.now }
+    ensures none { IfNone result (standing items.now op.now ≡ None) }
+    ensures some { IfSome result (λ s. standing items.now op.now ≡ Some s.track × HoldsTrack s.track items.now s.cells.now) }
+{
+    let track = placed_track(op)?;
+    let cells = items.track_cells(track)?;
+    if !stands_at(track, cells, op.stamp()) {
+        return None;
+    }
+    Some(TrackHere { track, cells })
 }
 
 // The present track that stands where an operation put it, with its clips.
@@ -85,11 +91,11 @@ fn track_at<A: Allocator + Clone>(
     ensures ok { IfOk result (λ view. view ≡ track_read items.now op.now) }
     ensures err { IfErr result (λ fault. fault ≡ SessionFault.Memory) }
 {
-    let Some(track) = standing(items, op) else {
+    let Some(here) = standing(items, op) else {
         return Ok(None);
     };
-    let sorted = sorted_clips(alloc, clips.get(&track))?;
-    track_with(items, track, sorted)
+    let sorted = sorted_clips(alloc, clips.get(&here.track))?;
+    Ok(Some(track_from(here.track, here.cells, sorted)?))
 }
 
 // The present tracks with their clips, in the order of the operations that put them where they stand.
