@@ -335,9 +335,32 @@ module _ {T R : Type 0} (key : T → Moment) (needs : T → List (Moment × R)) 
                   ∙ sym (ap (λ (b : Bool). cond b (left key needs fits ((released ++ t ∷ []) ++ u ∷ []) waiting) (u ∷ left key needs fits (released ++ t ∷ []) waiting)) unmet);
             }
 
+  held_unmet : (kept : Kept T) → IsHoldBack key needs fits kept → NoneIsMet key needs fits kept.released kept.waiting
+  held_unmet kept is =
+      none_met (offered key needs fits kept) is.older kept.released kept.released kept.waiting refl (filter_whole (is_ready key needs fits (offered key needs fits kept)) kept.released is.ready)
+      (all_rest (λ u. NamesOlder (key u) (needs u)) kept.released kept.waiting is.older) (clocks_rise kept.waiting is.rise) is.held
+
   pub met_goes_first : (kept : Kept T) (t : T) → IsHoldBack key needs fits kept → is_met_by key needs fits kept.released t ≡ true → Takes key needs fits kept.released t (queued key needs fits t kept.waiting) kept.waiting
-  met_goes_first kept t is met =
-      let older : AllNameOlder key needs fits kept.waiting = all_rest (λ u. NamesOlder (key u) (needs u)) kept.released kept.waiting is.older in
-      goes_first kept.released t met kept.waiting
-      (none_met (offered key needs fits kept) is.older kept.released kept.released kept.waiting refl (filter_whole (is_ready key needs fits (offered key needs fits kept)) kept.released is.ready) older (clocks_rise kept.waiting is.rise) is.held)
-      older
+  met_goes_first kept t is met = goes_first kept.released t met kept.waiting (held_unmet kept is) (all_rest (λ u. NamesOlder (key u) (needs u)) kept.released kept.waiting is.older)
+
+  -- an item of a greater key than those that wait is released where its needs are met, and alone
+
+  queued_last : (t : T) (waiting : List T) → AllByRecursion (λ u. stamp_cmp (key u) (key t) ≡ Less) waiting → queued key needs fits t waiting ≡ waiting ++ t ∷ []
+  queued_last t [] below = refl
+  queued_last t (u ∷ waiting) below =
+      queued_is t u waiting ∙ ap (λ (o : Ordering). cond (is_lt o) (u ∷ queued key needs fits t waiting) (t ∷ u ∷ waiting)) below.0 ∙ ap (λ (us : List T). u ∷ us) (queued_last t waiting below.1)
+
+  taken_last : (released waiting : List T) (t : T) → NoneIsMet key needs fits released waiting → passed key needs fits released (waiting ++ t ∷ []) ≡ cond (is_met_by key needs fits released t) (released ++ t ∷ []) released
+  taken_last released [] t none = refl
+  taken_last released (u ∷ waiting) t none = ap (λ (b : Bool). passed key needs fits (cond b (released ++ u ∷ []) released) (waiting ++ t ∷ [])) none.0 ∙ taken_last released waiting t none.1
+
+  pub last_released : (kept : Kept T) (t : T) → IsHoldBack key needs fits kept → knows key needs fits kept (key t) ≡ false → NamesOlder (key t) (needs t) → AllByRecursion (λ u. stamp_cmp (key u) (key t) ≡ Less) kept.waiting
+      → (kept_with key needs fits kept t).released ≡ cond (is_met_by key needs fits kept.released t) (kept.released ++ t ∷ []) kept.released
+  last_released kept t is fresh names_older below =
+      sym (ap (λ (k : Kept T). k.released) (a_pass_keeps kept t is fresh names_older))
+      ∙ ap (passed key needs fits kept.released) (queued_last t kept.waiting below)
+      ∙ taken_last kept.released kept.waiting t (held_unmet kept is)
+
+  -- what holds of those that wait and of one more holds of those that wait then
+  pub all_waiting : (P : T → Type 0) (kept : Kept T) (t : T) → P t → AllByRecursion P kept.waiting → AllByRecursion P (kept_with key needs fits kept t).waiting
+  all_waiting P kept t new all = all_kept P (λ u. not (is_ready key needs fits (offered_with key needs fits kept t) u)) (queued key needs fits t kept.waiting) (all_queued P t kept.waiting new all)

@@ -1,7 +1,8 @@
 //! The hold-back.
 
-ghost use Rattle.std.specs.Prelude.{◌≡◌, true, false, cond, ltb, length, IfOk, OnOk, OnErr, IsErrOf, ◌↔◌};
+ghost use Rattle.std.specs.Prelude.{◌≡◌, IsTrue, true, false, cond, ltb, length, IfOk, OnOk, OnErr, IsErrOf, ◌↔◌};
 ghost use Rattle.mt_stamp.specs.Moment.{Moment};
+ghost use Rattle.mt_holdback.specs.Laws.{is_met_by};
 ghost use Rattle.mt_holdback.specs.HoldBack.{KeysRise, knows, kept_with, newly_ready, IsHoldBack};
 ghost use Rattle.mt_holdback.specs.declared.hold_back.Offered.TheVariants.{Held, Ready};
 
@@ -104,12 +105,45 @@ impl<T: Waits + Drop, A: Allocator> HoldBack<T, A> {
         ensures unchanged { IsErrOf result HoldBackFault.Failed → self.new ≡ self.old }
         ensures emptied { IsErrOf result HoldBackFault.Memory → self.new ≡ record { kept = empty; failed = true } }
     {
+        self.take(item, false)
+    }
+
+    /// Offers an item as `offer` does, of which it is known that each need is met by one that was released: it is ready, and none of
+    /// its needs is looked for.
+    pub fn offer_met(&mut self, item: T) -> Result<Offered, HoldBackFault>
+    where
+        A: Clone,
+        requires unknown { knows T.key_of T.needs_of T.fits_role self.old.kept (T.key_of item) ≡ false }
+        requires met { is_met_by T.key_of T.needs_of T.fits_role self.old.kept.released item ≡ true }
+        ensures answered { IfOk result (λ offered. offered ≡ answer T.key_of T.needs_of T.fits_role self.old.kept item) }
+        ensures kept { OnOk result (self.new ≡ record { kept = kept_with T.key_of T.needs_of T.fits_role self.old.kept item; failed = false }) }
+        ensures rising { OnOk result (KeysRise T.key_of T.needs_of T.fits_role (newly_ready T.key_of T.needs_of T.fits_role self.old.kept item)) }
+        ensures failed { IsErrOf result HoldBackFault.Failed ↔ (self.old.failed ≡ true) }
+        ensures unchanged { IsErrOf result HoldBackFault.Failed → self.new ≡ self.old }
+        ensures emptied { IsErrOf result HoldBackFault.Memory → self.new ≡ record { kept = empty; failed = true } }
+    {
+        self.take(item, true)
+    }
+
+    // Takes an item that is offered, of which it may be known that its needs are met.
+    fn take(&mut self, item: T, is_met: bool) -> Result<Offered, HoldBackFault>
+    where
+        A: Clone,
+        requires unknown { knows T.key_of T.needs_of T.fits_role self.old.kept (T.key_of item) ≡ false }
+        requires told { IsTrue is_met → is_met_by T.key_of T.needs_of T.fits_role self.old.kept.released item ≡ true }
+        ensures answered { IfOk result (λ offered. offered ≡ answer T.key_of T.needs_of T.fits_role self.old.kept item) }
+        ensures kept { OnOk result (self.new ≡ record { kept = kept_with T.key_of T.needs_of T.fits_role self.old.kept item; failed = false }) }
+        ensures rising { OnOk result (KeysRise T.key_of T.needs_of T.fits_role (newly_ready T.key_of T.needs_of T.fits_role self.old.kept item)) }
+        ensures failed { IsErrOf result HoldBackFault.Failed ↔ (self.old.failed ≡ true) }
+        ensures unchanged { IsErrOf result HoldBackFault.Failed → self.new ≡ self.old }
+        ensures emptied { IsErrOf result HoldBackFault.Memory → self.new ≡ record { kept = empty; failed = true } }
+    {
         if self.failed {
             return Err(HoldBackFault::Failed);
         }
         let first = self.released.len();
         let waiting = self.waiting.take();
-        match take_in(&mut self.released, waiting, item) {
+        match take_in(&mut self.released, waiting, item, is_met) {
             Ok(still) => {
                 self.waiting = Some(still);
                 Ok(told(first, self.released.len()))

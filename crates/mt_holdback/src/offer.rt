@@ -1,19 +1,20 @@
 //! One item more.
 
-ghost use Rattle.std.specs.Prelude.{◌≡◌, false, [], ltb, length, IfOk, OnOk, MatchOption};
+ghost use Rattle.std.specs.Prelude.{◌≡◌, true, false, [], IsTrue, ltb, length, IfOk, OnOk, MatchOption};
 ghost use Rattle.std.specs.BTreeMap.{get};
 ghost use Rattle.std.specs.BTreeSet.{contains};
 ghost use Rattle.mt_stamp.specs.Moment.{stamp_cmp};
 ghost use Rattle.mt_holdback.specs.Waiting.{NamesOlder, is_ready};
-ghost use Rattle.mt_holdback.specs.Laws.{passed};
+ghost use Rattle.mt_holdback.specs.Laws.{is_met_by, passed};
 ghost use Rattle.mt_holdback.specs.Passing.{left};
 ghost use Rattle.mt_holdback.specs.HoldBack.{KeysRise, knows, queued, newly_ready, kept_with, offered_with, IsHoldBack};
 ghost use Rattle.mt_holdback.specs.State.{items_in};
-ghost use Rattle.mt_holdback.specs.Queue.{items_of, listed, MetTo, LacksAt, Works};
+ghost use Rattle.mt_holdback.specs.Queue.{items_of, listed, Finds, MetTo, LacksAt, Works};
 
 use crate::fault::HoldBackFault;
 use crate::queue::{Lack, Queue, Waiter, first_lack, put_under, release, settle};
 use crate::waits::Waits;
+use mt_stamp::Stamp;
 use std::alloc::Allocator;
 use std::collections::{BTreeMap, BTreeSet};
 
@@ -59,6 +60,23 @@ fn hold<T: Waits + Drop, A: Allocator + Clone>(
     Ok(())
 }
 
+// The first need of an item that is not met, looked for where it is not known that all are.
+fn lack_of<T: Waits, A: Allocator>(
+    released: &[T],
+    places: &BTreeMap<Stamp, usize, A>,
+    item: &T,
+    is_met: bool,
+) -> Option<Lack>
+    requires finds { Finds T.key_of T.needs_of T.fits_role released.now (get stamp_cmp places.now) }
+    requires told { IsTrue is_met → is_met_by T.key_of T.needs_of T.fits_role released.now item.now ≡ true }
+    ensures { MatchOption result (is_met_by T.key_of T.needs_of T.fits_role released.now item.now ≡ true) (λ lack. MetTo T.key_of T.needs_of T.fits_role released.now item.now lack.place × LacksAt T.key_of T.needs_of T.fits_role released.now item.now lack.place lack.stamp) }
+{
+    if is_met {
+        return None;
+    }
+    first_lack(released, places, item, 0)
+}
+
 // Releases an item whose needs are met, and wakes what waited for it; holds another back. What a pass over those that wait takes
 // and leaves from then on is what it would have with the item among them.
 fn admit<T: Waits + Drop, A: Allocator + Clone>(
@@ -66,10 +84,12 @@ fn admit<T: Waits + Drop, A: Allocator + Clone>(
     released: &mut Vec<T, A>,
     queue: &mut Queue<T, A>,
     item: T,
+    is_met: bool,
 ) -> Result<(), HoldBackFault>
     requires rule { IsHoldBack T.key_of T.needs_of T.fits_role (record { released = released.old.items; waiting = items_of queue.old.items.entries }) }
     requires works { Works T.key_of T.needs_of T.fits_role released.old.items (get stamp_cmp queue.old.places) queue.old.items.entries (listed (λ v. v.items) (get stamp_cmp queue.old.lacking)) (contains stamp_cmp queue.old.woken) }
     requires unknown { knows T.key_of T.needs_of T.fits_role (record { released = released.old.items; waiting = items_of queue.old.items.entries }) (T.key_of item) ≡ false }
+    requires told { IsTrue is_met → is_met_by T.key_of T.needs_of T.fits_role released.old.items item ≡ true }
     ensures older { NamesOlder (T.key_of item) (T.needs_of item) }
     ensures works { OnOk result (Works T.key_of T.needs_of T.fits_role released.new.items (get stamp_cmp queue.new.places) queue.new.items.entries (listed (λ v. v.items) (get stamp_cmp queue.new.lacking)) (contains stamp_cmp queue.new.woken)) }
     ensures passes { OnOk result (passed T.key_of T.needs_of T.fits_role released.old.items (queued T.key_of T.needs_of T.fits_role item (items_of queue.old.items.entries)) ≡ passed T.key_of T.needs_of T.fits_role released.new.items (items_of queue.new.items.entries)) }
@@ -77,7 +97,7 @@ fn admit<T: Waits + Drop, A: Allocator + Clone>(
 {
     // brings that it names older ones
     let _ = item.key();
-    match first_lack(released, &queue.places, &item, 0) {
+    match lack_of(released, &queue.places, &item, is_met) {
         None => release(alloc, released, queue, item),
         Some(lack) => hold(alloc, released, queue, item, lack),
     }
@@ -88,10 +108,12 @@ pub(crate) fn take_in<T: Waits + Drop, A: Allocator + Clone>(
     released: &mut Vec<T, A>,
     waiting: Option<Queue<T, A>>,
     item: T,
+    is_met: bool,
 ) -> Result<Queue<T, A>, HoldBackFault>
     requires rule { IsHoldBack T.key_of T.needs_of T.fits_role (record { released = released.old.items; waiting = items_in (λ q. items_of q.items.entries) waiting }) }
     requires works { MatchOption waiting (released.old.items ≡ []) (λ q. Works T.key_of T.needs_of T.fits_role released.old.items (get stamp_cmp q.places) q.items.entries (listed (λ v. v.items) (get stamp_cmp q.lacking)) (contains stamp_cmp q.woken)) }
     requires unknown { knows T.key_of T.needs_of T.fits_role (record { released = released.old.items; waiting = items_in (λ q. items_of q.items.entries) waiting }) (T.key_of item) ≡ false }
+    requires told { IsTrue is_met → is_met_by T.key_of T.needs_of T.fits_role released.old.items item ≡ true }
     ensures kept { IfOk result (λ q. record { released = released.new.items; waiting = items_of q.items.entries } ≡ kept_with T.key_of T.needs_of T.fits_role (record { released = released.old.items; waiting = items_in (λ q. items_of q.items.entries) waiting }) item) }
     ensures rule { IfOk result (λ q. IsHoldBack T.key_of T.needs_of T.fits_role (record { released = released.new.items; waiting = items_of q.items.entries })) }
     ensures works { IfOk result (λ q. Works T.key_of T.needs_of T.fits_role released.new.items (get stamp_cmp q.places) q.items.entries (listed (λ v. v.items) (get stamp_cmp q.lacking)) (contains stamp_cmp q.woken)) }
@@ -100,7 +122,7 @@ pub(crate) fn take_in<T: Waits + Drop, A: Allocator + Clone>(
 {
     let alloc = released.allocator().clone()?;
     let mut queue = queue_of(&alloc, released, waiting)?;
-    admit(&alloc, released, &mut queue, item)?;
+    admit(&alloc, released, &mut queue, item, is_met)?;
     settle(&alloc, released, &mut queue)?;
     Ok(queue)
 }

@@ -31,7 +31,7 @@ use Rattle.mt_replica.proofs.OwnStamps.{count_own, count_append, none_noted}
 -- ---- one readiness
 
 -- a need, as what holds back sees it
-abbrev pair : Need → Moment × Role
+abbrev pub pair : Need → Moment × Role
 pair need = (need.stamp, need.role)
 
 abbrev pub as_waiting : List Operation → Operation → Bool

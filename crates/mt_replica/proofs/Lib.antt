@@ -10,5 +10,6 @@ pub mod HeldBack
 pub mod Keeping
 pub mod Taking
 pub mod NextOne
+pub mod FromLog
 pub mod ShownPlaces
 pub mod EqualEditors

@@ -39,7 +39,7 @@ count_noted s (x ∷ xs) there = by (stamp_eq s x.stamp) refl there (count_noted
 pub none_noted : (s : Moment) (xs : List Operation) → stamp_count s xs ≤ 0 → is_noted xs s ≡ false
 none_noted s xs none = not_true (is_noted xs s) (λ there. let some = count_noted s xs there in omega (arith, none, some))
 
-turned : (a b : Moment) → stamp_eq a b ≡ stamp_eq b a
+pub turned : (a b : Moment) → stamp_eq a b ≡ stamp_eq b a
 turned a b = by (stamp_eq a b) (stamp_eq b a) (λ e. ap (stamp_eq b) (stamp_eq-true a b e) ∙ stamp_eq-itself b) (λ e. ap (stamp_eq a) (stamp_eq-true b a e) ∙ stamp_eq-itself a)
   where
     by : (p q : Bool) → (p ≡ true → q ≡ true) → (q ≡ true → p ≡ true) → p ≡ q

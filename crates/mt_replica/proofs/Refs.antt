@@ -1,27 +1,15 @@
 -- The operations of a log, sorted by stamp.
-use Rattle.std.proofs.Common.{◌≡◌, ℕ, ◌≤◌, List, [], reverse, ap, ◌∙◌, cond, arith}
+use Rattle.std.proofs.Common.{◌≡◌, List, [], ap, ◌∙◌, cond, arith}
 use Rattle.std.specs.List.{sum_by}
-use Rattle.std.proofs.lemmas.List.Sorted.{IsPermutation-reverse, sum_by-IsPermutation}
 use Rattle.std.specs.Cmp.{on_total}
-use Rattle.mt_stamp.specs.Moment.{stamp_cmp, stamp_eq}
+use Rattle.mt_stamp.specs.Moment.{stamp_eq}
 use Rattle.mt_stamp.specs.Sorting.{sort_by}
 use Rattle.mt_stamp.proofs.Order.{stamp_cmp_total}
 use Rattle.mt_stamp.proofs.Sorting.{sorts}
 use Rattle.mt_op.specs.Operation.{Operation}
 use Rattle.mt_op.specs.ByStamp.{stamp_of, op_cmp}
-use Rattle.mt_op.specs.Needs.{needs, meets, clock_of}
-use Rattle.mt_sessionview.specs.Session.{ready_ops}
-use Rattle.mt_sessionview.proofs.SameReady.{ready_same}
 use Rattle.mt_holdback.specs.State.{State}
 use Rattle.mt_replica.specs.Holding.{stamp_count, HaveOwnStamps, AreOffered}
-
--- the ready ones, noted one after another, are the ready ones
-pub noted_same : (items sorted ops : List Operation) → sorted ≡ sort_by op_cmp ops → items ≡ reverse (ready_ops sorted) → (f : Operation → ℕ) → sum_by f items ≡ sum_by f (ready_ops ops)
-noted_same items sorted ops is noted f =
-    ap (sum_by f) noted
-    ∙ sum_by-IsPermutation f (ready_ops sorted) (reverse (ready_ops sorted)) (IsPermutation-reverse (ready_ops sorted))
-    ∙ ap (λ (l : List Operation). sum_by f (ready_ops l)) is
-    ∙ ready_same clock_of needs meets (sort_by op_cmp ops) ops (λ h. (sorts op_cmp (on_total stamp_of stamp_cmp_total)).same h ops) f
 
 -- sorted, their stamps are their own still
 pub sorted_own : (sorted ops : List Operation) → sorted ≡ sort_by op_cmp ops → HaveOwnStamps ops → HaveOwnStamps sorted

@@ -18,7 +18,7 @@ use Rattle.mt_stamp.specs.Sorting.{sort_by, Rises, RisesStrictly, DifferBy}
 use Rattle.mt_stamp.proofs.Order.{stamp_cmp_total, stamp_cmp-IsAntisymmetric}
 use Rattle.mt_stamp.proofs.Sorting.{sorts}
 use Rattle.mt_stamp.proofs.Differing.{differ_kept, differ_mapped}
-use Rattle.mt_stamp.proofs.Members.{IsMember, one_list, sort_strict, member_kept, member_of_kept, member_sorted, member_unsorted}
+use Rattle.mt_stamp.proofs.Members.{IsMember, one_list, sort_strict, member_sorted, member_unsorted}
 use Rattle.mt_stamp.proofs.SameItems.{SameItems, same_any, same_filter, all_map}
 use Rattle.mt_op.specs.Operation.{Operation}
 use Rattle.mt_op.specs.ByStamp.{stamp_of}

@@ -1,23 +1,74 @@
 //! What an editor keeps beside a log.
 
-ghost use Rattle.std.specs.Prelude.{◌≡◌, ℕ, [], IfOk, IfErr, List};
-ghost use Rattle.std.specs.List.{sum_by};
+ghost use Rattle.std.specs.Prelude.{◌≡◌, ℕ, [], map, false, IfOk, IfErr, OnOk};
+ghost use Rattle.std.specs.List.{AllByRecursion, sum_by};
+ghost use Rattle.std.specs.declared.cmp.Ordering.TheVariants.{Less};
+ghost use Rattle.mt_stamp.specs.Sorting.{RisesStrictly};
 ghost use Rattle.mt_op.specs.Operation.{Operation};
+ghost use Rattle.mt_op.specs.ByStamp.{op_cmp};
 ghost use Rattle.mt_opcodec.specs.LogValue.{operations};
-ghost use Rattle.mt_replica.specs.Holding.{AreOffered};
+ghost use Rattle.mt_replica.specs.Holding.{is_offered, with_offered, HaveOwnStamps, AreOffered};
 ghost use Rattle.mt_sessionview.specs.Session.{ready_ops};
 
 use crate::fault::EditorFault;
-use crate::holding::all_offered;
+use crate::holding::{copied, offer_met, offer_new};
+use crate::view::noted;
 use mt_holdback::HoldBack;
-use mt_items::{Items, items_of_ready};
+use mt_items::Items;
 use mt_op::Op;
 use mt_opcodec::Log;
 use mt_sessionview::sorted_ops;
 use std::alloc::Allocator;
 
-/// What holds the operations of a log back, and the items that the ready ones leave. n operations cost n log n. Refused as
-/// `Memory` (0) where a growth was refused.
+// Offers an operation of a greater stamp than those that wait, and notes it where its needs are met by what was released, which is
+// what was noted.
+fn take_next<A: Allocator + Clone>(
+    waiting: &mut HoldBack<Op<A>, A>,
+    items: Items<A>,
+    op: &Op<A>,
+) -> Result<Items<A>, EditorFault>
+    requires whole { waiting.old.failed ≡ false }
+    requires unknown { is_offered waiting.old.kept op.now.stamp ≡ false }
+    requires above { AllByRecursion (λ u. op_cmp u op.now ≡ Less) waiting.old.kept.waiting }
+    requires same { (f : Operation → ℕ) → sum_by f items ≡ sum_by f waiting.old.kept.released }
+    ensures kept { OnOk result (waiting.new ≡ record { kept = with_offered waiting.old.kept op.now; failed = false }) }
+    ensures same { IfOk result (λ after. (f : Operation → ℕ) → sum_by f after ≡ sum_by f waiting.new.kept.released) }
+    ensures err { IfErr result (λ fault. fault ≡ EditorFault.Memory) }
+{
+    // brings that what was released is what is ready, and that the operation names older ones
+    let (_released, _stamp) = (waiting.released(), op.stamp());
+    if items.are_needs_met(op) {
+        let items = noted(items, op)?;
+        offer_met(waiting, copied(op)?)?;
+        return Ok(items);
+    }
+    offer_new(waiting, copied(op)?)?;
+    Ok(items)
+}
+
+// What holds these operations back, which rise by stamp, and the items that the ready ones leave.
+fn all_taken<A: Allocator + Clone>(
+    alloc: &A,
+    ops: &[&Op<A>],
+) -> Result<(HoldBack<Op<A>, A>, Items<A>), EditorFault>
+    requires rising { RisesStrictly op_cmp (map (λ o. o.now) ops.now) }
+    requires own { HaveOwnStamps (map (λ o. o.now) ops.now) }
+    ensures offered { IfOk result (λ both. AreOffered both.0 [] (map (λ o. o.now) ops.now)) }
+    ensures noted { IfOk result (λ both. (f : Operation → ℕ) → sum_by f both.1 ≡ sum_by f both.0.kept.released) }
+    ensures err { IfErr result (λ fault. fault ≡ EditorFault.Memory) }
+{
+    let mut waiting = HoldBack::new(alloc.clone()?);
+    let Ok(mut items) = Items::new(alloc.clone()?) else {
+        return Err(EditorFault::Memory);
+    };
+    for op in ops {
+        items = take_next(&mut waiting, items, op)?;
+    }
+    Ok((waiting, items))
+}
+
+/// What holds the operations of a log back, and the items that the ready ones leave: each operation is offered, and noted where it
+/// is ready, by rising stamp. n operations cost n log n. Refused as `Memory` (0) where a growth was refused.
 pub(crate) fn beside_log<A: Allocator + Clone>(
     alloc: &A,
     log: &Log<A>,
@@ -28,9 +79,7 @@ pub(crate) fn beside_log<A: Allocator + Clone>(
 {
     let _ = log.runs();
     let sorted = sorted_ops(alloc.clone()?, log)?;
-    let waiting = all_offered(alloc.clone()?, &sorted)?;
-    match items_of_ready(alloc.clone()?, &sorted) {
-        Ok(items) => Ok((waiting, items)),
-        Err(_) => Err(EditorFault::Memory),
-    }
+    let (waiting, items) = all_taken(alloc, &sorted)?;
+    let _ = waiting.released();
+    Ok((waiting, items))
 }

@@ -1,10 +1,11 @@
 //! Operations are offered to what holds them back until they are ready.
 
-ghost use Rattle.std.specs.Prelude.{◌≡◌, ◌≤◌, [], map, drop, length, false, IfOk, IfErr, OnOk};
+ghost use Rattle.std.specs.Prelude.{◌≡◌, ◌≤◌, drop, length, true, false, IfOk, IfErr, OnOk};
 ghost use Rattle.mt_op.specs.Needs.{fits};
 ghost use Rattle.mt_holdback.specs.HoldBack.{IsHoldBack};
+ghost use Rattle.mt_holdback.specs.Laws.{is_met_by};
 ghost use Rattle.mt_holdback.specs.Ops.{op_key, op_needs};
-ghost use Rattle.mt_replica.specs.Holding.{is_offered, newly_released, with_offered, offer_gives, StampsRise, HaveOwnStamps, AreOffered};
+ghost use Rattle.mt_replica.specs.Holding.{is_offered, newly_released, with_offered, offer_gives, StampsRise};
 
 use crate::fault::EditorFault;
 use mt_holdback::{HoldBack, HoldBackFault, Offered};
@@ -41,20 +42,22 @@ pub(crate) fn offer_new<A: Allocator + Clone>(
     }
 }
 
-/// What holds operations back, to which these were offered.
-pub(crate) fn all_offered<A: Allocator + Clone>(
-    alloc: A,
-    ops: &[&Op<A>],
-) -> Result<HoldBack<Op<A>, A>, EditorFault>
-    requires own { HaveOwnStamps (map (λ o. o.now) ops.now) }
-    ensures ok { IfOk result (λ waiting. AreOffered waiting [] (map (λ o. o.now) ops.now)) }
+/// Offers an operation of a new stamp whose needs are met by what was released.
+pub(crate) fn offer_met<A: Allocator + Clone>(
+    waiting: &mut HoldBack<Op<A>, A>,
+    op: Op<A>,
+) -> Result<(), EditorFault>
+    requires whole { waiting.old.failed ≡ false }
+    requires unknown { is_offered waiting.old.kept op.stamp ≡ false }
+    requires met { is_met_by op_key op_needs fits waiting.old.kept.released op ≡ true }
+    ensures kept { OnOk result (waiting.new ≡ record { kept = with_offered waiting.old.kept op; failed = false }) }
     ensures err { IfErr result (λ fault. fault ≡ EditorFault.Memory) }
 {
-    let mut waiting = HoldBack::new(alloc);
-    for op in ops {
-        offer_new(&mut waiting, copied(op)?)?;
+    match waiting.offer_met(op) {
+        Ok(_) => Ok(()),
+        Err(HoldBackFault::Memory) => Err(EditorFault::Memory),
+        Err(HoldBackFault::Failed) => unreachable!(),
     }
-    Ok(waiting)
 }
 
 /// What was released from an index on.

@@ -125,8 +125,11 @@ impl<A: Allocator + Clone> View<A> {
     }
 }
 
-// The items with an operation noted.
-fn noted<A: Allocator + Clone>(items: Items<A>, op: &Op<A>) -> Result<Items<A>, EditorFault>
+/// The items with an operation noted.
+pub(crate) fn noted<A: Allocator + Clone>(
+    items: Items<A>,
+    op: &Op<A>,
+) -> Result<Items<A>, EditorFault>
     requires follows { MayFollow items op.now }
     ensures ok { IfOk result (λ after. after ≡ op.now ∷ items) }
     ensures err { IfErr result (λ fault. fault ≡ EditorFault.Memory) }

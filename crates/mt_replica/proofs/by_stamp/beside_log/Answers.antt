@@ -5,29 +5,31 @@ use Rattle.mt_op.specs.ByStamp.{op_cmp}
 use Rattle.mt_opcodec.specs.LogValue.{operations}
 use Rattle.mt_stamp.specs.Sorting.{sort_by, RisesStrictly}
 use Rattle.mt_sessionview.proofs.TrackSorting.{every_stamp}
-use Rattle.mt_replica.proofs.OwnStamps.{own_stamps}
 use Rattle.mt_sessionview.proofs.Refs.{rising_ops}
-use Rattle.mt_replica.proofs.Refs.{noted_same, sorted_own, sorted_offered}
+use Rattle.mt_replica.proofs.HeldBack.{released_same}
+use Rattle.mt_replica.proofs.OwnStamps.{own_stamps}
+use Rattle.mt_replica.proofs.Refs.{sorted_own, sorted_offered}
+use Rattle.mt_replica.proofs.Taking.{all_were_offered}
 use Rattle.mt_replica.proofs.by_stamp.beside_log.Goals as goal
 
-pub all_offered-requires : goal.all_offered-requires
-all_offered-requires g c =
+pub all_taken-requires-clause-rising : goal.all_taken-requires-clause-rising
+all_taken-requires-clause-rising g c =
     let now : List (Bor (Op g.row.A.Denot)) → List Operation = λ refs. map (λ (o : Bor (Op g.row.A.Denot)). o.now) refs in
     let is : now c.deref.result.now ≡ sort_by op_cmp (operations c.args.log.now) = ap now c.deref.ensures.value ∙ c.in_ok-sorted.ensures in
-    record { own = sorted_own (now c.deref.result.now) (operations c.args.log.now) is (own_stamps (operations c.args.log.now) (every_stamp (operations c.args.log.now) c.runs.ensures.logged.rise)) }
+    subst (RisesStrictly op_cmp) (sym is) (rising_ops (operations c.args.log.now) (every_stamp (operations c.args.log.now) c.runs.ensures.logged.rise))
 
-pub items_of_ready-requires : goal.items_of_ready-requires
-items_of_ready-requires g c =
+pub all_taken-requires-clause-own : goal.all_taken-requires-clause-own
+all_taken-requires-clause-own g c =
     let now : List (Bor (Op g.row.A.Denot)) → List Operation = λ refs. map (λ (o : Bor (Op g.row.A.Denot)). o.now) refs in
-    let is : now c.deref-2.result.now ≡ sort_by op_cmp (operations c.args.log.now) = ap now c.deref-2.ensures.value ∙ c.in_ok-sorted.ensures in
-    record { rising = subst (RisesStrictly op_cmp) (sym is) (rising_ops (operations c.args.log.now) (every_stamp (operations c.args.log.now) c.runs.ensures.logged.rise)) }
+    let is : now c.deref.result.now ≡ sort_by op_cmp (operations c.args.log.now) = ap now c.deref.ensures.value ∙ c.in_ok-sorted.ensures in
+    sorted_own (now c.deref.result.now) (operations c.args.log.now) is (own_stamps (operations c.args.log.now) (every_stamp (operations c.args.log.now) c.runs.ensures.logged.rise))
 
-pub returns-in-Ok-clause-offered : goal.returns-in-Ok-clause-offered
-returns-in-Ok-clause-offered g c =
+pub returns-clause-offered : goal.returns-clause-offered
+returns-clause-offered g c =
     let now : List (Bor (Op g.row.A.Denot)) → List Operation = λ refs. map (λ (o : Bor (Op g.row.A.Denot)). o.now) refs in
-    sorted_offered c.in_ok-waiting.waiting (now c.deref.result.now) (operations c.args.log.now) (ap now c.deref.ensures.value ∙ c.in_ok-sorted.ensures) c.in_ok-waiting.ensures.ok
+    sorted_offered c.in_ok-waiting.waiting (now c.deref.result.now) (operations c.args.log.now) (ap now c.deref.ensures.value ∙ c.in_ok-sorted.ensures) c.in_ok-waiting.ensures.offered
 
-pub returns-in-Ok-clause-noted : goal.returns-in-Ok-clause-noted
-returns-in-Ok-clause-noted g c =
-    let now : List (Bor (Op g.row.A.Denot)) → List Operation = λ refs. map (λ (o : Bor (Op g.row.A.Denot)). o.now) refs in
-    noted_same c.in-Ok.items (now c.deref-2.result.now) (operations c.args.log.now) (ap now c.deref-2.ensures.value ∙ c.in_ok-sorted.ensures) c.in-Ok.ensures.ok
+pub returns-clause-noted : goal.returns-clause-noted
+returns-clause-noted g c = λ f.
+    c.in_ok-waiting.ensures.noted f
+    ∙ released_same c.in_ok-waiting.waiting.kept (operations c.args.log.now) c.released.ensures.exact (all_were_offered c.in_ok-waiting.waiting (operations c.args.log.now) (returns-clause-offered g c)) f

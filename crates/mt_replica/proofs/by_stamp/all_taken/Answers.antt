@@ -1,0 +1,34 @@
+use Rattle.std.proofs.Common.{List, ◌+◌, map, drop, ap, subst, Bor}
+use Rattle.mt_op.specs.Operation.{Operation}
+use Rattle.mt_op.specs.declared.op.Op.{Op}
+use Rattle.mt_op.proofs.TagLists.{drop_here}
+use Rattle.mt_replica.proofs.FromLog.{IsTaking, none_taken, above_those, next_taken}
+use Rattle.mt_replica.proofs.Taking.{next_unknown}
+use Rattle.mt_replica.proofs.by_stamp.all_taken.Goals as goal
+
+pub loop-op-init : goal.loop-op-init
+loop-op-init g c = none_taken c.new-waiting.result c.in-Ok.items (map (λ (o : Bor (Op g.row.A.Denot)). o.now) c.args.ops.now) c.new-waiting.ensures c.in-Ok.ensures.ok c.requires.rising
+
+pub take_next-requires-clause-unknown : goal.take_next-requires-clause-unknown
+take_next-requires-clause-unknown g c =
+    let now : List (Bor (Op g.row.A.Denot)) → List Operation = λ refs. map (λ (o : Bor (Op g.row.A.Denot)). o.now) refs in
+    let ops = c.args.ops.now in
+    let here = ap now (drop_here ops c.loop-op.op-index c.op-item.result c.loop-op-test.true c.op-item.is) in
+    let so_far = subst (λ (l : List Operation). IsTaking c.loop-op.waiting c.loop-op.items l (now ops)) here c.loop-op.invariant in
+    next_unknown c.loop-op.waiting c.op-item.result.now (now (drop (c.loop-op.op-index + 1) ops)) (now ops) c.requires.own so_far.offered
+
+pub take_next-requires-clause-above : goal.take_next-requires-clause-above
+take_next-requires-clause-above g c =
+    let now : List (Bor (Op g.row.A.Denot)) → List Operation = λ refs. map (λ (o : Bor (Op g.row.A.Denot)). o.now) refs in
+    let ops = c.args.ops.now in
+    let here = ap now (drop_here ops c.loop-op.op-index c.op-item.result c.loop-op-test.true c.op-item.is) in
+    let so_far = subst (λ (l : List Operation). IsTaking c.loop-op.waiting c.loop-op.items l (now ops)) here c.loop-op.invariant in
+    above_those c.op-item.result.now (now (drop (c.loop-op.op-index + 1) ops)) c.loop-op.waiting.kept.waiting so_far.below
+
+pub loop-op-preserved : goal.loop-op-preserved
+loop-op-preserved g c =
+    let now : List (Bor (Op g.row.A.Denot)) → List Operation = λ refs. map (λ (o : Bor (Op g.row.A.Denot)). o.now) refs in
+    let ops = c.args.ops.now in
+    let here = ap now (drop_here ops c.loop-op.op-index c.op-item.result c.loop-op-test.true c.op-item.is) in
+    let so_far = subst (λ (l : List Operation). IsTaking c.loop-op.waiting c.loop-op.items l (now ops)) here c.loop-op.invariant in
+    next_taken c.loop-op.waiting c.take_next.new.waiting c.op-item.result.now c.loop-op.items c.in_ok-items.items (now (drop (c.loop-op.op-index + 1) ops)) (now ops) so_far c.in_ok-items.ensures.kept c.in_ok-items.ensures.same
