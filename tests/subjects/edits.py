@@ -112,6 +112,8 @@ fault("edit_of_a_damaged_log_by_a_missing_script", 45, ["edit", UUID[A], "log", 
 fault("edit_of_a_damaged_log", 13, ["edit", UUID[A], "log", "script", "out"], files={"log": ONE[:-1], "script": b"frob\n"})
 fault("edit_onto_a_part", 37, ["edit", UUID[A], "log", "script", "out"], files=dict(NEW, **{"out.part": b""}))
 fault("edit_into_no_folder", 37, ["edit", UUID[A], "log", "script", "no/out"], files=NEW)
+# what it made is told before OUT is given its name, so that a closed output makes no OUT
+fault("edit_onto_a_folder", 37, ["edit", UUID[A], "log", "script", "folder"], files=NEW, setup="mkdir folder", stdout="ops 1\n")
 fault("edit_to_a_full_disk", 37, ["edit", UUID[A], "log", "script", "out"], files=NEW, output="full")
 fault("edit_to_a_closed_output", 37, ["edit", UUID[A], "log", "script", "out"], files=NEW, output="closed")
 case(
