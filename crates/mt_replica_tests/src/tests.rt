@@ -1,6 +1,7 @@
 mod examples;
 mod joins;
 mod kept;
+mod refused_growth;
 
 use mt_op::{Body, Gain, Op, Title};
 use mt_opcodec::Log;

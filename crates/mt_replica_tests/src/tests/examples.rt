@@ -61,7 +61,7 @@ fn is_alike_with<M: Allocator + Clone>(
     is_alike(memory, editor)
 }
 
-// early_retitle, two_retitles and taken_again: a marker, three new titles of it, and the marker once more.
+// early_retitle, two_retitles and taken_again: a marker, two new titles of it, and the marker once more.
 fn retitles<M: Allocator + Clone>(memory: &M) -> Result<Vec<Op<M>, M>, EditorFault> {
     let item = stamp(1, A, 1)?;
     let (early, late) = (stamp(2, A, 2)?, stamp(2, B, 1)?);

@@ -9,7 +9,7 @@ use mt_testkit::A;
 use std::alloc::Allocator;
 use std::test::Fail;
 
-fn titled<M: Allocator>(memory: M, text: &str) -> Result<Title<M>, EditorFault> {
+pub(crate) fn titled<M: Allocator>(memory: M, text: &str) -> Result<Title<M>, EditorFault> {
     match Title::new(memory, text) {
         Ok(title) => Ok(title),
         Err(_) => Err(EditorFault::Memory),
@@ -17,7 +17,7 @@ fn titled<M: Allocator>(memory: M, text: &str) -> Result<Title<M>, EditorFault> 
 }
 
 // The stamp of the operation that the editor makes at a step, counted from 1.
-fn made_at(step: u64) -> Result<Stamp, EditorFault> {
+pub(crate) fn made_at(step: u64) -> Result<Stamp, EditorFault> {
     match Stamp::new(step, A, step) {
         Ok(stamp) => Ok(stamp),
         Err(_) => Err(EditorFault::Memory),
@@ -87,7 +87,10 @@ fn changing<M: Allocator + Clone>(memory: &M, step: u64) -> Result<Change<M>, Ed
     Ok(change)
 }
 
-fn change_at<M: Allocator + Clone>(memory: &M, step: u64) -> Result<Change<M>, EditorFault> {
+pub(crate) fn change_at<M: Allocator + Clone>(
+    memory: &M,
+    step: u64,
+) -> Result<Change<M>, EditorFault> {
     if step < 5 {
         return placing(memory, step);
     }
