@@ -4,7 +4,7 @@
 The edits are those of crates/CRATE/wrong-bodies, or of the folder named, in the form of must-fail edits. `rt must-fail` checks a crate
 once for each edit; here a round applies one edit to each of many functions, checks the crate once, and wants each edited function
 to be refused for itself: by a goal of its own that is left open, or by an answer of its proof that no longer holds. A function that is
-refused only since it calls one that is not proved does not count, and one that is refused only since its proof names what the edit
+refused only since it calls one that is not proved does not count: its edit is tried again in a check of its own. One that is refused only since its proof names what the edit
 took away (as a branch that is gone) is told, since that says little of the contract. An edit of what is no function's body is a round of
 its own, and names the function that has to be refused in a line `refused: NAME`. It works on copies of the crates, over what their checks
 keep in out/, which it makes first where it is not there."""
@@ -224,6 +224,12 @@ def try_crate(name, folder):
             return 1
         for one in tried:
             of_round, by_names = try_round(one, crate, name, kept)
+            # a function is not looked at where one that it calls is refused in the same round: such an edit is tried alone
+            for edit in [edit for edit in one if edit.name in of_round and len(one) > 1]:
+                alone, alone_by_names = try_round([edit], crate, name, kept)
+                if not alone:
+                    del of_round[edit.name]
+                by_names += alone_by_names
             wrong.update(of_round)
             weak += by_names
     for edit in sorted(wrong):
