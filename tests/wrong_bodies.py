@@ -4,10 +4,10 @@
 The edits are those of crates/CRATE/wrong-bodies, or of the folder named, in the form of must-fail edits. `rt must-fail` checks a crate
 once for each edit; here a round applies one edit to each of many functions, checks the crate once, and wants each edited function
 to be refused for itself: by a goal of its own that is left open, or by an answer of its proof that no longer holds. A function that is
-refused only since it calls one that is not proved does not count: its edit is tried again in a check of its own. One that is refused only since its proof names what the edit
-took away (as a branch that is gone) is told, since that says little of the contract. An edit of what is no function's body is a round of
-its own, and names the function that has to be refused in a line `refused: NAME`. It works on copies of the crates, over what their checks
-keep in out/, which it makes first where it is not there."""
+refused only since it calls one that is not proved does not count: its edit is tried again in a check of its own. One that is refused
+only since its proof names what the edit took away (as a branch that is gone) is told, since that says little of the contract. An edit
+of what is no function's body is a round of its own, and names the function that has to be refused in a line `refused: NAME`. It works
+on copies of the crates, over what their checks keep in out/, which it makes first where it is not there."""
 import argparse
 import concurrent.futures
 import glob

@@ -54,9 +54,6 @@ same_test a b = both_tied _ _ _ _ (unsigned_ties a.clock b.clock) (both_tied _ _
 pub is_same : (a b : Moment) → is_eq (stamp_cmp a b) ≡ true → a ≡ b
 is_same a b h = stamp_eq-true a b (same_test a b ∙ h)
 
-is_itself : (a : Moment) → is_eq (stamp_cmp a a) ≡ true
-is_itself a = sym (same_test a a) ∙ stamp_eq-itself a
-
 eq_turned : (a b : Moment) → stamp_eq a b ≡ stamp_eq b a
 eq_turned a b =
     same_answer (stamp_eq a b) (stamp_eq b a)

@@ -1,9 +1,9 @@
 -- Joining references to the operations of logs shows whether the logs agree.
-use Rattle.std.proofs.Common.{◌≡◌, ℕ, zero, suc, ◌≤◌, Bool, true≢false, List, [], ◌∷◌, ◌++◌, Option, Some, None, length, take, drop, map, refl, sym, ap, ◌∙◌, subst, arith}
+use Rattle.std.proofs.Common.{◌≡◌, ℕ, ◌≤◌, Bool, true≢false, List, [], ◌∷◌, ◌++◌, Option, Some, None, length, take, drop, map, refl, sym, ap, ◌∙◌, subst, arith}
 use Rattle.std.specs.Prelude.{slice_get, is_some, IfSome, IsTrue}
 use Rattle.std.specs.List.{AllByRecursion}
 use Rattle.std.proofs.lemmas.Option.{none-some, same_Some}
-use Rattle.std.proofs.lemmas.List.{length-append}
+use Rattle.std.proofs.lemmas.List.{length-append, take-append-drop}
 use Rattle.mt_op.specs.Operation.{Operation}
 use Rattle.mt_opcodec.specs.LogValue.{LogMap, log_of, AreLogged}
 use Rattle.mt_opcodec.specs.Laws.{PairsAgree}
@@ -61,12 +61,7 @@ halves_agree (x ∷ a) b h =
     each_of_second y (z ∷ c) d all = each_of_second y c d all.1
 
 pub halves_are : {X : Type 0} (n : ℕ) (xs first second : List X) → first ≡ take n xs → second ≡ drop n xs → first ++ second ≡ xs
-halves_are n xs first second is_first is_second = (λ i. is_first i ++ is_second i) ∙ take_drop n xs
-  where
-    take_drop : {Y : Type 0} (k : ℕ) (ys : List Y) → take k ys ++ drop k ys ≡ ys
-    take_drop zero ys = refl
-    take_drop (suc k) [] = refl
-    take_drop (suc k) (y ∷ ys) = ap (λ (l : List _). y ∷ l) (take_drop k ys)
+halves_are n xs first second is_first is_second = (λ i. is_first i ++ is_second i) ∙ take-append-drop n xs
 
 -- the last of one log is that log
 pub last_alone : (logs rest : List LogMap) (log : LogMap) → logs ≡ rest ++ log ∷ [] → length logs ≤ 1 → log ≡ union_all logs
