@@ -101,7 +101,7 @@ impl<A: Allocator + Clone> State<A> {
             name,
             log,
             waiting,
-            view: View::plain(items),
+            view: View::without_session(items),
             clock,
             seq,
         })

@@ -47,7 +47,7 @@ impl<A: Allocator> Model for View<A> {
 
 impl<A: Allocator> View<A> {
     /// The items alone.
-    pub(crate) fn plain(items: Items<A>) -> Self
+    pub(crate) fn without_session(items: Items<A>) -> Self
         ensures { result ≡ record { ops = items; held = None } }
     {
         View { items, shown: None }

@@ -75,16 +75,26 @@ fn changing<M: Allocator + Clone>(memory: &M, step: u64) -> Result<Change<M>, Ed
             item: second,
             gain: Gain::UNCHANGED,
         },
-        11 => Change::Retitle {
+        _ => Change::Retitle {
             item: first,
             title: titled(memory.clone()?, "Speech")?,
         },
-        _ => Change::AddMarker {
-            at: 480,
-            title: titled(memory.clone()?, "News")?,
-        },
     };
     Ok(change)
+}
+
+// The last changes: a marker, which then moves.
+fn marking<M: Allocator + Clone>(memory: &M, step: u64) -> Result<Change<M>, EditorFault> {
+    if step > 12 {
+        return Ok(Change::MoveMarker {
+            marker: made_at(12)?,
+            at: 48,
+        });
+    }
+    Ok(Change::AddMarker {
+        at: 480,
+        title: titled(memory.clone()?, "News")?,
+    })
 }
 
 pub(crate) fn change_at<M: Allocator + Clone>(
@@ -93,6 +103,9 @@ pub(crate) fn change_at<M: Allocator + Clone>(
 ) -> Result<Change<M>, EditorFault> {
     if step < 5 {
         return placing(memory, step);
+    }
+    if step > 11 {
+        return marking(memory, step);
     }
     changing(memory, step)
 }
@@ -138,6 +151,6 @@ fn alike_steps<M: Allocator + Clone>(memory: &M, steps: u64) -> Result<usize, Ed
 
 #[test]
 fn keeps_the_session_that_is_made_from_nothing(rt: HostRuntime) -> Result<(), Fail> {
-    assert_eq!(rt; alike_steps(&rt.alloc(), 12), Ok(12));
+    assert_eq!(rt; alike_steps(&rt.alloc(), 13), Ok(13));
     Ok(())
 }

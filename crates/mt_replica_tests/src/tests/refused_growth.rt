@@ -14,24 +14,21 @@ const STEPS: u64 = 15;
 // More growths than they take.
 const GROWTHS: u64 = 400;
 
-// The changes after the twelve steps: the marker moves, and a third track gets a clip.
+// The changes after the thirteen steps: a third track, and a clip on it.
 fn change_after<M: Allocator + Clone>(memory: &M, step: u64) -> Result<Change<M>, EditorFault> {
-    let (marker, track) = (made_at(12)?, made_at(14)?);
-    let change = match step {
-        13 => Change::MoveMarker { marker, at: 48 },
-        14 => Change::AddTrack {
-            after: None,
-            title: titled(memory.clone()?, "Jingles")?,
-        },
-        _ => Change::AddClip {
+    if step > 14 {
+        return Ok(Change::AddClip {
             source: Digest([8; 32]),
-            track,
+            track: made_at(14)?,
             at: 0,
             offset: 0,
             len: 96,
-        },
-    };
-    Ok(change)
+        });
+    }
+    Ok(Change::AddTrack {
+        after: None,
+        title: titled(memory.clone()?, "Jingles")?,
+    })
 }
 
 // The operation that an editor makes at a step.
@@ -40,7 +37,7 @@ fn op_at<M: Allocator + Clone>(
     editor: &mut Editor<M>,
     step: u64,
 ) -> Result<Op<M>, EditorFault> {
-    let change = if step > 12 {
+    let change = if step > 13 {
         change_after(memory, step)?
     } else {
         change_at(memory, step)?

@@ -7,7 +7,7 @@ use Rattle.mt_replica.proofs.Taking.{all_were_offered}
 use Rattle.mt_replica.proofs.state.State.of.Goals as goal
 
 pub invariant_of-result : goal.invariant_of-result
-invariant_of-result g c = rw c.plain.ensures (
+invariant_of-result g c = rw c.without_session.ensures (
   record {
     whole = c.in_ok-waiting.ensures.offered.whole;
     offered = all_were_offered c.in_ok-waiting.waiting (operations c.args.log) c.in_ok-waiting.ensures.offered;
