@@ -13,10 +13,11 @@ use std::io::Write;
 /// How many bytes wait at most.
 const WAITING: usize = 4096;
 
-/// A latch with a buffer before it.
+/// A latch with a buffer before it, for an output of many pieces.
 ///
-/// Bytes are handed over piece by piece, and no piece is answered for: the latch stays failed from its
-/// first failure on, so `flush` tells once, at the end, whether all of them came through.
+/// Pieces are handed over one after another, and no answer is asked for any of them: the latch stays
+/// failed from its first failure on, so `flush` tells once, at the end, whether all came through. What
+/// still waits when this is let go is lost.
 #[derive(Drop)]
 pub struct BufferedLatch<'a, W> {
     waiting: ArrayVec<u8, WAITING>,
@@ -43,17 +44,8 @@ impl<'a, W: Write> BufferedLatch<'a, W> {
         self.latch.failed()
     }
 
-    /// Writes what waits.
-    #[tactic(auto, unfolding(crate::specs::Buffered::Puts))]
-    fn write_waiting(&mut self)
-        ensures puts { Puts W.contents self.old self.new [] }
-        ensures empty { self.new.waiting.items ≡ [] }
-    {
-        let _ = self.latch.put(self.waiting.as_slice());
-        self.waiting.clear();
-    }
-
-    /// Hands bytes over.
+    /// Hands bytes over. They wait, or what waited is written and they wait then, or they are written
+    /// too: more than 4,096 bytes are not copied.
     #[tactic(auto, unfolding(crate::specs::Buffered::Puts))]
     pub fn put(&mut self, bytes: &[u8])
         ensures { Puts W.contents self.old self.new bytes.now }
@@ -61,7 +53,7 @@ impl<'a, W: Write> BufferedLatch<'a, W> {
         if self.waiting.try_extend_from_slice(bytes).is_ok() {
             return;
         }
-        self.write_waiting();
+        let _ = self.flush();
         if self.waiting.try_extend_from_slice(bytes).is_err() {
             let _ = self.latch.put(bytes);
         }
@@ -75,9 +67,11 @@ impl<'a, W: Write> BufferedLatch<'a, W> {
         self.put(digits.format(number).as_bytes());
     }
 
-    /// Writes what waits, and tells whether all bytes that were handed over came through.
+    /// Writes what waits, and tells whether all bytes that were handed over came through. Nothing waits
+    /// then.
     ///
-    /// `Write` (37) where the latch has failed.
+    /// `Write` (37) where the latch has failed, before or in this call. The writer has then taken a
+    /// prefix of all that was handed over.
     #[tactic(auto, unfolding(crate::specs::Buffered::Puts))]
     pub fn flush(&mut self) -> Result<(), LatchFault>
         ensures puts { Puts W.contents self.old self.new [] }
@@ -85,10 +79,8 @@ impl<'a, W: Write> BufferedLatch<'a, W> {
         ensures refusal { IfErr result (λ fault. fault ≡ WriteFault) }
         ensures refused_when_failed { self.new.latch.now.failed ≡ is_err result }
     {
-        self.write_waiting();
-        if self.failed() {
-            return Err(LatchFault::Write);
-        }
-        Ok(())
+        let written = self.latch.put(self.waiting.as_slice());
+        self.waiting.clear();
+        written
     }
 }

@@ -11,9 +11,9 @@ returns-then-is_err g c =
     let kept = refused_left c.try_extend_from_slice.result _ (sym c.is_ok.ensures.value ∙ c.if-is_ok.false) c.try_extend_from_slice.ensures.err in
     let still = ap (λ (v : ArrayVec ℕ). v.items) (left_refused c.try_extend_from_slice-2.result _ (sym c.is_err.ensures.value ∙ c.if-is_err.true) c.try_extend_from_slice-2.ensures.err) in
     puts_on contents _ _ _ _ _
-    (subst (λ (v : ArrayVec ℕ). Puts contents (record c.args.self.now { waiting = v }) c.write_waiting.new.self []) kept c.write_waiting.ensures.puts)
-    (puts_past contents c.write_waiting.new.self _ c.args.bytes.now c.put.result refl
-    c.write_waiting.ensures.empty (still ∙ c.write_waiting.ensures.empty) c.put.ensures.whole c.put.ensures.prefix c.put.ensures.refused_when_failed c.put.ensures.stays_failed c.put.ensures.no_read)
+    (subst (λ (v : ArrayVec ℕ). Puts contents (record c.args.self.now { waiting = v }) c.flush.new.self []) kept c.flush.ensures.puts)
+    (puts_past contents c.flush.new.self _ c.args.bytes.now c.put.result refl
+    c.flush.ensures.empty (still ∙ c.flush.ensures.empty) c.put.ensures.whole c.put.ensures.prefix c.put.ensures.refused_when_failed c.put.ensures.stays_failed c.put.ensures.no_read)
 
 pub returns-else-is_err : goal.returns-else-is_err
 unfolding Puts
@@ -22,5 +22,5 @@ returns-else-is_err g c =
     let kept = refused_left c.try_extend_from_slice.result _ (sym c.is_ok.ensures.value ∙ c.if-is_ok.false) c.try_extend_from_slice.ensures.err in
     let grown = taken_in c.try_extend_from_slice-2.result _ (sym c.is_err.ensures.value ∙ c.if-is_err.false) c.try_extend_from_slice-2.ensures.ok in
     puts_on contents _ _ _ _ _
-    (subst (λ (v : ArrayVec ℕ). Puts contents (record c.args.self.now { waiting = v }) c.write_waiting.new.self []) kept c.write_waiting.ensures.puts)
-    (puts_in contents c.write_waiting.new.self _ c.args.bytes.now refl grown)
+    (subst (λ (v : ArrayVec ℕ). Puts contents (record c.args.self.now { waiting = v }) c.flush.new.self []) kept c.flush.ensures.puts)
+    (puts_in contents c.flush.new.self _ c.args.bytes.now refl grown)
