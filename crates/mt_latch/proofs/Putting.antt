@@ -47,9 +47,9 @@ module _ {W : Type 0} (contents : W → Option (List ℕ)) where
         ∙ ap (λ (l : List ℕ). first.written ++ l) second.all ∙ sym (append_assoc first.written second.written n.waiting.items);
   }
 
-  -- one piece, and then another
-  pub puts_on : (o m n : BufferedLatch W) (x y : List ℕ) → Handed contents o m x → Handed contents m n y → Handed contents o n (x ++ y)
-  puts_on o m n x y first second = by m.latch.now.failed refl
+  -- one piece, and then another (in an answer that unfolds Puts)
+  pub then_handed : {o m n : BufferedLatch W} {x y : List ℕ} → Handed contents o m x → Handed contents m n y → Handed contents o n (x ++ y)
+  then_handed {o} {m} {n} {x} {y} first second = by m.latch.now.failed refl
     where
       same : m.latch.now.failed ≡ true → n.latch.now ≡ m.latch.now
       same failed = second.stays failed
@@ -73,8 +73,8 @@ module _ {W : Type 0} (contents : W → Option (List ℕ)) where
           }
 
   -- the buffer took them
-  pub puts_in : (o n : BufferedLatch W) (x : List ℕ) → n.latch ≡ o.latch → n.waiting.items ≡ o.waiting.items ++ x → Handed contents o n x
-  puts_in o n x same is = rw same record {
+  pub handed_in : (o n : BufferedLatch W) (x : List ℕ) → n.latch ≡ o.latch → n.waiting.items ≡ o.waiting.items ++ x → Handed contents o n x
+  handed_in o n x same is = rw same record {
     same = refl;
     whole = λ _. record { written = []; put = Appends-nil (contents o.latch.now.inner); all = sym is };
     prefix = (0, Appends-nil (contents o.latch.now.inner));
@@ -83,10 +83,10 @@ module _ {W : Type 0} (contents : W → Option (List ℕ)) where
   }
 
   -- the latch took them by itself, past a buffer that is empty
-  pub puts_past : {E : Type 0} (o n : BufferedLatch W) (x : List ℕ) (r : Result Unit E) → n.latch.ghost_name ≡ o.latch.ghost_name → o.waiting.items ≡ [] → n.waiting.items ≡ []
+  pub handed_past : {E : Type 0} (o n : BufferedLatch W) (x : List ℕ) (r : Result Unit E) → n.latch.ghost_name ≡ o.latch.ghost_name → o.waiting.items ≡ [] → n.waiting.items ≡ []
       → OnOk r (Appends (contents o.latch.now.inner) (contents n.latch.now.inner) x) → AppendsPrefix (contents o.latch.now.inner) (contents n.latch.now.inner) x
       → n.latch.now.failed ≡ is_err r → (o.latch.now.failed ≡ true → n.latch.now ≡ o.latch.now) → n.latch.now.reads_left ≡ o.latch.now.reads_left → Handed contents o n x
-  puts_past o n x r same none after whole prefix failed stays reads = record {
+  handed_past o n x r same none after whole prefix failed stays reads = record {
     same = same;
     whole = λ sound. record { written = x; put = by r whole (sym failed ∙ sound); all = ap (λ (l : List ℕ). l ++ x) none ∙ sym (append-nil x) ∙ ap (λ (l : List ℕ). x ++ l) (sym after) };
     prefix = rw none prefix;
@@ -99,23 +99,16 @@ module _ {W : Type 0} (contents : W → Option (List ℕ)) where
       by (Err e) whole sound = cc sound
 
   -- nothing
-  pub puts_none : (o : BufferedLatch W) → Puts contents o o []
-  unfolding Puts
-  puts_none o = puts_in o o [] refl (sym (append-nil o.waiting.items))
+  pub none_handed : (o : BufferedLatch W) → Handed contents o o []
+  none_handed o = handed_in o o [] refl (sym (append-nil o.waiting.items))
 
-  -- one piece, and then another
-  pub then_puts : (o m n : BufferedLatch W) (x y : List ℕ) → Puts contents o m x → Puts contents m n y → Puts contents o n (x ++ y)
-  unfolding Puts
-  then_puts o m n x y first second = puts_on o m n x y first second
-
-  -- of bytes that are the same
-  pub puts_same : (o n : BufferedLatch W) (x y : List ℕ) → x ≡ y → Puts contents o n x → Puts contents o n y
-  puts_same o n x y same h = subst (λ (bytes : List ℕ). Puts contents o n bytes) same h
+  -- bytes that are the same
+  pub same_handed : {o n : BufferedLatch W} {x y : List ℕ} → x ≡ y → Handed contents o n x → Handed contents o n y
+  same_handed {o} {n} same h = subst (λ (bytes : List ℕ). Handed contents o n bytes) same h
 
   -- what failed on the way put a prefix of all
-  pub puts_prefix : (o n : BufferedLatch W) (x y : List ℕ) → n.latch.now.failed ≡ true → Puts contents o n x → Puts contents o n (x ++ y)
-  unfolding Puts
-  puts_prefix o n x y failed h = record {
+  pub prefix_handed : {o n : BufferedLatch W} {x : List ℕ} (y : List ℕ) → n.latch.now.failed ≡ true → Handed contents o n x → Handed contents o n (x ++ y)
+  prefix_handed {o} {n} {x} y failed h = record {
     same = h.same;
     whole = λ sound. cc (sym sound ∙ failed);
     prefix = rw (← append_assoc o.waiting.items x y) (prefix_of_more (contents o.latch.now.inner) (contents n.latch.now.inner) (o.waiting.items ++ x) y h.prefix);
@@ -124,32 +117,30 @@ module _ {W : Type 0} (contents : W → Option (List ℕ)) where
   }
 
   -- the texts of the items before place i, and then that of the item there
-  pub one_more_put : {X : Type 0} (f : X → List ℕ) (xs : List X) (i : ℕ) (x : X) (o m n : BufferedLatch W) → slice_get xs i ≡ Some x
-      → Puts contents o m (flat_map f (take i xs)) → Puts contents m n (f x) → Puts contents o n (flat_map f (take (i + 1) xs))
-  one_more_put {X} f xs i x o m n at so_far more =
+  pub one_more_handed : {X : Type 0} (f : X → List ℕ) (xs : List X) (i : ℕ) (x : X) {o m n : BufferedLatch W} → slice_get xs i ≡ Some x
+      → Handed contents o m (flat_map f (take i xs)) → Handed contents m n (f x) → Handed contents o n (flat_map f (take (i + 1) xs))
+  one_more_handed {X} f xs i x {o} {m} {n} at so_far more =
       let more_taken : take (i + 1) xs ≡ take i xs ++ x ∷ [] = take_more xs i x (slice_get_within xs i x at) ∙ ap (λ (y : X). take i xs ++ y ∷ []) (get_or_from_slice_get xs i x x at) in
       let same : flat_map f (take i xs) ++ f x ≡ flat_map f (take (i + 1) xs) =
       ap (λ (l : List ℕ). flat_map f (take i xs) ++ l) (sym (append-nil (f x))) ∙ sym (flat_map-append f (take i xs) (x ∷ [])) ∙ ap (flat_map f) (sym more_taken) in
-      puts_same o n (flat_map f (take i xs) ++ f x) (flat_map f (take (i + 1) xs)) same (then_puts o m n (flat_map f (take i xs)) (f x) so_far more)
+      same_handed same (then_handed so_far more)
 
   -- from an empty buffer to an empty one, all was written, or a prefix of it
-  pub all_written : (o n : BufferedLatch W) (bytes : List ℕ) → o.waiting.items ≡ [] → n.waiting.items ≡ [] → Puts contents o n bytes → n.latch.now.failed ≡ false
+  pub all_written : {o n : BufferedLatch W} {bytes : List ℕ} → o.waiting.items ≡ [] → n.waiting.items ≡ [] → Handed contents o n bytes → n.latch.now.failed ≡ false
       → Appends (contents o.latch.now.inner) (contents n.latch.now.inner) bytes
-  unfolding Puts
-  all_written o n bytes before after h sound =
+  all_written {o} {n} {bytes} before after h sound =
       let moved = h.whole sound in
       let same : moved.written ≡ bytes = sym (append-nil moved.written) ∙ ap (λ (l : List ℕ). moved.written ++ l) (sym after) ∙ sym moved.all ∙ ap (λ (l : List ℕ). l ++ bytes) before in
       subst (λ (l : List ℕ). Appends (contents o.latch.now.inner) (contents n.latch.now.inner) l) same moved.put
 
-  pub prefix_written : (o n : BufferedLatch W) (bytes : List ℕ) → o.waiting.items ≡ [] → Puts contents o n bytes → AppendsPrefix (contents o.latch.now.inner) (contents n.latch.now.inner) bytes
-  unfolding Puts
-  prefix_written o n bytes before h = subst (λ (l : List ℕ). AppendsPrefix (contents o.latch.now.inner) (contents n.latch.now.inner) (l ++ bytes)) before h.prefix
+  pub prefix_written : {o n : BufferedLatch W} {bytes : List ℕ} → o.waiting.items ≡ [] → Handed contents o n bytes → AppendsPrefix (contents o.latch.now.inner) (contents n.latch.now.inner) bytes
+  prefix_written {o} {n} {bytes} before h = subst (λ (l : List ℕ). AppendsPrefix (contents o.latch.now.inner) (contents n.latch.now.inner) (l ++ bytes)) before h.prefix
 
-  -- what a latch that had failed is left as, and how many reads it allows
-  pub stays_failed : (o n : BufferedLatch W) (bytes : List ℕ) → Puts contents o n bytes → o.latch.now.failed ≡ true → n.latch.now ≡ o.latch.now
+  -- for a tactic's list: one piece, and then another; four in turn are found so
+  pub then_puts : (o m n : BufferedLatch W) (x y : List ℕ) → Puts contents o m x → Puts contents m n y → Puts contents o n (x ++ y)
   unfolding Puts
-  stays_failed o n bytes h = h.stays
+  then_puts o m n x y first second = then_handed first second
 
-  pub no_read : (o n : BufferedLatch W) (bytes : List ℕ) → Puts contents o n bytes → n.latch.now.reads_left ≡ o.latch.now.reads_left
+  pub puts_none : (o : BufferedLatch W) → Puts contents o o []
   unfolding Puts
-  no_read o n bytes h = h.reads
+  puts_none o = none_handed o

@@ -14,7 +14,7 @@
 //!     output.put(b"copy of ")?;                    // all of it, or a prefix and `output` has failed
 //!     let mut pieces = BufferedLatch::new(&mut output);
 //!     pieces.put_decimal(bytes.len() as u64);
-//!     pieces.put(b" bytes: ");                    // no answer yet
+//!     pieces.put(b" bytes: ");                     // no answer yet
 //!     pieces.put(&bytes);
 //!     pieces.flush()?;                             // all pieces, or a prefix and `output` has failed
 //!     Ok(output.into_inner())
