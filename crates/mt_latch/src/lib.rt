@@ -3,7 +3,8 @@
 //! A loop over a plain reader need not end, and after an error nobody can say how far a plain writer
 //! came. A [`Latch`] round either one fails at the first error of the value in it, and from then on
 //! refuses every call and does not ask that value again. So a user passes a refusal on, and nothing
-//! is ever written after a gap.
+//! is ever written after a gap. Who writes many pieces puts a [`BufferedLatch`] before the latch, hands
+//! over one after another, and asks once, at the end.
 //!
 //! ```rust
 //! fn copy(alloc: Global, text: &[u8]) -> Result<Vec<u8>, LatchFault> {
@@ -11,7 +12,11 @@
 //!     let bytes = input.get_all(alloc)?;           // all that is left, or a refusal
 //!     let mut output = Latch::new(Vec::new(alloc));
 //!     output.put(b"copy of ")?;                    // all of it, or a prefix and `output` has failed
-//!     output.put(&bytes)?;
+//!     let mut pieces = BufferedLatch::new(&mut output);
+//!     pieces.put_decimal(bytes.len() as u64);
+//!     pieces.put(b" bytes: ");                     // no answer yet
+//!     pieces.put(&bytes);
+//!     pieces.flush()?;                             // all pieces, or a prefix and `output` has failed
 //!     Ok(output.into_inner())
 //! }
 //! ```
@@ -20,8 +25,10 @@
 //! of any type: that a latch does not fail by itself, and that an interrupted call is not tried again.
 #![tactic(auto)]
 
+mod buffered;
 mod fault;
 mod latch;
 
+pub use buffered::BufferedLatch;
 pub use fault::LatchFault;
 pub use latch::Latch;

@@ -44,7 +44,7 @@ mod seen;
 pub use fault::{LogFault, ReadFault};
 pub use log::Log;
 pub use log_reader::read_ops;
-pub use mt_latch::{Latch, LatchFault};
+pub use mt_latch::{BufferedLatch, Latch, LatchFault};
 pub use op_reader::read_op;
 pub use op_writer::write_op;
 pub use run::Run;
