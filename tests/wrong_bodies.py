@@ -4,10 +4,10 @@
 The edits are those of crates/CRATE/wrong-bodies, or of the folder named, in the form of must-fail edits. `rt must-fail` checks a crate
 once for each edit; here a round applies one edit to each of many functions, checks the crate once, and wants each edited function
 to be refused for itself: by a goal of its own that is left open, or by an answer of its proof that no longer holds. A function that is
-refused only since it calls one that is not proved does not count: its edit is tried again in a check of its own. One that is refused
-only since its proof names what the edit took away (as a branch that is gone) is told, since that says little of the contract. An edit
-of what is no function's body is a round of its own, and names the function that has to be refused in a line `refused: NAME`. It works
-on copies of the crates, over what their checks keep in out/, which it makes first where it is not there."""
+refused only since it calls one that is not proved does not count: its edit goes into another round, and at last into a check of its
+own. One that is refused only since its proof names what the edit took away (as a branch that is gone) is told, since that says little
+of the contract. An edit of what is no function's body is a round of its own, and names the function that has to be refused in a line
+`refused: NAME`. It works on copies of the crates, over what their checks keep in out/, which it makes first where it is not there."""
 import argparse
 import concurrent.futures
 import glob
@@ -212,31 +212,46 @@ def copy_project(name, top):
     return os.path.join(top, "crates", name)
 
 
+def tried_alone(edits, crate, name, kept, weak):
+    """What is wrong with each of these edits, tried in a check of its own."""
+    wrong = {}
+    for edit in edits:
+        of_one, by_names = try_round([edit], crate, name, kept)
+        weak += by_names
+        wrong.update(of_one)
+    return wrong
+
+
 def try_crate(name, folder):
     kept = os.path.join(TOP, "crates", name)
     edits = [Edit(path, kept) for path in sorted(glob.glob(os.path.join(kept, folder, "*.edit")))]
-    wrong, weak, tried = {}, [], rounds(edits, kept)
+    wrong, weak = {}, []
     with tempfile.TemporaryDirectory() as top:
         crate = copy_project(name, top)
         first = subprocess.run(["rt", "check", "--jobs", "1"], cwd=crate, capture_output=True, text=True)
         if "not proved" in first.stdout + first.stderr or first.returncode != 0:
             print("%s: the crate itself is not proved" % name)
             return 1
-        for one in tried:
-            of_round, by_names = try_round(one, crate, name, kept)
-            # a function is not looked at where one that it calls is refused in the same round: such an edit is tried alone
-            for edit in [edit for edit in one if edit.name in of_round and len(one) > 1]:
-                alone, alone_by_names = try_round([edit], crate, name, kept)
-                if not alone:
-                    del of_round[edit.name]
-                by_names += alone_by_names
-            wrong.update(of_round)
-            weak += by_names
+        left, checks = edits, 0
+        while left:
+            hidden = []
+            for one in rounds(left, kept):
+                of_round, by_names = try_round(one, crate, name, kept)
+                checks += 1
+                weak += by_names
+                # a function is not looked at where one that it calls is refused in the same round: such edits go into rounds again
+                hidden += [edit for edit in one if edit.name in of_round and len(one) > 1]
+                wrong.update({edit.name: of_round[edit.name] for edit in one if edit.name in of_round and len(one) == 1})
+            if len(hidden) == len(left):
+                wrong.update(tried_alone(hidden, crate, name, kept, weak))
+                checks += len(hidden)
+                hidden = []
+            left = hidden
     for edit in sorted(wrong):
         print("%s: %s: %s" % (name, edit, wrong[edit]))
     if weak:
         print("%s: refused only since names of the proof are gone: %s" % (name, " ".join(sorted(weak))))
-    print("%s: %d wrong bodies in %d rounds, %d not refused" % (name, len(edits), len(tried), len(wrong)), flush=True)
+    print("%s: %d wrong bodies in %d checks, %d not refused" % (name, len(edits), checks, len(wrong)), flush=True)
     return len(wrong)
 
 
