@@ -1,6 +1,7 @@
 #!/usr/bin/env python3
 """Writes tests/cases anew. The wanted texts are written by hand in `subjects`, a file each, which writes its cases as it is read
-(subjects/case.py); nothing here runs the program."""
+(subjects/case.py), but for the lines of `radio log`, which formats/log_text.py tells from the operations' bytes; nothing here runs the
+program."""
 import os
 import shutil
 import sys

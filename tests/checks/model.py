@@ -16,6 +16,7 @@ import tempfile
 sys.dont_write_bytecode = True
 sys.path.insert(0, os.path.dirname(os.path.dirname(os.path.abspath(__file__))))
 from formats import logs
+from formats.log_text import log_text
 
 ADDS = {"add_track", "add_clip", "add_marker"}
 FITS = {
@@ -123,32 +124,9 @@ def session_text(ops):
     return text + "held %d\n" % (len(ops) - len(ready))
 
 
-WORDS = {"set_gain": "gain", "set_mute": "mute"}
-
-
-def log_text(ops):
-    """A line for each operation, by rising stamp: its stamp, whether it is ready, and the words of a script."""
+def operations_text(ops):
     ready = {op.own for op in ready_of(ops)}
-
-    def word(name, value):
-        if name == "after" and value is None:
-            return "head"
-        if name == "tags":
-            return " ".join(["tags"] + [logs.stamp_text(*tag) for tag in value])
-        if name == "flag":
-            return "on" if value else "off"
-        if isinstance(value, tuple):
-            return logs.stamp_text(*value)
-        return value.hex() if isinstance(value, bytes) else str(value)
-
-    text = ""
-    for op in sorted(ops, key=lambda op: op.own):
-        words = [word(name, value) for name, value in op.fields.items() if name not in ("num", "den")]
-        if op.kind == "set_gain":
-            words.append("%d/%d" % (op.num, op.den))
-        status = "ready" if op.own in ready else "held"
-        text += " ".join([logs.stamp_text(*op.own), status, WORDS.get(op.kind, op.kind.replace("_", "-"))] + words) + "\n"
-    return text + "operations %d\n" % len(ops)
+    return log_text([op.text() for op in ops], {op.own for op in ops} - ready)
 
 
 NAMED = {
@@ -277,7 +255,7 @@ def main():
             draw = random.Random(seed)
             ops = drawn(draw)
             files = files_of(draw, ops, folder)
-            for command, text in (("log", log_text), ("view", session_text)):
+            for command, text in (("log", operations_text), ("view", session_text)):
                 told = subprocess.run([program, command] + files, capture_output=True)
                 wanted = text(ops)
                 if told.stdout.decode() != wanted or told.stderr or told.returncode != 0:

@@ -1,18 +1,22 @@
 #!/usr/bin/env python3
 """Follows the README as a newcomer does: python3 tests/checks/story.py PROGRAM
 
-Types the commands of its story, from nothing to a rendered file, in an empty folder, and compares what they print with what the
-README says that they print; then what it shows of `examples/`, whose logs are made anew from their scripts and have to be the same
-bytes.
+Types the commands of the page in its order, in a folder that has `examples` and the program where a build puts it, and compares what
+they print with what the README says that they print. Only those that try and test the program are not typed, and in place of `rt run`
+the program runs. Then makes the logs of `examples/` anew from their scripts, which have to be the same bytes, and looks at the sessions
+of the picture.
 """
+import filecmp
 import os
 import re
 import subprocess
 import sys
 import tempfile
+import xml.etree.ElementTree as ElementTree
 
 TOP = os.path.dirname(os.path.dirname(os.path.dirname(os.path.abspath(__file__))))
 EXAMPLES = os.path.join(TOP, "examples")
+PICTURE = os.path.join(TOP, "docs", "two_editors.svg")
 
 
 def blocks(text):
@@ -20,42 +24,92 @@ def blocks(text):
     return re.findall(r"^```(\w+)\n(.*?)^```$", text, re.M | re.S)
 
 
-def follow(readme, environment, folder):
-    """The story's commands, block by block, each with what stands in the text block behind it."""
-    story = readme.split("## From nothing to a merged session\n", 1)[1].split("\n## ", 1)[0]
-    steps = blocks(story)
-    assert [language for language, _ in steps] == ["sh", "text"] * (len(steps) // 2), "a block of commands without what it prints"
-    for (_, commands), (_, wanted) in zip(steps[0::2], steps[1::2]):
-        said = "".join(line + "\n" for line in re.findall(r"# (ops \d+)$", commands, re.M))
-        run = subprocess.run(["sh", "-e"], input=commands, env=environment, cwd=folder, stdout=subprocess.PIPE, text=True)
-        assert run.returncode == 0, "the story's commands were refused"
-        assert run.stdout == said + wanted, "the story prints\n%s\nwhere the README says\n%s" % (run.stdout, said + wanted)
-    return len(steps) // 2
+BUILD = "(cd crates/radio && rt run -- "
+NOT_TYPED = ["rt try ", "sh tests/all.sh"]
+
+
+def steps_of(readme):
+    """The commands of the page, block by block, each with what it prints: the numbers of changes that stand behind the edits, and then
+    the text block behind it, where there is one."""
+    steps = []
+    for language, text in blocks(readme):
+        if language == "sh":
+            steps.append((text, "".join(line + "\n" for line in re.findall(r"# (ops \d+)$", text, re.M))))
+        else:
+            commands, printed = steps.pop()
+            steps.append((commands, printed + text))
+    return steps
+
+
+def follow(readme, folder):
+    """Types the steps in one shell, so that each begins where the one before has ended."""
+    steps = steps_of(readme)
+    for words in [BUILD] + NOT_TYPED:
+        assert sum(words in commands for commands, _ in steps) == 1, "the README has not one block with `%s`" % words
+    steps = [(commands.replace("rt run --", "out/radio"), wanted) for commands, wanted in steps if not any(words in commands for words in NOT_TYPED)]
+    run = subprocess.run(["sh", "-ec", "printf '\\036'\n".join(commands for commands, _ in steps)], cwd=folder, stdin=subprocess.DEVNULL, stdout=subprocess.PIPE, text=True)
+    printed = run.stdout.split("\036")
+    assert run.returncode == 0, "these commands of the README were refused:\n%s" % steps[len(printed) - 1][0]
+    for (commands, wanted), text in zip(steps, printed):
+        assert text == wanted, "the commands\n%sprint\n%swhere the README says\n%s" % (commands, text, wanted)
+    return len(steps)
+
+
+def picture_of(path):
+    """The logs that the picture's bold lines name, each with what stands behind the name and the lines below it; and all other text."""
+    logs, rest = [], []
+    for text in ElementTree.parse(path).iter("{http://www.w3.org/2000/svg}text"):
+        line = "".join(text.itertext())
+        if text.get("font-weight") == "bold":
+            named = re.fullmatch(r"(\w+\.log)[,:] (.*)", line)
+            assert named, "docs/two_editors.svg has a bold line that names no log: %s" % line
+            logs.append((named.group(1), named.group(2), text.get("x"), []))
+        elif logs and text.get("x") == logs[-1][2]:
+            logs[-1][3].append(line)
+        else:
+            rest.append(line)
+    return [(name, about, lines) for name, about, _, lines in logs], rest
+
+
+def is_printed(shown, printed):
+    """Whether these lines are the printed ones, where `…` stands for what the picture leaves out."""
+    return len(shown) == len(printed) and all(re.fullmatch(".+".join(map(re.escape, line.split("…"))), whole) for line, whole in zip(shown, printed))
+
+
+def check_picture(program, folder):
+    """How many lines of sessions the picture shows, each as `radio view` prints it. A merge that stands beside a name makes that log, and
+    the same bytes with its inputs turned."""
+    logs, rest = picture_of(PICTURE)
+    assert rest == ["the same bytes in either order"], "docs/two_editors.svg has other text than its sessions: %s" % rest
+    for name, about, lines in logs:
+        if about.startswith("radio merge "):
+            _, _, out, *inputs = about.split()
+            for made, order in ((out + ".turned", inputs[::-1]), (out, inputs)):
+                subprocess.run([program, "merge", made] + order, check=True, cwd=folder)
+            assert filecmp.cmp(os.path.join(folder, out), os.path.join(folder, out + ".turned"), shallow=False), "%s has other bytes in the other order" % out
+        printed = subprocess.run([program, "view", name], check=True, cwd=folder, stdout=subprocess.PIPE, text=True).stdout
+        assert is_printed(lines, printed.splitlines()), "docs/two_editors.svg shows of %s\n%s\nwhere `radio view` prints\n%s" % (name, "\n".join(lines), printed)
+    return sum(len(lines) for _, _, lines in logs)
 
 
 def main():
     program = os.path.abspath(sys.argv[1])
     with open(os.path.join(TOP, "README.md")) as file:
         readme = file.read()
-    with tempfile.TemporaryDirectory() as folder:
-        os.symlink(program, os.path.join(folder, "radio"))
-        os.symlink(EXAMPLES, os.path.join(folder, "examples"))
-        environment = dict(os.environ, PATH=folder + os.pathsep + os.environ["PATH"])
-        steps = follow(readme, environment, folder)
-    with tempfile.TemporaryDirectory() as folder:
+    with tempfile.TemporaryDirectory() as clone, tempfile.TemporaryDirectory() as folder:
+        built = os.path.join(clone, "crates", "radio", "out")
+        os.makedirs(built)
+        os.symlink(program, os.path.join(built, "radio"))
+        os.symlink(EXAMPLES, os.path.join(clone, "examples"))
+        steps = follow(readme, clone)
         subprocess.run(["sh", os.path.join(EXAMPLES, "make.sh"), program], check=True, cwd=folder, stdout=subprocess.DEVNULL)
         made = sorted(os.listdir(folder))
         for name in made:
             with open(os.path.join(folder, name), "rb") as new, open(os.path.join(EXAMPLES, name), "rb") as kept:
                 assert new.read() == kept.read(), "examples/%s is not what its scripts make" % name
         assert made == sorted(name for name in os.listdir(EXAMPLES) if name.endswith(".log")), made
-        subprocess.run([program, "merge", os.path.join(folder, "both.log"), "morning.log", "desk.log"], check=True, cwd=folder)
-        shown = [("view", "morning.log"), ("view", "both.log"), ("view", "programme.log"), ("info", os.path.join(EXAMPLES, "jingle.wav"))]
-        texts = [text for language, text in blocks(readme) if language == "text"]
-        for command, name in shown:
-            text = subprocess.run([program, command, name], check=True, cwd=folder, stdout=subprocess.PIPE, text=True).stdout
-            assert text in texts, "the README does not show what `radio %s` prints of %s:\n%s" % (command, os.path.basename(name), text)
-    print("the README's story in %d steps, %d example logs made anew, %d outputs shown as printed" % (steps, len(made), len(shown)))
+        lines = check_picture(program, folder)
+    print("the README's commands in %d steps, %d example logs made anew, %d lines of sessions in its picture" % (steps, len(made), lines))
 
 
 main()

@@ -2,6 +2,7 @@
 program's name (a line each), the files that lie where it runs, its input, and the output, the errors and the status that are wanted."""
 import os
 
+from formats.log_text import log_text
 from formats.logs import A, B, C, add_marker, head, log, marker_line, retitle, seal
 from formats.waves import info
 
@@ -55,12 +56,31 @@ def fault(name, number, words, **more):
 
 
 def view(name, ops, stdout):
+    """`view` alone, of a log whose text says nothing that another case of `log` does not."""
     case(name, ["view", "log"], files={"log": log(ops)}, stdout=stdout)
+
+
+def both(name, ops, session, held=()):
+    """`view` and `log` of the log of these operations."""
+    both_of(name, ["log"], ops, session, held, files={"log": log(ops)})
+
+
+def both_of(name, words, ops, session, held=(), **more):
+    """`view` and `log` of the same words, whose logs have these operations. `held` are the stamps of those that wait, as many as the
+    session says."""
+    assert set(held) <= {own for own, _ in ops} and session.endswith("held %d\n" % len(held)), name
+    case("view_" + name, ["view"] + words, stdout=session, **more)
+    case("log_" + name, ["log"] + words, stdout=log_text(ops, held), **more)
+
+
+def both_refuse(name, number, words, **more):
+    for command in ("view", "log"):
+        fault(command + "_" + name, number, [command] + words, **more)
 
 
 def bad_record(name, *records):
     """A log that is sealed and counted, and one of its records is no operation."""
-    fault(name, 14, ["view", "log"], files={"log": seal(head(len(records)) + b"".join(records))})
+    both_refuse(name, 14, ["log"], files={"log": seal(head(len(records)) + b"".join(records))})
 
 
 def told(name, file, **facts):

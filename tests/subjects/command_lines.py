@@ -1,24 +1,25 @@
 """Cases of files and streams, and of command lines."""
-from subjects.case import ONE, case, fault
+from subjects.case import ONE, both_refuse, case, fault
 from subjects.waves import SMALLEST
 
 # files and streams
-fault("missing_file", 45, ["view", "missing"])
-fault("missing_before_damaged", 45, ["view", "bad", "missing"], files={"bad": ONE[:-1]})
-fault("a_directory", 45, ["view", "folder"], setup="mkdir folder")
-fault("a_file_as_folder", 45, ["view", "log/log"], files={"log": ONE})
-fault("unreadable_file", 45, ["view", "log"], files={"log": ONE}, setup="chmod 000 log", needs="permissions")
-fault("output_closed", 37, ["view", "log"], files={"log": ONE}, output="closed")
-fault("output_full", 37, ["view", "log"], files={"log": ONE}, output="full")
-fault("output_to_a_closed_pipe", 37, ["view", "log"], files={"log": ONE}, output="pipe")
+both_refuse("missing_file", 45, ["missing"])
+both_refuse("missing_before_damaged", 45, ["bad", "missing"], files={"bad": ONE[:-1]})
+both_refuse("a_directory", 45, ["folder"], setup="mkdir folder")
+both_refuse("a_file_as_folder", 45, ["log/log"], files={"log": ONE})
+both_refuse("unreadable_file", 45, ["log"], files={"log": ONE}, setup="chmod 000 log", needs="permissions")
+both_refuse("output_closed", 37, ["log"], files={"log": ONE}, output="closed")
+both_refuse("output_full", 37, ["log"], files={"log": ONE}, output="full")
+both_refuse("output_to_a_closed_pipe", 37, ["log"], files={"log": ONE}, output="pipe")
 
 # command lines
 STATUS = "\nExit status: 0 done, 1 refused (`radio explain` tells why), 2 the command line does not parse.\n"
 USAGE = "Usage: radio <COMMAND>\n\nFor more information, try '--help'.\n"
 case("no_argument", [], status=2, stderr="error: 'radio' requires a subcommand but one was not provided\n  [subcommands: view, log, merge, edit, render, have, lack, take, serve, meet, info, explain, help]\n\n" + USAGE)
 case("frob", ["frob"], status=2, stderr="error: unrecognized subcommand 'frob'\n\n" + USAGE)
-case("unknown_option", ["view", "--frob"], status=2, stderr="error: unexpected argument '--frob' found\n\n  tip: to pass '--frob' as a value, use '-- --frob'\n\nUsage: radio view [LOG]...\n\nFor more information, try '--help'.\n")
-case("word_of_no_text", ["view", b"\xff\xfe"], status=2, stderr="error: invalid UTF-8 was detected in one or more arguments\n\n" + USAGE)
+for command in ("view", "log"):
+    case(command + "_unknown_option", [command, "--frob"], status=2, stderr="error: unexpected argument '--frob' found\n\n  tip: to pass '--frob' as a value, use '-- --frob'\n\nUsage: radio %s [LOG]...\n\nFor more information, try '--help'.\n" % command)
+    case(command + "_word_of_no_text", [command, b"\xff\xfe"], status=2, stderr="error: invalid UTF-8 was detected in one or more arguments\n\n" + USAGE)
 case("version", ["--version"], stdout="radio 0.1.0\n")
 case("version_in_short", ["-V"], stdout="radio 0.1.0\n")
 HELP = """A nondestructive multitrack audio editor whose sessions are replicated

@@ -1,5 +1,8 @@
-"""Cases of `radio log`: a line for each operation, by rising stamp, and how many there are."""
-from subjects.case import LATE, M, NEWS, ONE, case, fault
+"""Cases of `radio log` alone: the words of each act, the order of the lines, and which operations wait. What it lists of the sessions
+of other subjects stands there, beside what `radio view` shows."""
+from subjects.case import M, NEWS, case
+from subjects.merges import CUES, MANY
+from formats.log_text import log_text
 from formats.logs import (A, B, C, add_clip, add_marker, add_track, log, move_clip, move_marker, move_track, remove, restore, retitle, set_gain, set_mute,
                   stamp_text, trim_clip)
 
@@ -14,8 +17,10 @@ def line(own, status, act):
 
 
 def listing(name, ops, lines, held=()):
-    text = "".join(line(own, "held" if own in held else "ready", act) for own, *act in lines)
-    case("log_" + name, ["log", "log"], files={"log": log(ops)}, stdout=text + "operations %d\n" % len(ops))
+    """The lines are written by hand, and what the other subjects take for the text has to be the same."""
+    text = "".join(line(own, "held" if own in held else "ready", act) for own, *act in lines) + "operations %d\n" % len(ops)
+    assert text == log_text(ops, held), name
+    case("log_" + name, ["log", "log"], files={"log": log(ops)}, stdout=text)
 
 
 ALL = [
@@ -42,31 +47,52 @@ listing("of_every_act", [op for op, _ in ALL], [[op[0]] + act for op, act in ALL
 for op, act in ALL:
     if op[0] not in (TRACK, MARKER):
         listing("alone_%s_%d" % (act[0], op[0][0]), [op], [[op[0]] + act], held=[op[0]])
-listing("of_no_operation", [], [])
-listing("of_an_empty_title", [add_marker(M, 480, "")], [[M, "add-marker", 480, ""]])
 listing("of_a_title_that_begins_with_a_space", [add_marker(M, 480, " a  b ")], [[M, "add-marker", 480, " a  b "]])
 # by clock, then replica, then number, while a log stands by replica
 listing("by_rising_stamp", [add_marker((2, A, 1), 1, "a"), add_marker((3, A, 2), 2, "b"), add_marker((1, B, 1), 3, "c"), add_marker((2, B, 2), 4, "d")],
         [[(1, B, 1), "add-marker", 3, "c"], [(2, A, 1), "add-marker", 1, "a"], [(2, B, 2), "add-marker", 4, "d"], [(3, A, 2), "add-marker", 2, "b"]])
-# a role that the named operation has not, and what waits for what waits
-listing("of_a_gain_of_a_marker", [NEWS, set_gain((2, B, 1), M, 1, 2)], [[M, "add-marker", 480, "News"], [(2, B, 1), "gain", M, "1/2"]], held=[(2, B, 1)])
+# what waits for what waits
 listing("of_a_chain_without_its_first", [add_track((2, B, 1), TRACK, "q"), add_track((3, B, 2), (2, B, 1), "r"), NEWS],
         [[M, "add-marker", 480, "News"], [(2, B, 1), "add-track", TRACK, "q"], [(3, B, 2), "add-track", (2, B, 1), "r"]], held=[(2, B, 1), (3, B, 2)])
-listing("of_a_remove_whose_tag_is_missing", [NEWS, remove((4, C, 1), M, [M, (3, B, 2)])], [[M, "add-marker", 480, "News"], [(4, C, 1), "remove", M, "tags", M, (3, B, 2)]], held=[(4, C, 1)])
 
-FIRST, SECOND = line(M, "ready", ["add-marker", 480, "News"]), line((2, B, 1), "ready", ["retitle", M, "Late"])
-case("log_of_standard_input", ["log"], stdin=ONE, stdout=FIRST + "operations 1\n")
-case("log_of_two_logs", ["log", "late", "news"], files={"late": log([LATE]), "news": ONE}, stdout=FIRST + SECOND + "operations 2\n")
-case("log_of_two_logs_turned", ["log", "news", "late"], files={"late": log([LATE]), "news": ONE}, stdout=FIRST + SECOND + "operations 2\n")
-case("log_of_one_log_twice", ["log", "a", "a"], files={"a": ONE}, stdout=FIRST + "operations 1\n")
-case("log_of_a_late_log_alone", ["log", "late"], files={"late": log([LATE])}, stdout=line((2, B, 1), "held", ["retitle", M, "Late"]) + "operations 1\n")
-fault("log_of_a_missing_file", 45, ["log", "missing"])
-fault("log_of_a_missing_file_before_a_damaged_one", 45, ["log", "bad", "missing"], files={"bad": ONE[:-1]})
-fault("log_of_three_bytes", 11, ["log"], stdin=b"RMT")
-fault("log_of_a_damaged_log", 13, ["log", "a", "bad"], files={"a": ONE, "bad": ONE[:-1]})
-fault("log_of_logs_in_conflict", 17, ["log", "a", "b"], files={"a": ONE, "b": log([add_marker(M, 480, "Newt")])})
-fault("log_to_a_full_disk", 37, ["log", "log"], files={"log": ONE}, output="full")
-fault("log_to_a_closed_pipe", 37, ["log", "log"], files={"log": ONE}, output="pipe")
+# each name that an operation can have is given to an operation of each act: those wait whose role it does not fit
+NAMED = {}
+for op, act in ALL:
+    NAMED.setdefault(act[0], op[0])
+assert len(NAMED) == 12
+FITS = {
+    "Track": ["add-track"],
+    "Place": ["add-track", "move-track"],
+    "Clip": ["add-clip"],
+    "Marker": ["add-marker"],
+    "Mixable": ["add-track", "add-clip"],
+    "Titled": ["add-track", "add-marker"],
+    "Item": ["add-track", "add-clip", "add-marker"],
+    "TagOf(MARKER)": ["add-marker", "restore"],
+}
+NAMES = {
+    "a_place_of_a_new_track": ("Place", lambda own, name: add_track(own, name, "New")),
+    "a_track_that_moves": ("Track", lambda own, name: move_track(own, name, None)),
+    "a_place_that_a_track_moves_to": ("Place", lambda own, name: move_track(own, TRACK, name)),
+    "a_track_of_a_new_clip": ("Track", lambda own, name: add_clip(own, SOURCE, name, 5, 6, 7)),
+    "a_clip_that_moves": ("Clip", lambda own, name: move_clip(own, name, TRACK, 8)),
+    "a_track_that_a_clip_moves_to": ("Track", lambda own, name: move_clip(own, CLIP, name, 8)),
+    "a_clip_that_is_trimmed": ("Clip", lambda own, name: trim_clip(own, name, 9, 10)),
+    "what_has_a_gain": ("Mixable", lambda own, name: set_gain(own, name, 1, 2)),
+    "what_is_muted": ("Mixable", lambda own, name: set_mute(own, name, 1)),
+    "what_is_removed": ("Item", lambda own, name: remove(own, name, [name])),
+    "a_tag_that_is_removed": ("TagOf(MARKER)", lambda own, name: remove(own, MARKER, [name])),
+    "what_is_restored": ("Item", lambda own, name: restore(own, name)),
+    "a_marker_that_moves": ("Marker", lambda own, name: move_marker(own, name, 11)),
+    "what_has_a_title": ("Titled", lambda own, name: retitle(own, name, "Late")),
+}
+for name, (role, naming) in NAMES.items():
+    namings = {act: naming((20 + turn, C, 10 + turn), NAMED[act]) for turn, act in enumerate(NAMED)}
+    ops = [op for op, _ in ALL] + list(namings.values())
+    held = [op[0] for act, op in namings.items() if act not in FITS[role]]
+    case("log_each_act_as_" + name, ["log", "log"], files={"log": log(ops)}, stdout=log_text(ops, held))
+
+case("log_of_twelve_logs", ["log"] + [name for name, _ in MANY], files=dict(MANY), stdout=log_text([NEWS] + CUES))
 case("help_of_log", ["log", "--help"], stdout="""Prints the operations of the union of the logs, a line each by rising stamp
 
 Usage: radio log [LOG]...
@@ -81,5 +107,3 @@ Example: radio log desk.log home.log
 
 Exit status: 0 done, 1 refused (`radio explain` tells why), 2 the command line does not parse.
 """)
-case("log_with_an_unknown_option", ["log", "--frob"], status=2,
-     stderr="error: unexpected argument '--frob' found\n\n  tip: to pass '--frob' as a value, use '-- --frob'\n\nUsage: radio log [LOG]...\n\nFor more information, try '--help'.\n")

@@ -32,10 +32,10 @@ for order in ("xyz", "xzy", "yxz", "yzx", "zxy", "zyx"):
 merged("merge_held_operations", [("late", log([LATE])), ("z", Z)], log([LATE, COAST]))
 merged("merge_twelve_bodies", [("even", log(twelve[0::2])), ("odd", log(twelve[1::2]))], log(twelve))
 # more logs than are joined one after another: an operation of each, and one that all have
-MANY = [(str(number), log([NEWS, add_marker((2, C, number), number, "Cue")])) for number in range(1, 13)]
-ALL = log([NEWS] + [add_marker((2, C, number), number, "Cue") for number in range(1, 13)])
-merged("merge_twelve_logs", MANY, ALL)
-merged("merge_twelve_logs_from_the_last", MANY[::-1], ALL)
+CUES = [add_marker((2, C, number), number, "Cue") for number in range(1, 13)]
+MANY = [(str(number), log([NEWS, cue])) for number, cue in enumerate(CUES, 1)]
+merged("merge_twelve_logs", MANY, log([NEWS] + CUES))
+merged("merge_twelve_logs_from_the_last", MANY[::-1], log([NEWS] + CUES))
 # the example that the README shows, which examples/make.sh made
 EXAMPLES = os.path.join(os.path.dirname(os.path.dirname(os.path.dirname(os.path.abspath(__file__)))), "examples")
 PUT = [add_marker((1, A, 1), 480, "News"), add_marker((2, A, 2), 96000, "Weather")]

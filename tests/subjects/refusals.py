@@ -5,11 +5,18 @@ from subjects.command_lines import STATUS
 READ = "45 Read: an input cannot be opened, or reading it failed\nSee that each named file is there, is no folder, and may be read.\n"
 case("explain_a_number", ["explain", "45"], stdout=READ)
 case("explain_the_least", ["explain", "0"], stdout="0 Memory: memory ran out\nClose other programs, or give it fewer or smaller files.\n")
-case(
-    "explain_a_wave",
-    ["explain", "31"],
-    stdout="31 Unsupported: a wave file is no PCM of 8, 16, 24 or 32 bits\nConvert it: `sox IN -e signed-integer -b 24 OUT` (`mediainfo NAME` shows its format).\n",
-)
+# of a wave file's: a program that shows the cause
+WAVES = {
+    26: "NotRiff: a file is no RIFF file\nSee that each recording is a WAVE file; RF64, RIFX, FLAC and MP3 are not read (`file NAME` and `ffprobe NAME` tell).\n",
+    27: "NotWave: a RIFF file is no WAVE, or its size is 0, as an unfinished recording has it\nFinish or repair the recording (`sox --ignore-length IN OUT` writes the sizes anew); `xxd -l 12 NAME` shows its size and its kind.\n",
+    28: "Truncated: a chunk of a wave file is longer than the file\nThe copy was cut short or the recording not finished (`sndfile-info NAME` shows which size is wrong): copy it again, or repair it (`sox --ignore-length IN OUT`).\n",
+    29: "NoFmt: a wave file has no `fmt ` chunk\nThe file is damaged (`soxi NAME` tells): take the recording from its source again.\n",
+    30: "BadFmt: the `fmt ` chunk of a wave file is short, or contradicts itself\nWrite the recording anew (`sox IN OUT`, `ffmpeg -i IN OUT`); `sndfile-info NAME` shows what the chunk says.\n",
+    31: "Unsupported: a wave file is no PCM of 8, 16, 24 or 32 bits\nConvert it: `sox IN -e signed-integer -b 24 OUT` (`mediainfo NAME` shows its format).\n",
+    32: "NoData: a wave file has no `data` chunk\nThe recording holds no sound (`soxi NAME` tells): take it from its source again.\n",
+}
+for number, text in WAVES.items():
+    case("explain_wave_%d" % number, ["explain", str(number)], stdout="%d %s" % (number, text))
 USAGE = "Usage: radio explain [N]\n\nFor more information, try '--help'.\n"
 for name, number in (("explain_no_refusal", 60), ("explain_past_the_last", 255)):
     case(name, ["explain", str(number)], status=2, stderr="error: no refusal has the number %d\n\n" % number + USAGE)

@@ -199,25 +199,25 @@ pub const OF_WAVES: [Refusal; 7] = [
         number: 27,
         name: "NotWave",
         meaning: "a RIFF file is no WAVE, or its size is 0, as an unfinished recording has it",
-        advice: "Finish or repair the recording (`sox --ignore-length IN OUT` writes the sizes anew).",
+        advice: "Finish or repair the recording (`sox --ignore-length IN OUT` writes the sizes anew); `xxd -l 12 NAME` shows its size and its kind.",
     },
     Refusal {
         number: 28,
         name: "Truncated",
         meaning: "a chunk of a wave file is longer than the file",
-        advice: "The copy was cut short or the recording not finished: copy it again, or repair it (`sox --ignore-length IN OUT`).",
+        advice: "The copy was cut short or the recording not finished (`sndfile-info NAME` shows which size is wrong): copy it again, or repair it (`sox --ignore-length IN OUT`).",
     },
     Refusal {
         number: 29,
         name: "NoFmt",
         meaning: "a wave file has no `fmt ` chunk",
-        advice: "The file is damaged: take the recording from its source again.",
+        advice: "The file is damaged (`soxi NAME` tells): take the recording from its source again.",
     },
     Refusal {
         number: 30,
         name: "BadFmt",
         meaning: "the `fmt ` chunk of a wave file is short, or contradicts itself",
-        advice: "Write the recording anew (`sox IN OUT`, `ffmpeg -i IN OUT`).",
+        advice: "Write the recording anew (`sox IN OUT`, `ffmpeg -i IN OUT`); `sndfile-info NAME` shows what the chunk says.",
     },
     Refusal {
         number: 31,
@@ -229,7 +229,7 @@ pub const OF_WAVES: [Refusal; 7] = [
         number: 32,
         name: "NoData",
         meaning: "a wave file has no `data` chunk",
-        advice: "The recording holds no sound: take it from its source again.",
+        advice: "The recording holds no sound (`soxi NAME` tells): take it from its source again.",
     },
 ];
 

@@ -1,0 +1,53 @@
+"""The text of a log's operations, told from their bytes by docs/formats.md alone and not by the program under test."""
+import io
+
+from formats.logs import stamp_text
+
+
+def number(data):
+    return int.from_bytes(data, "big")
+
+
+def stamp(take):
+    return stamp_text(number(take(8)), number(take(16)), number(take(8)))
+
+
+# by kind byte: the word of the act, and the fields of the body in their order
+ACTS = {
+    1: ("add-track", "place", "title"),
+    2: ("move-track", "stamp", "place"),
+    3: ("add-clip", "digest", "stamp", "frame", "frame", "frame"),
+    4: ("move-clip", "stamp", "stamp", "frame"),
+    5: ("trim-clip", "stamp", "frame", "frame"),
+    6: ("gain", "stamp", "gain"),
+    7: ("mute", "stamp", "flag"),
+    8: ("remove", "stamp", "tags"),
+    9: ("restore", "stamp"),
+    10: ("add-marker", "frame", "title"),
+    11: ("move-marker", "stamp", "frame"),
+    12: ("retitle", "stamp", "title"),
+}
+# how a field is told; `take` gives the next bytes
+WORDS = {
+    "stamp": stamp,
+    "place": lambda take: stamp(take) if take(1) == b"\1" else "head",
+    "title": lambda take: take(take(1)[0]).decode(),
+    "digest": lambda take: take(32).hex(),
+    "frame": lambda take: str(number(take(4))),
+    "gain": lambda take: "%d/%d" % (number(take(2)), number(take(2))),
+    "flag": lambda take: "on" if take(1) == b"\1" else "off",
+    "tags": lambda take: " ".join(["tags"] + [stamp(take) for _ in range(number(take(2)))]),
+}
+
+
+def log_line(text, held):
+    """The line of the operation of these bytes, and whether it waits."""
+    take = io.BytesIO(text).read
+    words = [stamp(take), "held" if held else "ready"]
+    act, *fields = ACTS[take(1)[0]]
+    return " ".join(words + [act] + [WORDS[field](take) for field in fields]) + "\n"
+
+
+def log_text(ops, held=()):
+    """A line for each operation, by rising stamp, of which those of the stamps `held` wait; and how many there are."""
+    return "".join(log_line(text, own in held) for own, text in sorted(ops)) + "operations %d\n" % len(ops)
