@@ -67,15 +67,16 @@ fn failing_at(
 
 #[test]
 fn stops_at_each_failed_write(rt: HostRuntime) -> Result<(), Fail> {
-    let log = log_of_a_clip(rt.alloc(), 5000)?;
+    let log = log_of_a_clip(rt.alloc(), 20000)?;
     let file = file_of(rt.alloc(), &log)?;
+    // the head, and five blocks
     for number in 1..100 {
         let (answer, held, past) = failing_at(rt.alloc(), &log, number)?;
         assert!(rt; !past, "asked again after write {number}");
         assert!(rt; file.starts_with(&held), "write {number}");
         if answer.is_ok() {
             assert!(rt; held == file);
-            assert!(rt; number > 20);
+            assert_eq!(rt; number, 7);
             return Ok(());
         }
         assert_eq!(rt; answer, Err(BounceFault::Write), "write {number}");
