@@ -4,12 +4,12 @@ use Rattle.std.specs.Prelude.{nat_lt, min, codes, Option}
 use Rattle.std.proofs.lemmas.List.{take_more, take-append-drop, append-nil, length-take-le}
 use Rattle.std.proofs.lemmas.List.Elements.{filter-append}
 use Rattle.std.proofs.lemmas.List.Sums.{length-filter, count_by-le-length}
-use Rattle.mt_latch.specs.Latch.{Latched}
+use Rattle.mt_latch.specs.declared.buffered.BufferedLatch.{BufferedLatch}
 use Rattle.mt_sessionview.specs.Content.{Marker}
 use Rattle.mt_cuewrite.specs.File.{before, named, label_content, label, labels}
-use Rattle.mt_cuewrite.specs.Putting.{Puts}
+use Rattle.mt_latch.specs.Buffered.{Handed}
 use Rattle.mt_cuewrite.specs.Sizes.{padded_size}
-use Rattle.mt_cuewrite.proofs.Putting.{then_puts, puts_same}
+use Rattle.mt_latch.proofs.Putting.{then_handed, same_handed}
 use Rattle.mt_cuewrite.proofs.Sizing.{length-padded, length-label_content}
 
 -- ---- which are before the end
@@ -67,15 +67,15 @@ named-none text n = refl
 
 module _ {W : Type 0} (contents : W → Option (List ℕ)) (text : ℕ → Marker → List ℕ) (end : ℕ) (ms : List Marker) where
   -- one marker more is put, under the next name
-  pub one_named : {o m n : Latched W} (i name : ℕ) (x : Marker) → i < length ms → x ≡ get_or ms i x → nat_lt x.at end ≡ true → name ≡ 1 + length (before end (take i ms))
-      → Puts contents o m (named text 1 (before end (take i ms))) → Puts contents m n (text name x) → Puts contents o n (named text 1 (before end (take (i + 1) ms)))
+  pub one_named : {o m n : BufferedLatch W} (i name : ℕ) (x : Marker) → i < length ms → x ≡ get_or ms i x → nat_lt x.at end ≡ true → name ≡ 1 + length (before end (take i ms))
+      → Handed contents o m (named text 1 (before end (take i ms))) → Handed contents m n (text name x) → Handed contents o n (named text 1 (before end (take (i + 1) ms)))
   one_named i name x lt is shown count so_far more =
-      puts_same contents (ap (λ (k : ℕ). named text 1 (before end (take i ms)) ++ text k x) count ∙ sym (named-more text 1 (before end (take i ms)) x) ∙ sym (ap (named text 1) (shown_more end ms i x lt is shown))) (then_puts contents so_far more)
+      same_handed contents (ap (λ (k : ℕ). named text 1 (before end (take i ms)) ++ text k x) count ∙ sym (named-more text 1 (before end (take i ms)) x) ∙ sym (ap (named text 1) (shown_more end ms i x lt is shown))) (then_handed contents so_far more)
 
   -- one that is not put
-  pub one_hidden : {o m : Latched W} (i : ℕ) (x : Marker) → i < length ms → x ≡ get_or ms i x → nat_lt x.at end ≡ false
-      → Puts contents o m (named text 1 (before end (take i ms))) → Puts contents o m (named text 1 (before end (take (i + 1) ms)))
-  one_hidden i x lt is hidden so_far = puts_same contents (ap (named text 1) (sym (hidden_more end ms i x lt is hidden))) so_far
+  pub one_hidden : {o m : BufferedLatch W} (i : ℕ) (x : Marker) → i < length ms → x ≡ get_or ms i x → nat_lt x.at end ≡ false
+      → Handed contents o m (named text 1 (before end (take i ms))) → Handed contents o m (named text 1 (before end (take (i + 1) ms)))
+  one_hidden i x lt is hidden so_far = same_handed contents (ap (named text 1) (sym (hidden_more end ms i x lt is hidden))) so_far
 
 pub next_name : (end : ℕ) (ms : List Marker) (i name : ℕ) (x : Marker) → i < length ms → x ≡ get_or ms i x → nat_lt x.at end ≡ true → name ≡ 1 + length (before end (take i ms)) → name + 1 ≡ 1 + length (before end (take (i + 1) ms))
 next_name end ms i name x lt is shown count =

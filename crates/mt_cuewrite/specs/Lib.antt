@@ -1,5 +1,4 @@
 pub mod Head
 pub mod File
 pub mod Faults
-pub mod Putting
 pub mod Sizes

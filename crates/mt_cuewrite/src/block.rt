@@ -3,12 +3,11 @@
 ghost use Rattle.std.specs.Prelude.{◌≡◌, ℕ, ◌++◌, drop, ◌+◌, ◌*◌, ◌/◌, ◌%◌, ◌<◌, ◌≤◌, ◌^◌, length, slice_index_or, pos};
 ghost use Rattle.std.specs.List.{flat_map};
 ghost use Rattle.mt_render.specs.Mix.{length_of, mixed_sample};
-ghost use Rattle.mt_cuewrite.specs.Putting.{Puts};
+ghost use Rattle.mt_latch.specs.Buffered.{Puts};
 ghost use Rattle.mt_cuewrite.specs.File.{sample, frames_from, samples as all_samples};
 
-use crate::put::put;
 use byteorder::{ByteOrder, LittleEndian};
-use mt_opcodec::Latch;
+use mt_opcodec::BufferedLatch;
 use mt_render::Mix;
 use std::alloc::Allocator;
 use std::io::Write;
@@ -48,7 +47,7 @@ fn spell(bits: u16, samples: &[i32], bytes: &mut [u8])
 
 // Puts so many frames from `first` on, for which the samples have room.
 fn put_block<A: Allocator, W: Write>(
-    output: &mut Latch<W>,
+    output: &mut BufferedLatch<'_, W>,
     mix: &Mix<'_, '_, A>,
     first: u64,
     count: u64,
@@ -65,12 +64,12 @@ fn put_block<A: Allocator, W: Write>(
     let spelled = &mut bytes[..size];
     mix.block(first, samples);
     spell(bits, samples, spelled);
-    put(output, spelled);
+    output.put(spelled);
 }
 
 /// Puts the samples of all frames, through room for a block of them.
 pub(crate) fn put_samples<A: Allocator, W: Write>(
-    output: &mut Latch<W>,
+    output: &mut BufferedLatch<'_, W>,
     mix: &Mix<'_, '_, A>,
     samples: &mut [i32],
 )

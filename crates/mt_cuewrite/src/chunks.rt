@@ -2,14 +2,12 @@
 
 ghost use Rattle.std.specs.Prelude.{◌≡◌, ◌<◌, ◌≤◌, ◌+◌, length, codes};
 ghost use Rattle.std.specs.Fmt.{decimal};
-ghost use Rattle.mt_cuewrite.specs.Putting.{Puts};
+ghost use Rattle.mt_latch.specs.Buffered.{Puts};
 ghost use Rattle.mt_cuewrite.specs.File.{padded, channels_word, history, texts, bext, format as format_content};
 
 use crate::head::Head;
-use crate::put::{
-    put, put_chunk_head, put_decimal, put_filled, put_pad, put_u16, put_u32, put_u64, put_zeros,
-};
-use mt_opcodec::Latch;
+use crate::put::{put_chunk_head, put_filled, put_pad, put_u16, put_u32, put_u64, put_zeros};
+use mt_opcodec::BufferedLatch;
 use mt_render::Format;
 use std::io::Write;
 
@@ -48,31 +46,31 @@ pub(crate) fn bext_size(format: Format, head: &Head<'_>) -> u32
 }
 
 // Puts the coding history.
-fn put_history<W: Write>(output: &mut Latch<W>, format: Format)
+fn put_history<W: Write>(output: &mut BufferedLatch<'_, W>, format: Format)
     ensures { Puts W.contents output.old output.new (history format) }
 {
-    put(output, b"A=PCM,F=");
-    put_decimal(output, format.rate());
-    put(output, b",W=");
-    put_decimal(output, u32::from(format.bits()));
-    put(output, b",M=");
-    put(output, channels_word(format.channels()).as_bytes());
-    put(output, b"\r\n");
+    output.put(b"A=PCM,F=");
+    output.put_decimal(u64::from(format.rate()));
+    output.put(b",W=");
+    output.put_decimal(u64::from(format.bits()));
+    output.put(b",M=");
+    output.put(channels_word(format.channels()).as_bytes());
+    output.put(b"\r\n");
 }
 
 // Puts the texts of the head.
-fn put_texts<W: Write>(output: &mut Latch<W>, head: &Head<'_>)
+fn put_texts<W: Write>(output: &mut BufferedLatch<'_, W>, head: &Head<'_>)
     ensures { Puts W.contents output.old output.new (texts head.now) }
 {
     put_filled(output, 256, head.description);
     put_filled(output, 32, head.originator);
     put_filled(output, 32, head.reference);
-    put(output, head.date.as_bytes());
-    put(output, head.time.as_bytes());
+    output.put(head.date.as_bytes());
+    output.put(head.time.as_bytes());
 }
 
 // Puts the content of `bext`.
-fn put_extension<W: Write>(output: &mut Latch<W>, format: Format, head: &Head<'_>)
+fn put_extension<W: Write>(output: &mut BufferedLatch<'_, W>, format: Format, head: &Head<'_>)
     ensures { Puts W.contents output.old output.new (bext format head.now) }
 {
     put_texts(output, head);
@@ -83,7 +81,7 @@ fn put_extension<W: Write>(output: &mut Latch<W>, format: Format, head: &Head<'_
 }
 
 /// Puts the chunk `bext`.
-pub(crate) fn put_bext<W: Write>(output: &mut Latch<W>, format: Format, head: &Head<'_>)
+pub(crate) fn put_bext<W: Write>(output: &mut BufferedLatch<'_, W>, format: Format, head: &Head<'_>)
     ensures { Puts W.contents output.old output.new (padded (record { id = codes "bext"; content = bext format head.now })) }
 {
     let size = bext_size(format, head);
@@ -93,7 +91,7 @@ pub(crate) fn put_bext<W: Write>(output: &mut Latch<W>, format: Format, head: &H
 }
 
 // Puts the content of `fmt `.
-fn put_numbers<W: Write>(output: &mut Latch<W>, format: Format)
+fn put_numbers<W: Write>(output: &mut BufferedLatch<'_, W>, format: Format)
     ensures { Puts W.contents output.old output.new (format_content format) }
 {
     let align = format.channels() * (format.bits() / 8);
@@ -106,7 +104,7 @@ fn put_numbers<W: Write>(output: &mut Latch<W>, format: Format)
 }
 
 /// Puts the chunk `fmt `.
-pub(crate) fn put_format<W: Write>(output: &mut Latch<W>, format: Format)
+pub(crate) fn put_format<W: Write>(output: &mut BufferedLatch<'_, W>, format: Format)
     ensures { Puts W.contents output.old output.new (padded (record { id = codes "fmt "; content = format_content format })) }
 {
     put_chunk_head(output, b"fmt ", 16);

@@ -5,7 +5,7 @@ ghost use Rattle.std.specs.Io.KnownBytes.{Appends};
 ghost use Rattle.mt_render.specs.Mix.{length_of};
 ghost use Rattle.mt_cuewrite.specs.Faults.{Fits, BounceFails};
 ghost use Rattle.mt_cuewrite.specs.File.{before, labels, marker_chunks, padded, samples as all_samples, file};
-ghost use Rattle.mt_cuewrite.specs.Putting.{Puts};
+ghost use Rattle.mt_latch.specs.Buffered.{Puts};
 ghost use Rattle.mt_cuewrite.specs.Sizes.{AreSizes};
 ghost use Rattle.std.specs.List.{flat_map};
 
@@ -14,9 +14,9 @@ use crate::chunks::{put_bext, put_format};
 use crate::fault::BounceFault;
 use crate::head::Head;
 use crate::marks::{put_cue, put_list};
-use crate::put::{put, put_chunk_head, put_pad};
+use crate::put::{put_chunk_head, put_pad};
 use crate::size::{Sizes, sizes_of};
-use mt_opcodec::Latch;
+use mt_opcodec::{BufferedLatch, Latch};
 use mt_render::Mix;
 use mt_sessionview::MarkerView;
 use std::alloc::Allocator;
@@ -24,7 +24,7 @@ use std::io::Write;
 
 // Puts the chunk `data`.
 fn put_data<A: Allocator, W: Write>(
-    output: &mut Latch<W>,
+    output: &mut BufferedLatch<'_, W>,
     mix: &Mix<'_, '_, A>,
     size: u32,
     room: &mut [i32],
@@ -40,7 +40,7 @@ fn put_data<A: Allocator, W: Write>(
 
 // Puts the chunks of the markers, where there are any before the end.
 fn put_marks<A: Allocator, W: Write>(
-    output: &mut Latch<W>,
+    output: &mut BufferedLatch<'_, W>,
     end: u64,
     markers: &[MarkerView<A>],
     sizes: Sizes,
@@ -58,7 +58,7 @@ fn put_marks<A: Allocator, W: Write>(
 
 // Puts the file.
 fn put_file<A: Allocator, B: Allocator, W: Write>(
-    output: &mut Latch<W>,
+    output: &mut BufferedLatch<'_, W>,
     mix: &Mix<'_, '_, A>,
     markers: &[MarkerView<B>],
     head: &Head<'_>,
@@ -70,7 +70,7 @@ fn put_file<A: Allocator, B: Allocator, W: Write>(
     ensures { Puts W.contents output.old output.new (file mix.now markers.now head.now) }
 {
     put_chunk_head(output, b"RIFF", sizes.riff);
-    put(output, b"WAVE");
+    output.put(b"WAVE");
     put_bext(output, mix.format(), head);
     put_format(output, mix.format());
     put_data(output, mix, sizes.samples, room);
@@ -86,6 +86,7 @@ fn put_file<A: Allocator, B: Allocator, W: Write>(
 ///
 /// The output is given pieces of at most 24,576 bytes, a block of 4,096 frames at a time. The memory is 32,768 bytes, whatever the
 /// length is; the time is that of the mix, and of one walk over the markers for each of their two chunks and for their sizes.
+#[tactic(auto, unfolding(mt_latch::specs::Buffered::Puts))]
 pub fn bounce<A: Allocator, B: Allocator, W: Write>(
     alloc: A,
     mix: &Mix<'_, '_, B>,
@@ -106,8 +107,9 @@ pub fn bounce<A: Allocator, B: Allocator, W: Write>(
     let Ok(mut room) = vec![in alloc; 0; SAMPLES] else {
         return Err(BounceFault::Memory);
     };
-    put_file(output, mix, markers, head, sizes, &mut room);
-    if output.failed() {
+    let mut buffered = BufferedLatch::new(output);
+    put_file(&mut buffered, mix, markers, head, sizes, &mut room);
+    if buffered.flush().is_err() {
         return Err(BounceFault::Write);
     }
     Ok(())

@@ -1,11 +1,11 @@
 //! The cue points and their labels.
 
 ghost use Rattle.std.specs.Prelude.{◌≡◌, ℕ, nat_lt, ◌+◌, ◌*◌, ◌<◌, ◌≤◌, ◌^◌, min, length, codes};
-ghost use Rattle.mt_cuewrite.specs.Putting.{Puts};
+ghost use Rattle.mt_latch.specs.Buffered.{Puts};
 ghost use Rattle.mt_cuewrite.specs.File.{padded, before, point, points, label_content, label, labels, named};
 
-use crate::put::{put, put_chunk_head, put_pad, put_u32, put_zeros};
-use mt_opcodec::Latch;
+use crate::put::{put_chunk_head, put_pad, put_u32, put_zeros};
+use mt_opcodec::BufferedLatch;
 use mt_sessionview::MarkerView;
 use std::alloc::Allocator;
 use std::io::Write;
@@ -21,20 +21,28 @@ pub(crate) fn is_before<A: Allocator>(marker: &MarkerView<A>, end: u64) -> bool
 }
 
 // Puts the cue point of this name.
-fn put_point<A: Allocator, W: Write>(output: &mut Latch<W>, name: u32, marker: &MarkerView<A>)
+fn put_point<A: Allocator, W: Write>(
+    output: &mut BufferedLatch<'_, W>,
+    name: u32,
+    marker: &MarkerView<A>,
+)
     ensures { Puts W.contents output.old output.new (point name marker.now) }
 {
     let position = marker.at;
     put_u32(output, name);
     put_u32(output, position);
-    put(output, b"data");
+    output.put(b"data");
     put_u32(output, 0);
     put_u32(output, 0);
     put_u32(output, marker.at);
 }
 
 // Puts the cue point of each marker before the end.
-fn put_points<A: Allocator, W: Write>(output: &mut Latch<W>, end: u64, markers: &[MarkerView<A>])
+fn put_points<A: Allocator, W: Write>(
+    output: &mut BufferedLatch<'_, W>,
+    end: u64,
+    markers: &[MarkerView<A>],
+)
     requires few { length (before end markers.now) < 2 ^ 31 }
     ensures { Puts W.contents output.old output.new (named point 1 (before end markers.now)) }
 {
@@ -56,20 +64,25 @@ pub(crate) fn label_size<A: Allocator>(marker: &MarkerView<A>) -> u32
 }
 
 // Puts the content of the label of this name.
+#[tactic(auto, using(mt_latch::proofs::Putting::then_puts), unfolding(crate::specs::File::label_content))]
 fn put_label_content<A: Allocator, W: Write>(
-    output: &mut Latch<W>,
+    output: &mut BufferedLatch<'_, W>,
     name: u32,
     marker: &MarkerView<A>,
 )
     ensures { Puts W.contents output.old output.new (label_content name marker.now) }
 {
     put_u32(output, name);
-    put(output, marker.title.text().as_bytes());
+    output.put(marker.title.text().as_bytes());
     put_zeros(output, 1);
 }
 
 // Puts the label of this name.
-fn put_label<A: Allocator, W: Write>(output: &mut Latch<W>, name: u32, marker: &MarkerView<A>)
+fn put_label<A: Allocator, W: Write>(
+    output: &mut BufferedLatch<'_, W>,
+    name: u32,
+    marker: &MarkerView<A>,
+)
     ensures { Puts W.contents output.old output.new (label name marker.now) }
 {
     let size = label_size(marker);
@@ -79,7 +92,11 @@ fn put_label<A: Allocator, W: Write>(output: &mut Latch<W>, name: u32, marker: &
 }
 
 // Puts the label of each marker before the end.
-fn put_labels<A: Allocator, W: Write>(output: &mut Latch<W>, end: u64, markers: &[MarkerView<A>])
+fn put_labels<A: Allocator, W: Write>(
+    output: &mut BufferedLatch<'_, W>,
+    end: u64,
+    markers: &[MarkerView<A>],
+)
     requires few { length (before end markers.now) < 2 ^ 31 }
     ensures { Puts W.contents output.old output.new (named label 1 (before end markers.now)) }
 {
@@ -94,7 +111,7 @@ fn put_labels<A: Allocator, W: Write>(output: &mut Latch<W>, end: u64, markers: 
 
 /// Puts the chunk `cue ` of so many points.
 pub(crate) fn put_cue<A: Allocator, W: Write>(
-    output: &mut Latch<W>,
+    output: &mut BufferedLatch<'_, W>,
     end: u64,
     markers: &[MarkerView<A>],
     count: u32,
@@ -110,7 +127,7 @@ pub(crate) fn put_cue<A: Allocator, W: Write>(
 
 /// Puts the chunk `LIST` of the labels, of a content of this size.
 pub(crate) fn put_list<A: Allocator, W: Write>(
-    output: &mut Latch<W>,
+    output: &mut BufferedLatch<'_, W>,
     end: u64,
     markers: &[MarkerView<A>],
     size: u32,
@@ -120,7 +137,7 @@ pub(crate) fn put_list<A: Allocator, W: Write>(
     ensures { Puts W.contents output.old output.new (padded (record { id = codes "LIST"; content = labels (before end markers.now) })) }
 {
     put_chunk_head(output, b"LIST", size);
-    put(output, b"adtl");
+    output.put(b"adtl");
     put_labels(output, end, markers);
     put_pad(output, size);
 }

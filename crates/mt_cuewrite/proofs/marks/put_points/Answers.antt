@@ -1,12 +1,14 @@
 use Rattle.std.proofs.Common.{arith, refl, sym, ◌∙◌}
 use Rattle.mt_cuewrite.specs.File.{point}
-use Rattle.mt_cuewrite.proofs.Putting.{puts_same, puts_none}
+use Rattle.mt_latch.specs.Buffered.{Puts}
+use Rattle.mt_latch.proofs.Putting.{same_handed, none_handed}
 use Rattle.mt_cuewrite.proofs.Marking.{named-none, few_so_far, one_named, one_hidden, next_name, same_name}
 use Rattle.mt_cuewrite.proofs.marks.put_points.Goals as goal
 use Rattle.mt_cuewrite.proofs.marks.put_points.Goals.{then-is_before, else-is_before}
 
 pub loop-marker-init : goal.loop-marker-init
-loop-marker-init g c = record { put = puts_same g.W.Write.contents (sym (named-none point 1)) (puts_none g.W.Write.contents c.args.output.now); count = refl }
+unfolding Puts
+loop-marker-init g c = record { put = same_handed g.W.Write.contents (sym (named-none point 1)) (none_handed g.W.Write.contents c.args.output.now); count = refl }
 
 pub overflow_add-name : goal.overflow_add-name
 overflow_add-name g c =
@@ -16,6 +18,7 @@ overflow_add-name g c =
     omega arith
 
 pub loop-marker-preserved : goal.loop-marker-preserved
+unfolding Puts
 loop-marker-preserved g c =
     let end = c.args.end in
     let ms = c.args.markers.now in
