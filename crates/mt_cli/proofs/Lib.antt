@@ -1,6 +1,5 @@
 pub mod Readers
 pub mod Writing
-pub mod Buffering
 pub mod Labels
 pub mod Recordings
 pub mod SameSources

@@ -4,7 +4,6 @@ pub mod Joining
 pub mod Viewing
 pub mod Listing
 pub mod Writing
-pub mod Buffering
 pub mod Info
 pub mod Sources
 pub mod Bouncing

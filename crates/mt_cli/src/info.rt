@@ -11,125 +11,123 @@ ghost use Rattle.mt_bwfread.specs.Cues.{CueText, cues_of, labels_of, label_for};
 ghost use Rattle.hex.specs.Hex.{encode_lower};
 ghost use Rattle.sha2.specs.Sha256.{sha256};
 ghost use Rattle.mt_latch.specs.Latch.{AppendsPrefix};
-ghost use Rattle.mt_cli.specs.Buffering.{Hands};
+ghost use Rattle.mt_latch.specs.Buffered.{Puts};
 ghost use Rattle.mt_cli.specs.Info.{info_text, line, shown_byte, shown, sound_lines, extension_lines, label_text, cue_line, InfoFails};
 ghost use Rattle.std.specs.Fmt.{decimal};
 ghost use Rattle.std.specs.List.{flat_map};
 
-use crate::buffer::{Buffer, flush, put, put_number};
 use crate::fault::CliFault;
 use mt_bwfread::{Bext, Wave};
 use mt_op::Digest;
-use mt_opcodec::Latch;
+use mt_opcodec::{BufferedLatch, Latch};
 use std::alloc::{AllocError, Allocator};
 use std::collections::BTreeMap;
 use std::io::Write;
 
-// Hands a byte of a file's text: as it is, or as `\x` and two digits.
+// Puts a byte of a file's text: as it is, or as `\x` and two digits.
 #[tactic(auto, unfolding(crate::specs::Info::shown_byte))]
-fn put_shown_byte<W: Write>(buffer: &mut Buffer, output: &mut Latch<W>, byte: u8)
-    ensures { Hands W.contents output.old output.new buffer.old.items buffer.new.items (shown_byte byte) }
+fn put_shown_byte<W: Write>(output: &mut BufferedLatch<'_, W>, byte: u8)
+    ensures { Puts W.contents output.old output.new (shown_byte byte) }
 {
     if (32..=126).contains(&byte) && byte != b'\\' {
-        put(buffer, output, &[byte]);
+        output.put(&[byte]);
         return;
     }
     let mut digits = [0; 2];
     let _ = hex::encode_to_slice([byte], &mut digits);
-    put(buffer, output, &[b'\\', b'x', digits[0], digits[1]]);
+    output.put(&[b'\\', b'x', digits[0], digits[1]]);
 }
 
-// Hands a file's text.
-fn put_shown<W: Write>(buffer: &mut Buffer, output: &mut Latch<W>, text: &[u8])
-    ensures { Hands W.contents output.old output.new buffer.old.items buffer.new.items (shown text.now) }
+// Puts a file's text.
+#[tactic(auto, using(mt_latch::proofs::Putting::puts_none))]
+fn put_shown<W: Write>(output: &mut BufferedLatch<'_, W>, text: &[u8])
+    ensures { Puts W.contents output.old output.new (shown text.now) }
 {
     for byte in text {
-        put_shown_byte(buffer, output, *byte);
+        put_shown_byte(output, *byte);
     }
 }
 
-// Hands the line of a word and a value.
-fn put_line<W: Write>(buffer: &mut Buffer, output: &mut Latch<W>, word: &str, value: &str)
-    ensures { Hands W.contents output.old output.new buffer.old.items buffer.new.items (line word.now value.now) }
+// Puts the line of a word and a value.
+#[tactic(auto, using(mt_latch::proofs::Putting::then_puts))]
+fn put_line<W: Write>(output: &mut BufferedLatch<'_, W>, word: &str, value: &str)
+    ensures { Puts W.contents output.old output.new (line word.now value.now) }
 {
-    put(buffer, output, word.as_bytes());
-    put(buffer, output, b" ");
-    put(buffer, output, value.as_bytes());
-    put(buffer, output, b"\n");
+    output.put(word.as_bytes());
+    output.put(b" ");
+    output.put(value.as_bytes());
+    output.put(b"\n");
 }
 
-// Hands the line of a word and a number.
-fn put_number_line<W: Write>(buffer: &mut Buffer, output: &mut Latch<W>, word: &str, number: u64)
-    ensures { Hands W.contents output.old output.new buffer.old.items buffer.new.items (line word.now (decimal number)) }
+// Puts the line of a word and a number.
+fn put_number_line<W: Write>(output: &mut BufferedLatch<'_, W>, word: &str, number: u64)
+    ensures { Puts W.contents output.old output.new (line word.now (decimal number)) }
 {
-    let mut digits = itoa::Buffer::new();
-    put_line(buffer, output, word, digits.format(number));
+    output.put(word.as_bytes());
+    output.put(b" ");
+    output.put_decimal(number);
+    output.put(b"\n");
 }
 
-// Hands the line of a word and a file's text.
-fn put_text_line<W: Write>(buffer: &mut Buffer, output: &mut Latch<W>, word: &str, text: &[u8])
-    ensures { Hands W.contents output.old output.new buffer.old.items buffer.new.items (line word.now (shown text.now)) }
+// Puts the line of a word and a file's text.
+fn put_text_line<W: Write>(output: &mut BufferedLatch<'_, W>, word: &str, text: &[u8])
+    ensures { Puts W.contents output.old output.new (line word.now (shown text.now)) }
 {
-    put(buffer, output, word.as_bytes());
-    put(buffer, output, b" ");
-    put_shown(buffer, output, text);
-    put(buffer, output, b"\n");
+    output.put(word.as_bytes());
+    output.put(b" ");
+    put_shown(output, text);
+    output.put(b"\n");
 }
 
-// Hands the lines of the sound.
-fn put_sound<W: Write>(buffer: &mut Buffer, output: &mut Latch<W>, wave: &Wave<'_>)
-    ensures { Hands W.contents output.old output.new buffer.old.items buffer.new.items (sound_lines wave.now) }
+// Puts the lines of the sound.
+fn put_sound<W: Write>(output: &mut BufferedLatch<'_, W>, wave: &Wave<'_>)
+    ensures { Puts W.contents output.old output.new (sound_lines wave.now) }
 {
-    put_number_line(buffer, output, "rate", u64::from(wave.rate()));
-    put_number_line(buffer, output, "channels", u64::from(wave.channels()));
-    put_number_line(buffer, output, "bits", u64::from(wave.bits()));
-    put_number_line(buffer, output, "frames", wave.frames());
+    put_number_line(output, "rate", u64::from(wave.rate()));
+    put_number_line(output, "channels", u64::from(wave.channels()));
+    put_number_line(output, "bits", u64::from(wave.bits()));
+    put_number_line(output, "frames", wave.frames());
 }
 
-// Hands the lines of the broadcast extension.
-fn put_extension<W: Write>(buffer: &mut Buffer, output: &mut Latch<W>, bext: Option<Bext<'_>>)
-    ensures { Hands W.contents output.old output.new buffer.old.items buffer.new.items (extension_lines (option_map extension bext.entry)) }
+// Puts the lines of the broadcast extension.
+fn put_extension<W: Write>(output: &mut BufferedLatch<'_, W>, bext: Option<Bext<'_>>)
+    ensures { Puts W.contents output.old output.new (extension_lines (option_map extension bext.entry)) }
 {
     let Some(bext) = bext else {
-        put(buffer, output, b"bext none\n");
+        output.put(b"bext none\n");
         return;
     };
-    put_number_line(buffer, output, "bext", u64::from(bext.version));
-    put_text_line(buffer, output, "description", bext.description);
-    put_text_line(buffer, output, "originator", bext.originator);
-    put_text_line(buffer, output, "reference", bext.reference);
-    put_text_line(buffer, output, "date", bext.date);
-    put_text_line(buffer, output, "time", bext.time);
-    put_number_line(buffer, output, "time-reference", bext.time_reference);
-    put_text_line(buffer, output, "history", bext.history);
+    put_number_line(output, "bext", u64::from(bext.version));
+    put_text_line(output, "description", bext.description);
+    put_text_line(output, "originator", bext.originator);
+    put_text_line(output, "reference", bext.reference);
+    put_text_line(output, "date", bext.date);
+    put_text_line(output, "time", bext.time);
+    put_number_line(output, "time-reference", bext.time_reference);
+    put_text_line(output, "history", bext.history);
 }
 
-// Hands the end of a cue's line.
-fn put_label<W: Write>(buffer: &mut Buffer, output: &mut Latch<W>, label: Option<&[u8]>)
-    ensures { Hands W.contents output.old output.new buffer.old.items buffer.new.items (label_text (option_copied label.entry)) }
+// Puts the end of a cue's line.
+#[tactic(auto, using(mt_latch::proofs::Putting::then_puts, mt_latch::proofs::Putting::puts_none))]
+fn put_label<W: Write>(output: &mut BufferedLatch<'_, W>, label: Option<&[u8]>)
+    ensures { Puts W.contents output.old output.new (label_text (option_copied label.entry)) }
 {
     if let Some(text) = label {
-        put(buffer, output, b" label ");
-        put_shown(buffer, output, text);
+        output.put(b" label ");
+        put_shown(output, text);
     }
 }
 
-// Hands a cue's line.
-fn put_cue<W: Write>(
-    buffer: &mut Buffer,
-    output: &mut Latch<W>,
-    name: u32,
-    at: u32,
-    label: Option<&[u8]>,
-)
-    ensures { Hands W.contents output.old output.new buffer.old.items buffer.new.items (cue_line (record { name = name; at = at; label = option_copied label.entry })) }
+// Puts a cue's line.
+fn put_cue<W: Write>(output: &mut BufferedLatch<'_, W>, name: u32, at: u32, label: Option<&[u8]>)
+    ensures { Puts W.contents output.old output.new (cue_line (record { name = name; at = at; label = option_copied label.entry })) }
 {
-    put(buffer, output, b"cue ");
-    put_number(buffer, output, u64::from(name));
-    put(buffer, output, b" at ");
-    put_number(buffer, output, u64::from(at));
-    put_label(buffer, output, label);
-    put(buffer, output, b"\n");
+    output.put(b"cue ");
+    output.put_decimal(u64::from(name));
+    output.put(b" at ");
+    output.put_decimal(u64::from(at));
+    put_label(output, label);
+    output.put(b"\n");
 }
 
 // The first label of each name.
@@ -148,20 +146,20 @@ fn first_labels<'a, A: Allocator + Clone>(
     Ok(labels)
 }
 
-// Hands the lines of the cues.
+// Puts the lines of the cues.
+#[tactic(auto, using(mt_latch::proofs::Putting::puts_none))]
 fn put_cues<A: Allocator, W: Write>(
-    buffer: &mut Buffer,
-    output: &mut Latch<W>,
+    output: &mut BufferedLatch<'_, W>,
     wave: &Wave<'_>,
     labels: &BTreeMap<u32, &[u8], A>,
 )
     requires labels { (name : ℕ) → option_copied (get nat_cmp labels.now name) ≡ label_for name (labels_of wave.now) }
-    ensures { Hands W.contents output.old output.new buffer.old.items buffer.new.items (flat_map cue_line (cues_of wave.now)) }
+    ensures { Puts W.contents output.old output.new (flat_map cue_line (cues_of wave.now)) }
 {
     for index in 0..wave.cue_count() {
         if let Some(point) = wave.point(index) {
             let label = labels.get(&point.name).copied();
-            put_cue(buffer, output, point.name, point.at, label);
+            put_cue(output, point.name, point.at, label);
         }
     }
 }
@@ -195,11 +193,12 @@ pub fn write_info<A: Allocator + Clone, W: Write>(
     let Ok(digest) = Digest::of(bytes).text(alloc) else {
         return Err(CliFault::Memory);
     };
-    put_info(&wave, digest.as_str(), &labels, output)
+    write_lines(&wave, digest.as_str(), &labels, output)
 }
 
 // Writes the text of a wave file whose digest has this text, and whose labels are these.
-fn put_info<A: Allocator, W: Write>(
+#[tactic(auto, unfolding(mt_latch::specs::Buffered::Puts))]
+fn write_lines<A: Allocator, W: Write>(
     wave: &Wave<'_>,
     digest: &str,
     labels: &BTreeMap<u32, &[u8], A>,
@@ -210,14 +209,27 @@ fn put_info<A: Allocator, W: Write>(
     ensures ok { OnOk result (Appends (W.contents output.old.inner) (W.contents output.new.inner) (info_text wave.now)) }
     ensures err { IfErr result (λ fault. (fault ≡ CliFault.Write) × (output.new.failed ≡ true) × AppendsPrefix (W.contents output.old.inner) (W.contents output.new.inner) (info_text wave.now)) }
 {
-    let mut buffer = Buffer::new();
-    put_line(&mut buffer, output, "digest", digest);
-    put_sound(&mut buffer, output, wave);
-    put_extension(&mut buffer, output, wave.bext());
-    put_cues(&mut buffer, output, wave, labels);
-    flush(&mut buffer, output);
-    if output.failed() {
+    let mut lines = BufferedLatch::new(output);
+    put_lines(&mut lines, wave, digest, labels);
+    if lines.flush().is_err() {
         return Err(CliFault::Write);
     }
     Ok(())
+}
+
+// Puts that text.
+fn put_lines<A: Allocator, W: Write>(
+    output: &mut BufferedLatch<'_, W>,
+    wave: &Wave<'_>,
+    digest: &str,
+    labels: &BTreeMap<u32, &[u8], A>,
+)
+    requires labels { (name : ℕ) → option_copied (get nat_cmp labels.now name) ≡ label_for name (labels_of wave.now) }
+    requires digest { digest.now ≡ encode_lower (sha256 wave.now) }
+    ensures { Puts W.contents output.old output.new (info_text wave.now) }
+{
+    put_line(output, "digest", digest);
+    put_sound(output, wave);
+    put_extension(output, wave.bext());
+    put_cues(output, wave, labels);
 }

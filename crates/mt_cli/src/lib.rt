@@ -1,7 +1,6 @@
 //! The commands of `radio`.
 #![tactic(auto)]
 
-mod buffer;
 mod commands;
 mod fault;
 mod files;

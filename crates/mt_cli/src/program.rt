@@ -8,7 +8,7 @@ use crate::commands::{
 use crate::fault::CliFault;
 use crate::stop::Stop;
 use clap::{ArgMatches, Command};
-use mt_opcodec::Latch;
+use mt_opcodec::{BufferedLatch, Latch};
 use std::alloc::{AllocError, Global};
 use std::io::{Read, Write};
 use std::net::Net;
@@ -45,10 +45,11 @@ pub fn command<F: Files + Net + AllocGlobal, R: Read, W: Write, E: Write>(
 fn refused<E: Write>(number: u8, errors: &mut Latch<E>) -> u8
     ensures { result ≡ 1 }
 {
-    let mut digits = itoa::Buffer::new();
-    for part in ["radio: fault ", digits.format(number), "\n"] {
-        let _ = errors.put(part.as_bytes());
-    }
+    let mut line = BufferedLatch::new(errors);
+    line.put(b"radio: fault ");
+    line.put_decimal(u64::from(number));
+    line.put(b"\n");
+    let _ = line.flush();
     1
 }
 

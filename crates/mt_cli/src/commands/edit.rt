@@ -8,7 +8,7 @@ use crate::part::Part;
 use crate::read::read_all;
 use crate::stop::Stop;
 use clap::{ArgMatches, Command};
-use mt_opcodec::Latch;
+use mt_opcodec::{BufferedLatch, Latch};
 use mt_replica::Editor;
 use mt_script::run as run_script;
 use mt_stamp::Replica;
@@ -43,13 +43,11 @@ fn put_edited<W: Write, P: Write>(
         return Err(CliFault::Memory);
     };
     put_log(log, part)?;
-    let mut digits = itoa::Buffer::new();
-    for text in ["ops ", digits.format(made), "\n"] {
-        if output.put(text.as_bytes()).is_err() {
-            return Err(CliFault::Write);
-        }
-    }
-    Ok(())
+    let mut line = BufferedLatch::new(output);
+    line.put(b"ops ");
+    line.put_decimal(made as u64);
+    line.put(b"\n");
+    line.flush().map_err(|_| CliFault::Write)
 }
 
 // Makes the changes of the script that the second input holds, and tells how many they are.

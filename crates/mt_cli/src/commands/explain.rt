@@ -8,7 +8,7 @@ use crate::refusals::{
 use crate::stop::Stop;
 use clap::error::ErrorKind;
 use clap::{Arg, ArgMatches, Command, value_parser};
-use mt_opcodec::Latch;
+use mt_opcodec::{BufferedLatch, Latch};
 use std::alloc::{AllocError, Global};
 use std::io::Write;
 
@@ -30,13 +30,15 @@ pub(crate) fn run<W: Write>(
     words: &ArgMatches<'_>,
     output: &mut Latch<W>,
 ) -> Result<(), Stop> {
-    let Some(number) = words.get_one::<u8>("N") else {
-        return Ok(put_all(output)?);
-    };
-    match find_refusal(number) {
-        Some(found) => Ok(put_whole(found, output)?),
-        None => Err(unknown(alloc, number)?),
+    let mut lines = BufferedLatch::new(output);
+    match words.get_one::<u8>("N") {
+        None => put_all(&mut lines),
+        Some(number) => match find_refusal(number) {
+            Some(found) => put_whole(&mut lines, found),
+            None => return Err(unknown(alloc, number)?),
+        },
     }
+    Ok(lines.flush().map_err(|_| CliFault::Write)?)
 }
 
 // What is told of a number that is no refusal.
@@ -46,8 +48,8 @@ fn unknown(alloc: Global, number: u8) -> Result<Stop, AllocError> {
     Ok(Stop::told(alloc, error))
 }
 
-// Writes all refusals, a line each.
-fn put_all<W: Write>(output: &mut Latch<W>) -> Result<(), CliFault> {
+// Puts all refusals, a line each.
+fn put_all<W: Write>(output: &mut BufferedLatch<'_, W>) {
     for table in [
         OF_OPERATIONS.as_slice(),
         OF_LOGS.as_slice(),
@@ -57,33 +59,24 @@ fn put_all<W: Write>(output: &mut Latch<W>) -> Result<(), CliFault> {
         OF_FILES_AND_PARTS.as_slice(),
     ] {
         for one in table {
-            put_line(one, output)?;
+            put_line(output, one);
         }
     }
-    Ok(())
 }
 
-// Writes a refusal's line, and what can be done about it.
-fn put_whole<W: Write>(refusal: &Refusal, output: &mut Latch<W>) -> Result<(), CliFault> {
-    put_line(refusal, output)?;
-    put(refusal.advice, output)?;
-    put("\n", output)
+// Puts a refusal's line, and what can be done about it.
+fn put_whole<W: Write>(output: &mut BufferedLatch<'_, W>, refusal: &Refusal) {
+    put_line(output, refusal);
+    output.put(refusal.advice.as_bytes());
+    output.put(b"\n");
 }
 
-// Writes a refusal's number, name and meaning.
-fn put_line<W: Write>(refusal: &Refusal, output: &mut Latch<W>) -> Result<(), CliFault> {
-    let mut digits = itoa::Buffer::new();
-    put(digits.format(refusal.number), output)?;
-    put(" ", output)?;
-    put(refusal.name, output)?;
-    put(": ", output)?;
-    put(refusal.meaning, output)?;
-    put("\n", output)
-}
-
-fn put<W: Write>(text: &str, output: &mut Latch<W>) -> Result<(), CliFault> {
-    match output.put(text.as_bytes()) {
-        Ok(()) => Ok(()),
-        Err(_) => Err(CliFault::Write),
-    }
+// Puts a refusal's number, name and meaning.
+fn put_line<W: Write>(output: &mut BufferedLatch<'_, W>, refusal: &Refusal) {
+    output.put_decimal(u64::from(refusal.number));
+    output.put(b" ");
+    output.put(refusal.name.as_bytes());
+    output.put(b": ");
+    output.put(refusal.meaning.as_bytes());
+    output.put(b"\n");
 }

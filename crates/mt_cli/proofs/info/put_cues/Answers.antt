@@ -3,17 +3,19 @@ use Rattle.std.specs.Option.{option_copied}
 use Rattle.mt_bwfread.specs.Cues.{points_of, cues_of}
 use Rattle.mt_bwfread.proofs.Pointing.{cue_is}
 use Rattle.mt_cli.specs.Info.{cue_line}
-use Rattle.mt_cli.proofs.Buffering.{one_more_handed}
+use Rattle.mt_latch.specs.Buffered.{Puts}
+use Rattle.mt_latch.proofs.Putting.{one_more_handed}
 use Rattle.mt_cli.proofs.Labels.{no_item}
 use Rattle.mt_cli.proofs.info.put_cues.Goals as goal
 use Rattle.mt_cli.proofs.info.put_cues.Goals.{in-Some, in_default}
 
 pub loop-index-preserved : goal.loop-index-preserved
+unfolding Puts
 loop-index-preserved g c =
     elim c.match-point.branch [
       | in-Some w ↦
           let labelled = ap option_copied w.copied-label.ensures ∙ ap option_copied w.get.ensures.value ∙ c.requires.labels w.in-Some.point.name in
-          rw (w.buffer-is, w.output-is) (one_more_handed g.W.Write.contents cue_line (cues_of c.args.wave.now) c.loop-index.index _
+          rw w.output-is (one_more_handed g.W.Write.contents cue_line (cues_of c.args.wave.now) c.loop-index.index _
           (sym (cue_is c.args.wave.now c.loop-index.index w.in-Some.point (option_copied w.copied-label.result) w.in-Some.ensures labelled))
           c.loop-index.invariant w.put_cue.ensures)
       | in_default w ↦

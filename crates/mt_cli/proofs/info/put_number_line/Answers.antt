@@ -1,7 +1,8 @@
-use Rattle.std.proofs.Common.{ℕ, List, ap}
-use Rattle.mt_cli.specs.Info.{line}
-use Rattle.mt_cli.proofs.Buffering.{hands_same}
+use Rattle.mt_latch.specs.Buffered.{Puts}
+use Rattle.mt_latch.proofs.Putting.{then_handed}
 use Rattle.mt_cli.proofs.info.put_number_line.Goals as goal
 
 pub returns : goal.returns
-returns g c = hands_same g.W.Write.contents (ap (λ (value : List ℕ). line c.args.word.now value) c.format.ensures.text) c.put_line.ensures
+unfolding Puts
+returns g c =
+    rw (← c.as_bytes.ensures.value) (then_handed _ c.put.ensures (then_handed _ c.put-2.ensures (then_handed _ c.put_decimal.ensures c.put-3.ensures)))

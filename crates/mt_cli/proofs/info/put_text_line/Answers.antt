@@ -1,7 +1,8 @@
-use Rattle.mt_cli.proofs.Buffering.{then_hands, hands_same}
+use Rattle.mt_latch.specs.Buffered.{Puts}
+use Rattle.mt_latch.proofs.Putting.{then_handed}
 use Rattle.mt_cli.proofs.info.put_text_line.Goals as goal
 
 pub returns : goal.returns
+unfolding Puts
 returns g c =
-    let contents = g.W.Write.contents in
-    then_hands contents (hands_same contents c.as_bytes.ensures.value c.put.ensures) (then_hands contents c.put-2.ensures (then_hands contents c.put_shown.ensures c.put-3.ensures))
+    rw (← c.as_bytes.ensures.value) (then_handed _ c.put.ensures (then_handed _ c.put-2.ensures (then_handed _ c.put_shown.ensures c.put-3.ensures)))
