@@ -11,6 +11,7 @@ if command -v python3 >/dev/null 2>&1; then
   python3 tests/checks/rendered_waves.py "$PWD/crates/radio/out/radio"
   python3 tests/checks/story.py "$PWD/crates/radio/out/radio"
   python3 tests/checks/meetings.py "$PWD/crates/radio/out/radio"
+  python3 tests/checks/examples.py
 else
-  echo "skipped the comparisons with the model, with other programs' wave files and with the README: no python3"
+  echo "skipped the comparisons with the model, with other programs' wave files and with the README, and the examples of the libraries: no python3"
 fi

@@ -1,0 +1,142 @@
+#!/usr/bin/env python3
+"""Runs the examples of the libraries: tests/checks/examples.py [CRATE]...
+
+docs/libraries.md has an example of each library: below the library's heading a block that begins with ```rust, whole items with the `use` lines that
+they need, among them a `#[test]` function that asserts what the text says. The script copies the crates into a folder of its own, makes one
+crate of all examples there, a module for each, and runs it by `rt try --test`; with names it runs those of these crates alone.
+
+It fails where an example does not compile, asserts nothing, uses a library that crates.txt does not list above its own, or fails when it
+runs, and where a library (a crate of crates.txt that is no program, and no `_tests` crate) has none.
+
+Examples are run and not proved: that a caller's proof has what it needs from the contracts is not shown, and a call that breaks a `requires`
+may pass. Each runs once, with ample memory and without optimisation, and only what it asserts is compared.
+"""
+import os
+import re
+import shutil
+import subprocess
+import sys
+import tempfile
+
+TOP = os.path.dirname(os.path.dirname(os.path.dirname(os.path.abspath(__file__))))
+CRATE = "libraries_by_example"
+
+
+def libraries():
+    """The names of the crates that are no program and no crate of tests, in the order of crates.txt."""
+    with open(os.path.join(TOP, "crates.txt")) as file:
+        names = [line.split(":")[0].strip() for line in file if ":" in line and not line.startswith("#")]
+    return [name for name in names if not name.endswith("_tests") and not os.path.exists(file_of(name, "main.rt"))]
+
+
+def file_of(name, file):
+    return os.path.join(TOP, "crates", name, "src", file)
+
+
+def examples_of(name):
+    """The blocks below a library's heading, each as its lines."""
+    blocks, block, below = [], None, False
+    with open(os.path.join(TOP, "docs", "libraries.md")) as file:
+        for line in file:
+            text = line.rstrip()
+            if block is not None and text == "```":
+                blocks.append(block)
+                block = None
+            elif block is not None:
+                block.append(text)
+            elif text.startswith("## "):
+                below = text == "## " + name
+            elif below and text == "```rust":
+                block = []
+    return blocks
+
+
+def fault_of(block, below):
+    """Why an example is not run, if it is not: these are the libraries that it may use."""
+    text = "\n".join(block)
+    if not re.search(r"^#\[test\]\nfn \w+", text, re.M):
+        return "has no #[test] function"
+    if not re.search(r"\bassert(_eq|_ne)?!\(", text):
+        return "asserts nothing"
+    for used in re.findall(r"\bmt_\w+(?=::)", text):
+        if used not in below:
+            return "uses %s, which crates.txt does not list above" % used
+    return None
+
+
+def make_crate(folder, names):
+    """Copies the libraries, and makes the folder of the crate of examples."""
+    crates = os.path.join(folder, "crates")
+    for name in names:
+        shutil.copytree(os.path.join(TOP, "crates", name), os.path.join(crates, name), ignore=shutil.ignore_patterns("out"))
+    shutil.copy(os.path.join(TOP, "HANDLES"), folder)
+    with open(os.path.join(TOP, "crates.txt")) as file:
+        lines = [line for line in file if line.split(":")[0] in names]
+    with open(os.path.join(folder, "crates.txt"), "w") as file:
+        file.write("".join(lines) + CRATE + ": " + " ".join(names) + "\n")
+    return os.path.join(crates, CRATE)
+
+
+def run(here, modules):
+    """Writes the modules and runs them: which of them passed and which did not, and all that was printed."""
+    shutil.rmtree(os.path.join(here, "src"), ignore_errors=True)
+    os.makedirs(os.path.join(here, "src"))
+    with open(os.path.join(here, "src", "lib.rt"), "w") as file:
+        file.write("//! The examples of the libraries.\n#![tactic(auto)]\n\n")
+        file.write("".join("#[cfg(test)]\nmod %s;\n" % module for module in modules))
+    for module, block in modules.items():
+        with open(os.path.join(here, "src", module + ".rt"), "w") as file:
+            file.write("\n".join(block) + "\n")
+    done = subprocess.run(["rt", "try", "--test"], cwd=here, stdout=subprocess.PIPE, stderr=subprocess.STDOUT, text=True)
+    ran = re.findall(r"^test (\w+)::\S+ \.\.\. (\w+)", done.stdout, re.M)
+    return {module: all(word == "ok" for other, word in ran if other == module) for module, _ in ran}, done.stdout
+
+
+def main(words):
+    names = libraries()
+    modules, failed = {}, 0
+    for name in words:
+        if name not in names:
+            sys.exit("crates.txt has no library " + name)
+    for name in words or names:
+        blocks = examples_of(name)
+        if not blocks:
+            print("%s has no example" % name)
+            failed += 1
+        for number, block in enumerate(blocks, 1):
+            fault = fault_of(block, names[:names.index(name) + 1])
+            if fault:
+                print("%s example %d %s" % (name, number, fault))
+                failed += 1
+            else:
+                modules["of_%s_%d" % (name, number)] = block
+    titles = {module: re.search(r"#\[test\]\nfn (\w+)", "\n".join(block)).group(1) for module, block in modules.items()}
+    results, count = {}, 0
+    with tempfile.TemporaryDirectory() as folder:
+        here = make_crate(folder, names)
+        while modules:
+            found, text = run(here, modules)
+            results.update(found)
+            count += len(found)
+            if found:
+                # tests that were not reached, since one before them stopped the program
+                modules = {module: block for module, block in modules.items() if module not in found}
+                if False in found.values() or modules:
+                    print(text)
+                continue
+            # what does not compile is named; the others are tried without it
+            print(text)
+            named = [module for module in modules if re.search(r"\b%s\b" % module, text)] or list(modules)
+            for module in named:
+                results[module] = False
+                del modules[module]
+    for name in names:
+        for module in [module for module in titles if module.rsplit("_", 1)[0] == "of_" + name]:
+            print("%s %s %s" % (name, titles[module], "ok" if results[module] else "FAILED"))
+            failed += not results[module]
+    print("%d examples run, %d failed" % (count, failed))
+    return 1 if failed else 0
+
+
+if __name__ == "__main__":
+    sys.exit(main(sys.argv[1:]))
