@@ -19,10 +19,14 @@ fi
 passed=0
 failed=0
 skipped=0
-for case in "$cases"/*/*/; do
-  name=$(basename "$(dirname "$case")")/$(basename "$case")
+# the line of a part of a case, in `line`; nothing where there is no such part
+line_of() { line=; [ ! -f "$1" ] || IFS= read -r line < "$1"; }
+for case in "$cases"/*/*; do
+  name=${case#"$cases"/}
   here=$place/cases/$name
-  needs=$(cat "$case/needs" 2>/dev/null)
+  line_of "$case/needs"; needs=$line
+  line_of "$case/output"; output=$line
+  line_of "$case/status"; wanted=$line
   if [ "$needs" = permissions ] && [ "$(id -u)" = 0 ] && [ -z "$as" ]; then
     echo "skipped $name: root may read and write everywhere, and there is no setpriv"
     skipped=$((skipped + 1))
@@ -31,15 +35,14 @@ for case in "$cases"/*/*/; do
   mkdir -p "$here/in" "$here/out" "$here/wanted"
   for there in "$here/in" "$here/wanted"; do
     cp -R "$case/files/." "$there/"
-    rm -f "$there/.keep"
+    if [ -f "$there/.keep" ]; then rm "$there/.keep"; fi
     if [ -f "$case/setup" ]; then (cd "$there" && sh "$case/setup"); fi
   done
-  chmod -R u+rwX "$here/wanted"
+  if [ -f "$case/setup" ]; then chmod -R u+rwX "$here/wanted"; fi
   if [ -d "$case/made" ]; then cp -R "$case/made/." "$here/wanted/"; fi
   [ -z "$as" ] || chown -R 65534:65534 "$here"
   set --
   while IFS= read -r word; do set -- "$@" "$word"; done < "$case/words"
-  output=$(cat "$case/output" 2>/dev/null)
   case $output in
     closed) (cd "$here/in" && exec $as "$place/radio" "$@" < "$case/stdin" >&- 2> "$here/out/stderr"); status=$? ;;
     full) (cd "$here/in" && exec $as "$place/radio" "$@" < "$case/stdin" > /dev/full 2> "$here/out/stderr"); status=$? ;;
@@ -47,14 +50,14 @@ for case in "$cases"/*/*/; do
     *) (cd "$here/in" && exec $as "$place/radio" "$@" < "$case/stdin" > "$here/out/stdout" 2> "$here/out/stderr"); status=$? ;;
   esac
   [ -f "$here/out/stdout" ] || : > "$here/out/stdout"
-  chmod -R u+rwX "$here/in"
+  if [ -f "$case/setup" ]; then chmod -R u+rwX "$here/in"; fi
   files=same
   diff -r "$here/wanted" "$here/in" > "$place/files" || files=other
-  if [ "$status" = "$(cat "$case/status")" ] && [ $files = same ] && cmp -s "$here/out/stdout" "$case/stdout" && cmp -s "$here/out/stderr" "$case/stderr"; then
+  if [ "$status" = "$wanted" ] && [ $files = same ] && cmp -s "$here/out/stdout" "$case/stdout" && cmp -s "$here/out/stderr" "$case/stderr"; then
     passed=$((passed + 1))
   else
     failed=$((failed + 1))
-    echo "FAILED $name: status $status, wanted $(cat "$case/status")"
+    echo "FAILED $name: status $status, wanted $wanted"
     diff "$case/stdout" "$here/out/stdout" | head -5
     diff "$case/stderr" "$here/out/stderr" | head -8
     head -5 "$place/files"
