@@ -1,9 +1,10 @@
 #!/usr/bin/env python3
 """Runs the examples of the libraries: tests/checks/examples.py [CRATE]...
 
-docs/libraries.md has an example of each library: below the library's heading a block that begins with ```rust, whole items with the `use` lines that
-they need, among them a `#[test]` function that asserts what the text says. The script copies the crates into a folder of its own, makes one
-crate of all examples there, a module for each, and runs it by `rt try --test`; with names it runs those of these crates alone.
+The first page of each library, the `//!` lines at the head of its src/lib.rt, has an example: a block that begins with ```rust, whole items with the
+`use` lines that they need, among them a function `fn NAME(rt: HostRuntime) -> Result<(), Fail>` that asserts what the text says. The script
+copies the crates into a folder of its own, makes one crate of all examples there, a module for each, in which these functions are tests,
+and runs it by `rt try --test`; with names it runs those of these crates alone.
 
 It fails where an example does not compile, asserts nothing, uses a library that crates.txt does not list above its own, or fails when it
 runs, and where a library (a crate of crates.txt that is no program, and no `_tests` crate) has none.
@@ -33,20 +34,24 @@ def file_of(name, file):
     return os.path.join(TOP, "crates", name, "src", file)
 
 
+# What makes a function of an example a test. The pages leave the attribute out: a crate with it, in a comment too, is taken for one with tests.
+HEAD = re.compile(r"^fn (\w+)\(rt: HostRuntime\) -> Result<\(\), Fail> \{$", re.M)
+
+
 def examples_of(name):
-    """The blocks below a library's heading, each as its lines."""
-    blocks, block, below = [], None, False
-    with open(os.path.join(TOP, "docs", "libraries.md")) as file:
+    """The blocks of a library's first page, each as its lines, with its functions marked as tests."""
+    blocks, block = [], None
+    with open(file_of(name, "lib.rt")) as file:
         for line in file:
-            text = line.rstrip()
+            if not line.startswith("//!"):
+                break
+            text = re.sub(r"^//! ?", "", line.rstrip("\n"))
             if block is not None and text == "```":
                 blocks.append(block)
                 block = None
             elif block is not None:
-                block.append(text)
-            elif text.startswith("## "):
-                below = text == "## " + name
-            elif below and text == "```rust":
+                block += ["#[test]"] * bool(HEAD.match(text)) + [text]
+            elif text == "```rust":
                 block = []
     return blocks
 
@@ -54,8 +59,8 @@ def examples_of(name):
 def fault_of(block, below):
     """Why an example is not run, if it is not: these are the libraries that it may use."""
     text = "\n".join(block)
-    if not re.search(r"^#\[test\]\nfn \w+", text, re.M):
-        return "has no #[test] function"
+    if not HEAD.search(text):
+        return "has no function that is a test"
     if not re.search(r"\bassert(_eq|_ne)?!\(", text):
         return "asserts nothing"
     for used in re.findall(r"\bmt_\w+(?=::)", text):
@@ -110,7 +115,7 @@ def main(words):
                 failed += 1
             else:
                 modules["of_%s_%d" % (name, number)] = block
-    titles = {module: re.search(r"#\[test\]\nfn (\w+)", "\n".join(block)).group(1) for module, block in modules.items()}
+    titles = {module: HEAD.search("\n".join(block)).group(1) for module, block in modules.items()}
     results, count = {}, 0
     with tempfile.TemporaryDirectory() as folder:
         here = make_crate(folder, names)

@@ -2,14 +2,24 @@
 //! and nothing is allocated.
 //!
 //! ```rust
-//! let wave = Wave::read(&bytes)?;
-//! for frame in 0..wave.frames() {
-//!     let left = wave.sample(frame, 0);
-//! }
-//! for index in 0..wave.cue_count() {
-//!     if let Some(point) = wave.point(index) {
-//!         // at point.at, and named by the first of wave.labels() of its name
-//!     }
+//! use mt_bwfread::Wave;
+//! use std::test::Fail;
+//!
+//! // Two frames of 16 bits on one channel, 48,000 a second, and a cue point at the second one.
+//! const FILE: &[u8] = b"RIFF\x4c\0\0\0WAVEfmt \x10\0\0\0\x01\0\x01\0\x80\xbb\0\0\0\x77\x01\0\x02\0\x10\0\
+//! data\x04\0\0\0\x01\0\xff\xffcue \x1c\0\0\0\x01\0\0\0\x07\0\0\0\x01\0\0\0data\0\0\0\0\0\0\0\0\x01\0\0\0";
+//!
+//! fn reads_samples_and_cue_points(rt: HostRuntime) -> Result<(), Fail> {
+//!     let wave = Wave::read(FILE)?;
+//!     assert_eq!(rt; (wave.rate(), wave.channels(), wave.bits()), (48000, 1, 16));
+//!     assert_eq!(rt; wave.frames(), 2);
+//!     // at 32-bit scale, whatever the file's width
+//!     assert_eq!(rt; wave.sample(0, 0), 65536);
+//!     assert_eq!(rt; wave.sample(1, 0), -65536);
+//!     let point = wave.point(0).ok_or("a cue point")?;
+//!     assert_eq!(rt; (point.name, point.at), (7, 1));
+//!     assert!(rt; wave.label(7).is_none());
+//!     Ok(())
 //! }
 //! ```
 //!

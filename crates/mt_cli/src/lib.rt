@@ -1,4 +1,43 @@
 //! The commands of `radio`.
+//!
+//! `view_logs`, `list_logs`, `merge_logs`, `bounce_logs` and `write_info` do the work of commands over any readers and writers, of which
+//! each is in a latch:
+//!
+//! ```rust
+//! use mt_cli::{merge_logs, view_logs};
+//! use mt_op::{Body, Op, Title};
+//! use mt_opcodec::{Latch, Log};
+//! use mt_stamp::{Replica, Stamp};
+//! use std::alloc::Global;
+//! use std::test::Fail;
+//!
+//! const TEXT: &[u8] = b"\
+//! marker 1.1.00000000-0000-0000-0000-00000000000a at 480 title News
+//! marker 1.1.00000000-0000-0000-0000-00000000000b at 960 title Weather
+//! held 0
+//! ";
+//!
+//! // The bytes of the log of one marker.
+//! fn log_of(alloc: Global, editor: Replica, at: u32, title: &str) -> Result<Vec<u8>, Fail> {
+//!     let mut log = Log::new(alloc);
+//!     let title = Title::new(alloc, title)?;
+//!     let _new = log.add(Op::new(Stamp::new(1, editor, 1)?, Body::AddMarker { at, title })?)?;
+//!     Ok(log.write()?)
+//! }
+//!
+//! fn merges_and_views(rt: HostRuntime) -> Result<(), Fail> {
+//!     let desk = log_of(rt.alloc(), Replica(10), 480, "News")?;
+//!     let home = log_of(rt.alloc(), Replica(11), 960, "Weather")?;
+//!     let mut inputs = [Latch::new(desk.as_slice()), Latch::new(home.as_slice())];
+//!     let mut merged = Latch::new(Vec::new(rt.alloc()));
+//!     merge_logs(rt.alloc(), &mut inputs, &mut merged)?;
+//!     let both = merged.into_inner();
+//!     let mut text = Latch::new(Vec::new(rt.alloc()));
+//!     view_logs(rt.alloc(), &mut [Latch::new(both.as_slice())], &mut text)?;
+//!     assert!(rt; text.into_inner().as_slice() == TEXT);
+//!     Ok(())
+//! }
+//! ```
 #![tactic(auto)]
 
 mod commands;

@@ -1,9 +1,23 @@
 //! Frames out of bytes that come in pieces: a body after its length in 4 bytes, the highest first, of at most 8,388,608 bytes.
 //!
-//! ```text
-//! let mut unread = Unread::new(alloc);
-//! unread.push(piece)?;                          // of a socket or a file, cut anywhere
-//! while let Some(body) = unread.next()? { .. }  // each whole frame
+//! ```rust
+//! use mt_frames::{Unread, put_frame};
+//! use std::test::Fail;
+//!
+//! fn takes_frames_out_of_pieces(rt: HostRuntime) -> Result<(), Fail> {
+//!     let mut bytes = Vec::new(rt.alloc());
+//!     put_frame(&mut bytes, b"News")?;
+//!     assert!(rt; bytes.as_slice() == b"\0\0\0\x04News".as_slice());
+//!     // as a socket or a file gives them, cut anywhere
+//!     let mut unread = Unread::new(rt.alloc());
+//!     unread.push(&bytes[..6])?;
+//!     assert!(rt; unread.next()?.is_none());
+//!     unread.push(&bytes[6..])?;
+//!     let body = unread.next()?.ok_or("a whole frame")?;
+//!     assert!(rt; body.bytes.as_slice() == b"News".as_slice());
+//!     assert!(rt; body.is_last);
+//!     Ok(())
+//! }
 //! ```
 //!
 //! Frames are taken by tokio_util's length-delimited codec out of a buffer of the crate `bytes`. The codec decodes out of a buffer

@@ -2,6 +2,31 @@
 //! there, is ready, and fits the role in which it is needed (causal delivery by explicit needs: INRIA RR-7506, operation-based
 //! objects).
 //!
+//! A move that comes before its marker waits for it:
+//!
+//! ```rust
+//! use mt_holdback::{HoldBack, Offered};
+//! use mt_op::{Body, Op, Title};
+//! use mt_stamp::{Replica, Stamp};
+//! use std::test::Fail;
+//!
+//! fn waits_for_the_marker(rt: HostRuntime) -> Result<(), Fail> {
+//!     let (marker, later) = (Stamp::new(1, Replica(10), 1)?, Stamp::new(2, Replica(11), 1)?);
+//!     let title = Title::new(rt.alloc(), "News")?;
+//!     let mut hold = HoldBack::new(rt.alloc());
+//!     // the move of a marker comes before the marker
+//!     let moved = hold.offer(Op::new(later, Body::MoveMarker { marker, at: 960 })?)?;
+//!     assert_eq!(rt; moved, Offered::Held);
+//!     assert_eq!(rt; hold.held(), 1);
+//!     // the marker makes both ready, and they are released from index 0 on
+//!     let added = hold.offer(Op::new(marker, Body::AddMarker { at: 480, title })?)?;
+//!     assert_eq!(rt; added, Offered::Ready(0));
+//!     assert_eq!(rt; hold.released()[0].stamp(), marker);
+//!     assert_eq!(rt; hold.released()[1].stamp(), later);
+//!     Ok(())
+//! }
+//! ```
+//!
 //! `HoldBack` takes one item at a time and releases exactly those that became ready by it, by rising key. `Waits` is the trait of
 //! what waits, which operations implement; `laws` says what holds of every list of such items: which are ready, that more items
 //! make no ready one wait, that one which is held changes nothing for the others, and that one pass over what waits, by rising

@@ -4,14 +4,28 @@
 //! needs. `Items` notes each, and answers at any time what a session is made of: the last write of each field with the
 //! stamp of its writer, the live tags of each item, and the tracks, clips and markers by their stamps.
 //!
-//! ```text
-//! let news = Stamp::new(1, a, 1)?;
-//! let mut items = Items::new(alloc.clone()?)?;
-//! items = items.note(&Op::new(news, Body::AddMarker { at: 480, title })?)?;
-//! // two replicas retitle it; the one of greater stamp arrives first
-//! items = items.note(&Op::new(Stamp::new(2, b, 1)?, Body::Retitle { item: news, title: late })?)?;
-//! items = items.note(&Op::new(Stamp::new(2, a, 2)?, Body::Retitle { item: news, title: early })?)?;
-//! // items.title(news) is "Late", by 2.1.b; items.is_present(news); items.live_tags(news)? is [news]
+//! ```rust
+//! use mt_items::Items;
+//! use mt_op::{Body, Op, Title};
+//! use mt_stamp::{Replica, Stamp};
+//! use std::test::Fail;
+//!
+//! fn keeps_the_last_title(rt: HostRuntime) -> Result<(), Fail> {
+//!     let item = Stamp::new(1, Replica(10), 1)?;
+//!     let title = Title::new(rt.alloc(), "News")?;
+//!     let items = Items::new(rt.alloc())?.note(&Op::new(item, Body::AddMarker { at: 480, title })?)?;
+//!     // two replicas retitle it; the one of greater stamp arrives first
+//!     let (early, late) = (Title::new(rt.alloc(), "Early")?, Title::new(rt.alloc(), "Late")?);
+//!     let by_b = Stamp::new(2, Replica(11), 1)?;
+//!     let items = items.note(&Op::new(by_b, Body::Retitle { item, title: late })?)?;
+//!     let items = items.note(&Op::new(Stamp::new(2, Replica(10), 2)?, Body::Retitle { item, title: early })?)?;
+//!     let title = items.title(item).ok_or("an item with a title")?;
+//!     assert_eq!(rt; title.get().text(), "Late");
+//!     assert_eq!(rt; title.stamp(), by_b);
+//!     assert!(rt; items.is_present(item));
+//!     assert!(rt; items.live_tags(item)?.as_slice() == [item].as_slice());
+//!     Ok(())
+//! }
 //! ```
 //!
 //! Whether an operation may be noted next is a condition that the caller shows: its stamp is new (`laws::new_stamps`), and

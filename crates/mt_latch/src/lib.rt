@@ -7,17 +7,21 @@
 //! over one after another, and asks once, at the end.
 //!
 //! ```rust
-//! fn copy(alloc: Global, text: &[u8]) -> Result<Vec<u8>, LatchFault> {
-//!     let mut input = Latch::new(text);
-//!     let bytes = input.get_all(alloc)?;           // all that is left, or a refusal
-//!     let mut output = Latch::new(Vec::new(alloc));
+//! use mt_latch::{BufferedLatch, Latch};
+//! use std::test::Fail;
+//!
+//! fn copies_a_text(rt: HostRuntime) -> Result<(), Fail> {
+//!     let mut input = Latch::new(b"News".as_slice());
+//!     let bytes = input.get_all(rt.alloc())?;      // all that is left, or a refusal
+//!     let mut output = Latch::new(Vec::new(rt.alloc()));
 //!     output.put(b"copy of ")?;                    // all of it, or a prefix and `output` has failed
 //!     let mut pieces = BufferedLatch::new(&mut output);
 //!     pieces.put_decimal(bytes.len() as u64);
 //!     pieces.put(b" bytes: ");                     // no answer yet
 //!     pieces.put(&bytes);
 //!     pieces.flush()?;                             // all pieces, or a prefix and `output` has failed
-//!     Ok(output.into_inner())
+//!     assert!(rt; output.into_inner().as_slice() == b"copy of 4 bytes: News".as_slice());
+//!     Ok(())
 //! }
 //! ```
 //!

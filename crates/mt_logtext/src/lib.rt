@@ -1,11 +1,29 @@
 //! The operations of a log as text, a line each: who did what, in which order, and what waits.
 //!
-//! ```text
-//! let mut output = Latch::new(stdout);
-//! write_log_text(alloc, &log, &mut output)?;
-//! // 1.1.00000000-0000-0000-0000-00000000000a ready add-marker 480 News
-//! // 2.1.00000000-0000-0000-0000-00000000000b ready retitle 1.1.00000000-0000-0000-0000-00000000000a Headlines
-//! // operations 2
+//! ```rust
+//! use mt_logtext::write_log_text;
+//! use mt_op::{Body, Op, Title};
+//! use mt_opcodec::{Latch, Log};
+//! use mt_stamp::{Replica, Stamp};
+//! use std::test::Fail;
+//!
+//! const TEXT: &[u8] = b"\
+//! 1.1.00000000-0000-0000-0000-00000000000a ready add-marker 480 News
+//! 2.1.00000000-0000-0000-0000-00000000000b ready retitle 1.1.00000000-0000-0000-0000-00000000000a Headlines
+//! operations 2
+//! ";
+//!
+//! fn tells_the_operations(rt: HostRuntime) -> Result<(), Fail> {
+//!     let item = Stamp::new(1, Replica(10), 1)?;
+//!     let (news, late) = (Title::new(rt.alloc(), "News")?, Title::new(rt.alloc(), "Headlines")?);
+//!     let mut log = Log::new(rt.alloc());
+//!     let _new = log.add(Op::new(item, Body::AddMarker { at: 480, title: news })?)?;
+//!     let _new = log.add(Op::new(Stamp::new(2, Replica(11), 1)?, Body::Retitle { item, title: late })?)?;
+//!     let mut output = Latch::new(Vec::new(rt.alloc()));
+//!     write_log_text(rt.alloc(), &log, &mut output)?;
+//!     assert!(rt; output.into_inner().as_slice() == TEXT);
+//!     Ok(())
+//! }
 //! ```
 //!
 //! Lines stand by rising stamp. Each tells the stamp, whether the operation is ready or held, and what it does in the words of the

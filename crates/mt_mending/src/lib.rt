@@ -32,12 +32,39 @@
 //! stood, and puts in the one that is shown now; a marker or a clip that stays where it stood is rewritten there, and nothing moves. The session is then
 //! the one that all noted operations show:
 //!
-//! ```text
-//! let item = subject_of(&op);
-//! let stood = stood(&items, item);
-//! add_place(&mut list, &items, &op)?;
-//! let items = items.note(&op)?;
-//! mend(&alloc, &mut session, stood, &items, &list, item)?;
+//! ```rust
+//! use mt_items::Items;
+//! use mt_mending::{add_place, mend, stood, subject_of};
+//! use mt_op::{Body, Op, Title};
+//! use mt_opcodec::Log;
+//! use mt_sessionview::from_scratch;
+//! use mt_stamp::{Replica, Stamp};
+//! use mt_tracklist::TrackList;
+//! use std::test::Fail;
+//!
+//! fn moves_one_marker(rt: HostRuntime) -> Result<(), Fail> {
+//!     let (news, weather) = (Stamp::new(1, Replica(10), 1)?, Stamp::new(2, Replica(10), 2)?);
+//!     let (first, second) = (Title::new(rt.alloc(), "News")?, Title::new(rt.alloc(), "Weather")?);
+//!     let mut items = Items::new(rt.alloc())?;
+//!     let mut session = from_scratch(rt.alloc(), &Log::new(rt.alloc()))?;
+//!     let mut places = TrackList::new(rt.alloc());
+//!     for op in [
+//!         Op::new(news, Body::AddMarker { at: 480, title: first })?,
+//!         Op::new(weather, Body::AddMarker { at: 960, title: second })?,
+//!         Op::new(Stamp::new(5, Replica(11), 1)?, Body::MoveMarker { marker: news, at: 1200 })?,
+//!     ] {
+//!         let item = subject_of(&op);
+//!         let stood = stood(&items, item);
+//!         add_place(&mut places, &items, &op)?;
+//!         items = items.note(&op)?;
+//!         mend(&rt.alloc(), &mut session, stood, &items, &places, item)?;
+//!     }
+//!     // the entry of `News` was taken out at 480, and stands at 1200 now, behind `Weather`
+//!     let markers = session.markers.items();
+//!     assert_eq!(rt; (markers[0].marker, markers[0].at), (weather, 960));
+//!     assert_eq!(rt; (markers[1].marker, markers[1].at), (news, 1200));
+//!     Ok(())
+//! }
 //! ```
 //!
 //! An item is a track, a marker or a clip, and stays one: [`mend`] calls [`mend_tracks`], [`mend_markers`] or [`mend_clips`], and the other lists stay. A

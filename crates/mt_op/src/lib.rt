@@ -1,4 +1,28 @@
 //! Operations: their titles, gains, digests and bodies, what they wait for, and how to find one by its dot.
+//!
+//! An operation has a stamp and a body, which names the items that it changes by their stamps. It needs each operation that it names, in the
+//! role that the body gives it:
+//!
+//! ```rust
+//! use mt_op::{Body, Need, Op, OpFault, Role, Title};
+//! use mt_stamp::{Replica, Stamp};
+//! use std::test::Fail;
+//!
+//! fn needs_the_marker(rt: HostRuntime) -> Result<(), Fail> {
+//!     let marker = Stamp::new(1, Replica(10), 1)?;
+//!     let title = Title::new(rt.alloc(), "News")?;
+//!     let added = Op::new(marker, Body::AddMarker { at: 480, title })?;
+//!     assert_eq!(rt; added.need_count(), 0);
+//!     // another editor moves the marker: this waits for an operation of that stamp that is a marker
+//!     let moved: Op = Op::new(Stamp::new(2, Replica(11), 1)?, Body::MoveMarker { marker, at: 960 })?;
+//!     assert_eq!(rt; moved.need(0), Some(Need { stamp: marker, role: Role::Marker }));
+//!     assert!(rt; added.fits(&Role::Marker) && !added.fits(&Role::Track));
+//!     // what an operation names has a smaller clock
+//!     let early: Result<Op, OpFault> = Op::new(Stamp::new(1, Replica(11), 1)?, Body::Restore { item: marker });
+//!     assert!(rt; early == Err(OpFault::NameNotOlder));
+//!     Ok(())
+//! }
+//! ```
 #![tactic(auto)]
 
 mod body;

@@ -1,5 +1,31 @@
 //! Operations and logs as bytes, each with one text, and latches round readers and writers.
 //!
+//! A `Log` holds operations, one for each dot. Editors write theirs, read those of others, and join them:
+//!
+//! ```rust
+//! use mt_op::{Body, Op, Title};
+//! use mt_opcodec::Log;
+//! use mt_stamp::{Replica, Stamp};
+//! use std::test::Fail;
+//!
+//! fn joins_two_logs(rt: HostRuntime) -> Result<(), Fail> {
+//!     let marker = Stamp::new(1, Replica(10), 1)?;
+//!     let title = Title::new(rt.alloc(), "News")?;
+//!     let mut desk = Log::new(rt.alloc());
+//!     assert!(rt; desk.add(Op::new(marker, Body::AddMarker { at: 480, title })?)?);
+//!     // a second editor reads a copy, and each moves the marker
+//!     let mut home = Log::read(rt.alloc(), &desk.write()?)?;
+//!     assert!(rt; home == desk);
+//!     assert!(rt; desk.add(Op::new(Stamp::new(2, Replica(10), 2)?, Body::MoveMarker { marker, at: 960 })?)?);
+//!     assert!(rt; home.add(Op::new(Stamp::new(2, Replica(11), 1)?, Body::MoveMarker { marker, at: 720 })?)?);
+//!     // either way round the union is the same
+//!     let both = Log::merge(rt.alloc(), &desk, &home)?;
+//!     assert_eq!(rt; both.len(), 3);
+//!     assert!(rt; home.join(desk)? == both);
+//!     Ok(())
+//! }
+//! ```
+//!
 //! Numbers have their greatest byte first. A stamp is its clock in 8 bytes, its replica in 16 and its
 //! sequence number in 8. A title is its length in one byte, and that many bytes. A flag is one byte, 0 or 1. A place
 //! is the flag 0 for the head of the tracks, or the flag 1 and the stamp that it comes after. A digest is its 32 bytes.

@@ -11,11 +11,22 @@
 //! segments        0..4 first, 4..7 second, 7..10 first
 //! ```
 //!
-//! ```text
-//! let first = Span { place: Stamp::new(5, replica, 1)?, start: 0, len: 10 };
-//! let second = Span { place: Stamp::new(6, replica, 2)?, start: 4, len: 3 };
-//! let both = segments(alloc, &[first, second])?;
-//! // Segment { start: 0, end: 4, which: 0 }, Segment { start: 4, end: 7, which: 1 }, Segment { start: 7, end: 10, which: 0 }
+//! ```rust
+//! use mt_overlap::{Segment, Span, segments};
+//! use mt_stamp::{Replica, Stamp};
+//! use std::test::Fail;
+//!
+//! fn cuts_a_long_span_in_two(rt: HostRuntime) -> Result<(), Fail> {
+//!     let first = Span { place: Stamp::new(5, Replica(10), 1)?, start: 0, len: 10 };
+//!     let second = Span { place: Stamp::new(6, Replica(10), 2)?, start: 4, len: 3 };
+//!     let found = segments(rt.alloc(), &[first, second])?;
+//!     assert_eq!(rt; found.as_slice(), [
+//!         Segment { start: 0, end: 4, which: 0 },
+//!         Segment { start: 4, end: 7, which: 1 },
+//!         Segment { start: 7, end: 10, which: 0 },
+//!     ].as_slice());
+//!     Ok(())
+//! }
 //! ```
 //!
 //! Had the first been placed by a greater stamp than the second, there would be one segment, `0..10`, of the first. Frames that

@@ -3,12 +3,26 @@
 //! A `Catalogue` holds recordings by the digests of their files, a `Format` says how the programme is put out, and a `Mix` is made of a
 //! session and both, or says why it cannot be. It then fills blocks of any size with the programme's samples:
 //!
-//! ```text
-//! let mut catalogue = Catalogue::new(alloc);
-//! let digest = catalogue.add(&bytes)?;                  // the SHA-256 by which clips name the recording
-//! let mix = Mix::new(alloc, &session, &catalogue, Format::new(48000, 16, 1)?)?;
-//! let mut samples = [0; 480];
-//! mix.block(0, &mut samples);                           // where mix.length() is 480 or more
+//! ```rust
+//! use mt_render::{Catalogue, Format, Mix};
+//! use mt_sessionview::from_scratch;
+//! use mt_testkit::{RECORDING, log_of_a_clip};
+//! use std::test::Fail;
+//!
+//! fn mixes_a_clip(rt: HostRuntime) -> Result<(), Fail> {
+//!     // a track with one clip of three frames, whose samples of 24 bits are 1, 2 and 3
+//!     let log = log_of_a_clip(rt.alloc(), 3)?;
+//!     let session = from_scratch(rt.alloc(), &log)?;
+//!     let mut catalogue = Catalogue::new(rt.alloc());
+//!     let digest = catalogue.add(RECORDING)?;      // the SHA-256 by which clips name the recording
+//!     assert!(rt; catalogue.find(&digest).is_some());
+//!     let mix = Mix::new(rt.alloc(), &session, &catalogue, Format::new(48000, 24, 1)?)?;
+//!     assert_eq!(rt; mix.length(), 3);
+//!     let mut samples = [0; 2];
+//!     mix.block(1, &mut samples);                  // two frames, from the second one on
+//!     assert_eq!(rt; samples, [2, 3]);
+//!     Ok(())
+//! }
 //! ```
 //!
 //! At each frame, on each track that is not muted, the clip that was placed last sounds alone of those that cover the frame and are not

@@ -2,11 +2,28 @@
 //!
 //! An editor takes the operations of others, in whatever order they come, and makes its own from changes:
 //!
-//! ```text
-//! let mut editor = Editor::from_log(alloc, desk, Log::new(alloc))?;
-//! let marker = editor.edit(&Change::AddMarker { at: 480, title })?;   // its operation, for the others
-//! editor.take(theirs)?;                                               // Already, Held, or Applied with what became ready
-//! editor.session()                                                    // of all that was taken
+//! ```rust
+//! use mt_op::Title;
+//! use mt_opcodec::Log;
+//! use mt_replica::{Change, Editor, Taken};
+//! use mt_stamp::Replica;
+//! use std::test::Fail;
+//!
+//! fn takes_an_edit_of_another(rt: HostRuntime) -> Result<(), Fail> {
+//!     let mut desk = Editor::from_log(rt.alloc(), Replica(10), Log::new(rt.alloc()))?;
+//!     let mut home = Editor::from_log(rt.alloc(), Replica(11), Log::new(rt.alloc()))?;
+//!     // each edit makes an operation, for the others
+//!     let added = desk.edit(&Change::AddMarker { at: 480, title: Title::new(rt.alloc(), "News")? })?;
+//!     let moved = desk.edit(&Change::MoveMarker { marker: added.stamp(), at: 960 })?;
+//!     // in whatever order they come: what lacks something waits
+//!     assert!(rt; home.take(moved)? == Taken::Held);
+//!     let Taken::Applied(ready) = home.take(added)? else {
+//!         return Err(Fail::from("it is ready"));
+//!     };
+//!     assert_eq!(rt; ready.items().len(), 2);
+//!     assert!(rt; home.session() == desk.session());
+//!     Ok(())
+//! }
 //! ```
 //!
 //! What an edit makes is one definition (`specs/Made.antt`): the first refusal in its order, or one operation whose clock passes every clock of

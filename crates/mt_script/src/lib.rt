@@ -1,11 +1,31 @@
 //! Scripts of edits: texts that say, a line each, what an editor is to do to a session.
 //!
-//! ```text
-//! # the morning programme
+//! ```rust
+//! use mt_opcodec::Log;
+//! use mt_replica::Editor;
+//! use mt_script::{ScriptFault, run};
+//! use mt_stamp::Replica;
+//! use std::test::Fail;
+//!
+//! const SCRIPT: &[u8] = b"# the morning programme
 //! add-track head Voice
 //! add-clip e3b0c44298fc1c149afbf4c8996fb92427ae41e4649b934ca495991b7852b855 $2 0 10 20
 //! gain $3 1/2
 //! add-marker 480 News
+//! ";
+//!
+//! fn makes_four_changes(rt: HostRuntime) -> Result<(), Fail> {
+//!     let mut editor = Editor::from_log(rt.alloc(), Replica(10), Log::new(rt.alloc()))?;
+//!     assert_eq!(rt; run(rt.alloc(), &mut editor, SCRIPT), Ok(4));
+//!     let session = editor.session().ok_or("an editor who has not failed")?;
+//!     assert_eq!(rt; session.tracks.items()[0].clips.items()[0].len, 20);
+//!     assert_eq!(rt; session.markers.items()[0].at, 480);
+//!     // all or none: the fault tells the line
+//!     let text = b"add-marker 960 Weather\nadd-marker noon Sport\n";
+//!     assert_eq!(rt; run(rt.alloc(), &mut editor, text), Err(ScriptFault::BadLine(2)));
+//!     assert_eq!(rt; editor.log().map(|log| log.len()), Some(4));
+//!     Ok(())
+//! }
 //! ```
 //!
 //! `run(alloc, &mut editor, text)?` makes these changes in order and answers 4: a track `Voice` at the head of the track order; on

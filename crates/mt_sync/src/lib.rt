@@ -1,4 +1,33 @@
 //! Conversations in which two editors swap exactly the operations that the other lacks.
+//!
+//! A `Talk` is one end of a conversation: it reads the other end's bytes, in pieces that are cut anywhere, and answers what to send back. Here
+//! the bytes go from one to the other in memory:
+//!
+//! ```rust
+//! use mt_op::Title;
+//! use mt_opcodec::Log;
+//! use mt_replica::{Change, Editor};
+//! use mt_stamp::Replica;
+//! use mt_sync::Talk;
+//! use std::test::Fail;
+//!
+//! fn tells_each_what_it_lacks(rt: HostRuntime) -> Result<(), Fail> {
+//!     let mut desk = Editor::from_log(rt.alloc(), Replica(10), Log::new(rt.alloc()))?;
+//!     let mut home = Editor::from_log(rt.alloc(), Replica(11), Log::new(rt.alloc()))?;
+//!     let _op = desk.edit(&Change::AddMarker { at: 480, title: Title::new(rt.alloc(), "News")? })?;
+//!     let _op = home.edit(&Change::AddMarker { at: 960, title: Title::new(rt.alloc(), "Weather")? })?;
+//!     // the desk calls: what one end writes the other reads, until both have ended
+//!     let (mut caller, mut bytes) = Talk::call(rt.alloc(), rt.alloc(), &desk)?;
+//!     let mut answerer = Talk::answer(rt.alloc(), rt.alloc());
+//!     while !answerer.ended() {
+//!         let reply = answerer.feed(&mut home, &bytes)?;
+//!         bytes = caller.feed(&mut desk, &reply)?;
+//!     }
+//!     assert!(rt; caller.ended());
+//!     assert!(rt; desk.log() == home.log() && desk.session() == home.session());
+//!     Ok(())
+//! }
+//! ```
 #![tactic(auto)]
 
 mod conversing;

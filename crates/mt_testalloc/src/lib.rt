@@ -3,12 +3,29 @@
 //! A test that gives `&Refusing` to the code under test, with `at` = 0, 1, 2 and so on, makes each allocation of that
 //! code fail once. The run that meets no refusal ends the loop.
 //!
-//! ```text
-//! for at in 0..1000 {
-//!     let memory = Refusing::new(rt.alloc(), at);
-//!     let made = title(&memory);
-//!     assert_eq!(rt; made.is_err(), memory.has_refused());
-//!     if !memory.has_refused() { return Ok(()); }
+//! ```rust
+//! use mt_testalloc::Refusing;
+//! use std::alloc::{AllocError, Allocator};
+//! use std::test::Fail;
+//!
+//! // What is tested: two allocations.
+//! fn two_lists<M: Allocator + Copy>(memory: M) -> Result<usize, AllocError> {
+//!     let first = Vec::from_slice(memory, &[1, 2])?;
+//!     let second = Vec::from_slice(memory, &[3])?;
+//!     Ok(first.len().wrapping_add(second.len()))
+//! }
+//!
+//! fn refuses_each_in_turn(rt: HostRuntime) -> Result<(), Fail> {
+//!     for at in 0..1000 {
+//!         let memory = Refusing::new(rt.alloc(), at);
+//!         let made = two_lists(&memory);
+//!         assert_eq!(rt; made.is_err(), memory.has_refused());
+//!         if !memory.has_refused() {
+//!             assert_eq!(rt; (at, made), (2, Ok(3)));
+//!             return Ok(());
+//!         }
+//!     }
+//!     Err(Fail::from("each run met a refusal"))
 //! }
 //! ```
 //!

@@ -17,6 +17,33 @@
 //!                                 > > >  ^  y = 3, w = 5 and x are greater: u goes to the end
 //! ```
 //!
+//! Two replicas that each put a track after the same one:
+//!
+//! ```rust
+//! use mt_stamp::{Replica, Stamp};
+//! use mt_tracklist::TrackList;
+//! use std::test::Fail;
+//!
+//! fn orders_tracks_either_way_round(rt: HostRuntime) -> Result<(), Fail> {
+//!     let voice = Stamp::new(1, Replica(10), 1)?;
+//!     let (music, jingle) = (Stamp::new(2, Replica(10), 2)?, Stamp::new(3, Replica(11), 1)?);
+//!     // one puts `music` after `voice`, and then gets the other's `jingle`; the other one goes the other way round
+//!     let mut one = TrackList::new(rt.alloc());
+//!     one.insert(voice, None, voice)?;
+//!     one.insert(music, Some(voice), music)?;
+//!     one.insert(jingle, Some(voice), jingle)?;
+//!     let mut other = TrackList::new(rt.alloc());
+//!     other.insert(voice, None, voice)?;
+//!     other.insert(jingle, Some(voice), jingle)?;
+//!     other.insert(music, Some(voice), music)?;
+//!     // the one of greater stamp stands first
+//!     assert!(rt; one == other);
+//!     assert_eq!(rt; one.index_of(&jingle), Some(1));
+//!     assert_eq!(rt; one.index_of(&music), Some(2));
+//!     Ok(())
+//! }
+//! ```
+//!
 //! Why that is the walk: what is skipped is each sibling with a greater stamp and all that is under it, since a place is greater
 //! than the one that it was put after. And the skip never goes beyond: where the tree under the reference ends, the next
 //! element is a sibling of the reference or of a place above it, with a smaller stamp than these, so smaller than the new one.
