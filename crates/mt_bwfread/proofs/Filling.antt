@@ -66,9 +66,3 @@ filled text first channel frames n xs ys is begins front all sounding silent k w
           let behind : nat_lt (first + k) (frames_of text) ≡ false = grind (arith, nat_tests, is, front, all) in
           get_or-append_right xs ys (length xs) k (pos 0) refl from ∙ silent (k - length xs) (omega arith) ∙ rw behind refl
     ]
-
--- nothing but silence
-pub all_silent : (text : List ℕ) (first channel frames : ℕ) (r : ℤ) (k : ℕ) → frames ≡ frames_of text → frames ≤ first → r ≡ pos 0 → r ≡ sample_or_silence text (first + k) channel
-all_silent text first channel frames r k is behind silent =
-    let past : nat_lt (first + k) (frames_of text) ≡ false = grind (arith, nat_tests, is) in
-    silent ∙ rw past refl

@@ -61,6 +61,3 @@ module _ {R : Type 0} (remaining : R → Option (List ℕ)) where
 -- one more vector, and its bytes
 pub bytes_more : {Z : Type 0} (texts : List (Vec ℕ Z)) (text : Vec ℕ Z) → bytes_in (texts ++ text ∷ []) ≡ bytes_in texts ++ text.items ∷ []
 bytes_more {Z} texts text = map-append (λ (t : Vec ℕ Z). t.items) texts (text ∷ [])
-
-pub bytes_so_far : {Z : Type 0} (texts : List (Vec ℕ Z)) (i : ℕ) (text : Vec ℕ Z) → i < length texts → text ≡ get_or texts i text → bytes_in (take (i + 1) texts) ≡ bytes_in (take i texts) ++ text.items ∷ []
-bytes_so_far {Z} texts i text lt is = ap bytes_in (take_more texts i text lt ∙ ap (λ (t : Vec ℕ Z). take i texts ++ t ∷ []) (sym is)) ∙ bytes_more (take i texts) text

@@ -15,15 +15,6 @@ use Rattle.mt_render.specs.Refusals.{IsMixable, IsMixFault, IsLeast, PassAll, is
 use Rattle.mt_cuewrite.specs.Head.{HeadText}
 use Rattle.mt_cuewrite.specs.File.{padded, bext, format, sample, channels_from, frames_from, before, marker_chunks, riff, file}
 
-least_same : (clips : List Clip) (f g : Digest → Bool) (d : Digest) → ((e : Digest) → f e ≡ g e) → IsLeast clips f d → IsLeast clips g d
-least_same clips f g d same least = record {
-  clip = least.clip;
-  among = least.among;
-  fault = sym (same least.clip.source) ∙ least.fault;
-  is = least.is;
-  least = λ c among fault. least.least c among (same c.source ∙ fault);
-}
-
 pass_same : (clips : List Clip) (f g : Digest → Bool) → ((e : Digest) → f e ≡ g e) → PassAll clips f → PassAll clips g
 pass_same clips f g same pass = λ c among. sym (same c.source) ∙ pass c among
 
@@ -81,9 +72,3 @@ module _ (a b : Sources) (same : (d : Digest) → found a d ≡ found b d) (trac
     rate = pass_same (audible tracks) (rate_differs a layout.rate) (rate_differs b layout.rate) rate_same m.rate;
     size = m.size;
   }
-
-  pub fault_same : (f : MixFault) → IsMixFault (record { tracks = tracks; sources = a; layout = layout }) f → IsMixFault (record { tracks = tracks; sources = b; layout = layout }) f
-  fault_same Memory m = tt
-  fault_same (MissingSource d) m = least_same (audible tracks) (is_missing a) (is_missing b) d missing_same m
-  fault_same (RateDiffers d) m = (pass_same (audible tracks) (is_missing a) (is_missing b) missing_same m.0, least_same (audible tracks) (rate_differs a layout.rate) (rate_differs b layout.rate) d rate_same m.1)
-  fault_same TooLong m = (pass_same (audible tracks) (is_missing a) (is_missing b) missing_same m.0, pass_same (audible tracks) (rate_differs a layout.rate) (rate_differs b layout.rate) rate_same m.1, m.2)

@@ -23,23 +23,3 @@ log_not_written text contents remaining (Err fault) log before after old new gav
 -- what a reading of inputs gives: their logs, of which one is the union
 abbrev pub IsUnionOf : {R : Type 0} → (R → Option (List ℕ)) → List (Latched R) → LogMap → Type 0
 IsUnionOf remaining before all = (logs : List LogMap) × (GaveLogs remaining before logs × AllAgree logs × (all ≡ union_all logs))
-
-pub union_written : {R : Type 0} (remaining : R → Option (List ℕ)) (result : Result (Unit {0}) CliFault) (before : List (Latched R)) (all : LogMap) (Writes : LogMap → Type 0)
-    → IsUnionOf remaining before all → OnOk result (Writes all) → OnOk result ((logs : List LogMap) × (GaveLogs remaining before logs × AllAgree logs × Writes (union_all logs)))
-union_written remaining (Ok unit) before all Writes (logs, given) writes = (logs, (given.0, given.1, subst Writes given.2 writes))
-union_written remaining (Err fault) before all Writes given writes = writes
-
-union_fails : {W : Type 0} (text : LogMap → List ℕ) (contents : W → Option (List ℕ)) (fault : CliFault) (logs : List LogMap) (old new : Latched W) → AllAgree logs → WriteFails text contents (union_all logs) old new fault → WriteUnionFails text contents logs old new fault
-union_fails text contents faults.Memory logs old new agree fails = fails
-union_fails text contents faults.Write logs old new agree fails = (agree, fails.0, fails.1)
-union_fails text contents (faults.Read place) logs old new agree fails = absurd fails
-union_fails text contents (faults.Source place fault) logs old new agree fails = absurd fails
-union_fails text contents (faults.Mix fault) logs old new agree fails = absurd fails
-union_fails text contents (faults.Log place fault) logs old new agree fails = absurd fails
-union_fails text contents (faults.Merge dot) logs old new agree fails = absurd fails
-
-pub union_not_written : {R W : Type 0} (text : LogMap → List ℕ) (contents : W → Option (List ℕ)) (remaining : R → Option (List ℕ)) (result : Result (Unit {0}) CliFault) (before after : List (Latched R)) (all : LogMap) (old new : Latched W)
-    → IsUnionOf remaining before all → AreRead remaining after → IfErr result (WriteFails text contents all old new) → IfErr result (InputsFail text contents remaining before after old new)
-union_not_written text contents remaining (Ok unit) before after all old new given read fails = fails
-union_not_written text contents remaining (Err fault) before after all old new (logs, given) read fails =
-    inr (logs, (given.0, (read, union_fails text contents fault logs old new given.1 (subst (λ (m : LogMap). WriteFails text contents m old new fault) given.2 fails))))

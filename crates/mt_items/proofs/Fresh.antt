@@ -71,9 +71,6 @@ pub record IsPassing (all noted rest : List Operation) : Type 0 where
   pub rises : RisesStrictly op_cmp rest
   pub older : AllByRecursion IsOlder rest → AllByRecursion IsOlder all
 
-pub none_passed : (all noted : List Operation) → noted ≡ [] → RisesStrictly op_cmp all → IsPassing all noted all
-none_passed all noted none rises = rw none (record { passed = refl; below = tt; rises = rises; older = λ h. h })
-
 pub next_follows : (all noted rest : List Operation) (o : Operation) → IsPassing all noted (o ∷ rest) → are_needs_met noted o ≡ true → MayFollow noted o
 next_follows all noted rest o so_far met = record { fresh = fresh_after noted o (firsts noted o rest so_far.below); met = met }
 

@@ -94,14 +94,6 @@ module _ (list : List Placed) (o : Operation) (r : List Operation) (noted : AreN
       by None e = tt
       by (Some q) e = has_there list r has q (grew.1 q e)
 
-  pub has_more : (more : List Placed) → ((f : TreePlace → ℕ) → sum_by f (tree_of more) ≡ f t + sum_by f (tree_of list)) → ArePlacesOf more (o ∷ r)
-  has_more more put_in f =
-      put_in f ∙ ap (λ (n : ℕ). f t + n) (has f) ∙ sym (sum_by-cons f t (places_in r)) ∙ ap (λ (e : Option TreePlace). sum_by f (cons_option e (places_in r))) (sym is)
-
--- an operation that gives no place
-pub has_same : (list : List Placed) (o : Operation) (r : List Operation) → ArePlacesOf list r → place_added o ≡ None → ArePlacesOf list (o ∷ r)
-has_same list o r has none f = has f ∙ ap (λ (e : Option TreePlace). sum_by f (cons_option e (places_in r))) (sym none)
-
 -- what is put in is one more, wherever it is put
 pub one_more_place : (f : TreePlace → ℕ) (list : List Placed) (n : ℕ) (t : Placed) → sum_by f (tree_of (insert list n t)) ≡ f (tree_place t) + sum_by f (tree_of list)
 one_more_place f [] zero t = sum_by-cons f (tree_place t) []

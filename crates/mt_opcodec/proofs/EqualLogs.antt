@@ -1,7 +1,7 @@
 -- What `==` tells of logs.
 use Rattle.std.proofs.Common.{◌≡◌, Bool, true, List, [], ◌∷◌, refl, sym, ap, ◌∙◌, subst}
 use Rattle.std.specs.Prelude.{IsTrue, nat_eq, ◌↔◌}
-use Rattle.std.specs.Bool.{Decides, one_answer}
+use Rattle.std.specs.Bool.{Decides}
 use Rattle.std.specs.List.{AllByRecursion}
 use Rattle.std.specs.Cmp.Lexicographic.{pointwise}
 use Rattle.std.specs.declared.alloc.Allocator.{Ghosts}
@@ -43,13 +43,6 @@ module _ (A : denote.RattleType.RattleType) (alloc : Ghosts A.Denot) (d e : mir.
   ops_itself : (a : List Operation) → pointwise (op_test A alloc d e) a a ≡ true
   ops_itself [] = refl
   ops_itself (x ∷ a) = rw ((op_decides A alloc d e x x (op_test A alloc d e x x) refl).1 refl) (ops_itself a)
-
-  -- and so does `==` of slices
-  ops_decide : (a b : List Operation) → Decides (pointwise (op_test A alloc d e) a b) (a ≡ b)
-  ops_decide a b = (ops_same a b, λ same. subst (λ (c : List Operation). pointwise (op_test A alloc d e) a c ≡ true) same (ops_itself a))
-
-  pub by_texts : (a b : List Operation) → AreLogged a → AreLogged b → (r : Bool) → r ≡ pointwise (op_test A alloc d e) a b → r ≡ pointwise nat_eq (op_texts a) (op_texts b)
-  by_texts a b logged_a logged_b r is = is ∙ one_answer (pointwise (op_test A alloc d e) a b) (pointwise nat_eq (op_texts a) (op_texts b)) (ops_decide a b) (texts_decide a b logged_a.valid logged_b.valid)
 
 -- the same, of logs
 pub logs_decided : (a b : LogMap) (r : Bool) → AreLogged (operations a) → AreLogged (operations b) → log_of (operations a) ≡ a → log_of (operations b) ≡ b → r ≡ pointwise nat_eq (op_texts (operations a)) (op_texts (operations b)) → IsTrue r ↔ (a ≡ b)

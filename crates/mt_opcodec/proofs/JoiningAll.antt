@@ -1,13 +1,11 @@
 -- Joining logs gives the union of them all.
-use Rattle.std.proofs.Common.{◌≡◌, cond, List, [], ◌∷◌, Option, Some, None, refl, sym, ap, ◌∙◌, inr, inl, subst}
+use Rattle.std.proofs.Common.{◌≡◌, cond, List, [], ◌∷◌, Option, Some, None, refl, sym, ap, ◌∙◌, inr, subst}
 use Rattle.std.specs.Prelude.{is_some}
 use Rattle.std.specs.List.{AllByRecursion}
 use Rattle.std.specs.FinMap as fin
 use Rattle.mt_stamp.specs.declared.name.Dot.{Dot}
 use Rattle.mt_opcodec.specs.LogValue.{LogMap}
-use Rattle.mt_opcodec.specs.Union.{Agree, union, union_from, union_all, AgreeFrom, AllAgree, MergeFails, FirstClashFrom, FirstClash, JoinAllFails}
-use Rattle.mt_opcodec.specs.declared.fault.LogFault.{LogFault}
-use Rattle.mt_opcodec.specs.declared.fault.LogFault.TheVariants as faults
+use Rattle.mt_opcodec.specs.Union.{Agree, union, union_from, union_all, AgreeFrom, AllAgree, FirstClashFrom, FirstClash}
 use Rattle.std.proofs.lemmas.Option.{none-some}
 use Rattle.mt_stamp.specs.Moment.{dot_cmp}
 use Rattle.mt_op.specs.Operation.{Operation}
@@ -31,19 +29,6 @@ one_joined all log after rest logs agrees is h = record {
   is = ap (λ (m : LogMap). union_from m rest) is ∙ h.is;
   clash = λ dot c. h.clash dot (inr (agrees, subst (λ (m : LogMap). FirstClashFrom m rest dot) is c));
 }
-
-pub all_joined : (all : LogMap) (logs : List LogMap) → HasJoined all [] logs → AllAgree logs × (all ≡ union_all logs)
-all_joined all logs h = (h.agree tt, h.is)
-
-pub one_failed : (all log : LogMap) (rest logs : List LogMap) → HasJoined all (log ∷ rest) logs → (fault : LogFault) → MergeFails all log fault → JoinAllFails logs fault
-one_failed all log rest logs h faults.Memory f = tt
-one_failed all log rest logs h (faults.Conflict dot) f = h.clash dot (inl f)
-one_failed all log rest logs h faults.BadMagic f = absurd f
-one_failed all log rest logs h faults.BadVersion f = absurd f
-one_failed all log rest logs h faults.Damaged f = absurd f
-one_failed all log rest logs h (faults.BadRecord index cause) f = absurd f
-one_failed all log rest logs h (faults.OutOfOrder index) f = absurd f
-one_failed all log rest logs h faults.Trailing f = absurd f
 
 -- ---- some of them first
 

@@ -26,7 +26,7 @@ use Rattle.mt_opcodec.specs.declared.fault.LogFault.TheVariants.{BadMagic, BadVe
 use Rattle.mt_opcodec.specs.OpText.{op_text}
 use Rattle.mt_opcodec.specs.OpReading.{op_at}
 use Rattle.mt_opcodec.specs.LogText.{magic, version, log_head, log_body, log_text}
-use Rattle.mt_opcodec.specs.LogReading.{◌>>=◌, record_of, records_at, head_len, digest_len, body_of, is_sealed, sealed_at, counted_at, log_at, LogFails, LogGives}
+use Rattle.mt_opcodec.specs.LogReading.{◌>>=◌, record_of, records_at, head_len, digest_len, body_of, is_sealed, sealed_at, counted_at, log_at, LogGives}
 use Rattle.mt_opcodec.specs.LogValue.{AreLogged}
 use Rattle.mt_opcodec.proofs.Fields.{IsBytes, IsBytes-take, IsBytes-drop, wide64}
 use Rattle.mt_opcodec.proofs.Operations.{op_takes, op_again}
@@ -225,10 +225,6 @@ log_text-apart a b a-logged b-logged a-short b-short same =
   where
     ok_same : (x y : List Operation) → done x ≡ done y → x ≡ y
     ok_same x y e = cc
-
--- what a fault is, where the bytes are a log's text
-pub log_only_err : (fault : LogFault) (bytes : List ℕ) → LogFails fault (log_at bytes) → (ops : List Operation) → AreLogged ops → length ops < 2 ^ 64 → bytes ≡ log_text ops → LogFails fault (done ops)
-log_only_err fault bytes h ops logged short text = subst (λ (r : Result (List Operation) LogFault). LogFails fault r) (ap log_at text ∙ log_again ops logged short) h
 
 -- the same, of what a function returned
 pub read_found : {X : Type 0} (view : X → List Operation) (bytes : List ℕ) → IsBytes bytes → (r : Result X LogFault) → LogGives view r (log_at bytes) → IfOk r (λ x. bytes ≡ log_text (view x))

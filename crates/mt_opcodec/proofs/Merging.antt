@@ -341,12 +341,6 @@ module _ (left right : List Operation) (left_logged : AreLogged left) (right_log
         facts.2 (h.agree dot q r (front_has left left_logged.rise i o in_left dot q lt facts.0) (front_has right right_logged.rise j p in_right dot r (subst (λ (d : Dot). dot_cmp dot d ≡ Less) same lt) facts.1));
   }
 
-  pub within_left : (o : Operation) → slice_get left i ≡ Some o → (i < length left) × (j ≤ length right)
-  within_left o at = (slice_get_within left i o at, h.right_in)
-
-  pub within_right : (o : Operation) → slice_get right j ≡ Some o → (j < length right) × (i ≤ length left)
-  within_right o at = (slice_get_within right j o at, h.left_in)
-
   -- a place after this one
   one_on : (i : ℕ) → suc i ≡ i + 1
   one_on i = omega arith

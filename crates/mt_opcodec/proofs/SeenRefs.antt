@@ -25,10 +25,6 @@ module _ {R : Type 0} (f : R → Operation) where
   no_front [] e = refl
   no_front (x ∷ xs) e = absurd (none-some x (sym e))
 
-  pub without_front : (from rest : List R) → rest ≡ drop 1 from → map f rest ≡ drop 1 (map f from)
-  without_front [] rest e = ap (map f) e
-  without_front (x ∷ xs) rest e = ap (map f) e
-
 -- ---- the logs of two halves
 
 pub all_apart : (a b : List LogMap) → union_all (a ++ b) ≡ union (union_all a) (union_all b)

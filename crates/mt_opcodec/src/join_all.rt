@@ -29,18 +29,6 @@ fn join_from_left<A: Allocator + Clone>(alloc: A, logs: Vec<Log<A>, A>) -> Resul
     }
 }
 
-// The union of two logs that agree.
-fn join_agreeing<A: Allocator + Clone>(first: Log<A>, second: Log<A>) -> Result<Log<A>, LogFault>
-    requires agree { Agree first second }
-    ensures ok { IfOk result (λ all. all ≡ union first second) }
-    ensures err { IfErr result (λ fault. fault ≡ LogFault.Memory) }
-{
-    match first.join(second) {
-        Ok(both) => Ok(both),
-        Err(_) => Err(LogFault::Memory),
-    }
-}
-
 // The union of logs that agree: those of one half are joined, then those of the other, and then both, so that each operation is
 // walked once for each doubling of the number of logs, and what was joined last is joined next.
 fn join_halves<A: Allocator + Clone>(alloc: A, logs: Vec<Log<A>, A>) -> Result<Log<A>, LogFault>
@@ -59,10 +47,23 @@ fn join_halves<A: Allocator + Clone>(alloc: A, logs: Vec<Log<A>, A>) -> Result<L
     let second = first.split_off(half)?;
     let left = join_halves(alloc.clone()?, first)?;
     let right = join_halves(alloc, second)?;
-    join_agreeing(left, right)
+    left.join_agreeing(right)
 }
 
 impl<A: Allocator + Clone> Log<A> {
+    /// The union of two logs that agree, made as `join` makes it; `clash` tells whether they do. Refused only as `Memory` (0), where
+    /// a growth was refused; both are then dropped.
+    pub fn join_agreeing(self, other: Self) -> Result<Self, LogFault>
+        requires agree { Agree self other }
+        ensures ok { IfOk result (λ all. all ≡ union self other) }
+        ensures err { IfErr result (λ fault. fault ≡ LogFault.Memory) }
+    {
+        match self.join(other) {
+            Ok(both) => Ok(both),
+            Err(_) => Err(LogFault::Memory),
+        }
+    }
+
     /// The union of logs: each operation that any of them has, once, moved out of them. Refused as `Conflict` (17) where a log has
     /// another operation under a dot than the logs before it, with the least such dot of the first such log, and as
     /// `Memory` (0) where a growth was refused; all are then dropped.

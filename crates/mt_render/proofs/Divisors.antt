@@ -3,12 +3,6 @@ use Rattle.std.proofs.Common.{◌≡◌, ℕ, ◌+◌, ◌*◌, ◌/◌, ◌%◌
 use Rattle.std.proofs.lemmas.Nat.{div-add-mod'}
 use Rattle.mt_render.specs.Divides.{Divides}
 
-pub divides_self : (n : ℕ) → Divides n n
-divides_self n = record { times = 1; is = omega arith }
-
-pub divides_zero : (d : ℕ) → Divides d 0
-divides_zero d = record { times = 0; is = omega arith }
-
 joined : (x d q u v n r : ℕ) → q * n + r ≡ x → n ≡ d * u → r ≡ d * v → x ≡ d * (q * u + v)
 joined x d q u v n r e f g = sym e ∙ rw (f, g) (omega arith)
 

@@ -54,17 +54,6 @@ rounded_by_half p q h =
     let e : up s + down p ≡ down s + up p + q / 2 = omega (arith, sum_is_lem p (pos (q / 2))) in
     one_floor (twice p q) (2 * q) (rounded p q) c (floored_is (twice p q) (2 * q) (omega arith)) (half_floor (twice p q) p q c s (twice_is p q) e (floored_is s q h))
 
--- nothing is rounded where the divisor is 1
-pub rounded_whole : (p : ℤ) → rounded p 1 ≡ p
-unfolding twice
-rounded_whole p =
-    one_floor (twice p 1) 2 (rounded p 1) p (floored_is (twice p 1) 2 (omega arith)) (record { least = omega (arith, twice_is p 1); most = omega (arith, twice_is p 1) })
-
--- a quotient by a power of two is a shift
-pub floored_shift : (z : ℤ) (k : ℕ) → floored z (2 ^ k) ≡ int_shr z k
-floored_shift (pos a) k = refl
-floored_shift (negsuc a) k = refl
-
 scaled_floor : (g n : ℕ) (y z c : ℤ) → 0 < g → up z + g * down y ≡ down z + g * up y → IsFloor y n c → IsFloor z (g * n) c
 scaled_floor g n y z c h e k =
     let a : g * (up c * n + down y) ≤ g * (down c * n + up y) = mul-le-mul_left g k.least in
@@ -98,12 +87,6 @@ rounded_reduced g a q x hg hq =
 
 -- ---- the three ways, each for the divisor that it is taken for
 
-pub by_whole : (p : ℤ) (den : ℕ) → den ≡ 1 → p ≡ rounded p den
-by_whole p den h = rw h (sym (rounded_whole p))
-
-pub by_shift : (p : ℤ) (den bits : ℕ) → 0 < den → 2 ^ bits ≡ den → int_shr (p +ℤ pos (den / 2)) bits ≡ rounded p den
-by_shift p den bits some power = sym (floored_shift (p +ℤ pos (den / 2)) bits) ∙ rw power (sym (rounded_by_half p den some))
-
 pub by_division : (p : ℤ) (den : ℕ) → 0 < den → floored (p +ℤ pos (den / 2)) den ≡ rounded p den
 by_division p den some = sym (rounded_by_half p den some)
 
@@ -120,16 +103,6 @@ in_lower_terms n d g x hg hd p q =
     some_times : (g t d : ℕ) → 0 < d → d ≡ g * t → 0 < t
     some_times g zero d hd e = let z : g * 0 ≡ 0 = omega arith in absurd (omega arith)
     some_times g (suc t) d hd e = omega arith
-
--- a guess that leaves less than the divisor is the quotient
-pub guess_is : (z c rest : ℤ) (n : ℕ) → rest ≡ z -ℤ c *ℤ pos n → down rest ≤ up rest → up rest < down rest + n → c ≡ floored z n
-guess_is z c rest n is from to =
-    let parts = same_out rest (z -ℤ c *ℤ pos n) is in
-    let some : 0 < n = omega arith in
-    one_floor z n c (floored z n) (record {
-      least = omega (arith, sum_is_lem z (neg_ℤ (c *ℤ pos n)), (neg_is (c *ℤ pos n)).0, (neg_is (c *ℤ pos n)).1, product_is c (pos n));
-      most = omega (arith, sum_is_lem z (neg_ℤ (c *ℤ pos n)), (neg_is (c *ℤ pos n)).0, (neg_is (c *ℤ pos n)).1, product_is c (pos n));
-    }) (floored_is z n some)
 
 -- the quotient of two numbers of 64 bits
 pub divided : (r z d : ℤ) → FitsSigned w64 r → FitsSigned w64 z → FitsSigned w64 d

@@ -30,13 +30,6 @@ lower_is z u den turns q some is quotient =
 pub lowered_is : (x : ℤ) (num den turns u q : ℕ) → 0 < den → pos u ≡ (x *ℤ pos num +ℤ pos (den / 2)) +ℤ pos (den * turns) → q ≡ u / den → pos q -ℤ pos turns ≡ rounded (x *ℤ pos num) den
 lowered_is x num den turns u q some is quotient = lower_is (x *ℤ pos num +ℤ pos (den / 2)) u den turns q some is quotient ∙ by_division (x *ℤ pos num) den some
 
-pub quotient_small : (u den half : ℕ) → u < 2 * half → 2 ≤ den → u / den < half
-quotient_small u den half below some =
-    let q = u / den in
-    let whole = div-add-mod' u den in
-    let more : q * 2 ≤ q * den = mul-le-mul_left q some in
-    omega arith
-
 -- the upper part of a product with nearly top / den
 product_quotient : (u den inverse top : ℕ) → 0 < den → top ≤ inverse * den → inverse * den < top + den → u * den < top → u * inverse / top ≡ u / den
 product_quotient u den inverse top some above below small =

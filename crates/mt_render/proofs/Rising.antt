@@ -36,16 +36,6 @@ ends_before ps m k frame q p rising at ended low here =
           subst (λ (x : Part). x.end ≤ frame) same ended
     ]
 
-pub ends_behind : (ps : List Part) (m k frame : ℕ) (q p : Part) → AreRising ps → IsAt ps m q → frame < q.end → m ≤ k → IsAt ps k p → frame < p.end
-ends_behind ps m k frame q p rising at behind high here =
-    elim (cases_lt m k) [
-      | inl later ↦ let r = rising.rise m k q p later at here in let s = rising.some k p here in omega arith
-      | inr last ↦
-          let is : k ≡ m = omega arith in
-          let same : q ≡ p = same_at ps m q p at (subst (λ (n : ℕ). IsAt ps n p) is here) in
-          subst (λ (x : Part). frame < x.end) same behind
-    ]
-
 pub starts_from : (ps : List Part) (m k : ℕ) (q p : Part) → AreRising ps → IsAt ps m q → m ≤ k → IsAt ps k p → q.start ≤ p.start
 starts_from ps m k q p rising at high here =
     elim (cases_lt m k) [

@@ -93,13 +93,6 @@ is_less Less h = refl
 is_less Equal h = absurd (false≢true h)
 is_less Greater h = absurd (false≢true h)
 
-still_least : (x e d : Digest) → is_lt (digest_cmp x e) ≡ false → is_lt (digest_cmp d e) ≡ true → is_lt (digest_cmp x d) ≡ false
-still_least x e d old less =
-    elim (cases_Bool (is_lt (digest_cmp x d))) [
-      | inr n ↦ n
-      | inl y ↦ absurd (false≢true (sym old ∙ ap is_lt (digest_total.trans x d e (is_less _ y) (is_less _ less))))
-    ]
-
 itself : (d : Digest) → is_lt (digest_cmp d d) ≡ false
 itself d =
     elim (cases_Bool (is_lt (digest_cmp d d))) [

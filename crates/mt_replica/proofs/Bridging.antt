@@ -37,13 +37,6 @@ use Rattle.mt_sessionview.specs.Session.{ready_ops}
 use Rattle.mt_replica.specs.declared.fault.EditorFault.{EditorFault}
 use Rattle.mt_replica.specs.declared.fault.EditorFault.TheVariants.{NoSuchItem, Absent, TooManyTags}
 
-pub or_else_grouped : (a b : Option EditorFault) → or_else (or_else a None) b ≡ or_else a b
-or_else_grouped None b = refl
-or_else_grouped (Some fault) b = refl
-
-pub both_refusals : (r one two a b : Option EditorFault) → r ≡ or_else one two → one ≡ or_else a None → two ≡ b → r ≡ or_else a b
-both_refusals r one two a b is first second = is ∙ (λ i. or_else (first i) (second i)) ∙ or_else_grouped a b
-
 module _ (items ready : List Operation) (same : SameItems items ready) where
   name_same : (present : Bool) (need : Need) → name_refused items present need ≡ name_refused ready present need
   name_same present need = λ i. or_else (unless (same_any items ready same (meets need) i) (NoSuchItem need.stamp)) (unless (not present || present_same items ready same need.stamp i) (Absent need.stamp))

@@ -30,9 +30,6 @@ max_grouped a b c =
     let other : max (max a b) c ≤ max a (max b c) = max-le (max-le all_a (omega (arith, bc_b, all_bc))) (omega (arith, bc_c, all_bc)) in
     omega (arith, one, other)
 
-pub max_none : (n : ℕ) → max n 0 ≡ n
-max_none n = let one = le-max_left n 0 in let other : max n 0 ≤ n = max-le (omega arith) (omega arith) in omega (arith, one, other)
-
 pub none_max : (n : ℕ) → max 0 n ≡ n
 none_max n = let one = le-max_right 0 n in let other : max 0 n ≤ n = max-le (omega arith) (omega arith) in omega (arith, one, other)
 

@@ -44,9 +44,6 @@ sum_arrange f ys [] = omega arith
 sum_arrange f ys (t ∷ places) =
     omega (arith, sum_arrange f (arrange ys t) places, sum_insert_after f t.after t.place ys, sum_by-cons f t.place (stamps_of places))
 
-pub same_stamps_arranged : (f : Moment → ℕ) (places : List TreePlace) → sum_by f (arranged places) ≡ sum_by f (stamps_of places)
-same_stamps_arranged f places = omega (arith, sum_arrange f [] places)
-
 -- what holds of every stamp of a list and of a new one, and of those after it
 
 all_insert_after : (P : Moment → Type 0) (after : Option Moment) (x : Moment) (ys : List Moment) → P x → AllByRecursion P ys → AllByRecursion P (insert_after after x ys)

@@ -1,18 +1,17 @@
 -- A tree that grows: what is added leaves the paths of the places before as they are; and lists with rising stamps.
-use Rattle.std.proofs.Common.{◌≡◌, ℕ, zero, suc, ◌<◌, Bool, true, cond, List, [], ◌∷◌, ◌++◌, length, Option, Some, None, refl, sym, ap, ◌∙◌, subst, arith, inl, inr}
+use Rattle.std.proofs.Common.{◌≡◌, ℕ, zero, suc, ◌<◌, Bool, true, cond, List, [], ◌∷◌, ◌++◌, Option, Some, None, refl, sym, ap, ◌∙◌, subst, arith, inl, inr}
 use Rattle.std.specs.Prelude.{slice_get}
 use Rattle.std.specs.List.{AllByRecursion}
 use Rattle.std.specs.List.Sorted.{IsStrictlySortedBy}
 use Rattle.std.specs.Cmp.{tied_itself}
 use Rattle.std.specs.declared.cmp.Ordering.TheVariants.{Less}
 use Rattle.std.proofs.lemmas.Bool.{cases_lt}
-use Rattle.std.proofs.lemmas.List.{length-append}
 use Rattle.std.proofs.lemmas.Option.{same_Some, none-some}
 use Rattle.mt_stamp.specs.Moment.{Moment, stamp_cmp, stamp_eq}
-use Rattle.mt_stamp.specs.Tree.{TreePlace, stamps_of, after_of, path_to, path_within, path, path_cmp, tree_cmp, IsPlaceOf, IsTree}
+use Rattle.mt_stamp.specs.Tree.{TreePlace, stamps_of, after_of, path_to, path_within, IsPlaceOf, IsTree}
 use Rattle.mt_stamp.specs.TreeExamples as example
 use Rattle.mt_stamp.proofs.Order.{stamp_cmp_total, stamp_eq-itself}
-use Rattle.mt_stamp.proofs.Tree.{AftersAreOlder, count_within, far_enough}
+use Rattle.mt_stamp.proofs.Tree.{AftersAreOlder}
 
 -- what a place was added after stays
 
@@ -37,15 +36,6 @@ module _ (xs ys : List TreePlace) (older : AftersAreOlder xs) where
           → path_to (path_within n (xs ++ ys)) o ++ p ∷ [] ≡ path_to (path_within n xs) o ++ p ∷ []
       by None e rest = refl
       by (Some q) e rest = ap (λ (way : List Moment). way ++ p ∷ []) (rest q (older.there p q e))
-
-  -- places that are added leave the paths of those before as they are
-  pub path_in_beginning : (p : Moment) → IsPlaceOf xs p → path (xs ++ ys) p ≡ path xs p
-  path_in_beginning p there =
-      within_beginning (length (xs ++ ys)) p there
-      ∙ far_enough xs older (length (xs ++ ys)) (length xs) p (omega (arith, length-append xs ys, count_within xs p)) (count_within xs p)
-
-  pub tree_cmp_in_beginning : (p q : Moment) → IsPlaceOf xs p → IsPlaceOf xs q → tree_cmp (xs ++ ys) p q ≡ tree_cmp xs p q
-  tree_cmp_in_beginning p q p_there q_there = λ i. path_cmp (path_in_beginning p p_there i) (path_in_beginning q q_there i)
 
 -- rising stamps
 

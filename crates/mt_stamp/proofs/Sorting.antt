@@ -13,13 +13,6 @@ use Rattle.mt_stamp.specs.Sorting as rising
 use Rattle.mt_stamp.proofs.Differing.{all_insert, all_sorted}
 use Rattle.mt_stamp.specs.Sorting.{insert_by, sort_by, Sorts}
 
-less_turned : (o p : Ordering) → o ≡ ordering_reverse p → is_lt o ≡ true → is_lt p ≡ false
-less_turned Less Less e h = absurd cc
-less_turned Less Equal e h = absurd cc
-less_turned Less Greater e h = refl
-less_turned Equal p e h = absurd cc
-less_turned Greater p e h = absurd cc
-
 tie_from_both : (o p : Ordering) → o ≡ ordering_reverse p → is_lt o ≡ false → is_lt p ≡ false → o ≡ Equal
 tie_from_both Less p e h k = absurd cc
 tie_from_both Equal p e h k = refl

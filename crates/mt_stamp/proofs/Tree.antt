@@ -1,7 +1,6 @@
 -- Paths in a tree of places, and the laws of its order.
-use Rattle.std.proofs.Common.{◌≡◌, ◌≢◌, ℕ, zero, suc, ◌+◌, ◌<◌, ◌≤◌, Bool, true, false, cond, List, [], ◌∷◌, ◌++◌, length, Option, Some, None, refl, sym, ap, ◌∙◌, subst, append_assoc, arith, ◌⊎◌, inl, inr}
+use Rattle.std.proofs.Common.{◌≡◌, ◌≢◌, ℕ, zero, suc, ◌+◌, ◌<◌, ◌≤◌, Bool, true, false, cond, List, [], ◌∷◌, ◌++◌, length, Option, Some, None, refl, sym, ap, ◌∙◌, subst, append_assoc, arith}
 use Rattle.std.specs.Prelude.{slice_get}
-use Rattle.std.specs.List.{AllByRecursion}
 use Rattle.std.specs.Cmp.{IsTotalOrder, tied_itself}
 use Rattle.std.specs.FinMap.{IsAntisymmetric}
 use Rattle.std.specs.Ordering.{ordering_then}
@@ -145,18 +144,6 @@ module _ (places : List TreePlace) (older : AftersAreOlder places) where
 
   pub smaller_on_path : (p x : Moment) → stamp_cmp p x ≡ Less → AllSmaller x (path places p)
   smaller_on_path = smaller_within (length places)
-
-  -- every stamp on a path is that of the place itself, or smaller
-  pub on_path : (p : Moment) → AllByRecursion (λ q. (q ≡ p) ⊎ (stamp_cmp q p ≡ Less)) (path places p)
-  on_path p = rw (path_is p) (by (after_of places p) refl)
-    where
-      ended : (ys : List Moment) → AllSmaller p ys → AllByRecursion (λ q. (q ≡ p) ⊎ (stamp_cmp q p ≡ Less)) (ys ++ p ∷ [])
-      ended [] smaller = (inl refl, tt)
-      ended (y ∷ ys) smaller = (inr smaller.0, ended ys smaller.1)
-
-      by : (o : Option Moment) → after_of places p ≡ o → AllByRecursion (λ q. (q ≡ p) ⊎ (stamp_cmp q p ≡ Less)) (path_to (path places) o ++ p ∷ [])
-      by None e = (inl refl, tt)
-      by (Some q) e = ended (path places q) (smaller_on_path q p (older.smaller p q e))
 
   -- a place stands after what it was added after
   pub after_first : (p q : Moment) → after_of places p ≡ Some q → tree_cmp places q p ≡ Less

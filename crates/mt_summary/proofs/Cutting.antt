@@ -50,9 +50,6 @@ pub record IsAt (ops : List Operation) (from i : ℕ) (texts out total : List �
   pub texts_are : texts ≡ op_texts front
   pub so_far : out ++ flat_map (λ pack. frame_text (ops_text pack)) (packs_after front (drop i ops)) ≡ total
 
-pub at_start : (ops : List Operation) (texts out : List ℕ) → texts ≡ [] → IsAt ops 0 0 texts out (out ++ flat_map (λ pack. frame_text (ops_text pack)) (packs ops))
-at_start ops texts out none = record { front = []; count = refl; within = omega arith; in_range = omega arith; texts_are = none; so_far = refl }
-
 pub one_on : (ops : List Operation) (from i more from' : ℕ) (texts out total texts' out' text new : List ℕ) (o : Operation) → IsAt ops from i texts out total → i < length ops → o ≡ get_or ops i o → text ≡ op_text o → more ≡ length text
     → MakesRoom from i more texts out from' texts' out' → new ≡ texts' ++ text → IsAt ops from' (i + 1) new out' total
 one_on ops from i more from' texts out total texts' out' text new o h lt is text_is more_is room new_is =

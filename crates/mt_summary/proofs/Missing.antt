@@ -39,10 +39,6 @@ past_covers replica (n ∷ s) dot le = by (ltb n.replica.0 replica) refl (past_c
         others ∙ rw (ne_eqb n.replica.0 dot.replica.0 (λ e. omega (arith, e, lt, le))) refl
     by false is others = refl
 
-front_rises : (last : Option ℕ) (s : Summary) → SummaryRises last s → IsSummary s
-front_rises last [] rise = tt
-front_rises last (n ∷ s) rise = (refl, rise.1, rise.2)
-
 pub past_rises : (last : Option ℕ) (replica : ℕ) (s : Summary) → SummaryRises last s → IsSummary (past_replicas replica s)
 past_rises last replica [] rise = tt
 past_rises last replica (n ∷ s) rise = by (ltb n.replica.0 replica) (past_rises (Some n.replica.0) replica s rise.2)

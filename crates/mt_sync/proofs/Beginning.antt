@@ -48,8 +48,3 @@ fails talk bytes log x text written written' h is put =
 
 pub caller_refused : (side : Side) (log : Option LogMap) (read written written' : Option (List ℕ)) (f : SyncFault) → side ≡ Caller → NotBegun log written written' (Err f) → ConversesAs side log read read written written' (Err f) log
 caller_refused side log read written written' f is h = subst (λ (s : Side). ConversesAs s log read read written written' (Err f) log) (sym is) (inl (refl, (refl, h)))
-
-pub caller_goes : (side : Side) (talk : Talking) (log : Option LogMap) (read read' written mid written' : Option (List ℕ)) (result : Result (Unit {0}) SyncFault) (new : Option LogMap) → side ≡ Caller → (talk ≡ record { turn = greets Caller; rest = [] }) × Begins log written mid → Converses (end_of talk log) read read' mid written' result new → ConversesAs side log read read' written written' result new
-caller_goes side talk log read read' written mid written' result new is b h =
-    subst (λ (s : Side). ConversesAs s log read read' written written' result new) (sym is)
-    (inr (mid, (b.1, subst (λ (t : Talking). Converses (end_of t log) read read' mid written' result new) b.0 h)))

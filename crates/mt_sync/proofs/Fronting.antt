@@ -28,9 +28,6 @@ byte_ended rest set byte = refl
 
 -- ---- many bytes
 
-told_from : Told → List ℕ → Told
-told_from t bytes = after t bytes
-
 told_step : (end : End) (byte : ℕ) (bytes : List ℕ) (t : Told) → byte_in end byte ≡ t → told end (byte ∷ bytes) ≡ after t bytes
 told_step end byte bytes t is = ap (λ (u : Told). after u bytes) is
 

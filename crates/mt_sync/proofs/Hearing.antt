@@ -39,12 +39,6 @@ moves_on turn bytes body rest set out next new more total reads front taken so_f
     ∙ ap (λ (o : List ℕ). ((told (end_at next [] new) rest).0, o)) group
     ∙ ap (with_reply out) (sym one) ∙ so_far
 
-is_going : (turn : Turn) → IsOpen turn → IsGoing turn
-is_going (greets side) h = tt
-is_going (takes owed) h = tt
-is_going ended h = tt
-is_going (stopped fault) h = absurd h
-
 pub waits_short : (turn : Turn) (rest : List ℕ) → IsOpen turn → front_of rest ≡ cut_short → Waits turn rest
 waits_short (greets side) rest h short = short
 waits_short (takes owed) rest h short = short
@@ -98,10 +92,6 @@ shorter bytes body rest h =
     let w = whole_of bytes body rest h in
     omega (arith, w.long, w.all, ap length w.rest_is, length-drop (body_len bytes) (drop 4 bytes), length-drop 4 bytes)
 
--- what an ended talk hears
-pub hears_none : (turn : Turn) (rest : List ℕ) (set : Option LogMap) (piece : List ℕ) → piece ≡ [] → told (end_at turn rest set) piece ≡ (end_at turn rest set, [])
-hears_none turn rest set piece is = ap (told (end_at turn rest set)) is
-
 -- the body that is read, as a slice
 pub body_read : (turn : Turn) (set : Option LogMap) (r : Result (Unit {0}) TalkFault) (next : Turn) (new : Option LogMap) (out more body slice : List ℕ) → slice ≡ body → TakesBody (body_in turn set slice) r next new out more → TakesBody (body_in turn set body) r next new out more
 body_read turn set r next new out more body slice is h = subst (λ (b : List ℕ). TakesBody (body_in turn set b) r next new out more) is h
@@ -117,15 +107,6 @@ is_over turn test tells off h = let on : test ≡ true = tells.1 h in absurd cc
 
 pub is_not_over : (turn : Turn) (test : Bool) → (IsTrue test → IsOpen turn) × (IsOpen turn → IsTrue test) → test ≡ true → IsOpen turn
 is_not_over turn test tells is = tells.0 is
-
--- what a talk keeps of a fault
-pub stopped_at : (t : Told) (fault : TalkFault) (turn : Turn) (rest : List ℕ) (set : Option LogMap) (out : List ℕ) → Hears t (Err fault) turn rest set out → Fed {X = List ℕ} (λ l. l) t (Err fault) (end_at (stopped fault) [] set)
-stopped_at t Memory turn rest set out h = refl
-stopped_at t (Conflict dot) turn rest set out h = (h, refl)
-stopped_at t Failed turn rest set out h = (h, refl)
-stopped_at t BadMessage turn rest set out h = (h, refl)
-stopped_at t OutOfTurn turn rest set out h = (h, refl)
-stopped_at t FrameTooLong turn rest set out h = (h, refl)
 
 -- a turn that is over hears nothing more
 pub hears_nothing : (turn : Turn) (rest : List ℕ) (set : Option LogMap) (piece out : List ℕ) (r : Result (Unit {0}) TalkFault) → IsGoing turn → (IsOpen turn → ⊥) → Waits turn rest → out ≡ [] → r ≡ over_at (eqb (length piece) 0) → Hears (told (end_at turn rest set) piece) r turn rest set out

@@ -82,10 +82,6 @@ left_after start bytes piece end reply set is left = elim left [
   })
 ]
 
--- nothing of the piece was told
-pub left_whole : (turn : Turn) (rest : List ℕ) (old : Option LogMap) (piece : List ℕ) (set : Option LogMap) → set ≡ old → IsLeft (end_at turn rest old) piece set
-left_whole turn rest old piece set is = inr (nothing_more (end_at turn rest old) piece set is)
-
 pub left_so : (turn : Turn) (rest : List ℕ) (old : Option LogMap) (piece : List ℕ) (now : Turn) (unread : List ℕ) (set new : Option LogMap) → IsOpen turn → front_of rest ≡ cut_short → IsToldTo (end_at turn [] old) (rest ++ piece) now unread set → StaysOrFails set new → IsLeft (end_at turn rest old) piece new
 left_so turn rest old piece now unread set new opens waits so_far last = elim last [
   | inl stays ↦ inr (subst (IsOfFront (end_at turn rest old) piece) (sym stays) (of_piece turn rest old piece now unread set opens waits so_far))

@@ -107,13 +107,6 @@ not_below n = by (ltb n n) refl
     by true is = let less = ltb-true n n is in absurd (omega (arith, less))
     by false is = refl
 
-none_below : (p : ℕ) → false ≡ ltb p 0
-none_below p = by (ltb p 0) refl
-  where
-    by : (b : Bool) → ltb p 0 ≡ b → false ≡ b
-    by true is = let less = ltb-true p 0 is in absurd (omega (arith, less))
-    by false is = refl
-
 -- The list has the first n places, in the order of their tree.
 pub record IsLinked (places : List TreePlace) (items : List ℕ) (n : ℕ) : Type 0 where
   pub had : (p : ℕ) → has items p ≡ ltb p n
