@@ -82,3 +82,16 @@ fn converse_over<S: Read + Write + OpenStream + Drop>(
     converse(alloc, alloc, editor, side, &mut reader, &mut writer)?;
     Ok(())
 }
+
+// Swaps operations with the other end of a stream, and writes the editor's log into a file.
+fn swap<F: Files + AllocGlobal, S: Read + Write + OpenStream + Drop>(
+    rt: &F,
+    editor: Editor,
+    side: Side,
+    stream: S,
+    out: &str,
+) -> Result<(), Stop> {
+    let mut editor = editor;
+    converse_over(rt.alloc(), &mut editor, side, stream)?;
+    put_editor(rt, out, &editor)
+}

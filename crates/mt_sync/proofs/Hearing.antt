@@ -39,6 +39,12 @@ moves_on turn bytes body rest set out next new more total reads front taken so_f
     ∙ ap (λ (o : List ℕ). ((told (end_at next [] new) rest).0, o)) group
     ∙ ap (with_reply out) (sym one) ∙ so_far
 
+is_going : (turn : Turn) → IsOpen turn → IsGoing turn
+is_going (greets side) h = tt
+is_going (takes owed) h = tt
+is_going ended h = tt
+is_going (stopped fault) h = absurd h
+
 pub waits_short : (turn : Turn) (rest : List ℕ) → IsOpen turn → front_of rest ≡ cut_short → Waits turn rest
 waits_short (greets side) rest h short = short
 waits_short (takes owed) rest h short = short

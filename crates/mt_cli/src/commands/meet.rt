@@ -1,6 +1,6 @@
 //! `radio meet`.
 
-use super::{converse_over, open_editor, put_editor, word};
+use super::{open_editor, swap, word};
 use crate::stop::Stop;
 use clap::{ArgMatches, Command};
 use mt_sync::Side;
@@ -27,11 +27,10 @@ pub(crate) fn run<F: Files + Net + AllocGlobal>(
     rt: &F,
     words: &ArgMatches<'_>,
 ) -> Result<(), Stop> {
-    let mut editor = open_editor(rt, words.get_str("LOG").unwrap_or(""))?;
-    let stream = match TcpStream::connect(rt, words.get_str("ADDR").unwrap_or("")) {
-        Ok(stream) => stream,
-        Err(_) => return Err(Stop::net()),
-    };
-    converse_over(rt.alloc(), &mut editor, Side::Caller, stream)?;
-    put_editor(rt, words.get_str("OUT").unwrap_or(""), &editor)
+    let out = words.get_str("OUT").unwrap_or("");
+    let editor = open_editor(rt, words.get_str("LOG").unwrap_or(""))?;
+    match TcpStream::connect(rt, words.get_str("ADDR").unwrap_or("")) {
+        Ok(stream) => swap(rt, editor, Side::Caller, stream, out),
+        Err(_) => Err(Stop::net()),
+    }
 }

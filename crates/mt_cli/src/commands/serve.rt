@@ -1,6 +1,6 @@
 //! `radio serve`.
 
-use super::{converse_over, open_editor, put_editor, word};
+use super::{open_editor, swap, word};
 use crate::stop::Stop;
 use clap::{ArgMatches, Command};
 use mt_sync::Side;
@@ -19,19 +19,25 @@ pub(crate) fn words<'a>(alloc: Global) -> Result<Command<'a>, AllocError> {
         .arg(word(alloc, "OUT", "The log to write, which may be LOG"))
 }
 
+// The stream of the first caller at an address.
+fn accepted<N: Net>(net: &N, address: &str) -> Result<N::Stream, Stop> {
+    let Ok(listener) = TcpListener::bind(net, address) else {
+        return Err(Stop::net());
+    };
+    match listener.accept() {
+        Ok((stream, _)) => Ok(stream),
+        Err(_) => Err(Stop::net()),
+    }
+}
+
 pub(crate) fn run<F: Files + Net + AllocGlobal>(
     rt: &F,
     words: &ArgMatches<'_>,
 ) -> Result<(), Stop> {
-    let mut editor = open_editor(rt, words.get_str("LOG").unwrap_or(""))?;
-    let listener = match TcpListener::bind(rt, words.get_str("ADDR").unwrap_or("")) {
-        Ok(listener) => listener,
-        Err(_) => return Err(Stop::net()),
-    };
-    let stream = match listener.accept() {
-        Ok((stream, _)) => stream,
-        Err(_) => return Err(Stop::net()),
-    };
-    converse_over(rt.alloc(), &mut editor, Side::Answerer, stream)?;
-    put_editor(rt, words.get_str("OUT").unwrap_or(""), &editor)
+    let out = words.get_str("OUT").unwrap_or("");
+    let editor = open_editor(rt, words.get_str("LOG").unwrap_or(""))?;
+    match accepted(rt, words.get_str("ADDR").unwrap_or("")) {
+        Ok(stream) => swap(rt, editor, Side::Answerer, stream, out),
+        Err(stop) => Err(stop),
+    }
 }
