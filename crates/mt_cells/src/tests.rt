@@ -40,38 +40,38 @@ fn holds_what_it_was_made_of(rt: HostRuntime) -> Result<(), Fail> {
     Ok(())
 }
 
-// Whether the register of the first write is that of the wanted one once these writes are joined to it in turn.
-fn joins_to(
-    first: (Stamp, char),
-    others: &[(Stamp, char)],
-    wanted: (Stamp, char),
-) -> Result<bool, CellFault> {
-    let mut register = register_of(first);
-    for other in others {
-        register.join(register_of(*other))?;
-    }
-    Ok(register == register_of(wanted))
+// The register of a write: its value is its name, and those of digits have one stamp.
+fn written(name: char) -> Result<Register<char>, StampFault> {
+    let stamp = match name {
+        'X' => Stamp::new(2, A, 2)?,
+        'Y' => Stamp::new(2, B, 1)?,
+        _ => Stamp::new(1, A, 1)?,
+    };
+    Ok(Register::new(stamp, name))
 }
 
-// two_retitles
-#[test]
-fn keeps_the_last_of_two_retitles(rt: HostRuntime) -> Result<(), Fail> {
-    let by_a = (Stamp::new(2, A, 2)?, 'X');
-    let by_b = (Stamp::new(2, B, 1)?, 'Y');
-    assert_eq!(rt; joins_to(by_a, &[by_b], by_b), Ok(true));
-    assert_eq!(rt; joins_to(by_b, &[by_a], by_b), Ok(true));
+// Joins the registers of these writes to one in turn.
+fn join_each(register: &mut Register<char>, others: &str) -> Result<(), Fail> {
+    for name in others.chars() {
+        register.join(written(name)?)?;
+    }
     Ok(())
 }
 
-#[test]
-fn keeps_the_greater_value_of_one_stamp(rt: HostRuntime) -> Result<(), Fail> {
-    let stamp = Stamp::new(1, A, 1)?;
-    let writes = [(stamp, '7'), (stamp, '5')];
-    for count in 1..=2 {
-        assert_eq!(rt;
-            joins_to((stamp, '3'), &writes[..count], (stamp, '7')),
-            Ok(true)
-        );
+// Whether the register of the first write is then that of the wanted one.
+fn joins_to(first: char, others: &str, wanted: char) -> Result<bool, Fail> {
+    let mut register = written(first)?;
+    join_each(&mut register, others)?;
+    Ok(register == written(wanted)?)
+}
+
+// Adds the registers of these writes to a list.
+fn push_written<M: Allocator>(
+    registers: &mut Vec<Register<char>, M>,
+    names: &str,
+) -> Result<(), Fail> {
+    for name in names.chars() {
+        registers.push(written(name)?)?;
     }
     Ok(())
 }
@@ -79,31 +79,33 @@ fn keeps_the_greater_value_of_one_stamp(rt: HostRuntime) -> Result<(), Fail> {
 // Whether all of these writes together are the wanted one.
 fn all_join_to<M: Allocator>(
     memory: M,
-    first: (Stamp, char),
-    others: &[(Stamp, char)],
-    wanted: (Stamp, char),
-) -> Result<bool, CellFault> {
+    first: char,
+    others: &str,
+    wanted: char,
+) -> Result<bool, Fail> {
     let mut registers = Vec::new(memory);
-    for other in others {
-        registers.push(register_of(*other))?;
-    }
-    Ok(join_all(register_of(first), registers)? == register_of(wanted))
+    push_written(&mut registers, others)?;
+    Ok(join_all(written(first)?, registers)? == written(wanted)?)
 }
 
+// two_retitles; the greater value of one stamp; any order, with repeats
 #[test]
-fn joins_in_any_order_and_with_repeats(rt: HostRuntime) -> Result<(), Fail> {
-    let first = (Stamp::new(1, A, 1)?, 'N');
-    let second = (Stamp::new(2, A, 2)?, 'X');
-    let third = (Stamp::new(2, B, 1)?, 'Y');
-    assert_eq!(rt;
-        all_join_to(rt.alloc(), first, &[second, third], third),
-        Ok(true)
-    );
-    assert_eq!(rt;
-        all_join_to(rt.alloc(), third, &[second, first, second], third),
-        Ok(true)
-    );
-    assert_eq!(rt; all_join_to(rt.alloc(), first, &[], first), Ok(true));
+fn keeps_the_greatest_write(rt: HostRuntime) -> Result<(), Fail> {
+    for (first, others, wanted) in [
+        ('X', "Y", 'Y'),
+        ('Y', "X", 'Y'),
+        ('3', "7", '7'),
+        ('3', "75", '7'),
+        ('N', "XY", 'Y'),
+        ('Y', "XNX", 'Y'),
+        ('N', "", 'N'),
+    ] {
+        assert!(rt; joins_to(first, others, wanted)?, "{first} {others}");
+        assert!(rt;
+            all_join_to(rt.alloc(), first, others, wanted)?,
+            "{first} {others}"
+        );
+    }
     Ok(())
 }
 
@@ -211,6 +213,15 @@ fn marks_named<'s>(
     (named(stamps, tags), named(stamps, removed))
 }
 
+fn named_show<M: Allocator + Copy>(
+    memory: M,
+    stamps: &[Stamp; 3],
+    marks: (&str, &str),
+    live: &str,
+) -> Result<bool, CellFault> {
+    marked_shows(memory, marks_named(stamps, marks), named(stamps, live))
+}
+
 // removed_and_restored: a removal may come before its tag or after it.
 #[test]
 fn keeps_the_tag_that_was_not_removed(rt: HostRuntime) -> Result<(), Fail> {
@@ -223,8 +234,7 @@ fn keeps_the_tag_that_was_not_removed(rt: HostRuntime) -> Result<(), Fail> {
         ("ab", "ab", ""),
         ("", "a", ""),
     ] {
-        let marks = marks_named(&stamps, (tags, removed));
-        let shown = marked_shows(rt.alloc(), marks, named(&stamps, live));
+        let shown = named_show(rt.alloc(), &stamps, (tags, removed), live);
         assert_eq!(rt; shown, Ok(true), "{tags} {removed}");
     }
     Ok(())
@@ -263,24 +273,25 @@ fn is_equal<M: Allocator + Copy>(
 
 fn are_equal<M: Allocator + Copy>(
     memory: M,
-    one: (&[Stamp], &[Stamp]),
-    other: (&[Stamp], &[Stamp]),
+    stamps: &[Stamp; 3],
+    one: (&str, &str),
+    other: (&str, &str),
 ) -> Result<bool, CellFault> {
     let mut presence = Presence::new(memory);
-    is_equal(&mut presence, memory, one, other)
+    let others = marks_named(stamps, other);
+    is_equal(&mut presence, memory, marks_named(stamps, one), others)
 }
 
 #[test]
 fn tells_presences_apart(rt: HostRuntime) -> Result<(), Fail> {
     let stamps = stamps()?;
-    let one = marks_named(&stamps, ("a", "b"));
     for (tags, removed, is_equal) in [
         ("a", "b", true),
         ("ab", "b", false),
         ("a", "", false),
         ("", "", false),
     ] {
-        let told = are_equal(rt.alloc(), one, marks_named(&stamps, (tags, removed)));
+        let told = are_equal(rt.alloc(), &stamps, ("a", "b"), (tags, removed));
         assert_eq!(rt; told, Ok(is_equal), "{tags} {removed}");
     }
     Ok(())
@@ -320,74 +331,70 @@ fn is_joined<M: Allocator + Copy>(
     has_marks(memory, presence, both)
 }
 
-fn join_to<M: Allocator + Copy>(
+// Whether the two make a presence with the tags a and b and the removal of a.
+fn restore<M: Allocator + Copy>(
     memory: M,
-    one: (&[Stamp], &[Stamp]),
-    other: (&[Stamp], &[Stamp]),
-    both: (&[Stamp], &[Stamp]),
+    stamps: &[Stamp; 3],
+    one: (&str, &str),
+    other: (&str, &str),
 ) -> Result<bool, CellFault> {
     let mut presence = Presence::new(memory);
-    is_joined(&mut presence, memory, one, other, both)
+    let one = marks_named(stamps, one);
+    let other = marks_named(stamps, other);
+    is_joined(
+        &mut presence,
+        memory,
+        one,
+        other,
+        marks_named(stamps, ("ab", "a")),
+    )
 }
 
 // removed_and_restored
 #[test]
 fn joins_presences_either_way_round(rt: HostRuntime) -> Result<(), Fail> {
     let stamps = stamps()?;
-    let removed = marks_named(&stamps, ("a", "a"));
-    let restored = marks_named(&stamps, ("ab", ""));
-    let both = marks_named(&stamps, ("ab", "a"));
-    assert_eq!(rt; join_to(rt.alloc(), removed, restored, both), Ok(true));
-    assert_eq!(rt; join_to(rt.alloc(), restored, removed, both), Ok(true));
-    Ok(())
-}
-
-// Adds presences with these tags and removals to a list.
-fn push_marked<M: Allocator + Copy>(
-    presences: &mut Vec<Presence<M>, M>,
-    memory: M,
-    all: &[(&[Stamp], &[Stamp])],
-) -> Result<(), CellFault> {
-    for marks in all {
-        presences.push(marked(memory, *marks)?)?;
+    for (one, other) in [(("a", "a"), ("ab", "")), (("ab", ""), ("a", "a"))] {
+        assert_eq!(rt; restore(rt.alloc(), &stamps, one, other), Ok(true));
     }
     Ok(())
 }
 
-// All of them joined to one without marks.
+// Adds presences with the tag b, the removal of a, and the tag a to a list.
+fn push_marked<M: Allocator + Copy>(
+    presences: &mut Vec<Presence<M>, M>,
+    memory: M,
+    stamps: &[Stamp; 3],
+) -> Result<(), CellFault> {
+    for marks in [("b", ""), ("", "a"), ("a", "")] {
+        presences.push(marked(memory, marks_named(stamps, marks))?)?;
+    }
+    Ok(())
+}
+
+// Those joined to one without marks.
 fn all_joined<M: Allocator + Copy>(
     memory: M,
-    all: &[(&[Stamp], &[Stamp])],
+    stamps: &[Stamp; 3],
 ) -> Result<Presence<M>, CellFault> {
     let mut presences = Vec::new(memory);
-    match push_marked(&mut presences, memory, all) {
+    match push_marked(&mut presences, memory, stamps) {
         Ok(()) => join_all(Presence::new(memory), presences),
         Err(fault) => Err(fault),
     }
 }
 
-// Whether they are then one with these.
-fn all_join_to_marks<M: Allocator + Copy>(
-    memory: M,
-    all: &[(&[Stamp], &[Stamp])],
-    marks: (&[Stamp], &[Stamp]),
-) -> Result<bool, CellFault> {
-    match all_joined(memory, all) {
-        Ok(presence) => has_marks(memory, &presence, marks),
+// Whether they are then one with both tags and the removal.
+fn all_restore<M: Allocator + Copy>(memory: M, stamps: &[Stamp; 3]) -> Result<bool, CellFault> {
+    match all_joined(memory, stamps) {
+        Ok(presence) => has_marks(memory, &presence, marks_named(stamps, ("ab", "a"))),
         Err(fault) => Err(fault),
     }
 }
 
 #[test]
 fn joins_all_presences(rt: HostRuntime) -> Result<(), Fail> {
-    let stamps = stamps()?;
-    let all = [
-        marks_named(&stamps, ("b", "")),
-        marks_named(&stamps, ("", "a")),
-        marks_named(&stamps, ("a", "")),
-    ];
-    let marks = marks_named(&stamps, ("ab", "a"));
-    assert_eq!(rt; all_join_to_marks(rt.alloc(), &all, marks), Ok(true));
+    assert_eq!(rt; all_restore(rt.alloc(), &stamps()?), Ok(true));
     Ok(())
 }
 
