@@ -3,7 +3,7 @@
 use super::bodies::{ACTS, Act, add_track, body_of, remove, retitle};
 use super::{A, B};
 use mt_op::{Body, Digest, Gain, Need, Op, OpFault, Role};
-use mt_stamp::Stamp;
+use mt_stamp::{Stamp, StampFault};
 use std::alloc::{Allocator, Global};
 use std::test::Fail;
 
@@ -215,12 +215,19 @@ fn refusal_of<M: Allocator>(
     Ok(refusal(own, remove(memory, item, tags)?))
 }
 
+// An item, two tags from the less to the greater, and the stamp of the operation.
+fn stamps_of_removal() -> Result<[Stamp; 4], StampFault> {
+    let item = Stamp::new(1, A, 1)?;
+    let low = Stamp::new(2, A, 2)?;
+    let high = Stamp::new(2, B, 1)?;
+    Ok([item, low, high, Stamp::new(3, A, 3)?])
+}
+
 // refused_operations: tags
 #[test]
 fn refuses_tags_that_are_none_or_repeat(rt: HostRuntime) -> Result<(), Fail> {
+    let [item, _, _, own] = stamps_of_removal()?;
     let bad = Ok(Some(OpFault::BadTags));
-    let own = Stamp::new(3, A, 3)?;
-    let item = Stamp::new(1, A, 1)?;
     assert_eq!(rt; refusal_of(rt.alloc(), own, item, &[]), bad);
     assert_eq!(rt; refusal_of(rt.alloc(), own, item, &[item, item]), bad);
     Ok(())
@@ -229,68 +236,81 @@ fn refuses_tags_that_are_none_or_repeat(rt: HostRuntime) -> Result<(), Fail> {
 // refused_operations: tags
 #[test]
 fn refuses_tags_that_fall(rt: HostRuntime) -> Result<(), Fail> {
-    let own = Stamp::new(3, A, 3)?;
-    let item = Stamp::new(1, A, 1)?;
-    let low = Stamp::new(2, A, 2)?;
-    let high = Stamp::new(2, B, 1)?;
+    let [item, low, high, own] = stamps_of_removal()?;
     let falling = refusal_of(rt.alloc(), own, item, &[item, high, low]);
     assert_eq!(rt; falling, Ok(Some(OpFault::BadTags)));
-    assert_eq!(rt;
-        refusal_of(rt.alloc(), own, item, &[item, low, high]),
-        Ok(None)
-    );
+    let rising = refusal_of(rt.alloc(), own, item, &[item, low, high]);
+    assert_eq!(rt; rising, Ok(None));
     Ok(())
 }
 
 // refused_operations: tags
 #[test]
 fn refuses_names_before_tags(rt: HostRuntime) -> Result<(), Fail> {
+    let [item, _, _, own] = stamps_of_removal()?;
     let young = Ok(Some(OpFault::NameNotOlder));
-    let own = Stamp::new(3, A, 3)?;
-    let item = Stamp::new(1, A, 1)?;
     assert_eq!(rt; refusal_of(rt.alloc(), own, item, &[item, own]), young);
     assert_eq!(rt; refusal_of(rt.alloc(), own, own, &[]), young);
     Ok(())
 }
 
-// This many stamps of one replica, rising from clock 1.
-fn rising<M: Allocator>(memory: M, count: u64) -> Result<Vec<Stamp, M>, Fail> {
-    let mut tags = Vec::new(memory);
-    for i in 0..count {
-        tags.push(Stamp::new(i + 1, A, i + 1)?)?;
+// Adds this many stamps of one replica, rising from clock 1.
+fn push_rising<M: Allocator>(tags: &mut Vec<Stamp, M>, count: u64) -> Result<(), Fail> {
+    for clock in 1..=count {
+        tags.push(Stamp::new(clock, A, clock)?)?;
     }
-    Ok(tags)
+    Ok(())
 }
 
-// How many needs a Remove has that lists so many tags, and its last one, where nothing is after it.
+// How many needs an operation has, and its last one, where it has so many others and nothing is after it.
+fn last_need_of<M: Allocator>(op: &Op<M>, others: usize) -> Option<(usize, Need)> {
+    let count = op.need_count();
+    match (op.need(others), op.need(count)) {
+        (Some(last), None) => Some((count, last)),
+        _ => None,
+    }
+}
+
+// The same of a Remove of these tags.
 fn last_need<M: Allocator + Copy>(
     memory: M,
     own: Stamp,
     item: Stamp,
     tags: &[Stamp],
-) -> Result<(usize, Option<Need>, Option<Need>), OpFault> {
-    let op = Op::new(own, remove(memory, item, tags)?)?;
-    let count = op.need_count();
-    Ok((count, op.need(tags.len()), op.need(count)))
+) -> Result<Option<(usize, Need)>, OpFault> {
+    let body = remove(memory, item, tags)?;
+    let op = Op::new(own, body)?;
+    Ok(last_need_of(&op, tags.len()))
+}
+
+// Whether a Remove of the greatest count of tags needs the item and each of them.
+fn takes_most<M: Allocator + Copy>(
+    tags: &mut Vec<Stamp, M>,
+    memory: M,
+    own: Stamp,
+) -> Result<bool, Fail> {
+    let item = Stamp::new(1, A, 1)?;
+    let stamp = Stamp::new(65_535, A, 65_535)?;
+    let role = Role::TagOf(item);
+    push_rising(tags, 65_535)?;
+    Ok(last_need(memory, own, item, tags)? == Some((65_536, Need { stamp, role })))
+}
+
+// Whether one of a tag more is refused.
+fn refuses_more<M: Allocator + Copy>(
+    tags: &mut Vec<Stamp, M>,
+    memory: M,
+    own: Stamp,
+) -> Result<bool, Fail> {
+    let item = Stamp::new(1, A, 1)?;
+    push_rising(tags, 65_536)?;
+    Ok(refusal_of(memory, own, item, tags)? == Some(OpFault::BadTags))
 }
 
 #[test]
 fn lists_at_most_65535_tags(rt: HostRuntime) -> Result<(), Fail> {
     let own = Stamp::new(70_000, B, 1)?;
-    let item = Stamp::new(1, A, 1)?;
-    let last = Need {
-        stamp: Stamp::new(65_535, A, 65_535)?,
-        role: Role::TagOf(item),
-    };
-    let too_many = rising(rt.alloc(), 65_536)?;
-    assert_eq!(rt;
-        refusal_of(rt.alloc(), own, item, &too_many),
-        Ok(Some(OpFault::BadTags))
-    );
-    let most = rising(rt.alloc(), 65_535)?;
-    assert_eq!(rt;
-        last_need(rt.alloc(), own, item, &most),
-        Ok((65_536, Some(last), None))
-    );
+    assert!(rt; takes_most(&mut Vec::new(rt.alloc()), rt.alloc(), own)?);
+    assert!(rt; refuses_more(&mut Vec::new(rt.alloc()), rt.alloc(), own)?);
     Ok(())
 }
