@@ -88,6 +88,13 @@ fn all_join_to<M: Allocator>(
     Ok(join_all(written(first)?, registers)? == written(wanted)?)
 }
 
+// Whether both are so.
+fn keeps<M: Allocator>(memory: M, first: char, others: &str, wanted: char) -> Result<bool, Fail> {
+    let joins = joins_to(first, others, wanted)?;
+    let all_join = all_join_to(memory, first, others, wanted)?;
+    Ok(joins && all_join)
+}
+
 // two_retitles; the greater value of one stamp; any order, with repeats
 #[test]
 fn keeps_the_greatest_write(rt: HostRuntime) -> Result<(), Fail> {
@@ -100,9 +107,8 @@ fn keeps_the_greatest_write(rt: HostRuntime) -> Result<(), Fail> {
         ('Y', "XNX", 'Y'),
         ('N', "", 'N'),
     ] {
-        assert!(rt; joins_to(first, others, wanted)?, "{first} {others}");
         assert!(rt;
-            all_join_to(rt.alloc(), first, others, wanted)?,
+            keeps(rt.alloc(), first, others, wanted)?,
             "{first} {others}"
         );
     }
@@ -222,10 +228,16 @@ fn named_show<M: Allocator + Copy>(
     marked_shows(memory, marks_named(stamps, marks), named(stamps, live))
 }
 
+fn shows<M: Allocator + Copy>(memory: M, marks: (&str, &str), live: &str) -> bool {
+    match stamps() {
+        Ok(stamps) => named_show(memory, &stamps, marks, live) == Ok(true),
+        Err(_) => false,
+    }
+}
+
 // removed_and_restored: a removal may come before its tag or after it.
 #[test]
-fn keeps_the_tag_that_was_not_removed(rt: HostRuntime) -> Result<(), Fail> {
-    let stamps = stamps()?;
+fn keeps_the_tag_that_was_not_removed(rt: HostRuntime) {
     for (tags, removed, live) in [
         ("a", "", "a"),
         ("a", "a", ""),
@@ -234,10 +246,11 @@ fn keeps_the_tag_that_was_not_removed(rt: HostRuntime) -> Result<(), Fail> {
         ("ab", "ab", ""),
         ("", "a", ""),
     ] {
-        let shown = named_show(rt.alloc(), &stamps, (tags, removed), live);
-        assert_eq!(rt; shown, Ok(true), "{tags} {removed}");
+        assert!(rt;
+            shows(rt.alloc(), (tags, removed), live),
+            "{tags} {removed}"
+        );
     }
-    Ok(())
 }
 
 // Whether a presence is one that has these marks and no others.
@@ -282,19 +295,23 @@ fn are_equal<M: Allocator + Copy>(
     is_equal(&mut presence, memory, marks_named(stamps, one), others)
 }
 
+// Whether a presence with the tag a and the removal of b is one with these. None where that could not be told.
+fn is_told_equal<M: Allocator + Copy>(memory: M, marks: (&str, &str)) -> Option<bool> {
+    let stamps = stamps().ok()?;
+    are_equal(memory, &stamps, ("a", "b"), marks).ok()
+}
+
 #[test]
-fn tells_presences_apart(rt: HostRuntime) -> Result<(), Fail> {
-    let stamps = stamps()?;
+fn tells_presences_apart(rt: HostRuntime) {
     for (tags, removed, is_equal) in [
         ("a", "b", true),
         ("ab", "b", false),
         ("a", "", false),
         ("", "", false),
     ] {
-        let told = are_equal(rt.alloc(), &stamps, ("a", "b"), (tags, removed));
-        assert_eq!(rt; told, Ok(is_equal), "{tags} {removed}");
+        let told = is_told_equal(rt.alloc(), (tags, removed));
+        assert_eq!(rt; told, Some(is_equal), "{tags} {removed}");
     }
-    Ok(())
 }
 
 fn marked<M: Allocator + Copy>(
@@ -350,14 +367,18 @@ fn restore<M: Allocator + Copy>(
     )
 }
 
+fn is_restored<M: Allocator + Copy>(memory: M, one: (&str, &str), other: (&str, &str)) -> bool {
+    match stamps() {
+        Ok(stamps) => restore(memory, &stamps, one, other) == Ok(true),
+        Err(_) => false,
+    }
+}
+
 // removed_and_restored
 #[test]
-fn joins_presences_either_way_round(rt: HostRuntime) -> Result<(), Fail> {
-    let stamps = stamps()?;
-    for (one, other) in [(("a", "a"), ("ab", "")), (("ab", ""), ("a", "a"))] {
-        assert_eq!(rt; restore(rt.alloc(), &stamps, one, other), Ok(true));
-    }
-    Ok(())
+fn joins_presences_either_way_round(rt: HostRuntime) {
+    assert!(rt; is_restored(rt.alloc(), ("a", "a"), ("ab", "")));
+    assert!(rt; is_restored(rt.alloc(), ("ab", ""), ("a", "a")));
 }
 
 // Adds presences with the tag b, the removal of a, and the tag a to a list.
@@ -392,10 +413,16 @@ fn all_restore<M: Allocator + Copy>(memory: M, stamps: &[Stamp; 3]) -> Result<bo
     }
 }
 
+fn all_are_restored<M: Allocator + Copy>(memory: M) -> bool {
+    match stamps() {
+        Ok(stamps) => all_restore(memory, &stamps) == Ok(true),
+        Err(_) => false,
+    }
+}
+
 #[test]
-fn joins_all_presences(rt: HostRuntime) -> Result<(), Fail> {
-    assert_eq!(rt; all_restore(rt.alloc(), &stamps()?), Ok(true));
-    Ok(())
+fn joins_all_presences(rt: HostRuntime) {
+    assert!(rt; all_are_restored(rt.alloc()));
 }
 
 // Whether a copy of a presence is it, and is not once the tag has been removed from it.
@@ -419,32 +446,35 @@ fn marked_copy_is_apart<M: Allocator + Copy>(
     copy_is_apart(presence, tag)
 }
 
+fn copies<M: Allocator + Copy>(memory: M, [tag, removed, _]: [Stamp; 3]) -> bool {
+    let mut presence = Presence::new(memory);
+    marked_copy_is_apart(&mut presence, tag, removed) == Ok(true)
+}
+
 #[test]
 fn copies_a_presence(rt: HostRuntime) -> Result<(), Fail> {
-    let [tag, removed, _] = stamps()?;
-    let mut presence = Presence::new(rt.alloc());
-    assert_eq!(rt; marked_copy_is_apart(&mut presence, tag, removed), Ok(true));
+    assert!(rt; copies(rt.alloc(), stamps()?));
     Ok(())
 }
 
-// Whether a stamp that tags the item and was removed is a tag, and whether one that was only removed is.
-fn tags_told<M: Allocator + Copy>(
+// Whether a stamp that tags the item and was removed is a tag, and one that was only removed is none.
+fn tells_tags<M: Allocator + Copy>(
     presence: &mut Presence<M>,
     tagged: Stamp,
     removed: Stamp,
-) -> Result<(bool, bool), CellFault> {
+) -> Result<bool, CellFault> {
     mark(presence, (&[tagged], &[tagged, removed]))?;
-    Ok((presence.has_tag(tagged), presence.has_tag(removed)))
+    Ok(presence.has_tag(tagged) && !presence.has_tag(removed))
+}
+
+fn tells<M: Allocator + Copy>(memory: M, [tagged, removed, _]: [Stamp; 3]) -> bool {
+    let mut presence = Presence::new(memory);
+    tells_tags(&mut presence, tagged, removed) == Ok(true)
 }
 
 #[test]
 fn tells_tags_from_removals(rt: HostRuntime) -> Result<(), Fail> {
-    let [tagged, removed, _] = stamps()?;
-    let mut presence = Presence::new(rt.alloc());
-    assert_eq!(rt;
-        tags_told(&mut presence, tagged, removed),
-        Ok((true, false))
-    );
+    assert!(rt; tells(rt.alloc(), stamps()?));
     Ok(())
 }
 
@@ -491,12 +521,17 @@ fn marks_are_copied<M: Allocator + Copy>(
     is_copied(presence)
 }
 
+// Whether a presence without marks is shown and copied with no memory.
+fn takes_no_memory(alloc: Global) -> bool {
+    let memory = Refusing::new(alloc, 0);
+    let is_shown = marked_shows(&memory, (&[], &[]), &[]) == Ok(true);
+    let is_copied = succeeds(&memory, Work::Copy, &[], &[]) == Ok(true);
+    is_shown && is_copied && memory.allocations() == 0
+}
+
 #[test]
 fn takes_no_memory_without_marks(rt: HostRuntime) {
-    let memory = Refusing::new(rt.alloc(), 0);
-    assert_eq!(rt; marked_shows(&memory, (&[], &[]), &[]), Ok(true));
-    assert_eq!(rt; succeeds(&memory, Work::Copy, &[], &[]), Ok(true));
-    assert_eq!(rt; memory.allocations(), 0);
+    assert!(rt; takes_no_memory(rt.alloc()));
 }
 
 // How many live tags a presence has that gets these tags.
