@@ -39,20 +39,29 @@ fn is_title<M: Allocator + Clone>(memory: M, text: &str) -> Result<bool, OpFault
     is_text_of(&Title::new(memory, text)?, text)
 }
 
+const TITLES: [&str; 6] = [
+    "",
+    "News at nine",
+    " ~",
+    "Grüße",
+    "one\u{2028}two",
+    "one\u{85}two",
+];
+
+const NO_TITLES: [&str; 4] = ["one\ntwo", "\u{1f}", "\u{7f}", "\0"];
+
 // small_values: titles
 #[test]
 fn makes_titles_of_plain_bytes(rt: HostRuntime) {
-    for text in [
-        "",
-        "News at nine",
-        " ~",
-        "Grüße",
-        "one\u{2028}two",
-        "one\u{85}two",
-    ] {
+    for text in TITLES {
         assert_eq!(rt; is_title(rt.alloc(), text), Ok(true), "{text}");
     }
-    for text in ["one\ntwo", "\u{1f}", "\u{7f}", "\0"] {
+}
+
+// small_values: titles
+#[test]
+fn makes_no_title_of_control_characters(rt: HostRuntime) {
+    for text in NO_TITLES {
         assert_eq!(rt;
             is_title(rt.alloc(), text),
             Err(OpFault::BadTitle),
