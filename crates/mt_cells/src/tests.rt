@@ -1,69 +1,117 @@
 use crate::laws::equal_presences;
 use crate::{CellFault, Join, Presence, Register, join_all};
-use mt_stamp::{Replica, Stamp};
+use mt_stamp::{Replica, Stamp, StampFault};
 use mt_testalloc::Refusing;
-use std::alloc::Allocator;
+use std::alloc::{Allocator, Global};
 use std::test::Fail;
 
 const A: Replica = Replica(10);
 
 const B: Replica = Replica(11);
 
+// The register of a write: of its stamp and its value.
+fn register_of((stamp, value): (Stamp, char)) -> Register<char> {
+    Register::new(stamp, value)
+}
+
+// Whether the register of a write gives its stamp and its value.
+fn gives_its_parts(stamp: Stamp, value: char) -> bool {
+    let register = Register::new(stamp, value);
+    register.stamp() == stamp && *register.get() == value
+}
+
+// Whether the registers of two writes are equal.
+fn are_equal_registers(one: (Stamp, char), other: (Stamp, char)) -> bool {
+    register_of(one) == register_of(other)
+}
+
 #[test]
 fn holds_what_it_was_made_of(rt: HostRuntime) -> Result<(), Fail> {
     let stamp = Stamp::new(2, A, 2)?;
-    let register = Register::new(stamp, 'X');
-    assert_eq!(rt; register.stamp(), stamp);
-    assert_eq!(rt; *register.get(), 'X');
-    assert!(rt; register == Register::new(stamp, 'X'));
-    assert!(rt; register != Register::new(stamp, 'Y'));
-    assert!(rt; register != Register::new(Stamp::new(2, B, 2)?, 'X'));
+    let by_b = Stamp::new(2, B, 2)?;
+    assert!(rt; gives_its_parts(stamp, 'X'));
+    for (other, is_equal) in [
+        ((stamp, 'X'), true),
+        ((stamp, 'Y'), false),
+        ((by_b, 'X'), false),
+    ] {
+        assert_eq!(rt; are_equal_registers((stamp, 'X'), other), is_equal);
+    }
     Ok(())
 }
 
-// two_retitles
-#[test]
-fn keeps_the_last_of_two_retitles(rt: HostRuntime) -> Result<(), Fail> {
-    let by_a = Stamp::new(2, A, 2)?;
-    let by_b = Stamp::new(2, B, 1)?;
-    let mut one = Register::new(by_a, 'X');
-    one.join(Register::new(by_b, 'Y'))?;
-    assert!(rt; one == Register::new(by_b, 'Y'));
-    let mut other = Register::new(by_b, 'Y');
-    other.join(Register::new(by_a, 'X'))?;
-    assert!(rt; other == one);
+// The register of a write: its value is its name, and those of digits have one stamp.
+fn written(name: char) -> Result<Register<char>, StampFault> {
+    let stamp = match name {
+        'X' => Stamp::new(2, A, 2)?,
+        'Y' => Stamp::new(2, B, 1)?,
+        _ => Stamp::new(1, A, 1)?,
+    };
+    Ok(Register::new(stamp, name))
+}
+
+// Joins the registers of these writes to one in turn.
+fn join_each(register: &mut Register<char>, others: &str) -> Result<(), Fail> {
+    for name in others.chars() {
+        register.join(written(name)?)?;
+    }
     Ok(())
 }
 
-#[test]
-fn keeps_the_greater_value_of_one_stamp(rt: HostRuntime) -> Result<(), Fail> {
-    let stamp = Stamp::new(1, A, 1)?;
-    let mut one = Register::new(stamp, 3);
-    one.join(Register::new(stamp, 7))?;
-    assert_eq!(rt; *one.get(), 7);
-    one.join(Register::new(stamp, 5))?;
-    assert_eq!(rt; *one.get(), 7);
+// Whether the register of the first write is then that of the wanted one.
+fn joins_to(first: char, others: &str, wanted: char) -> Result<bool, Fail> {
+    let mut register = written(first)?;
+    join_each(&mut register, others)?;
+    Ok(register == written(wanted)?)
+}
+
+// Adds the registers of these writes to a list.
+fn push_written<M: Allocator>(
+    registers: &mut Vec<Register<char>, M>,
+    names: &str,
+) -> Result<(), Fail> {
+    for name in names.chars() {
+        registers.push(written(name)?)?;
+    }
     Ok(())
 }
 
+// Whether all of these writes together are the wanted one.
+fn all_join_to<M: Allocator>(
+    memory: M,
+    first: char,
+    others: &str,
+    wanted: char,
+) -> Result<bool, Fail> {
+    let mut registers = Vec::new(memory);
+    push_written(&mut registers, others)?;
+    Ok(join_all(written(first)?, registers)? == written(wanted)?)
+}
+
+// Whether both are so.
+fn keeps<M: Allocator>(memory: M, first: char, others: &str, wanted: char) -> Result<bool, Fail> {
+    let joins = joins_to(first, others, wanted)?;
+    let all_join = all_join_to(memory, first, others, wanted)?;
+    Ok(joins && all_join)
+}
+
+// two_retitles; the greater value of one stamp; any order, with repeats
 #[test]
-fn joins_in_any_order_and_with_repeats(rt: HostRuntime) -> Result<(), Fail> {
-    let first = Stamp::new(1, A, 1)?;
-    let second = Stamp::new(2, A, 2)?;
-    let third = Stamp::new(2, B, 1)?;
-    let mut others = Vec::new(rt.alloc());
-    others.push(Register::new(second, 'X'))?;
-    others.push(Register::new(third, 'Y'))?;
-    let one = join_all(Register::new(first, 'N'), others)?;
-    assert!(rt; one == Register::new(third, 'Y'));
-    let mut others = Vec::new(rt.alloc());
-    others.push(Register::new(second, 'X'))?;
-    others.push(Register::new(first, 'N'))?;
-    others.push(Register::new(second, 'X'))?;
-    let other = join_all(Register::new(third, 'Y'), others)?;
-    assert!(rt; other == one);
-    let alone = join_all(Register::new(first, 'N'), Vec::new(rt.alloc()))?;
-    assert!(rt; alone == Register::new(first, 'N'));
+fn keeps_the_greatest_write(rt: HostRuntime) -> Result<(), Fail> {
+    for (first, others, wanted) in [
+        ('X', "Y", 'Y'),
+        ('Y', "X", 'Y'),
+        ('3', "7", '7'),
+        ('3', "75", '7'),
+        ('N', "XY", 'Y'),
+        ('Y', "XNX", 'Y'),
+        ('N', "", 'N'),
+    ] {
+        assert!(rt;
+            keeps(rt.alloc(), first, others, wanted)?,
+            "{first} {others}"
+        );
+    }
     Ok(())
 }
 
@@ -72,24 +120,48 @@ fn numbers_its_refusal(rt: HostRuntime) {
     assert_eq!(rt; CellFault::Memory.number(), 0);
 }
 
-// A presence with these tags and these removals, the removals first.
-fn marked<M: Allocator + Clone>(
-    memory: M,
-    tags: &[Stamp],
-    removed: &[Stamp],
-) -> Result<Presence<M>, CellFault> {
-    let mut presence = Presence::new(memory);
-    for stamp in removed {
-        presence.remove_tag(*stamp)?;
-    }
-    for stamp in tags {
+// ---- presences
+
+fn add_tags<M: Allocator + Copy>(
+    presence: &mut Presence<M>,
+    stamps: &[Stamp],
+) -> Result<(), CellFault> {
+    for stamp in stamps {
         presence.add_tag(*stamp)?;
     }
-    Ok(presence)
+    Ok(())
+}
+
+fn remove_tags<M: Allocator + Copy>(
+    presence: &mut Presence<M>,
+    stamps: &[Stamp],
+) -> Result<(), CellFault> {
+    for stamp in stamps {
+        presence.remove_tag(*stamp)?;
+    }
+    Ok(())
+}
+
+// Removes these tags of a presence, and then adds the first ones.
+fn mark<M: Allocator + Copy>(
+    presence: &mut Presence<M>,
+    (tags, removed): (&[Stamp], &[Stamp]),
+) -> Result<(), CellFault> {
+    remove_tags(presence, removed)?;
+    add_tags(presence, tags)
+}
+
+// The same, the tags first.
+fn mark_and_remove<M: Allocator + Copy>(
+    presence: &mut Presence<M>,
+    (tags, removed): (&[Stamp], &[Stamp]),
+) -> Result<(), CellFault> {
+    add_tags(presence, tags)?;
+    remove_tags(presence, removed)
 }
 
 // Whether these are the live tags, and the item is there exactly where there is one.
-fn is_shown<M: Allocator + Clone>(
+fn is_shown<M: Allocator + Copy>(
     presence: &Presence<M>,
     live: &[Stamp],
 ) -> Result<bool, CellFault> {
@@ -97,373 +169,460 @@ fn is_shown<M: Allocator + Clone>(
     Ok(tags.as_slice() == live && presence.is_present() != live.is_empty())
 }
 
-// Whether a presence with these tags and removals, the removals first, shows these live tags.
-fn marked_shows<M: Allocator + Clone>(
-    memory: M,
-    tags: &[Stamp],
-    removed: &[Stamp],
+// Whether two presences show these live tags once they have these marks, in one order each.
+fn both_show<M: Allocator + Copy>(
+    one: &mut Presence<M>,
+    other: &mut Presence<M>,
+    marks: (&[Stamp], &[Stamp]),
     live: &[Stamp],
 ) -> Result<bool, CellFault> {
-    is_shown(&marked(memory, tags, removed)?, live)
+    mark(one, marks)?;
+    mark_and_remove(other, marks)?;
+    Ok(is_shown(one, live)? && is_shown(other, live)?)
 }
 
-// removed_and_restored
-#[test]
-fn keeps_the_tag_that_was_not_removed(rt: HostRuntime) -> Result<(), Fail> {
+// Whether a presence with these tags and removals shows these live tags, whichever come first.
+fn marked_shows<M: Allocator + Copy>(
+    memory: M,
+    marks: (&[Stamp], &[Stamp]),
+    live: &[Stamp],
+) -> Result<bool, CellFault> {
+    let mut one = Presence::new(memory);
+    let mut other = Presence::new(memory);
+    both_show(&mut one, &mut other, marks, live)
+}
+
+// The stamps of the tests have a letter each: a, then b, and a again.
+fn stamps() -> Result<[Stamp; 3], StampFault> {
     let first = Stamp::new(1, A, 1)?;
     let again = Stamp::new(2, B, 1)?;
-    assert!(rt; marked_shows(rt.alloc(), &[first], &[], &[first])?);
-    assert!(rt; marked_shows(rt.alloc(), &[first], &[first], &[])?);
-    assert!(rt; marked_shows(rt.alloc(), &[first, again], &[first], &[again])?);
-    assert!(rt; marked_shows(rt.alloc(), &[first, again], &[first, again], &[])?);
-    Ok(())
+    Ok([first, again, first])
 }
 
-// The live tags after these tags and then these removals.
-fn live_after_removals<M: Allocator + Clone>(
-    memory: M,
-    tags: &[Stamp],
-    removed: &[Stamp],
-) -> Result<Vec<Stamp, M>, CellFault> {
-    let mut presence = marked(memory, tags, &[])?;
-    for stamp in removed {
-        presence.remove_tag(*stamp)?;
+// The stamps of these letters.
+fn named<'s>(stamps: &'s [Stamp; 3], names: &str) -> &'s [Stamp] {
+    let all = &stamps[..];
+    match names {
+        "a" => &all[..1],
+        "b" => &all[1..2],
+        "ab" => &all[..2],
+        "ba" => &all[1..],
+        _ => &all[..0],
     }
-    presence.live_tags()
+}
+
+// The same of tags and of removals.
+fn marks_named<'s>(
+    stamps: &'s [Stamp; 3],
+    (tags, removed): (&str, &str),
+) -> (&'s [Stamp], &'s [Stamp]) {
+    (named(stamps, tags), named(stamps, removed))
+}
+
+fn named_show<M: Allocator + Copy>(
+    memory: M,
+    stamps: &[Stamp; 3],
+    marks: (&str, &str),
+    live: &str,
+) -> Result<bool, CellFault> {
+    marked_shows(memory, marks_named(stamps, marks), named(stamps, live))
+}
+
+fn shows<M: Allocator + Copy>(memory: M, marks: (&str, &str), live: &str) -> bool {
+    match stamps() {
+        Ok(stamps) => named_show(memory, &stamps, marks, live) == Ok(true),
+        Err(_) => false,
+    }
 }
 
 // removed_and_restored: a removal may come before its tag or after it.
 #[test]
-fn keeps_a_removal_that_came_before_its_tag(rt: HostRuntime) -> Result<(), Fail> {
-    let first = Stamp::new(1, A, 1)?;
-    let again = Stamp::new(2, B, 1)?;
-    assert!(rt; marked_shows(rt.alloc(), &[again, first], &[first], &[again])?);
-    assert!(rt; marked_shows(rt.alloc(), &[], &[first], &[])?);
-    let live = live_after_removals(rt.alloc(), &[again, first], &[first])?;
-    assert!(rt; live.as_slice() == [again].as_slice());
-    Ok(())
+fn keeps_the_tag_that_was_not_removed(rt: HostRuntime) {
+    for (tags, removed, live) in [
+        ("a", "", "a"),
+        ("a", "a", ""),
+        ("ab", "a", "b"),
+        ("ba", "a", "b"),
+        ("ab", "ab", ""),
+        ("", "a", ""),
+    ] {
+        assert!(rt;
+            shows(rt.alloc(), (tags, removed), live),
+            "{tags} {removed}"
+        );
+    }
 }
 
-// A presence with the first tags and removals, joined with one with the others.
-fn joined<M: Allocator + Clone>(
+// Whether a presence is one that has these marks and no others.
+fn is_marked<M: Allocator + Copy>(
+    presence: &Presence<M>,
+    other: &mut Presence<M>,
+    marks: (&[Stamp], &[Stamp]),
+) -> Result<bool, CellFault> {
+    mark(other, marks)?;
+    Ok(*presence == *other)
+}
+
+// Whether a presence has these tags and removals and no others.
+fn has_marks<M: Allocator + Copy>(
     memory: M,
-    (tags, removed): (&[Stamp], &[Stamp]),
-    (other_tags, other_removed): (&[Stamp], &[Stamp]),
-) -> Result<Presence<M>, CellFault> {
-    let mut one = marked(memory.clone()?, tags, removed)?;
-    one.join(marked(memory, other_tags, other_removed)?)?;
-    Ok(one)
+    presence: &Presence<M>,
+    marks: (&[Stamp], &[Stamp]),
+) -> Result<bool, CellFault> {
+    let mut other = Presence::new(memory);
+    is_marked(presence, &mut other, marks)
 }
 
-// Whether the two joined show these live tags, and are the same either way round.
-fn joined_shows<M: Allocator + Clone>(
+// Whether a presence that gets the first tags and removals is one with the others.
+fn is_equal<M: Allocator + Copy>(
+    presence: &mut Presence<M>,
+    memory: M,
+    marks: (&[Stamp], &[Stamp]),
+    others: (&[Stamp], &[Stamp]),
+) -> Result<bool, CellFault> {
+    mark(presence, marks)?;
+    has_marks(memory, presence, others)
+}
+
+fn are_equal<M: Allocator + Copy>(
+    memory: M,
+    stamps: &[Stamp; 3],
+    one: (&str, &str),
+    other: (&str, &str),
+) -> Result<bool, CellFault> {
+    let mut presence = Presence::new(memory);
+    let others = marks_named(stamps, other);
+    is_equal(&mut presence, memory, marks_named(stamps, one), others)
+}
+
+// Whether a presence with the tag a and the removal of b is one with these. None where that could not be told.
+fn is_told_equal<M: Allocator + Copy>(memory: M, marks: (&str, &str)) -> Option<bool> {
+    let stamps = stamps().ok()?;
+    are_equal(memory, &stamps, ("a", "b"), marks).ok()
+}
+
+#[test]
+fn tells_presences_apart(rt: HostRuntime) {
+    for (tags, removed, is_equal) in [
+        ("a", "b", true),
+        ("ab", "b", false),
+        ("a", "", false),
+        ("", "", false),
+    ] {
+        let told = is_told_equal(rt.alloc(), (tags, removed));
+        assert_eq!(rt; told, Some(is_equal), "{tags} {removed}");
+    }
+}
+
+fn marked<M: Allocator + Copy>(
+    memory: M,
+    marks: (&[Stamp], &[Stamp]),
+) -> Result<Presence<M>, CellFault> {
+    let mut presence = Presence::new(memory);
+    match mark(&mut presence, marks) {
+        Ok(()) => Ok(presence),
+        Err(fault) => Err(fault),
+    }
+}
+
+// Joins a presence with the second tags and removals to one that gets the first ones.
+fn join_marks<M: Allocator + Copy>(
+    presence: &mut Presence<M>,
     memory: M,
     one: (&[Stamp], &[Stamp]),
     other: (&[Stamp], &[Stamp]),
-    live: &[Stamp],
+) -> Result<(), CellFault> {
+    mark(presence, one)?;
+    presence.join(marked(memory, other)?)
+}
+
+// Whether it is then one with these.
+fn is_joined<M: Allocator + Copy>(
+    presence: &mut Presence<M>,
+    memory: M,
+    one: (&[Stamp], &[Stamp]),
+    other: (&[Stamp], &[Stamp]),
+    both: (&[Stamp], &[Stamp]),
 ) -> Result<bool, CellFault> {
-    let all = joined(memory.clone()?, one, other)?;
-    let is_same = all == joined(memory, other, one)?;
-    Ok(is_same && is_shown(&all, live)?)
+    join_marks(presence, memory, one, other)?;
+    has_marks(memory, presence, both)
+}
+
+// Whether the two make a presence with the tags a and b and the removal of a.
+fn restore<M: Allocator + Copy>(
+    memory: M,
+    stamps: &[Stamp; 3],
+    one: (&str, &str),
+    other: (&str, &str),
+) -> Result<bool, CellFault> {
+    let mut presence = Presence::new(memory);
+    let one = marks_named(stamps, one);
+    let other = marks_named(stamps, other);
+    is_joined(
+        &mut presence,
+        memory,
+        one,
+        other,
+        marks_named(stamps, ("ab", "a")),
+    )
+}
+
+fn is_restored<M: Allocator + Copy>(memory: M, one: (&str, &str), other: (&str, &str)) -> bool {
+    match stamps() {
+        Ok(stamps) => restore(memory, &stamps, one, other) == Ok(true),
+        Err(_) => false,
+    }
 }
 
 // removed_and_restored
 #[test]
-fn joins_presences_either_way_round(rt: HostRuntime) -> Result<(), Fail> {
-    let first = Stamp::new(1, A, 1)?;
-    let again = Stamp::new(2, B, 1)?;
-    let removed: (&[Stamp], &[Stamp]) = (&[first], &[first]);
-    let restored: (&[Stamp], &[Stamp]) = (&[first, again], &[]);
-    assert!(rt; joined_shows(rt.alloc(), removed, restored, &[again])?);
-    Ok(())
+fn joins_presences_either_way_round(rt: HostRuntime) {
+    assert!(rt; is_restored(rt.alloc(), ("a", "a"), ("ab", "")));
+    assert!(rt; is_restored(rt.alloc(), ("ab", ""), ("a", "a")));
 }
 
-// Three presences joined: one with the tag, one with its removal, and one with another tag.
-fn all_joined<M: Allocator + Clone>(
+// Adds presences with the tag b, the removal of a, and the tag a to a list.
+fn push_marked<M: Allocator + Copy>(
+    presences: &mut Vec<Presence<M>, M>,
     memory: M,
-    tag: Stamp,
-    other: Stamp,
+    stamps: &[Stamp; 3],
+) -> Result<(), CellFault> {
+    for marks in [("b", ""), ("", "a"), ("a", "")] {
+        presences.push(marked(memory, marks_named(stamps, marks))?)?;
+    }
+    Ok(())
+}
+
+// Those joined to one without marks.
+fn all_joined<M: Allocator + Copy>(
+    memory: M,
+    stamps: &[Stamp; 3],
 ) -> Result<Presence<M>, CellFault> {
-    let mut others = Vec::new(memory.clone()?);
-    others.push(marked(memory.clone()?, &[], &[tag])?)?;
-    others.push(marked(memory.clone()?, &[tag], &[])?)?;
-    join_all(marked(memory, &[other], &[])?, others)
+    let mut presences = Vec::new(memory);
+    match push_marked(&mut presences, memory, stamps) {
+        Ok(()) => join_all(Presence::new(memory), presences),
+        Err(fault) => Err(fault),
+    }
+}
+
+// Whether they are then one with both tags and the removal.
+fn all_restore<M: Allocator + Copy>(memory: M, stamps: &[Stamp; 3]) -> Result<bool, CellFault> {
+    match all_joined(memory, stamps) {
+        Ok(presence) => has_marks(memory, &presence, marks_named(stamps, ("ab", "a"))),
+        Err(fault) => Err(fault),
+    }
+}
+
+fn all_are_restored<M: Allocator + Copy>(memory: M) -> bool {
+    match stamps() {
+        Ok(stamps) => all_restore(memory, &stamps) == Ok(true),
+        Err(_) => false,
+    }
 }
 
 #[test]
-fn joins_all_presences(rt: HostRuntime) -> Result<(), Fail> {
-    let first = Stamp::new(1, A, 1)?;
-    let again = Stamp::new(2, B, 1)?;
-    assert!(rt; is_shown(&all_joined(rt.alloc(), first, again)?, &[again])?);
-    Ok(())
-}
-
-// Whether a presence without marks and its copy are the same.
-fn copies_no_mark<M: Allocator + Clone>(memory: M) -> Result<bool, CellFault> {
-    let presence = Presence::new(memory);
-    Ok(presence.try_clone()? == presence)
-}
-
-#[test]
-fn takes_no_memory_without_marks(rt: HostRuntime) -> Result<(), Fail> {
-    let memory = Refusing::new(rt.alloc(), 0);
-    assert!(rt; marked_shows(&memory, &[], &[], &[])?);
-    assert!(rt; copies_no_mark(&memory)?);
-    assert_eq!(rt; memory.allocations(), 0);
-    Ok(())
+fn joins_all_presences(rt: HostRuntime) {
+    assert!(rt; all_are_restored(rt.alloc()));
 }
 
 // Whether a copy of a presence is it, and is not once the tag has been removed from it.
-fn copy_is_apart<M: Allocator + Clone>(
+fn copy_is_apart<M: Allocator + Copy>(
     presence: &Presence<M>,
     tag: Stamp,
 ) -> Result<bool, CellFault> {
     let mut copy = presence.try_clone()?;
     let was_equal = equal_presences(&copy, presence);
-    copy.remove_tag(tag)?;
-    Ok(was_equal && copy != *presence)
+    let is_removed = copy.remove_tag(tag).is_ok();
+    Ok(was_equal && is_removed && copy != *presence)
 }
 
-// Whether a presence with the first tags and removals is one with the others.
-fn are_equal<M: Allocator + Clone>(
-    memory: M,
-    (tags, removed): (&[Stamp], &[Stamp]),
-    (other_tags, other_removed): (&[Stamp], &[Stamp]),
+// The same of a presence that gets this tag and this removal.
+fn marked_copy_is_apart<M: Allocator + Copy>(
+    presence: &mut Presence<M>,
+    tag: Stamp,
+    removed: Stamp,
 ) -> Result<bool, CellFault> {
-    let one = marked(memory.clone()?, tags, removed)?;
-    Ok(one == marked(memory, other_tags, other_removed)?)
+    mark(presence, (&[tag], &[removed]))?;
+    copy_is_apart(presence, tag)
+}
+
+fn copies<M: Allocator + Copy>(memory: M, [tag, removed, _]: [Stamp; 3]) -> bool {
+    let mut presence = Presence::new(memory);
+    marked_copy_is_apart(&mut presence, tag, removed) == Ok(true)
 }
 
 #[test]
-fn tells_presences_apart(rt: HostRuntime) -> Result<(), Fail> {
-    let first = Stamp::new(1, A, 1)?;
-    let again = Stamp::new(2, B, 1)?;
-    assert!(rt; copy_is_apart(&marked(rt.alloc(), &[first], &[again])?, first)?);
-    let one: (&[Stamp], &[Stamp]) = (&[first], &[again]);
-    assert!(rt; are_equal(rt.alloc(), one, one)?);
-    assert!(rt; !are_equal(rt.alloc(), one, (&[first, again], &[again]))?);
-    assert!(rt; !are_equal(rt.alloc(), one, (&[first], &[]))?);
-    assert!(rt; !are_equal(rt.alloc(), one, (&[], &[]))?);
+fn copies_a_presence(rt: HostRuntime) -> Result<(), Fail> {
+    assert!(rt; copies(rt.alloc(), stamps()?));
     Ok(())
 }
 
-// The stamps of a replica from this clock down to 1.
-fn falling<M: Allocator>(memory: M, replica: Replica, clock: u64) -> Result<Vec<Stamp, M>, Fail> {
-    let mut stamps = Vec::new(memory);
-    for i in 0..clock {
-        stamps.push(Stamp::new(clock - i, replica, 1)?)?;
+// Whether a stamp that tags the item and was removed is a tag, and one that was only removed is none.
+fn tells_tags<M: Allocator + Copy>(
+    presence: &mut Presence<M>,
+    tagged: Stamp,
+    removed: Stamp,
+) -> Result<bool, CellFault> {
+    mark(presence, (&[tagged], &[tagged, removed]))?;
+    Ok(presence.has_tag(tagged) && !presence.has_tag(removed))
+}
+
+fn tells<M: Allocator + Copy>(memory: M, [tagged, removed, _]: [Stamp; 3]) -> bool {
+    let mut presence = Presence::new(memory);
+    tells_tags(&mut presence, tagged, removed) == Ok(true)
+}
+
+#[test]
+fn tells_tags_from_removals(rt: HostRuntime) -> Result<(), Fail> {
+    assert!(rt; tells(rt.alloc(), stamps()?));
+    Ok(())
+}
+
+// ---- many marks, and each growth refused in turn
+
+// The stamps of a replica, from the least on.
+fn rising(replica: Replica) -> Result<[Stamp; 200], StampFault> {
+    let mut stamps = [Stamp::new(1, replica, 1)?; 200];
+    for i in 0..200u8 {
+        stamps[i as usize] = Stamp::new(i as u64 + 1, replica, 1)?;
     }
+    Ok(stamps)
+}
+
+// The same from the greatest on.
+fn falling(replica: Replica) -> Result<[Stamp; 200], StampFault> {
+    let mut stamps = rising(replica)?;
+    stamps.reverse();
     Ok(stamps)
 }
 
 #[test]
 fn gives_many_tags_in_order(rt: HostRuntime) -> Result<(), Fail> {
-    let mut stamps = falling(rt.alloc(), A, 200)?;
-    let removed = falling(rt.alloc(), B, 200)?;
-    let presence = marked(rt.alloc(), &stamps, &removed)?;
-    stamps.reverse();
-    assert!(rt; is_shown(&presence, &stamps)?);
+    let tags = falling(A)?;
+    let removed = falling(B)?;
+    assert!(rt; marked_shows(rt.alloc(), (&tags, &removed), &rising(A)?)?);
     Ok(())
 }
 
-// The stamps of these that a presence takes as tags before it is refused memory.
-fn add_tags<'s, M: Allocator + Clone>(
+// Whether a copy of a presence equals it.
+fn is_copied<M: Allocator + Copy>(presence: &Presence<M>) -> Result<bool, CellFault> {
+    match presence.try_clone() {
+        Ok(copy) => Ok(copy == *presence),
+        Err(fault) => Err(fault),
+    }
+}
+
+// The same of a presence that gets these stamps as tags and as removals.
+fn marks_are_copied<M: Allocator + Copy>(
     presence: &mut Presence<M>,
-    stamps: &'s [Stamp],
-) -> &'s [Stamp] {
-    for (i, stamp) in stamps.iter().enumerate() {
-        if presence.add_tag(*stamp).is_err() {
-            return &stamps[..i];
-        }
-    }
-    stamps
-}
-
-// The same of removals.
-fn remove_tags<'s, M: Allocator + Clone>(
-    presence: &mut Presence<M>,
-    stamps: &'s [Stamp],
-) -> &'s [Stamp] {
-    for (i, stamp) in stamps.iter().enumerate() {
-        if presence.remove_tag(*stamp).is_err() {
-            return &stamps[..i];
-        }
-    }
-    stamps
-}
-
-// How many tags a presence takes, where it then has those and no other mark.
-fn tags_kept<M: Allocator + Clone>(
-    memory: M,
     stamps: &[Stamp],
-) -> Result<Option<usize>, CellFault> {
-    let mut presence = Presence::new(memory.clone()?);
-    let taken = add_tags(&mut presence, stamps);
-    let is_kept = presence == marked(memory, taken, &[])?;
-    Ok(is_kept.then_some(taken.len()))
-}
-
-// The same of removals.
-fn removals_kept<M: Allocator + Clone>(
-    memory: M,
-    stamps: &[Stamp],
-) -> Result<Option<usize>, CellFault> {
-    let mut presence = Presence::new(memory.clone()?);
-    let taken = remove_tags(&mut presence, stamps);
-    let is_kept = presence == marked(memory, &[], taken)?;
-    Ok(is_kept.then_some(taken.len()))
-}
-
-#[test]
-fn keeps_its_marks_where_a_tag_is_refused(rt: HostRuntime) -> Result<(), Fail> {
-    let stamps = falling(rt.alloc(), A, 30)?;
-    let whole = Refusing::new(rt.alloc(), u64::MAX);
-    assert_eq!(rt; tags_kept(&whole, &stamps)?, Some(30));
-    assert!(rt; whole.allocations() > 6, "it grew");
-    for at in 0..whole.allocations() / 2 {
-        let memory = Refusing::new(rt.alloc(), at);
-        let kept = tags_kept(&memory, &stamps)?;
-        assert!(rt; kept.is_some_and(|count| count < 30), "at {at}");
-    }
-    Ok(())
-}
-
-#[test]
-fn keeps_its_marks_where_a_removal_is_refused(rt: HostRuntime) -> Result<(), Fail> {
-    let stamps = falling(rt.alloc(), A, 30)?;
-    let whole = Refusing::new(rt.alloc(), u64::MAX);
-    assert_eq!(rt; removals_kept(&whole, &stamps)?, Some(30));
-    assert!(rt; whole.allocations() > 6, "it grew");
-    for at in 0..whole.allocations() / 2 {
-        let memory = Refusing::new(rt.alloc(), at);
-        let kept = removals_kept(&memory, &stamps)?;
-        assert!(rt; kept.is_some_and(|count| count < 30), "at {at}");
-    }
-    Ok(())
-}
-
-// The live tags of a presence with these tags alone.
-fn tags_given<M: Allocator + Clone>(memory: M, tags: &[Stamp]) -> Result<Vec<Stamp, M>, CellFault> {
-    marked(memory, tags, &[])?.live_tags()
-}
-
-#[test]
-fn refuses_each_growth_of_live_tags(rt: HostRuntime) -> Result<(), Fail> {
-    let stamps = falling(rt.alloc(), A, 30)?;
-    for at in 0..100 {
-        let memory = Refusing::new(rt.alloc(), at);
-        let tags = tags_given(&memory, &stamps);
-        assert_eq!(rt; tags.is_err(), memory.has_refused(), "at {at}");
-        if !memory.has_refused() {
-            assert_eq!(rt; tags?.len(), 30);
-            assert!(rt; at > 5, "both grew");
-            return Ok(());
-        }
-        assert_eq!(rt; tags.err(), Some(CellFault::Memory));
-    }
-    Err(Fail::from("each run met a refusal"))
-}
-
-// Whether a copy of a presence with these marks equals it.
-fn copy_is_equal<M: Allocator + Clone>(memory: M, stamps: &[Stamp]) -> Result<bool, CellFault> {
-    let presence = marked(memory, stamps, stamps)?;
-    let copy = presence.try_clone()?;
-    Ok(copy == presence)
-}
-
-#[test]
-fn refuses_each_growth_of_a_copy(rt: HostRuntime) -> Result<(), Fail> {
-    let stamps = falling(rt.alloc(), A, 30)?;
-    for at in 0..100 {
-        let memory = Refusing::new(rt.alloc(), at);
-        let equal = copy_is_equal(&memory, &stamps);
-        assert_eq!(rt; equal.is_err(), memory.has_refused(), "at {at}");
-        if !memory.has_refused() {
-            assert!(rt; equal?);
-            assert!(rt; at > 10, "both grew");
-            return Ok(());
-        }
-        assert_eq!(rt; equal.err(), Some(CellFault::Memory));
-    }
-    Err(Fail::from("each run met a refusal"))
-}
-
-// A presence joined with one with these tags and removals.
-fn with_marks<M: Allocator + Clone>(
-    memory: M,
-    presence: &Presence<M>,
-    marks: &[Stamp],
-) -> Result<Presence<M>, CellFault> {
-    let mut all = presence.try_clone()?;
-    all.join(marked(memory, marks, marks)?)?;
-    Ok(all)
-}
-
-// Whether a presence has these tags and removals, and of those some alone.
-fn lies_between<M: Allocator + Clone>(
-    memory: M,
-    presence: &Presence<M>,
-    least: &[Stamp],
-    more: &[Stamp],
 ) -> Result<bool, CellFault> {
-    let most = joined(memory.clone()?, (least, least), (more, more))?;
-    let is_most = with_marks(memory.clone()?, presence, more)? == most;
-    Ok(is_most && with_marks(memory, presence, least)? == *presence)
+    mark(presence, (stamps, stamps))?;
+    is_copied(presence)
 }
 
-// Whether a join that is refused memory leaves what lies between, and nothing where it is not refused.
-fn refused_join<M: Allocator + Clone>(
+// Whether a presence without marks is shown and copied with no memory.
+fn takes_no_memory(alloc: Global) -> bool {
+    let memory = Refusing::new(alloc, 0);
+    let is_shown = marked_shows(&memory, (&[], &[]), &[]) == Ok(true);
+    let is_copied = succeeds(&memory, Work::Copy, &[], &[]) == Ok(true);
+    is_shown && is_copied && memory.allocations() == 0
+}
+
+#[test]
+fn takes_no_memory_without_marks(rt: HostRuntime) {
+    assert!(rt; takes_no_memory(rt.alloc()));
+}
+
+// How many live tags a presence has that gets these tags.
+fn count_of_tags<M: Allocator + Copy>(
+    presence: &mut Presence<M>,
+    tags: &[Stamp],
+) -> Result<usize, CellFault> {
+    add_tags(presence, tags)?;
+    Ok(presence.live_tags()?.len())
+}
+
+// Whether no tag is live once a presence with the second stamps as tags and as removals is joined to one that gets the first.
+fn joins_removed<M: Allocator + Copy>(
+    presence: &mut Presence<M>,
     memory: M,
     ours: &[Stamp],
     theirs: &[Stamp],
-) -> Result<Option<bool>, CellFault> {
-    let mut presence = marked(memory.clone()?, ours, ours)?;
-    let other = marked(memory.clone()?, theirs, theirs)?;
-    if presence.join(other).is_ok() {
-        return Ok(None);
-    }
-    Ok(Some(lies_between(memory, &presence, ours, theirs)?))
+) -> Result<bool, CellFault> {
+    join_marks(presence, memory, (ours, ours), (theirs, theirs))?;
+    is_shown(presence, &[])
 }
 
-#[test]
-fn refuses_each_growth_of_a_join(rt: HostRuntime) -> Result<(), Fail> {
-    let ours = falling(rt.alloc(), A, 11)?;
-    let theirs = falling(rt.alloc(), B, 11)?;
-    let mut refused = 0;
-    for at in 0..100u64 {
-        let memory = Refusing::new(rt.alloc(), at);
-        match refused_join(&memory, &ours, &theirs) {
-            Ok(Some(is_sound)) => {
-                assert!(rt; is_sound && memory.has_refused(), "at {at}");
-                refused = at;
-            }
-            Ok(None) => {
-                assert!(rt; refused > 2 && !memory.has_refused(), "each set grew");
-                return Ok(());
-            }
-            Err(CellFault::Memory) => assert!(rt; memory.has_refused() && refused == 0),
+/// What takes memory for presences.
+#[derive(Clone, Copy, Debug)]
+enum Work {
+    LiveTags,
+    Copy,
+    Join,
+}
+
+// Whether a presence comes to what it should by this work.
+fn works<M: Allocator + Copy>(
+    presence: &mut Presence<M>,
+    memory: M,
+    work: Work,
+    (ours, theirs): (&[Stamp], &[Stamp]),
+) -> Result<bool, CellFault> {
+    match work {
+        Work::LiveTags => Ok(count_of_tags(presence, ours)? == ours.len()),
+        Work::Copy => marks_are_copied(presence, ours),
+        Work::Join => joins_removed(presence, memory, ours, theirs),
+    }
+}
+
+fn succeeds<M: Allocator + Copy>(
+    memory: M,
+    work: Work,
+    ours: &[Stamp],
+    theirs: &[Stamp],
+) -> Result<bool, CellFault> {
+    let mut presence = Presence::new(memory);
+    works(&mut presence, memory, work, (ours, theirs))
+}
+
+// The first of the stamps.
+fn some_of(stamps: &[Stamp], count: usize) -> &[Stamp] {
+    stamps.get(..count).unwrap_or(stamps)
+}
+
+// How often memory is asked for, where this succeeds and each growth is refused as that.
+fn refusals(alloc: Global, work: Work, ours: &[Stamp], theirs: &[Stamp]) -> Option<u64> {
+    let granted = Refusing::new(alloc, u64::MAX);
+    if succeeds(&granted, work, ours, theirs) != Ok(true) {
+        return None;
+    }
+    for at in 0..granted.allocations() {
+        let memory = Refusing::new(alloc, at);
+        if succeeds(&memory, work, ours, theirs) != Err(CellFault::Memory) {
+            return None;
         }
     }
-    Err(Fail::from("each run met a refusal"))
+    Some(granted.allocations())
 }
 
-// Whether a stamp that tags the item and was removed is a tag, and whether one that was only removed is.
-fn tags_told<M: Allocator + Clone>(
-    memory: M,
-    tagged: Stamp,
-    removed: Stamp,
-) -> Result<(bool, bool), CellFault> {
-    let mut presence = Presence::new(memory);
-    presence.add_tag(tagged)?;
-    presence.remove_tag(tagged)?;
-    presence.remove_tag(removed)?;
-    Ok((presence.has_tag(tagged), presence.has_tag(removed)))
-}
-
+// Of many tags that are given or copied, and of two sets of each presence that are joined.
 #[test]
-fn tells_tags_from_removals(rt: HostRuntime) -> Result<(), Fail> {
-    let tagged = Stamp::new(1, A, 1)?;
-    let removed = Stamp::new(2, A, 2)?;
-    assert_eq!(rt; tags_told(rt.alloc(), tagged, removed), Ok((true, false)));
+fn refuses_each_growth(rt: HostRuntime) -> Result<(), Fail> {
+    let ours = falling(A)?;
+    let theirs = falling(B)?;
+    for (work, count, least) in [
+        (Work::LiveTags, 30, 6),
+        (Work::Copy, 30, 11),
+        (Work::Join, 11, 6),
+    ] {
+        let refused = refusals(
+            rt.alloc(),
+            work,
+            some_of(&ours, count),
+            some_of(&theirs, count),
+        );
+        assert!(rt; refused >= Some(least), "{work:?}");
+    }
     Ok(())
 }

@@ -12,7 +12,7 @@ use mt_testkit::{A, B};
 use std::alloc::{AllocError, AllocFailed, Allocator};
 use std::collections::BTreeSet;
 
-// The operations of a test could not be made.
+// The operations of a test, or what they leave, could not be made.
 #[derive(Clone, Copy, Debug, PartialEq, Eq)]
 struct NoFixture;
 
@@ -157,25 +157,33 @@ fn on_clip<M: Allocator>(
     }
 }
 
-// The operation of a letter.
-fn op<M: Allocator>(memory: M, name: char) -> Result<Op<M>, NoFixture> {
+// The body of a letter.
+fn body<M: Allocator>(memory: M, name: char) -> Result<Body<M>, NoFixture> {
     let track = stamp('t')?;
     let other = stamp('u')?;
-    let body = match name {
-        'm' | 'x' | 'y' | 'p' | 'r' | 's' => on_marker(memory, name, stamp('m')?)?,
-        't' | 'u' | 'v' => on_track(memory, name, track, other)?,
-        _ => on_clip(memory, name, stamp('c')?, track, other)?,
-    };
-    Ok(Op::new(stamp(name)?, body)?)
+    match name {
+        'm' | 'x' | 'y' | 'p' | 'r' | 's' => on_marker(memory, name, stamp('m')?),
+        't' | 'u' | 'v' => on_track(memory, name, track, other),
+        _ => on_clip(memory, name, stamp('c')?, track, other),
+    }
 }
 
-// The operations of these letters.
-fn ops<M: Allocator + Clone>(memory: &M, names: &str) -> Result<Vec<Op<M>, M>, NoFixture> {
-    let mut ops = Vec::new(memory.clone()?);
+// The operation of a letter.
+fn op<M: Allocator>(memory: M, name: char) -> Result<Op<M>, NoFixture> {
+    let stamp = stamp(name)?;
+    Ok(Op::new(stamp, body(memory, name)?)?)
+}
+
+// Adds the operations of these letters to a list.
+fn push_ops<M: Allocator + Copy>(
+    ops: &mut Vec<Op<M>, M>,
+    memory: M,
+    names: &str,
+) -> Result<(), NoFixture> {
     for name in names.chars() {
-        ops.push(op(memory.clone()?, name)?)?;
+        ops.push(op(memory, name)?)?;
     }
-    Ok(ops)
+    Ok(())
 }
 
 // The items that operations leave, noted in this order. None where one of them has no new stamp, or its needs are not met.
@@ -197,11 +205,12 @@ fn noted<M: Allocator + Clone, N: Allocator + Clone>(
 }
 
 // The items that the operations of these letters leave, noted in this order.
-fn left_by<M: Allocator + Clone>(memory: M, names: &str) -> Result<Items<M>, NoFixture> {
-    let ops = ops(&memory, names)?;
-    match noted(memory.clone()?, memory, &ops)? {
-        Some(items) => Ok(items),
-        None => Err(NoFixture),
+fn left_by<M: Allocator + Copy>(memory: M, names: &str) -> Result<Items<M>, NoFixture> {
+    let mut ops = Vec::new(memory);
+    push_ops(&mut ops, memory, names)?;
+    match noted(memory, memory, &ops) {
+        Ok(Some(items)) => Ok(items),
+        _ => Err(NoFixture),
     }
 }
 
@@ -232,20 +241,58 @@ fn rises<M: Allocator>(ops: &[&Op<M>]) -> bool
     true
 }
 
-// The items of the ready ones of these operations. None where they do not rise by stamp.
-fn ready<M: Allocator + Clone, N: Allocator>(
-    memory: M,
-    refs: N,
+// References to operations.
+fn refs_of<M: Allocator, N: Allocator>(
+    memory: N,
     ops: &[Op<M>],
-) -> Result<Option<Items<M>>, ItemsFault> {
-    let mut rising = Vec::new(refs);
+) -> Result<Vec<&Op<M>, N>, AllocError> {
+    let mut refs = Vec::new(memory);
     for op in ops {
-        rising.push(op)?;
+        refs.push(op)?;
     }
-    if !rises(&rising) {
+    Ok(refs)
+}
+
+// The items of the ready ones of these operations. None where they do not rise by stamp.
+fn ready<M: Allocator + Clone>(
+    memory: M,
+    rising: &[&Op<M>],
+) -> Result<Option<Items<M>>, ItemsFault> {
+    if !rises(rising) {
         return Ok(None);
     }
-    Ok(Some(items_of_ready(memory, &rising)?))
+    Ok(Some(items_of_ready(memory, rising)?))
+}
+
+fn ready_of<M: Allocator + Copy>(memory: M, ops: &[Op<M>]) -> Result<Items<M>, NoFixture> {
+    let refs = refs_of(memory, ops)?;
+    match ready(memory, &refs) {
+        Ok(Some(items)) => Ok(items),
+        _ => Err(NoFixture),
+    }
+}
+
+// The items of the ready ones of these letters.
+fn ready_by<M: Allocator + Copy>(memory: M, names: &str) -> Result<Items<M>, NoFixture> {
+    let mut ops = Vec::new(memory);
+    push_ops(&mut ops, memory, names)?;
+    ready_of(memory, &ops)
+}
+
+fn count_of_tracks<M: Allocator + Clone>(items: &Items<M>) -> Result<usize, ItemsFault> {
+    Ok(items.tracks()?.len())
+}
+
+fn count_of_clips<M: Allocator + Clone>(items: &Items<M>) -> Result<usize, ItemsFault> {
+    Ok(items.clips()?.len())
+}
+
+fn count_of_markers<M: Allocator + Clone>(items: &Items<M>) -> Result<usize, ItemsFault> {
+    Ok(items.markers()?.len())
+}
+
+fn count_of_tags<M: Allocator + Clone>(items: &Items<M>, item: Stamp) -> Result<usize, ItemsFault> {
+    Ok(items.live_tags(item)?.len())
 }
 
 #[test]

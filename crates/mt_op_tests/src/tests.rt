@@ -2,10 +2,10 @@ use mt_op::laws::{
     compare_digests, compare_titles, equal_titles, last_write, last_writer, readiness, writes,
 };
 use mt_op::{Body, Digest, Op, OpFault, Title, find_op};
-use mt_stamp::{Dot, Replica, Stamp};
+use mt_stamp::{Dot, Replica, Stamp, StampFault};
 use mt_testalloc::Refusing;
 use std::alloc::{Allocator, Global};
-use std::cmp::Ordering;
+use std::slice;
 use std::test::Fail;
 
 mod bodies;
@@ -21,32 +21,65 @@ pub const A: Replica = Replica(10);
 
 pub const B: Replica = Replica(11);
 
+/// Three stamps, from the least on.
+pub fn stamps() -> Result<[Stamp; 3], StampFault> {
+    let first = Stamp::new(1, A, 1)?;
+    let second = Stamp::new(2, B, 1)?;
+    Ok([first, second, Stamp::new(9, A, 9)?])
+}
+
+// Whether a title is this text, and a copy of it is the same.
+fn is_text_of<M: Allocator + Clone>(title: &Title<M>, text: &str) -> Result<bool, OpFault> {
+    let copy = title.try_clone()?;
+    Ok(title.text() == text && copy == *title)
+}
+
 // Whether a text is a title, and a copy of it is the same.
 fn is_title<M: Allocator + Clone>(memory: M, text: &str) -> Result<bool, OpFault> {
-    let title = Title::new(memory, text)?;
-    Ok(title.text() == text && title.try_clone()? == title)
+    is_text_of(&Title::new(memory, text)?, text)
 }
+
+const TITLES: [&str; 6] = [
+    "",
+    "News at nine",
+    " ~",
+    "Grüße",
+    "one\u{2028}two",
+    "one\u{85}two",
+];
+
+const NO_TITLES: [&str; 4] = ["one\ntwo", "\u{1f}", "\u{7f}", "\0"];
 
 // small_values: titles
 #[test]
 fn makes_titles_of_plain_bytes(rt: HostRuntime) {
-    for text in [
-        "",
-        "News at nine",
-        " ~",
-        "Grüße",
-        "one\u{2028}two",
-        "one\u{85}two",
-    ] {
+    for text in TITLES {
         assert_eq!(rt; is_title(rt.alloc(), text), Ok(true), "{text}");
     }
-    for text in ["one\ntwo", "\u{1f}", "\u{7f}", "\0"] {
+}
+
+// small_values: titles
+#[test]
+fn makes_no_title_of_control_characters(rt: HostRuntime) {
+    for text in NO_TITLES {
         assert_eq!(rt;
             is_title(rt.alloc(), text),
             Err(OpFault::BadTitle),
             "{text}"
         );
     }
+}
+
+// Adds a character so many times to a text.
+fn push_many<M: Allocator>(
+    text: &mut String<M>,
+    character: char,
+    count: usize,
+) -> Result<(), OpFault> {
+    for _ in 0..count {
+        text.push(character)?;
+    }
+    Ok(())
 }
 
 // The same of the text of this character so many times.
@@ -56,48 +89,47 @@ fn is_title_of<M: Allocator + Copy>(
     count: usize,
 ) -> Result<bool, OpFault> {
     let mut text = String::new(memory);
-    for _ in 0..count {
-        text.push(character)?;
-    }
+    push_many(&mut text, character, count)?;
     is_title(memory, text.as_str())
 }
+
+/// What the titles of a character so many times are answered as.
+const LENGTHS: [(char, usize, Result<bool, OpFault>); 3] = [
+    ('a', 255, Ok(true)),
+    ('a', 256, Err(OpFault::BadTitle)),
+    ('é', 128, Err(OpFault::BadTitle)),
+];
 
 // small_values: titles
 #[test]
 fn makes_titles_of_at_most_255_bytes(rt: HostRuntime) {
-    assert_eq!(rt; is_title_of(rt.alloc(), 'a', 255), Ok(true));
-    assert_eq!(rt; is_title_of(rt.alloc(), 'a', 256), Err(OpFault::BadTitle));
-    assert_eq!(rt; is_title_of(rt.alloc(), 'é', 128), Err(OpFault::BadTitle));
+    for (character, count, wanted) in LENGTHS {
+        assert_eq!(rt;
+            is_title_of(rt.alloc(), character, count),
+            wanted,
+            "{count}"
+        );
+    }
 }
 
-// How the first title is compared to the second, the second to the first, and the first to itself.
-fn orders<M: Allocator + Copy>(
-    memory: M,
-    first: &str,
-    second: &str,
-) -> Result<[Ordering; 3], OpFault> {
-    let first = Title::new(memory, first)?;
-    let second = Title::new(memory, second)?;
-    Ok([
-        compare_titles(&first, &second),
-        compare_titles(&second, &first),
-        compare_titles(&first, &first),
-    ])
+// Whether the first title is less than the second, and no other relation is told.
+fn is_less<M: Allocator>(low: &Title<M>, high: &Title<M>) -> bool {
+    let order = compare_titles(low, high);
+    let other_order = compare_titles(high, low);
+    let own_order = compare_titles(low, low);
+    low < high && order.is_lt() && other_order.is_gt() && own_order.is_eq()
 }
 
-// Whether the first title is less than the second, equals the second, and equals itself.
-fn relations<M: Allocator + Copy>(
-    memory: M,
-    first: &str,
-    second: &str,
-) -> Result<[bool; 3], OpFault> {
-    let first = Title::new(memory, first)?;
-    let second = Title::new(memory, second)?;
-    Ok([
-        first < second,
-        equal_titles(&first, &second),
-        equal_titles(&first, &first),
-    ])
+// Whether each of two titles equals itself alone.
+fn are_apart<M: Allocator>(low: &Title<M>, high: &Title<M>) -> bool {
+    !equal_titles(low, high) && equal_titles(low, low) && equal_titles(high, high)
+}
+
+// Whether both hold of the titles of two texts.
+fn rise<M: Allocator + Copy>(memory: M, low: &str, high: &str) -> Result<bool, OpFault> {
+    let low = Title::new(memory, low)?;
+    let high = Title::new(memory, high)?;
+    Ok(is_less(&low, &high) && are_apart(&low, &high))
 }
 
 /// Titles that are less than others.
@@ -111,20 +143,8 @@ const RISING: [(&str, &str); 5] = [
 
 #[test]
 fn orders_titles_by_their_bytes(rt: HostRuntime) {
-    let rising = [Ordering::Less, Ordering::Greater, Ordering::Equal];
     for (low, high) in RISING {
-        assert_eq!(rt; orders(rt.alloc(), low, high), Ok(rising), "{low}");
-    }
-}
-
-#[test]
-fn tells_titles_apart(rt: HostRuntime) {
-    for (low, high) in RISING {
-        assert_eq!(rt;
-            relations(rt.alloc(), low, high),
-            Ok([true, false, true]),
-            "{low}"
-        );
+        assert_eq!(rt; rise(rt.alloc(), low, high), Ok(true), "{low}");
     }
 }
 
@@ -133,48 +153,72 @@ const ABC: &str = "ba7816bf8f01cfea414140de5dae2223b00361a396177a9cb410ff61f2001
 
 const CAPITALS: &str = "BA7816BF8F01CFEA414140DE5DAE2223B00361A396177A9CB410FF61F20015AD";
 
+// Whether a text is read as this digest.
+fn is_read_as(text: &str, digest: Digest) -> bool {
+    match Digest::read(text) {
+        Ok(read) => read == digest,
+        Err(_) => false,
+    }
+}
+
 // small_values: digests
 #[test]
 fn reads_digests_of_64_digits(rt: HostRuntime) {
     let abc = Digest::of(b"abc");
-    assert_eq!(rt; Digest::read(ABC), Ok(abc));
-    assert_eq!(rt; Digest::read(CAPITALS), Ok(abc));
+    assert!(rt; is_read_as(ABC, abc));
+    assert!(rt; is_read_as(CAPITALS, abc));
 }
+
+// What a text is refused as, if it is no digest.
+fn refused_digest(text: &str) -> Option<OpFault> {
+    Digest::read(text).err()
+}
+
+/// Texts of other characters, or of less or more of them.
+const NO_DIGESTS: [&str; 8] = [
+    "",
+    "ba",
+    " 000000000000000000000000000000000000000000000000000000000000000",
+    "ba7816gggggggggggggggggggggggggggggggggggggggggggggggggggggggggg",
+    "ba7816bf8f01cfea414140de5dae2223b00361a396177a9cb410ff61f20015a",
+    "a7816bf8f01cfea414140de5dae2223b00361a396177a9cb410ff61f20015ad",
+    "ba7816bf8f01cfea414140de5dae2223b00361a396177a9cb410ff61f20015ada",
+    "ba7816bf8f01cfea414140de5dae2223b00361a396177a9cb410ff61f20015adad",
+];
 
 #[test]
 fn reads_no_digest_of_other_texts(rt: HostRuntime) {
-    const SPACED: &str = " 000000000000000000000000000000000000000000000000000000000000000";
-    const OTHER_DIGIT: &str = "ba7816gggggggggggggggggggggggggggggggggggggggggggggggggggggggggg";
-    const NO_END: &str = "ba7816bf8f01cfea414140de5dae2223b00361a396177a9cb410ff61f20015a";
-    const NO_START: &str = "a7816bf8f01cfea414140de5dae2223b00361a396177a9cb410ff61f20015ad";
-    const ONE_MORE: &str = "ba7816bf8f01cfea414140de5dae2223b00361a396177a9cb410ff61f20015ada";
-    const TWO_MORE: &str = "ba7816bf8f01cfea414140de5dae2223b00361a396177a9cb410ff61f20015adad";
-    for text in [
-        "",
-        "ba",
-        SPACED,
-        OTHER_DIGIT,
-        NO_END,
-        NO_START,
-        ONE_MORE,
-        TWO_MORE,
-    ] {
-        assert_eq!(rt; Digest::read(text), Err(OpFault::BadDigest), "{text}");
+    for text in NO_DIGESTS {
+        assert_eq!(rt; refused_digest(text), Some(OpFault::BadDigest), "{text}");
     }
 }
 
 // Whether the digest of `abc` is written as it should be.
 fn writes_abc<M: Allocator>(memory: M) -> Result<bool, OpFault> {
-    Ok(Digest::of(b"abc").text(memory)?.as_str() == ABC)
+    let text = Digest::of(b"abc").text(memory)?;
+    Ok(text.as_str() == ABC)
+}
+
+// What that is answered as where the growth number `at` is refused.
+fn written_abc(alloc: Global, at: u64) -> Result<bool, OpFault> {
+    let memory = Refusing::new(alloc, at);
+    writes_abc(&memory)
 }
 
 // small_values: digests
 #[test]
 fn writes_digests_and_refuses_their_growth(rt: HostRuntime) {
-    for (at, wanted) in [(0, Err(OpFault::Memory)), (1, Ok(true))] {
-        let memory = Refusing::new(rt.alloc(), at);
-        assert_eq!(rt; writes_abc(&memory), wanted, "at {at}");
-    }
+    assert_eq!(rt; written_abc(rt.alloc(), 0), Err(OpFault::Memory));
+    assert_eq!(rt; written_abc(rt.alloc(), 1), Ok(true));
+}
+
+// Whether the first digest is less than the second, and no other relation is told.
+fn is_less_digest(low: Digest, high: Digest) -> bool {
+    let order = compare_digests(&low, &high);
+    let other_order = compare_digests(&high, &low);
+    let own_order = compare_digests(&low, &low);
+    let is_less = order.is_lt() && other_order.is_gt() && own_order.is_eq();
+    is_less && low < high && low != high
 }
 
 #[test]
@@ -183,31 +227,26 @@ fn orders_digests_by_their_bytes(rt: HostRuntime) {
     high[0] = 1;
     let mut low = [255; 32];
     low[0] = 0;
-    let (low, high) = (Digest(low), Digest(high));
-    assert_eq!(rt; compare_digests(&low, &high), Ordering::Less);
-    assert_eq!(rt; compare_digests(&high, &low), Ordering::Greater);
-    assert_eq!(rt; compare_digests(&low, &low), Ordering::Equal);
-    assert!(rt; low < high);
-    assert!(rt; low != high);
+    assert!(rt; is_less_digest(Digest(low), Digest(high)));
 }
 
-// The stamp and the dot of an operation that gives an item a title, and whether that is what its body does.
-fn parts<M: Allocator + Copy>(
-    memory: M,
-    own: Stamp,
-    item: Stamp,
-) -> Result<(Stamp, Dot, bool), OpFault> {
+// Whether an operation has this stamp, its dot and this body.
+fn is_of<M: Allocator>(op: &Op<M>, own: Stamp, body: &Body<M>) -> bool {
+    op.stamp() == own && op.dot() == own.dot() && op.body() == body
+}
+
+// Whether that which gives an item a title is made of what it was made of.
+fn has_its_parts<M: Allocator + Copy>(memory: M, own: Stamp, item: Stamp) -> Result<bool, OpFault> {
+    let body = retitle(memory, item, "News")?;
     let op = Op::new(own, retitle(memory, item, "News")?)?;
-    let is_retitle = *op.body() == retitle(memory, item, "News")?;
-    Ok((op.stamp(), op.dot(), is_retitle))
+    Ok(is_of(&op, own, &body))
 }
 
 #[test]
 fn makes_operations_of_their_parts(rt: HostRuntime) -> Result<(), Fail> {
-    let own = Stamp::new(2, A, 2)?;
-    let item = Stamp::new(1, B, 1)?;
-    let dot = Dot { replica: A, seq: 2 };
-    assert_eq!(rt; parts(rt.alloc(), own, item), Ok((own, dot, true)));
+    let [_, item, own] = stamps()?;
+    assert!(rt; own.dot() == Dot { replica: A, seq: 9 });
+    assert_eq!(rt; has_its_parts(rt.alloc(), own, item), Ok(true));
     Ok(())
 }
 
@@ -224,45 +263,60 @@ fn marker_op<M: Allocator>(memory: M, stamp: Stamp, title: &str) -> Result<Op<M>
     Op::new(stamp, add_marker(memory, 7, title)?)
 }
 
-// Where a dot stands beside an operation of this stamp.
-fn place_beside(alloc: Global, stamp: Stamp, dot: Dot) -> Result<Result<usize, usize>, OpFault> {
-    let ops = [marker_op(alloc, stamp, "News")?];
-    Ok(find_op(&ops, dot))
+// Whether a dot stands at this place beside an operation of this stamp.
+fn is_beside(
+    alloc: Global,
+    stamp: Stamp,
+    dot: Dot,
+    place: Result<usize, usize>,
+) -> Result<bool, OpFault> {
+    let op = marker_op(alloc, stamp, "News")?;
+    Ok(find_op(slice::from_ref(&op), dot) == place)
 }
+
+/// Dots, and where they stand beside an operation of the dot `(A, 2)`.
+const PLACES: [(Replica, u64, Result<usize, usize>); 4] = [
+    (A, 1, Err(0)),
+    (A, 2, Ok(0)),
+    (A, 3, Err(1)),
+    (B, 1, Err(1)),
+];
 
 #[test]
 fn finds_operations_by_their_dots(rt: HostRuntime) -> Result<(), Fail> {
     let stamp = Stamp::new(5, A, 2)?;
-    for (replica, seq, place) in [
-        (A, 1, Err(0)),
-        (A, 2, Ok(0)),
-        (A, 3, Err(1)),
-        (B, 1, Err(1)),
-    ] {
-        let dot = Dot { replica, seq };
-        assert_eq!(rt; place_beside(rt.alloc(), stamp, dot), Ok(place), "{seq}");
+    for (replica, seq, place) in PLACES {
+        let is_so = is_beside(rt.alloc(), stamp, Dot { replica, seq }, place);
+        assert_eq!(rt; is_so, Ok(true), "{seq}");
     }
     Ok(())
 }
 
+const NUMBERS: [(OpFault, u8); 7] = [
+    (OpFault::Memory, 0),
+    (OpFault::NameNotOlder, 5),
+    (OpFault::ZeroLength, 6),
+    (OpFault::BadTags, 7),
+    (OpFault::BadTitle, 43),
+    (OpFault::BadGain, 44),
+    (OpFault::BadDigest, 50),
+];
+
 #[test]
 fn numbers_its_refusals(rt: HostRuntime) {
-    for (fault, number) in [
-        (OpFault::Memory, 0),
-        (OpFault::NameNotOlder, 5),
-        (OpFault::ZeroLength, 6),
-        (OpFault::BadTags, 7),
-        (OpFault::BadTitle, 43),
-        (OpFault::BadGain, 44),
-        (OpFault::BadDigest, 50),
-    ] {
+    for (fault, number) in NUMBERS {
         assert_eq!(rt; fault.number(), number);
     }
 }
 
+// A clone of a title.
+fn cloned_title<M: Allocator + Clone>(memory: M, text: &str) -> Result<Title<M>, OpFault> {
+    Title::new(memory, text)?.try_clone()
+}
+
 // A body of a title that took memory three times: for the title, and for a clone of it and of the body.
 fn cloned_body<M: Allocator + Clone>(memory: M, text: &str) -> Result<Body<M>, OpFault> {
-    let title = Title::new(memory, text)?.try_clone()?;
+    let title = cloned_title(memory, text)?;
     Body::AddMarker { at: 7, title }.try_clone()
 }
 
@@ -281,12 +335,17 @@ fn clones_a_marker<M: Allocator + Clone>(
     Ok(is_marker_at_7(&op.try_clone()?, stamp, text))
 }
 
+// What that is answered as where the growth number `at` is refused.
+fn cloned_marker(alloc: Global, at: u64, stamp: Stamp) -> Result<bool, OpFault> {
+    let memory = Refusing::new(alloc, at);
+    clones_a_marker(&memory, stamp, "News at nine")
+}
+
 #[test]
 fn refuses_each_growth(rt: HostRuntime) -> Result<(), Fail> {
     let stamp = Stamp::new(1, A, 1)?;
     for at in 0..5 {
-        let memory = Refusing::new(rt.alloc(), at);
-        let made = clones_a_marker(&memory, stamp, "News at nine");
+        let made = cloned_marker(rt.alloc(), at, stamp);
         assert_eq!(rt; made, wanted_after(4, at), "at {at}");
     }
     Ok(())

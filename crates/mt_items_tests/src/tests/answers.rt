@@ -1,258 +1,294 @@
 // What is answered of noted operations.
 
-use super::{NoFixture, left_by, op, ops, ready, stamp};
+use super::{
+    NoFixture, count_of_clips, count_of_markers, count_of_tags, count_of_tracks, left_by, op,
+    ready_by, stamp,
+};
 use mt_items::Items;
 use mt_op::{Digest, Gain, Need, Role, TrimRange};
 use mt_stamp::Stamp;
 use std::alloc::Allocator;
 use std::test::Fail;
 
-// Which operation gave the title of an item, noted in this order.
-fn title_writer<M: Allocator + Clone>(
-    memory: M,
-    names: &str,
-    item: Stamp,
-) -> Result<Option<Stamp>, NoFixture> {
-    let items = left_by(memory, names)?;
-    match items.title(item) {
-        Some(title) => Ok(Some(title.stamp())),
+// The stamp of a letter, where there is one.
+fn stamp_of(name: Option<char>) -> Result<Option<Stamp>, NoFixture> {
+    match name {
+        Some(name) => Ok(Some(stamp(name)?)),
         None => Ok(None),
     }
+}
+
+// Which operation gave the title of an item.
+fn title_writer<M: Allocator>(items: &Items<M>, item: Stamp) -> Option<Stamp> {
+    match items.title(item) {
+        Some(title) => Some(title.stamp()),
+        None => None,
+    }
+}
+
+// Whether it is this one, after these.
+fn is_titled_by<M: Allocator + Copy>(
+    memory: M,
+    names: &str,
+    item: char,
+    writer: Option<char>,
+) -> Result<bool, NoFixture> {
+    let item = stamp(item)?;
+    let writer = stamp_of(writer)?;
+    let items = left_by(memory, names)?;
+    Ok(title_writer(&items, item) == writer)
 }
 
 // two_retitles
 #[test]
-fn keeps_the_last_of_two_retitles(rt: HostRuntime) -> Result<(), Fail> {
-    let marker = stamp('m')?;
-    let last = Some(stamp('y')?);
-    assert_eq!(rt; title_writer(rt.alloc(), "mxy", marker), Ok(last));
-    assert_eq!(rt; title_writer(rt.alloc(), "myx", marker), Ok(last));
-    Ok(())
-}
-
-#[test]
-fn knows_titles_of_tracks_and_markers(rt: HostRuntime) -> Result<(), Fail> {
-    let track = stamp('t')?;
-    assert_eq!(rt; title_writer(rt.alloc(), "mt", track), Ok(Some(track)));
-    assert_eq!(rt; title_writer(rt.alloc(), "mtc", stamp('c')?), Ok(None));
-    Ok(())
-}
-
-// The frame at which the marker m stands.
-fn position<M: Allocator + Clone>(
-    memory: M,
-    names: &str,
-    marker: Stamp,
-) -> Result<Option<u32>, NoFixture> {
-    let items = left_by(memory, names)?;
-    match items.position(marker) {
-        Some(at) => Ok(Some(*at.get())),
-        None => Ok(None),
+fn keeps_the_last_of_two_retitles(rt: HostRuntime) {
+    for (names, item, writer) in [
+        ("mxy", 'm', Some('y')),
+        ("myx", 'm', Some('y')),
+        ("mt", 't', Some('t')),
+        ("mtc", 'c', None),
+    ] {
+        let is_so = is_titled_by(rt.alloc(), names, item, writer);
+        assert_eq!(rt; is_so, Ok(true), "{names}");
     }
 }
 
-#[test]
-fn moves_a_marker(rt: HostRuntime) -> Result<(), Fail> {
-    let marker = stamp('m')?;
-    assert_eq!(rt; position(rt.alloc(), "m", marker), Ok(Some(480)));
-    assert_eq!(rt; position(rt.alloc(), "mp", marker), Ok(Some(960)));
-    assert_eq!(rt; position(rt.alloc(), "t", marker), Ok(None));
-    Ok(())
+// The frame at which a marker stands.
+fn position<M: Allocator>(items: &Items<M>, marker: Stamp) -> Option<u32> {
+    match items.position(marker) {
+        Some(at) => Some(*at.get()),
+        None => None,
+    }
 }
 
-// Whether an item is present, and how many live tags it has.
-fn presence<M: Allocator + Clone>(
+// That of the marker m.
+fn position_after<M: Allocator + Copy>(memory: M, names: &str) -> Result<Option<u32>, NoFixture> {
+    let marker = stamp('m')?;
+    let items = left_by(memory, names)?;
+    Ok(position(&items, marker))
+}
+
+#[test]
+fn moves_a_marker(rt: HostRuntime) {
+    for (names, at) in [("m", Some(480)), ("mp", Some(960)), ("t", None)] {
+        assert_eq!(rt; position_after(rt.alloc(), names), Ok(at), "{names}");
+    }
+}
+
+// How many live tags an item has, where it is present exactly if it should be.
+fn tags_where<M: Allocator + Clone>(
+    items: &Items<M>,
+    item: Stamp,
+    is_present: bool,
+) -> Result<Option<usize>, NoFixture> {
+    let count = count_of_tags(items, item)?;
+    Ok((items.is_present(item) == is_present).then_some(count))
+}
+
+// The same after these.
+fn tags_after<M: Allocator + Copy>(
     memory: M,
     names: &str,
-    item: Stamp,
-) -> Result<(bool, usize), NoFixture> {
+    item: char,
+    is_present: bool,
+) -> Result<Option<usize>, NoFixture> {
+    let item = stamp(item)?;
     let items = left_by(memory, names)?;
-    let present = items.is_present(item);
-    let tags = items.live_tags(item)?;
-    Ok((present, tags.len()))
+    tags_where(&items, item, is_present)
 }
 
-// removed_and_restored
+// removed_and_restored, moved_and_removed_clip: what is no item has no tag, and a move brings no removed clip back
 #[test]
-fn removes_and_restores(rt: HostRuntime) -> Result<(), Fail> {
-    let item = stamp('m')?;
-    assert_eq!(rt; presence(rt.alloc(), "m", item), Ok((true, 1)));
-    assert_eq!(rt; presence(rt.alloc(), "mr", item), Ok((false, 0)));
-    assert_eq!(rt; presence(rt.alloc(), "mrs", item), Ok((true, 1)));
-    assert_eq!(rt; presence(rt.alloc(), "msr", item), Ok((true, 1)));
-    Ok(())
-}
-
-#[test]
-fn knows_no_tag_of_what_is_no_item(rt: HostRuntime) -> Result<(), Fail> {
-    assert_eq!(rt; presence(rt.alloc(), "ms", stamp('u')?), Ok((false, 0)));
-    assert_eq!(rt; presence(rt.alloc(), "ms", stamp('s')?), Ok((false, 0)));
-    assert_eq!(rt; presence(rt.alloc(), "tc", stamp('c')?), Ok((true, 1)));
-    Ok(())
+fn removes_and_restores(rt: HostRuntime) {
+    for (names, item, is_present, tags) in [
+        ("m", 'm', true, 1),
+        ("mr", 'm', false, 0),
+        ("mrs", 'm', true, 1),
+        ("msr", 'm', true, 1),
+        ("ms", 'u', false, 0),
+        ("ms", 's', false, 0),
+        ("tc", 'c', true, 1),
+        ("tucdz", 'c', false, 0),
+        ("tuczd", 'c', false, 0),
+    ] {
+        let counted = tags_after(rt.alloc(), names, item, is_present);
+        assert_eq!(rt; counted, Ok(Some(tags)), "{item} after {names}");
+    }
 }
 
 // Whether the live tags of an item are itself and then the other one.
 fn are_live<M: Allocator + Clone>(
-    memory: M,
-    names: &str,
+    items: &Items<M>,
     item: Stamp,
     other: Stamp,
 ) -> Result<bool, NoFixture> {
-    let items = left_by(memory, names)?;
     let tags = items.live_tags(item)?;
     Ok(tags.get(0) == Some(&item) && tags.get(1) == Some(&other))
 }
 
-#[test]
-fn gives_live_tags_from_the_least_on(rt: HostRuntime) -> Result<(), Fail> {
+// The same of m and s, after these.
+fn are_live_after<M: Allocator + Copy>(memory: M, names: &str) -> Result<bool, NoFixture> {
     let item = stamp('m')?;
     let other = stamp('s')?;
-    assert_eq!(rt; are_live(rt.alloc(), "ms", item, other), Ok(true));
-    assert_eq!(rt; are_live(rt.alloc(), "msr", item, other), Ok(false));
-    Ok(())
+    let items = left_by(memory, names)?;
+    are_live(&items, item, other)
+}
+
+#[test]
+fn gives_live_tags_from_the_least_on(rt: HostRuntime) {
+    for (names, is_live) in [("ms", true), ("msr", false)] {
+        assert_eq!(rt; are_live_after(rt.alloc(), names), Ok(is_live), "{names}");
+    }
 }
 
 // The current place of a track, and what it stands after.
-fn place<M: Allocator + Clone>(
+fn place<M: Allocator>(items: &Items<M>, track: Stamp) -> (Option<Stamp>, Option<Stamp>) {
+    let current = items.current_place(track);
+    match items.track_place(track) {
+        Some(place) => (current, *place.get()),
+        None => (current, None),
+    }
+}
+
+// Whether those of the track t are these, after these operations.
+fn is_placed<M: Allocator + Copy>(
     memory: M,
     names: &str,
-    track: Stamp,
-) -> Result<(Option<Stamp>, Option<Stamp>), NoFixture> {
+    current: Option<char>,
+    after: Option<char>,
+) -> Result<bool, NoFixture> {
+    let track = stamp('t')?;
+    let wanted = (stamp_of(current)?, stamp_of(after)?);
     let items = left_by(memory, names)?;
-    match items.track_place(track) {
-        Some(place) => Ok((items.current_place(track), *place.get())),
-        None => Ok((items.current_place(track), None)),
-    }
+    Ok(place(&items, track) == wanted)
 }
 
 // moved_tracks
 #[test]
-fn puts_a_track_where_it_was_moved_last(rt: HostRuntime) -> Result<(), Fail> {
-    let track = stamp('t')?;
-    let moved = (Some(stamp('v')?), Some(stamp('u')?));
-    assert_eq!(rt; place(rt.alloc(), "tu", track), Ok((Some(track), None)));
-    assert_eq!(rt; place(rt.alloc(), "tuv", track), Ok(moved));
-    assert_eq!(rt; place(rt.alloc(), "m", track), Ok((None, None)));
-    Ok(())
+fn puts_a_track_where_it_was_moved_last(rt: HostRuntime) {
+    for (names, current, after) in [
+        ("tu", Some('t'), None),
+        ("tuv", Some('v'), Some('u')),
+        ("m", None, None),
+    ] {
+        let is_so = is_placed(rt.alloc(), names, current, after);
+        assert_eq!(rt; is_so, Ok(true), "{names}");
+    }
 }
 
-// Who put a clip where it is, its track, and its frame.
-fn clip_place<M: Allocator + Clone>(
-    memory: M,
-    names: &str,
+// Whether this operation put a clip on this track at this frame.
+fn is_put<M: Allocator>(
+    items: &Items<M>,
     clip: Stamp,
-) -> Result<Option<(Stamp, Stamp, u32)>, NoFixture> {
-    let items = left_by(memory, names)?;
+    (by, track, at): (Stamp, Stamp, u32),
+) -> bool {
     match items.clip_place(clip) {
-        Some(place) => {
-            let put = *place.get();
-            Ok(Some((place.stamp(), put.track, put.at)))
-        }
-        None => Ok(None),
+        Some(place) => place.stamp() == by && place.get().track == track && place.get().at == at,
+        None => false,
     }
 }
 
-// moved_and_removed_clip
-#[test]
-fn moves_a_clip(rt: HostRuntime) -> Result<(), Fail> {
-    let clip = stamp('c')?;
-    let first = Some((clip, stamp('t')?, 100));
-    let moved = Some((stamp('d')?, stamp('u')?, 200));
-    assert_eq!(rt; clip_place(rt.alloc(), "tuc", clip), Ok(first));
-    assert_eq!(rt; clip_place(rt.alloc(), "tucd", clip), Ok(moved));
-    assert_eq!(rt; clip_place(rt.alloc(), "tuczd", clip), Ok(moved));
-    Ok(())
-}
-
-// moved_and_removed_clip
-#[test]
-fn a_move_brings_no_removed_clip_back(rt: HostRuntime) -> Result<(), Fail> {
-    let clip = stamp('c')?;
-    assert_eq!(rt; presence(rt.alloc(), "tucdz", clip), Ok((false, 0)));
-    assert_eq!(rt; presence(rt.alloc(), "tuczd", clip), Ok((false, 0)));
-    Ok(())
-}
-
-// The trim of a clip.
-fn trim<M: Allocator + Clone>(
+// The same of the clip c, after these.
+fn is_put_after<M: Allocator + Copy>(
     memory: M,
     names: &str,
-    clip: Stamp,
-) -> Result<Option<TrimRange>, NoFixture> {
+    (by, track, at): (char, char, u32),
+) -> Result<bool, NoFixture> {
+    let clip = stamp('c')?;
+    let wanted = (stamp(by)?, stamp(track)?, at);
     let items = left_by(memory, names)?;
+    Ok(is_put(&items, clip, wanted))
+}
+
+// moved_and_removed_clip
+#[test]
+fn moves_a_clip(rt: HostRuntime) {
+    for (names, wanted) in [
+        ("tuc", ('c', 't', 100)),
+        ("tucd", ('d', 'u', 200)),
+        ("tuczd", ('d', 'u', 200)),
+    ] {
+        assert_eq!(rt;
+            is_put_after(rt.alloc(), names, wanted),
+            Ok(true),
+            "{names}"
+        );
+    }
+}
+
+// Whether a clip plays so many frames from this one on.
+fn is_trimmed<M: Allocator>(items: &Items<M>, clip: Stamp, wanted: TrimRange) -> bool {
     match items.trim(clip) {
-        Some(trim) => Ok(Some(*trim.get())),
-        None => Ok(None),
+        Some(trim) => *trim.get() == wanted,
+        None => false,
     }
 }
 
-// The gain and the mute of a clip.
-fn sound<M: Allocator + Clone>(
+// Whether an item has this gain, and is muted or not.
+fn sounds<M: Allocator>(items: &Items<M>, item: Stamp, gain: Gain, is_muted: bool) -> bool {
+    match (items.gain(item), items.mute(item)) {
+        (Some(own), Some(mute)) => *own.get() == gain && *mute.get() == is_muted,
+        _ => false,
+    }
+}
+
+// The same of the clip c, after these.
+fn is_trimmed_after<M: Allocator + Copy>(
     memory: M,
     names: &str,
-    clip: Stamp,
-) -> Result<Option<(Gain, bool)>, NoFixture> {
+    offset: u32,
+    len: u32,
+) -> Result<bool, NoFixture> {
+    let clip = stamp('c')?;
     let items = left_by(memory, names)?;
-    match (items.gain(clip), items.mute(clip)) {
-        (Some(gain), Some(mute)) => Ok(Some((*gain.get(), *mute.get()))),
-        _ => Ok(None),
-    }
+    Ok(is_trimmed(&items, clip, TrimRange { offset, len }))
 }
 
-// The recording that a clip plays.
-fn source<M: Allocator + Clone>(
+fn sounds_after<M: Allocator + Copy>(
     memory: M,
     names: &str,
-    clip: Stamp,
-) -> Result<Option<Digest>, NoFixture> {
+    den: u16,
+    is_muted: bool,
+) -> Result<bool, NoFixture> {
+    let clip = stamp('c')?;
+    let gain = Gain::new(1, den)?;
+    let items = left_by(memory, names)?;
+    Ok(sounds(&items, clip, gain, is_muted))
+}
+
+// The recording that the clip c plays, after these.
+fn source<M: Allocator + Copy>(memory: M, names: &str) -> Result<Option<Digest>, NoFixture> {
+    let clip = stamp('c')?;
     let items = left_by(memory, names)?;
     Ok(items.source(clip))
 }
 
 #[test]
-fn trims_a_clip(rt: HostRuntime) -> Result<(), Fail> {
-    let clip = stamp('c')?;
-    assert_eq!(rt;
-        trim(rt.alloc(), "tuc", clip),
-        Ok(Some(TrimRange { offset: 0, len: 50 }))
-    );
-    assert_eq!(rt;
-        trim(rt.alloc(), "tuced", clip),
-        Ok(Some(TrimRange {
-            offset: 10,
-            len: 20
-        }))
-    );
-    Ok(())
+fn trims_a_clip(rt: HostRuntime) {
+    for (names, offset, len) in [("tuc", 0, 50), ("tuced", 10, 20)] {
+        let is_so = is_trimmed_after(rt.alloc(), names, offset, len);
+        assert_eq!(rt; is_so, Ok(true), "{names}");
+    }
 }
 
 #[test]
-fn keeps_gain_and_mute_apart(rt: HostRuntime) -> Result<(), Fail> {
-    let clip = stamp('c')?;
-    let half = Gain::new(1, 2)?;
-    assert_eq!(rt;
-        sound(rt.alloc(), "tuc", clip),
-        Ok(Some((Gain::UNCHANGED, false)))
-    );
-    assert_eq!(rt; sound(rt.alloc(), "tucg", clip), Ok(Some((half, false))));
-    assert_eq!(rt;
-        sound(rt.alloc(), "tuch", clip),
-        Ok(Some((Gain::UNCHANGED, true)))
-    );
-    Ok(())
+fn keeps_gain_and_mute_apart(rt: HostRuntime) {
+    for (names, den, is_muted) in [("tuc", 1, false), ("tucg", 2, false), ("tuch", 1, true)] {
+        let is_so = sounds_after(rt.alloc(), names, den, is_muted);
+        assert_eq!(rt; is_so, Ok(true), "{names}");
+    }
 }
 
 #[test]
-fn knows_the_recording_of_a_clip(rt: HostRuntime) -> Result<(), Fail> {
-    let clip = stamp('c')?;
+fn knows_the_recording_of_a_clip(rt: HostRuntime) {
     let news = Digest::of("News".as_bytes());
-    assert_eq!(rt; source(rt.alloc(), "tucd", clip), Ok(Some(news)));
-    assert_eq!(rt; source(rt.alloc(), "tu", clip), Ok(None));
-    Ok(())
+    for (names, digest) in [("tucd", Some(news)), ("tu", None)] {
+        assert_eq!(rt; source(rt.alloc(), names), Ok(digest), "{names}");
+    }
 }
 
 // Whether one of m, s, t, u, v and c fits a role.
-fn is_met<M: Allocator + Clone>(memory: M, name: char, role: Role) -> Result<bool, NoFixture> {
+fn is_met<M: Allocator + Copy>(memory: M, name: char, role: Role) -> Result<bool, NoFixture> {
     let stamp = stamp(name)?;
     let items = left_by(memory, "mstuvc")?;
     Ok(items.meets(&Need { stamp, role }))
@@ -260,97 +296,108 @@ fn is_met<M: Allocator + Clone>(memory: M, name: char, role: Role) -> Result<boo
 
 // wrong_role
 #[test]
-fn meets_a_need_in_its_role_alone(rt: HostRuntime) {
-    assert_eq!(rt; is_met(rt.alloc(), 'm', Role::Marker), Ok(true));
-    assert_eq!(rt; is_met(rt.alloc(), 'm', Role::Mixable), Ok(false));
-    assert_eq!(rt; is_met(rt.alloc(), 't', Role::Titled), Ok(true));
-    assert_eq!(rt; is_met(rt.alloc(), 'c', Role::Titled), Ok(false));
-}
-
-#[test]
-fn meets_a_need_of_any_item(rt: HostRuntime) {
-    assert_eq!(rt; is_met(rt.alloc(), 'c', Role::Mixable), Ok(true));
-    assert_eq!(rt; is_met(rt.alloc(), 'c', Role::Item), Ok(true));
-    assert_eq!(rt; is_met(rt.alloc(), 's', Role::Item), Ok(false));
-}
-
-#[test]
-fn meets_a_need_of_a_place(rt: HostRuntime) {
-    assert_eq!(rt; is_met(rt.alloc(), 't', Role::Place), Ok(true));
-    assert_eq!(rt; is_met(rt.alloc(), 'v', Role::Place), Ok(true));
-    assert_eq!(rt; is_met(rt.alloc(), 'v', Role::Track), Ok(false));
-}
-
-#[test]
-fn meets_a_need_of_a_tag(rt: HostRuntime) -> Result<(), Fail> {
+fn meets_a_need_in_its_role_alone(rt: HostRuntime) -> Result<(), Fail> {
     let tag = Role::TagOf(stamp('m')?);
-    assert_eq!(rt; is_met(rt.alloc(), 'm', tag), Ok(true));
-    assert_eq!(rt; is_met(rt.alloc(), 's', tag), Ok(true));
-    assert_eq!(rt; is_met(rt.alloc(), 't', tag), Ok(false));
+    for (name, role, meets) in [
+        ('m', Role::Marker, true),
+        ('m', Role::Mixable, false),
+        ('t', Role::Titled, true),
+        ('c', Role::Titled, false),
+        ('c', Role::Mixable, true),
+        ('c', Role::Item, true),
+        ('s', Role::Item, false),
+        ('t', Role::Place, true),
+        ('v', Role::Place, true),
+        ('v', Role::Track, false),
+        ('m', tag, true),
+        ('s', tag, true),
+        ('t', tag, false),
+    ] {
+        assert_eq!(rt;
+            is_met(rt.alloc(), name, role),
+            Ok(meets),
+            "{name} {role:?}"
+        );
+    }
     Ok(())
 }
 
-// Whether each need of an operation is met after these.
-fn may_follow<M: Allocator + Clone>(memory: M, names: &str, name: char) -> Result<bool, NoFixture> {
-    let next = op(memory.clone()?, name)?;
-    let items = left_by(memory, names)?;
+// Whether each need of the operation of a letter is met.
+fn may_be_next<M: Allocator + Copy>(
+    items: &Items<M>,
+    memory: M,
+    name: char,
+) -> Result<bool, NoFixture> {
+    let next = op(memory, name)?;
     Ok(items.are_needs_met(&next))
+}
+
+// The same after these.
+fn may_follow<M: Allocator + Copy>(memory: M, names: &str, name: char) -> Result<bool, NoFixture> {
+    let items = left_by(memory, names)?;
+    may_be_next(&items, memory, name)
 }
 
 #[test]
 fn asks_for_each_need(rt: HostRuntime) {
-    assert_eq!(rt; may_follow(rt.alloc(), "tuc", 'd'), Ok(true));
-    assert_eq!(rt; may_follow(rt.alloc(), "tc", 'd'), Ok(false));
-    assert_eq!(rt; may_follow(rt.alloc(), "tu", 'd'), Ok(false));
-    assert_eq!(rt; may_follow(rt.alloc(), "", 'x'), Ok(false));
+    for (names, next, is_met) in [
+        ("tuc", 'd', true),
+        ("tc", 'd', false),
+        ("tu", 'd', false),
+        ("", 'x', false),
+    ] {
+        assert_eq!(rt; may_follow(rt.alloc(), names, next), Ok(is_met), "{names}");
+    }
+}
+
+// Whether this is the first track.
+fn is_first<M: Allocator + Clone>(items: &Items<M>, track: Stamp) -> Result<bool, NoFixture> {
+    let tracks = items.tracks()?;
+    Ok(tracks.get(0) == Some(&track))
 }
 
 // How many tracks, clips and markers there are.
-fn counts<M: Allocator + Clone>(items: &Items<M>) -> Result<(usize, usize, usize), NoFixture> {
-    let tracks = items.tracks()?.len();
-    let clips = items.clips()?.len();
-    let markers = items.markers()?.len();
-    Ok((tracks, clips, markers))
+fn counts<M: Allocator + Clone>(items: &Items<M>) -> Result<[usize; 3], NoFixture> {
+    let tracks = count_of_tracks(items)?;
+    let clips = count_of_clips(items)?;
+    Ok([tracks, clips, count_of_markers(items)?])
 }
 
-// The first track.
-fn first_track<M: Allocator + Clone>(memory: M, names: &str) -> Result<Option<Stamp>, NoFixture> {
-    let items = left_by(memory, names)?;
-    let tracks = items.tracks()?;
-    Ok(tracks.get(0).copied())
-}
-
-fn noted_counts<M: Allocator + Clone>(
+// The same after these, where t is the first track.
+fn noted_counts<M: Allocator + Copy>(
     memory: M,
     names: &str,
-) -> Result<(usize, usize, usize), NoFixture> {
+) -> Result<Option<[usize; 3]>, NoFixture> {
+    let first = stamp('t')?;
     let items = left_by(memory, names)?;
+    let is_first = is_first(&items, first)?;
+    Ok(is_first.then_some(counts(&items)?))
+}
+
+#[test]
+fn lists_items_from_the_least_on(rt: HostRuntime) {
+    for (names, counted) in [("ut", [2, 0, 0]), ("utmvc", [2, 1, 1])] {
+        assert_eq!(rt;
+            noted_counts(rt.alloc(), names),
+            Ok(Some(counted)),
+            "{names}"
+        );
+    }
+}
+
+// How many items of each kind the ready ones of these operations leave.
+fn ready_counts<M: Allocator + Copy>(memory: M, names: &str) -> Result<[usize; 3], NoFixture> {
+    let items = ready_by(memory, names)?;
     counts(&items)
 }
 
 #[test]
-fn lists_items_from_the_least_on(rt: HostRuntime) -> Result<(), Fail> {
-    let first = stamp('t')?;
-    assert_eq!(rt; first_track(rt.alloc(), "ut"), Ok(Some(first)));
-    assert_eq!(rt; noted_counts(rt.alloc(), "utmvc"), Ok((2, 1, 1)));
-    Ok(())
-}
-
-// How many items of each kind the ready ones of these operations leave.
-fn ready_counts<M: Allocator + Clone>(
-    memory: M,
-    names: &str,
-) -> Result<(usize, usize, usize), NoFixture> {
-    let ops = ops(&memory, names)?;
-    match ready(memory.clone()?, memory, &ops)? {
-        Some(items) => counts(&items),
-        None => Err(NoFixture),
-    }
-}
-
-#[test]
 fn notes_the_ready_ones_of_a_set(rt: HostRuntime) {
-    assert_eq!(rt; ready_counts(rt.alloc(), "xpstvcd"), Ok((1, 1, 0)));
-    assert_eq!(rt; ready_counts(rt.alloc(), "mxpstuvcd"), Ok((2, 1, 1)));
-    assert_eq!(rt; ready_counts(rt.alloc(), "tm"), Err(NoFixture));
+    for (names, counted) in [
+        ("xpstvcd", Ok([1, 1, 0])),
+        ("mxpstuvcd", Ok([2, 1, 1])),
+        ("tm", Err(NoFixture)),
+    ] {
+        assert_eq!(rt; ready_counts(rt.alloc(), names), counted, "{names}");
+    }
 }

@@ -3,7 +3,6 @@
 use mt_op::{Body, Digest, Gain, OpFault, Title};
 use mt_stamp::{List, Stamp};
 use std::alloc::Allocator;
-use std::test::Fail;
 
 pub fn add_track<M: Allocator>(
     memory: M,
@@ -108,13 +107,4 @@ pub fn body_of<M: Allocator>(memory: M, act: Act, item: Stamp) -> Result<Body<M>
         }),
         Act::Retitle => retitle(memory, item, "News"),
     }
-}
-
-/// A body of each act.
-pub fn twelve<M: Allocator + Copy>(memory: M, item: Stamp) -> Result<Vec<Body<M>, M>, Fail> {
-    let mut bodies = Vec::new(memory);
-    for act in ACTS {
-        bodies.push(body_of(memory, act, item)?)?;
-    }
-    Ok(bodies)
 }

@@ -1,23 +1,51 @@
 //! Copies of bodies and operations, and which bodies are equal.
 
-use super::bodies::{add_track, remove, retitle, twelve};
-use super::{A, B, marker_op, wanted_after};
+use super::bodies::{ACTS, Act, add_track, body_of, remove, retitle};
+use super::{marker_op, stamps, wanted_after};
 use mt_op::laws::{equal_bodies, equal_ops};
 use mt_op::{Body, Op, OpFault};
 use mt_stamp::Stamp;
 use mt_testalloc::Refusing;
-use std::alloc::Allocator;
+use std::alloc::{Allocator, Global};
 use std::test::Fail;
 
-// The first two places where the copy of one body equals another body, or a copy does not equal its own.
-fn first_mistake<M: Allocator + Clone>(
-    bodies: &[Body<M>],
-) -> Result<Option<(usize, usize)>, OpFault> {
-    for (i, body) in bodies.iter().enumerate() {
-        let copy = body.try_clone()?;
-        for (j, other) in bodies.iter().enumerate() {
-            if equal_bodies(&copy, other) != (i == j) {
-                return Ok(Some((i, j)));
+// Whether the copy of a body equals another body.
+fn copy_equals<M: Allocator + Clone>(body: &Body<M>, other: &Body<M>) -> Result<bool, OpFault> {
+    let copy = body.try_clone()?;
+    Ok(equal_bodies(&copy, other))
+}
+
+// Whether the copy of the body of an act does.
+fn is_copied_as<M: Allocator + Clone>(
+    memory: M,
+    act: Act,
+    item: Stamp,
+    other: &Body<M>,
+) -> Result<bool, OpFault> {
+    let body = body_of(memory, act, item)?;
+    copy_equals(&body, other)
+}
+
+// Whether it equals the body of an act.
+fn are_alike<M: Allocator + Copy>(
+    memory: M,
+    act: Act,
+    other: Act,
+    item: Stamp,
+) -> Result<bool, OpFault> {
+    let other = body_of(memory, other, item)?;
+    is_copied_as(memory, act, item, &other)
+}
+
+// The first two acts where the copy of the body of one equals that of another act, or a copy does not equal its own.
+fn first_mistake<M: Allocator + Copy>(
+    memory: M,
+    item: Stamp,
+) -> Result<Option<(Act, Act)>, OpFault> {
+    for act in ACTS {
+        for other in ACTS {
+            if are_alike(memory, act, other, item)? != (act == other) {
+                return Ok(Some((act, other)));
             }
         }
     }
@@ -26,48 +54,66 @@ fn first_mistake<M: Allocator + Clone>(
 
 #[test]
 fn copies_each_act(rt: HostRuntime) -> Result<(), Fail> {
-    let bodies = twelve(rt.alloc(), Stamp::new(1, A, 1)?)?;
-    assert_eq!(rt; first_mistake(&bodies)?, None);
+    let [item, _, _] = stamps()?;
+    assert_eq!(rt; first_mistake(rt.alloc(), item), Ok(None));
     Ok(())
-}
-
-// The same of operations.
-fn first_mistaken_op<M: Allocator + Clone>(
-    ops: &[Op<M>],
-) -> Result<Option<(usize, usize)>, OpFault> {
-    for (i, op) in ops.iter().enumerate() {
-        let copy = op.try_clone()?;
-        for (j, other) in ops.iter().enumerate() {
-            if equal_ops(&copy, other) != (i == j) {
-                return Ok(Some((i, j)));
-            }
-        }
-    }
-    Ok(None)
 }
 
 fn retitle_op<M: Allocator>(memory: M, own: Stamp, item: Stamp) -> Result<Op<M>, OpFault> {
     Op::new(own, retitle(memory, item, "News")?)
 }
 
-// Operations of which no two are equal.
-fn four_ops<M: Allocator + Copy>(
+// Four operations, of which no two are equal.
+fn numbered_op<M: Allocator>(
+    memory: M,
+    number: u8,
+    first: Stamp,
+    second: Stamp,
+) -> Result<Op<M>, OpFault> {
+    match number {
+        0 => marker_op(memory, first, "News"),
+        1 => marker_op(memory, first, "Sport"),
+        2 => marker_op(memory, second, "News"),
+        _ => retitle_op(memory, second, first),
+    }
+}
+
+// The same of operations as of bodies.
+fn op_copy_equals<M: Allocator + Clone>(op: &Op<M>, other: &Op<M>) -> Result<bool, OpFault> {
+    let copy = op.try_clone()?;
+    Ok(equal_ops(&copy, other))
+}
+
+fn are_alike_ops<M: Allocator + Copy>(
+    memory: M,
+    (number, other): (u8, u8),
+    first: Stamp,
+    second: Stamp,
+) -> Result<bool, OpFault> {
+    let op = numbered_op(memory, number, first, second)?;
+    let other = numbered_op(memory, other, first, second)?;
+    op_copy_equals(&op, &other)
+}
+
+fn first_mistaken_op<M: Allocator + Copy>(
     memory: M,
     first: Stamp,
     second: Stamp,
-) -> Result<Vec<Op<M>, M>, Fail> {
-    let mut ops = Vec::new(memory);
-    for (stamp, title) in [(first, "News"), (first, "Sport"), (second, "News")] {
-        ops.push(marker_op(memory, stamp, title)?)?;
+) -> Result<Option<(u8, u8)>, OpFault> {
+    for number in 0..4 {
+        for other in 0..4 {
+            if are_alike_ops(memory, (number, other), first, second)? != (number == other) {
+                return Ok(Some((number, other)));
+            }
+        }
     }
-    ops.push(retitle_op(memory, second, first)?)?;
-    Ok(ops)
+    Ok(None)
 }
 
 #[test]
 fn copies_operations(rt: HostRuntime) -> Result<(), Fail> {
-    let ops = four_ops(rt.alloc(), Stamp::new(1, B, 1)?, Stamp::new(2, A, 1)?)?;
-    assert_eq!(rt; first_mistaken_op(&ops)?, None);
+    let [first, second, _] = stamps()?;
+    assert_eq!(rt; first_mistaken_op(rt.alloc(), first, second), Ok(None));
     Ok(())
 }
 
@@ -75,66 +121,77 @@ fn track_op<M: Allocator>(memory: M, stamp: Stamp) -> Result<Op<M>, OpFault> {
     Op::new(stamp, add_track(memory, None, "News")?)
 }
 
-// Whether two tracks have equal bodies, and whether they are equal.
-fn are_equal<M: Allocator + Copy>(
+// Whether two operations have equal bodies, and are not equal.
+fn differ_in_stamps<M: Allocator>(first: &Op<M>, second: &Op<M>) -> bool {
+    first.body() == second.body() && first != second
+}
+
+// The same of two tracks.
+fn tracks_differ_in_stamps<M: Allocator + Copy>(
     memory: M,
     first: Stamp,
     second: Stamp,
-) -> Result<(bool, bool), OpFault> {
+) -> Result<bool, OpFault> {
     let first = track_op(memory, first)?;
     let second = track_op(memory, second)?;
-    Ok((first.body() == second.body(), first == second))
+    Ok(differ_in_stamps(&first, &second))
 }
 
 #[test]
 fn compares_bodies_without_their_stamps(rt: HostRuntime) -> Result<(), Fail> {
-    let first = Stamp::new(1, B, 1)?;
-    let second = Stamp::new(2, A, 1)?;
-    assert_eq!(rt; are_equal(rt.alloc(), first, second), Ok((true, false)));
+    let [first, second, _] = stamps()?;
+    assert_eq!(rt;
+        tracks_differ_in_stamps(rt.alloc(), first, second),
+        Ok(true)
+    );
     Ok(())
 }
 
 // Whether an operation is as its copy.
 fn is_copied<M: Allocator + Clone>(op: &Op<M>) -> Result<bool, OpFault> {
-    Ok(op.try_clone()? == *op)
+    let copy = op.try_clone()?;
+    Ok(copy == *op)
 }
 
-// Whether an operation with a Remove of one tag is.
+// An operation with a Remove of one tag.
+fn list_op<M: Allocator>(memory: M, own: Stamp, item: Stamp) -> Result<Op<M>, OpFault> {
+    Op::new(own, remove(memory, item, &[item])?)
+}
+
+// Whether it is.
 fn copies_a_list<M: Allocator + Clone>(
     memory: M,
     own: Stamp,
     item: Stamp,
 ) -> Result<bool, OpFault> {
-    is_copied(&Op::new(own, remove(memory, item, &[item])?)?)
-}
-
-#[test]
-fn refuses_the_growth_of_a_list_copied_with_its_operation(rt: HostRuntime) -> Result<(), Fail> {
-    let item = Stamp::new(1, A, 1)?;
-    let own = Stamp::new(2, B, 1)?;
-    for at in 0..3 {
-        let memory = Refusing::new(rt.alloc(), at);
-        let copied = copies_a_list(&memory, own, item);
-        assert_eq!(rt; copied, wanted_after(2, at), "at {at}");
-    }
-    Ok(())
+    let op = list_op(memory, own, item)?;
+    is_copied(&op)
 }
 
 // Whether an operation with a track is.
 fn copies_a_track<M: Allocator + Clone>(memory: M, own: Stamp) -> Result<bool, OpFault> {
-    is_copied(&track_op(memory, own)?)
+    let op = track_op(memory, own)?;
+    is_copied(&op)
+}
+
+// What the one and the other are answered as where the growth number `at` is refused.
+fn copied_list(alloc: Global, at: u64, own: Stamp, item: Stamp) -> Result<bool, OpFault> {
+    let memory = Refusing::new(alloc, at);
+    copies_a_list(&memory, own, item)
+}
+
+fn copied_track(alloc: Global, at: u64, own: Stamp) -> Result<bool, OpFault> {
+    let memory = Refusing::new(alloc, at);
+    copies_a_track(&memory, own)
 }
 
 #[test]
-fn refuses_the_growth_of_a_track_copied_with_its_operation(rt: HostRuntime) -> Result<(), Fail> {
-    let own = Stamp::new(2, B, 1)?;
+fn refuses_the_growth_of_what_is_copied_with_its_operation(rt: HostRuntime) -> Result<(), Fail> {
+    let [item, own, _] = stamps()?;
     for at in 0..3 {
-        let memory = Refusing::new(rt.alloc(), at);
-        assert_eq!(rt;
-            copies_a_track(&memory, own),
-            wanted_after(2, at),
-            "at {at}"
-        );
+        let wanted = wanted_after(2, at);
+        assert_eq!(rt; copied_list(rt.alloc(), at, own, item), wanted, "at {at}");
+        assert_eq!(rt; copied_track(rt.alloc(), at, own), wanted, "at {at}");
     }
     Ok(())
 }

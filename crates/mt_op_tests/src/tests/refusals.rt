@@ -1,9 +1,9 @@
 //! Which bodies `Op::new` refuses, and for what.
 
 use super::bodies::{ACTS, Act, add_track, body_of, remove, retitle};
-use super::{A, B};
+use super::{A, B, stamps};
 use mt_op::{Body, Digest, Gain, Need, Op, OpFault, Role};
-use mt_stamp::Stamp;
+use mt_stamp::{Stamp, StampFault};
 use std::alloc::{Allocator, Global};
 use std::test::Fail;
 
@@ -114,39 +114,57 @@ fn refusal_on_items<M: Allocator>(
     Ok(refusal(own, on_items(memory, number, old, name)?))
 }
 
-/// What a body that names the clock 2 is refused for, by its operation's clock.
-const BY_CLOCK: [(u64, Option<OpFault>); 3] = [
-    (1, Some(OpFault::NameNotOlder)),
-    (2, Some(OpFault::NameNotOlder)),
-    (3, None),
-];
+// What a body that names the clock 2 is refused for by an operation of this clock.
+fn wanted_at(clock: u64) -> Option<OpFault> {
+    if clock > 2 {
+        None
+    } else {
+        Some(OpFault::NameNotOlder)
+    }
+}
 
-// refused_operations: names
-#[test]
-fn refuses_each_name_on_tracks_and_clips_that_is_as_old(rt: HostRuntime) -> Result<(), Fail> {
-    let old = Stamp::new(1, A, 1)?;
-    let name = Stamp::new(2, B, 1)?;
-    for (clock, wanted) in BY_CLOCK {
-        let own = Stamp::new(clock, A, clock)?;
-        for number in 0..8 {
-            let refused = refusal_on_tracks_and_clips(rt.alloc(), own, number, old, name);
-            assert_eq!(rt; refused, Ok(wanted), "{number} at {clock}");
+// The first act on tracks or clips that is refused for something else at this clock.
+fn mistake_on_tracks_and_clips<M: Allocator + Copy>(
+    memory: M,
+    own: Stamp,
+    old: Stamp,
+    name: Stamp,
+) -> Result<Option<u8>, OpFault> {
+    let wanted = wanted_at(own.clock());
+    for number in 0..8 {
+        if refusal_on_tracks_and_clips(memory, own, number, old, name)? != wanted {
+            return Ok(Some(number));
         }
     }
-    Ok(())
+    Ok(None)
+}
+
+// The same of the other acts.
+fn mistake_on_items<M: Allocator + Copy>(
+    memory: M,
+    own: Stamp,
+    old: Stamp,
+    name: Stamp,
+) -> Result<Option<u8>, OpFault> {
+    let wanted = wanted_at(own.clock());
+    for number in 0..7 {
+        if refusal_on_items(memory, own, number, old, name)? != wanted {
+            return Ok(Some(number));
+        }
+    }
+    Ok(None)
 }
 
 // refused_operations: names
 #[test]
-fn refuses_each_name_on_items_that_is_as_old(rt: HostRuntime) -> Result<(), Fail> {
-    let old = Stamp::new(1, A, 1)?;
-    let name = Stamp::new(2, B, 1)?;
-    for (clock, wanted) in BY_CLOCK {
+fn refuses_each_name_that_is_as_old(rt: HostRuntime) -> Result<(), Fail> {
+    let [old, name, _] = stamps()?;
+    for clock in 1..=3 {
         let own = Stamp::new(clock, A, clock)?;
-        for number in 0..7 {
-            let refused = refusal_on_items(rt.alloc(), own, number, old, name);
-            assert_eq!(rt; refused, Ok(wanted), "{number} at {clock}");
-        }
+        let mistake = mistake_on_tracks_and_clips(rt.alloc(), own, old, name);
+        assert_eq!(rt; mistake, Ok(None), "at {clock}");
+        let mistake = mistake_on_items(rt.alloc(), own, old, name);
+        assert_eq!(rt; mistake, Ok(None), "at {clock}");
     }
     Ok(())
 }
@@ -161,18 +179,21 @@ fn may_name_itself<M: Allocator>(memory: M, act: Act, own: Stamp) -> Result<bool
     Ok(refusal(own, body_of(memory, act, own)?).is_none())
 }
 
+// The first act that may name itself and is not AddMarker, or is and may not.
+fn first_mistake<M: Allocator + Copy>(memory: M, own: Stamp) -> Result<Option<Act>, OpFault> {
+    for act in ACTS {
+        if may_name_itself(memory, act, own)? != (act == Act::AddMarker) {
+            return Ok(Some(act));
+        }
+    }
+    Ok(None)
+}
+
 #[test]
 fn names_nothing_in_a_marker_and_at_the_head(rt: HostRuntime) -> Result<(), Fail> {
-    let first = Stamp::new(1, A, 1)?;
+    let [first, _, _] = stamps()?;
     assert_eq!(rt; may_be_first(rt.alloc(), first), Ok(true));
-    for act in ACTS {
-        let is_marker = act == Act::AddMarker;
-        assert_eq!(rt;
-            may_name_itself(rt.alloc(), act, first),
-            Ok(is_marker),
-            "{act:?}"
-        );
-    }
+    assert_eq!(rt; first_mistake(rt.alloc(), first), Ok(None));
     Ok(())
 }
 
@@ -215,82 +236,111 @@ fn refusal_of<M: Allocator>(
     Ok(refusal(own, remove(memory, item, tags)?))
 }
 
-// refused_operations: tags
-#[test]
-fn refuses_tags_that_are_none_or_repeat(rt: HostRuntime) -> Result<(), Fail> {
-    let bad = Ok(Some(OpFault::BadTags));
-    let own = Stamp::new(3, A, 3)?;
+// An item, two tags from the less to the greater, and the stamp of the operation.
+fn stamps_of_removal() -> Result<[Stamp; 4], StampFault> {
     let item = Stamp::new(1, A, 1)?;
-    assert_eq!(rt; refusal_of(rt.alloc(), own, item, &[]), bad);
-    assert_eq!(rt; refusal_of(rt.alloc(), own, item, &[item, item]), bad);
-    Ok(())
+    let low = Stamp::new(2, A, 2)?;
+    let high = Stamp::new(2, B, 1)?;
+    Ok([item, low, high, Stamp::new(3, A, 3)?])
+}
+
+// Whether a Remove of no tag, of a repeated one, and of falling ones is refused as that.
+fn refuses_bad_tags<M: Allocator + Copy>(
+    memory: M,
+    [item, low, high, own]: [Stamp; 4],
+) -> Result<bool, OpFault> {
+    let none = refusal_of(memory, own, item, &[])?;
+    let repeated = refusal_of(memory, own, item, &[item, item])?;
+    let falling = refusal_of(memory, own, item, &[item, high, low])?;
+    let rising = refusal_of(memory, own, item, &[item, low, high])?;
+    let bad = Some(OpFault::BadTags);
+    Ok(none == bad && repeated == bad && falling == bad && rising == None)
 }
 
 // refused_operations: tags
 #[test]
-fn refuses_tags_that_fall(rt: HostRuntime) -> Result<(), Fail> {
-    let own = Stamp::new(3, A, 3)?;
-    let item = Stamp::new(1, A, 1)?;
-    let low = Stamp::new(2, A, 2)?;
-    let high = Stamp::new(2, B, 1)?;
-    let falling = refusal_of(rt.alloc(), own, item, &[item, high, low]);
-    assert_eq!(rt; falling, Ok(Some(OpFault::BadTags)));
-    assert_eq!(rt;
-        refusal_of(rt.alloc(), own, item, &[item, low, high]),
-        Ok(None)
-    );
+fn refuses_tags_that_are_none_or_repeat_or_fall(rt: HostRuntime) -> Result<(), Fail> {
+    let stamps = stamps_of_removal()?;
+    assert_eq!(rt; refuses_bad_tags(rt.alloc(), stamps), Ok(true));
     Ok(())
+}
+
+// Whether a tag that is as old, and an item where there is no tag, are refused as names.
+fn refuses_names<M: Allocator + Copy>(
+    memory: M,
+    [item, _, _, own]: [Stamp; 4],
+) -> Result<bool, OpFault> {
+    let tag = refusal_of(memory, own, item, &[item, own])?;
+    let named = refusal_of(memory, own, own, &[])?;
+    let young = Some(OpFault::NameNotOlder);
+    Ok(tag == young && named == young)
 }
 
 // refused_operations: tags
 #[test]
 fn refuses_names_before_tags(rt: HostRuntime) -> Result<(), Fail> {
-    let young = Ok(Some(OpFault::NameNotOlder));
-    let own = Stamp::new(3, A, 3)?;
-    let item = Stamp::new(1, A, 1)?;
-    assert_eq!(rt; refusal_of(rt.alloc(), own, item, &[item, own]), young);
-    assert_eq!(rt; refusal_of(rt.alloc(), own, own, &[]), young);
+    let stamps = stamps_of_removal()?;
+    assert_eq!(rt; refuses_names(rt.alloc(), stamps), Ok(true));
     Ok(())
 }
 
-// This many stamps of one replica, rising from clock 1.
-fn rising<M: Allocator>(memory: M, count: u64) -> Result<Vec<Stamp, M>, Fail> {
-    let mut tags = Vec::new(memory);
-    for i in 0..count {
-        tags.push(Stamp::new(i + 1, A, i + 1)?)?;
+// Adds this many stamps of one replica, rising from clock 1.
+fn push_rising<M: Allocator>(tags: &mut Vec<Stamp, M>, count: u64) -> Result<(), Fail> {
+    for clock in 1..=count {
+        tags.push(Stamp::new(clock, A, clock)?)?;
     }
-    Ok(tags)
+    Ok(())
 }
 
-// How many needs a Remove has that lists so many tags, and its last one, where nothing is after it.
+// How many needs an operation has, and its last one, where it has so many others and nothing is after it.
+fn last_need_of<M: Allocator>(op: &Op<M>, others: usize) -> Option<(usize, Need)> {
+    let count = op.need_count();
+    match (op.need(others), op.need(count)) {
+        (Some(last), None) => Some((count, last)),
+        _ => None,
+    }
+}
+
+// The same of a Remove of these tags.
 fn last_need<M: Allocator + Copy>(
     memory: M,
     own: Stamp,
     item: Stamp,
     tags: &[Stamp],
-) -> Result<(usize, Option<Need>, Option<Need>), OpFault> {
-    let op = Op::new(own, remove(memory, item, tags)?)?;
-    let count = op.need_count();
-    Ok((count, op.need(tags.len()), op.need(count)))
+) -> Result<Option<(usize, Need)>, OpFault> {
+    let body = remove(memory, item, tags)?;
+    let op = Op::new(own, body)?;
+    Ok(last_need_of(&op, tags.len()))
+}
+
+// Whether a Remove of the greatest count of tags needs the item and each of them.
+fn takes_most<M: Allocator + Copy>(
+    tags: &mut Vec<Stamp, M>,
+    memory: M,
+    own: Stamp,
+) -> Result<bool, Fail> {
+    let item = Stamp::new(1, A, 1)?;
+    let stamp = Stamp::new(65_535, A, 65_535)?;
+    let role = Role::TagOf(item);
+    push_rising(tags, 65_535)?;
+    Ok(last_need(memory, own, item, tags)? == Some((65_536, Need { stamp, role })))
+}
+
+// Whether one of a tag more is refused.
+fn refuses_more<M: Allocator + Copy>(
+    tags: &mut Vec<Stamp, M>,
+    memory: M,
+    own: Stamp,
+) -> Result<bool, Fail> {
+    let item = Stamp::new(1, A, 1)?;
+    push_rising(tags, 65_536)?;
+    Ok(refusal_of(memory, own, item, tags)? == Some(OpFault::BadTags))
 }
 
 #[test]
 fn lists_at_most_65535_tags(rt: HostRuntime) -> Result<(), Fail> {
     let own = Stamp::new(70_000, B, 1)?;
-    let item = Stamp::new(1, A, 1)?;
-    let last = Need {
-        stamp: Stamp::new(65_535, A, 65_535)?,
-        role: Role::TagOf(item),
-    };
-    let too_many = rising(rt.alloc(), 65_536)?;
-    assert_eq!(rt;
-        refusal_of(rt.alloc(), own, item, &too_many),
-        Ok(Some(OpFault::BadTags))
-    );
-    let most = rising(rt.alloc(), 65_535)?;
-    assert_eq!(rt;
-        last_need(rt.alloc(), own, item, &most),
-        Ok((65_536, Some(last), None))
-    );
+    assert!(rt; takes_most(&mut Vec::new(rt.alloc()), rt.alloc(), own)?);
+    assert!(rt; refuses_more(&mut Vec::new(rt.alloc()), rt.alloc(), own)?);
     Ok(())
 }

@@ -3,7 +3,7 @@
 use super::bodies::{ACTS, Act, body_of};
 use super::{A, B};
 use mt_op::{Op, OpFault, Role};
-use mt_stamp::Stamp;
+use mt_stamp::{Replica, Stamp};
 use std::alloc::Allocator;
 use std::test::Fail;
 
@@ -68,23 +68,33 @@ fn fits_the_roles_of_items_and_tags(rt: HostRuntime) -> Result<(), Fail> {
     Ok(())
 }
 
-// Tags of stamps that differ from the item's or the operation's own in one part.
+/// Stamps that differ from the item's or the operation's own in one part.
+const OTHERS: [(u64, Replica, u64); 8] = [
+    (3, A, 5),
+    (3, B, 3),
+    (5, A, 3),
+    (5, B, 5),
+    (2, A, 3),
+    (3, A, 2),
+    (6, A, 5),
+    (5, A, 6),
+];
+
+// The first act that fits a tag of this stamp.
+fn fits_tag_of<M: Allocator + Copy>(
+    memory: M,
+    (clock, replica, seq): (u64, Replica, u64),
+) -> Result<Option<Act>, Fail> {
+    let item = Stamp::new(3, A, 3)?;
+    let own = Stamp::new(5, A, 5)?;
+    let role = Role::TagOf(Stamp::new(clock, replica, seq)?);
+    Ok(first_mistake(memory, (item, own), role, &[])?)
+}
+
 #[test]
 fn fits_no_tag_of_another_stamp(rt: HostRuntime) -> Result<(), Fail> {
-    let stamps = (Stamp::new(3, A, 3)?, Stamp::new(5, A, 5)?);
-    for (clock, replica, seq) in [
-        (3, A, 5),
-        (3, B, 3),
-        (5, A, 3),
-        (5, B, 5),
-        (2, A, 3),
-        (3, A, 2),
-        (6, A, 5),
-        (5, A, 6),
-    ] {
-        let role = Role::TagOf(Stamp::new(clock, replica, seq)?);
-        let mistake = first_mistake(rt.alloc(), stamps, role, &[]);
-        assert_eq!(rt; mistake, Ok(None), "{clock} {seq}");
+    for other in OTHERS {
+        assert!(rt; fits_tag_of(rt.alloc(), other)?.is_none());
     }
     Ok(())
 }

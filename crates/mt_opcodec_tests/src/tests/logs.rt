@@ -3,6 +3,7 @@ use super::tracks_and_clips::{
     ADD_CLIP, ADD_TRACK, MOVE_CLIP, MOVE_TRACK, MUTE, SET_GAIN, TRIM_CLIP,
 };
 use super::{MOVE, NEWS, REMOVE, RESTORE, SPORT, text_of};
+use mt_op::Op;
 use mt_opcodec::{Log, LogFault, read_op};
 use mt_stamp::{Dot, Stamp};
 use mt_testkit::{A, marker};
@@ -30,64 +31,103 @@ fn writes_the_empty_log<M: Allocator + Clone>(memory: M) -> Result<bool, LogFaul
     Ok(Log::new(memory).write()?.as_slice() == EMPTY.as_slice())
 }
 
-// The length of a log that is read, whether it is empty, and whether its first place is.
-fn ends_of<M: Allocator + Clone>(memory: M, text: &[u8]) -> Result<(usize, bool, bool), LogFault> {
+// Whether a log of so many operations is read from a text: it is empty where they are none, and else has a first place.
+fn has_len<M: Allocator + Clone>(memory: M, text: &[u8], len: usize) -> Result<bool, LogFault> {
     let log = Log::read(memory, text)?;
-    Ok((log.len(), log.is_empty(), log.op_at(0).is_none()))
+    let has_none = log.is_empty() && log.op_at(0).is_none();
+    let has_some = !log.is_empty() && log.op_at(0).is_some();
+    Ok(log.len() == len && if len == 0 { has_none } else { has_some })
 }
 
 // empty_log
 #[test]
 fn writes_and_reads_the_empty_log(rt: HostRuntime) {
     assert_eq!(rt; writes_the_empty_log(rt.alloc()), Ok(true));
-    assert_eq!(rt; ends_of(rt.alloc(), &EMPTY), Ok((0, true, true)));
-    assert_eq!(rt; ends_of(rt.alloc(), &ONE_MARKER), Ok((1, false, false)));
+    assert_eq!(rt; has_len(rt.alloc(), &EMPTY, 0), Ok(true));
+    assert_eq!(rt; has_len(rt.alloc(), &ONE_MARKER, 1), Ok(true));
+}
+
+// Whether a log is written as this text.
+fn is_text_of(log: &Log, text: &[u8]) -> Result<bool, LogFault> {
+    match log.write() {
+        Ok(written) => Ok(written.as_slice() == text),
+        Err(fault) => Err(fault),
+    }
 }
 
 // Whether a marker is added as new, and the log is then written as this text.
-fn is_written(alloc: Global, stamp: Stamp, text: &[u8]) -> Result<(bool, bool), Fail> {
-    let mut log = Log::new(alloc);
+fn is_added_as(log: &mut Log, alloc: Global, stamp: Stamp, text: &[u8]) -> Result<bool, Fail> {
     let is_new = log.add(marker(alloc, stamp, "News")?)?;
-    Ok((is_new, log.write()?.as_slice() == text))
+    Ok(is_new && is_text_of(log, text)?)
 }
 
-// Whether a text is read as a log with this marker at its dot and at its first place, and with nothing at the next ones.
-fn is_read(alloc: Global, stamp: Stamp, text: &[u8]) -> Result<[bool; 4], Fail> {
-    let op = marker(alloc, stamp, "News")?;
+fn is_written(alloc: Global, stamp: Stamp, text: &[u8]) -> Result<bool, Fail> {
+    let mut log = Log::new(alloc);
+    is_added_as(&mut log, alloc, stamp, text)
+}
+
+// Whether a log has this operation alone: at its dot and at its first place, and nothing at the next ones.
+fn has_just(log: &Log, op: &Op, next: Dot) -> bool {
+    log.get(&op.dot()) == Some(op)
+        && log.op_at(0) == Some(op)
+        && log.get(&next).is_none()
+        && log.op_at(1).is_none()
+}
+
+// Whether a text is read as a log with that.
+fn reads_just(alloc: Global, text: &[u8], op: &Op) -> Result<bool, LogFault> {
     let log = Log::read(alloc, text)?;
-    Ok([
-        log.get(&stamp.dot()) == Some(&op),
-        log.get(&Dot { replica: A, seq: 2 }).is_none(),
-        log.op_at(0) == Some(&op),
-        log.op_at(1).is_none(),
-    ])
+    Ok(has_just(&log, op, Dot { replica: A, seq: 2 }))
+}
+
+// The same of this marker.
+fn is_read(alloc: Global, stamp: Stamp, text: &[u8]) -> Result<bool, Fail> {
+    let op = marker(alloc, stamp, "News")?;
+    Ok(reads_just(alloc, text, &op)?)
 }
 
 // one_marker
 #[test]
 fn writes_and_reads_a_log_of_one_marker(rt: HostRuntime) -> Result<(), Fail> {
     let stamp = Stamp::new(1, A, 1)?;
-    let (is_new, is_same) = is_written(rt.alloc(), stamp, &ONE_MARKER)?;
-    assert!(rt; is_new);
-    assert!(rt; is_same);
-    assert_eq!(rt; is_read(rt.alloc(), stamp, &ONE_MARKER)?, [true; 4]);
+    assert!(rt; is_written(rt.alloc(), stamp, &ONE_MARKER)?);
+    assert!(rt; is_read(rt.alloc(), stamp, &ONE_MARKER)?);
     Ok(())
 }
 
-// A log of the operations of these texts, the last one added first.
-fn log_of_texts(alloc: Global, texts: &[&[u8]]) -> Result<Log, Fail> {
-    let mut log = Log::new(alloc);
-    for text in texts.iter().rev() {
-        let _new = log.add(read_op(alloc, text)?.0)?;
-    }
-    Ok(log)
+// Adds the operation of a text.
+fn add_text(log: &mut Log, alloc: Global, text: &[u8]) -> Result<(), Fail> {
+    let (op, _) = read_op(alloc, text)?;
+    let _new = log.add(op)?;
+    Ok(())
 }
 
-// Whether such a log is written as this text, and read from it.
-fn is_log_of_texts(alloc: Global, texts: &[&[u8]], wanted: &[u8]) -> Result<(bool, bool), Fail> {
-    let log = log_of_texts(alloc, texts)?;
-    let is_written = log.write()?.as_slice() == wanted;
-    Ok((is_written, Log::read(alloc, wanted)? == log))
+// Adds the operations of these texts, the last one first.
+fn add_texts(log: &mut Log, alloc: Global, texts: &[&[u8]]) -> Result<(), Fail> {
+    for text in texts.iter().rev() {
+        add_text(log, alloc, text)?;
+    }
+    Ok(())
+}
+
+// Whether a log is read from this text.
+fn is_read_from(log: &Log, alloc: Global, text: &[u8]) -> Result<bool, LogFault> {
+    match Log::read(alloc, text) {
+        Ok(read) => Ok(read == *log),
+        Err(fault) => Err(fault),
+    }
+}
+
+// Whether the log of the operations of these texts is written as this text and read from it.
+fn is_made_of(log: &mut Log, alloc: Global, texts: &[&[u8]], text: &[u8]) -> Result<bool, Fail> {
+    add_texts(log, alloc, texts)?;
+    Ok(is_text_of(log, text)? && is_read_from(log, alloc, text)? && has_len(alloc, text, 12)?)
+}
+
+// The same of the text of all of them.
+fn is_log_of_texts(alloc: Global, texts: &[&[u8]]) -> Result<bool, Fail> {
+    let wanted = text_of(alloc, 12, texts)?;
+    is_made_of(&mut Log::new(alloc), alloc, texts, &wanted)
 }
 
 // Their dots are (A, 1) to (A, 6), (B, 1) to (B, 5) and (C, 1).
@@ -109,10 +149,6 @@ fn writes_and_reads_a_log_of_each_body(rt: HostRuntime) -> Result<(), Fail> {
         SET_GAIN.as_slice(),
         sport.as_slice(),
     ];
-    let wanted = text_of(rt.alloc(), 12, &texts)?;
-    let (is_written, is_read) = is_log_of_texts(rt.alloc(), &texts, &wanted)?;
-    assert!(rt; is_written);
-    assert!(rt; is_read);
-    assert_eq!(rt; ends_of(rt.alloc(), &wanted)?, (12, false, false));
+    assert!(rt; is_log_of_texts(rt.alloc(), &texts)?);
     Ok(())
 }

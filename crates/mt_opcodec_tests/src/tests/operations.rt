@@ -1,55 +1,75 @@
 //! Operations as bytes.
-use super::texts::{is_text, is_text_of};
+use super::texts::{is_text, stamp};
 use super::{MOVE, NEWS, REMOVE, RESTORE, SPORT};
-use mt_op::Body;
-use mt_stamp::Stamp;
-use mt_testkit::{A, B, marker, removal, retitle};
+use mt_op::{Body, Title};
+use mt_stamp::List;
 use std::alloc::Allocator;
 use std::test::Fail;
 
-fn is_marker<M: Allocator + Copy>(memory: M, stamp: Stamp, text: &[u8]) -> Result<bool, Fail> {
-    is_text_of(memory, &marker(memory, stamp, "News")?, text)
+fn is_marker<M: Allocator + Copy>(memory: M) -> Result<bool, Fail> {
+    let own = stamp(1)?;
+    let title = Title::new(memory, "News")?;
+    is_text(memory, own, Body::AddMarker { at: 480, title }, &NEWS)
 }
 
-fn is_retitle<M: Allocator + Copy>(
-    memory: M,
-    stamp: Stamp,
-    item: Stamp,
-    text: &[u8],
-) -> Result<bool, Fail> {
-    is_text_of(memory, &retitle(memory, stamp, item, "Sport")?, text)
+fn is_retitle<M: Allocator + Copy>(memory: M) -> Result<bool, Fail> {
+    let own = stamp(2)?;
+    let item = stamp(1)?;
+    let title = Title::new(memory, "Sport")?;
+    is_text(memory, own, Body::Retitle { item, title }, &SPORT)
 }
 
-fn is_removal<M: Allocator + Copy>(
-    memory: M,
-    stamp: Stamp,
-    tags: &[Stamp; 2],
-    text: &[u8],
-) -> Result<bool, Fail> {
-    is_text_of(memory, &removal(memory, stamp, tags[0], tags)?, text)
+fn is_removal<M: Allocator + Copy>(memory: M) -> Result<bool, Fail> {
+    let own = stamp(3)?;
+    let item = stamp(1)?;
+    let restored = stamp(2)?;
+    let tags = List::new(Vec::from_slice(memory, &[item, restored])?);
+    is_text(memory, own, Body::Remove { item, tags }, &REMOVE)
+}
+
+fn is_restore<M: Allocator + Copy>(memory: M) -> Result<bool, Fail> {
+    let own = stamp(2)?;
+    let item = stamp(1)?;
+    is_text(memory, own, Body::Restore { item }, &RESTORE)
+}
+
+fn is_move<M: Allocator + Copy>(memory: M) -> Result<bool, Fail> {
+    let own = stamp(4)?;
+    let marker = stamp(1)?;
+    is_text(memory, own, Body::MoveMarker { marker, at: 960 }, &MOVE)
+}
+
+/// The acts that these texts are of.
+#[derive(Clone, Copy, Debug)]
+enum Act {
+    AddMarker,
+    Retitle,
+    Remove,
+    Restore,
+    MoveMarker,
+}
+
+fn is_written_and_read<M: Allocator + Copy>(memory: M, act: Act) -> Result<bool, Fail> {
+    match act {
+        Act::AddMarker => is_marker(memory),
+        Act::Retitle => is_retitle(memory),
+        Act::Remove => is_removal(memory),
+        Act::Restore => is_restore(memory),
+        Act::MoveMarker => is_move(memory),
+    }
 }
 
 // operation_bytes
 #[test]
-fn writes_and_reads_titles(rt: HostRuntime) -> Result<(), Fail> {
-    let item = Stamp::new(1, A, 1)?;
-    assert!(rt; is_marker(rt.alloc(), item, &NEWS)?);
-    assert!(rt; is_retitle(rt.alloc(), Stamp::new(2, B, 1)?, item, &SPORT)?);
-    Ok(())
-}
-
-#[test]
-fn writes_and_reads_the_other_bodies(rt: HostRuntime) -> Result<(), Fail> {
-    let item = Stamp::new(1, A, 1)?;
-    let restored = Stamp::new(2, B, 1)?;
-    let removed = Stamp::new(3, A, 2)?;
-    let moved = Stamp::new(4, B, 2)?;
-    assert!(rt; is_removal(rt.alloc(), removed, &[item, restored], &REMOVE)?);
-    assert!(rt; is_text(rt.alloc(), restored, Body::Restore { item }, &RESTORE)?);
-    let to_960 = Body::MoveMarker {
-        marker: item,
-        at: 960,
-    };
-    assert!(rt; is_text(rt.alloc(), moved, to_960, &MOVE)?);
+fn writes_and_reads_acts_on_markers_and_items(rt: HostRuntime) -> Result<(), Fail> {
+    for act in [
+        Act::AddMarker,
+        Act::Retitle,
+        Act::Remove,
+        Act::Restore,
+        Act::MoveMarker,
+    ] {
+        assert!(rt; is_written_and_read(rt.alloc(), act)?, "{act:?}");
+    }
     Ok(())
 }

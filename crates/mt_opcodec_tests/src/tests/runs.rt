@@ -33,13 +33,35 @@ fn other_of<M: Allocator>(memory: M, replica: Replica, seq: u64) -> Result<Op<M>
     op_at(memory, seq.saturating_add(1), replica, seq)
 }
 
-/// A log of these dots, added in this order.
+/// Adds the marker of a dot.
+fn add_dot<M: Allocator + Copy>(
+    log: &mut Log<M>,
+    memory: M,
+    replica: Replica,
+    seq: u64,
+) -> Result<bool, LogFault> {
+    log.add(op_of(memory, replica, seq)?)
+}
+
+/// Adds those of these dots, in this order.
+fn add_dots<M: Allocator + Copy>(
+    log: &mut Log<M>,
+    memory: M,
+    dots: &[(Replica, u64)],
+) -> Result<(), LogFault> {
+    for (replica, seq) in dots {
+        let _new = add_dot(log, memory, *replica, *seq)?;
+    }
+    Ok(())
+}
+
+/// A log of these dots.
 fn log_with<M: Allocator + Copy>(memory: M, dots: &[(Replica, u64)]) -> Result<Log<M>, LogFault> {
     let mut log = Log::new(memory);
-    for (replica, seq) in dots {
-        let _new = log.add(op_of(memory, *replica, *seq)?)?;
+    match add_dots(&mut log, memory, dots) {
+        Ok(()) => Ok(log),
+        Err(fault) => Err(fault),
     }
-    Ok(log)
 }
 
 /// The dots of a log, by place.
@@ -70,11 +92,12 @@ fn are_kept_as(
 
 // What is answered where an operation is there, and where another one of its dot is, and how many there then are.
 fn answers(
+    log: &mut Log,
     alloc: Global,
     dots: &[(Replica, u64)],
 ) -> Result<(Result<bool, LogFault>, Result<bool, LogFault>, usize), LogFault> {
-    let mut log = log_with(alloc, dots)?;
-    let again = log.add(op_of(alloc, B, 3)?);
+    add_dots(log, alloc, dots)?;
+    let again = add_dot(log, alloc, B, 3);
     let other = log.add(other_of(alloc, B, 4)?);
     Ok((again, other, log.len()))
 }
@@ -83,7 +106,8 @@ fn answers(
 fn adds_before_between_and_after(rt: HostRuntime) {
     assert_eq!(rt; are_kept_as(rt.alloc(), &ADDED, &RISING), Ok((true, 3)));
     let conflict = Err(LogFault::Conflict(Dot { replica: B, seq: 4 }));
-    assert_eq!(rt; answers(rt.alloc(), &ADDED), Ok((Ok(false), conflict, 7)));
+    let told = answers(&mut Log::new(rt.alloc()), rt.alloc(), &ADDED);
+    assert_eq!(rt; told, Ok((Ok(false), conflict, 7)));
 }
 
 /// The union of the logs of these dots.
@@ -128,30 +152,42 @@ fn joins_runs_of_both(rt: HostRuntime) {
 }
 
 /// A log, and one that has other operations of B with these numbers.
-fn left(alloc: Global) -> Result<Log, LogFault> {
-    log_with(alloc, &[(A, 1), (B, 1), (B, 2), (B, 3), (C, 1)])
+fn add_left(log: &mut Log, alloc: Global) -> Result<(), LogFault> {
+    add_dots(log, alloc, &[(A, 1), (B, 1), (B, 2), (B, 3), (C, 1)])
 }
 
-fn right(alloc: Global, seqs: &[u64]) -> Result<Log, LogFault> {
-    let mut right = log_with(alloc, &[(A, 1), (A, 2), (C, 1), (C, 2)])?;
+fn add_right(log: &mut Log, alloc: Global, seqs: &[u64]) -> Result<(), LogFault> {
+    add_dots(log, alloc, &[(A, 1), (A, 2), (C, 1), (C, 2)])?;
     for seq in seqs {
-        let _new = right.add(other_of(alloc, B, *seq)?)?;
+        let _new = log.add(other_of(alloc, B, *seq)?)?;
     }
-    Ok(right)
+    Ok(())
 }
 
-// The first dots that the two clash at, told by either, and by the refusal of their joining.
-fn clashes(alloc: Global, seqs: &[u64]) -> Result<([Option<Dot>; 2], Option<LogFault>), LogFault> {
-    let left = left(alloc)?;
-    let right = right(alloc, seqs)?;
-    let told = [left.clash(&right), right.clash(&left)];
-    Ok((told, left.join(right).err()))
+// The first dots that the two clash at, told by either.
+fn told(
+    left: &mut Log,
+    right: &mut Log,
+    alloc: Global,
+    seqs: &[u64],
+) -> Result<[Option<Dot>; 2], LogFault> {
+    add_left(left, alloc)?;
+    add_right(right, alloc, seqs)?;
+    Ok([left.clash(right), right.clash(left)])
+}
+
+// Those, and the refusal of their joining.
+fn clashes(alloc: Global, seqs: &[u64]) -> (Result<[Option<Dot>; 2], LogFault>, Option<LogFault>) {
+    let mut left = Log::new(alloc);
+    let mut right = Log::new(alloc);
+    let told = told(&mut left, &mut right, alloc, seqs);
+    (told, left.join(right).err())
 }
 
 #[test]
 fn tells_no_clash(rt: HostRuntime) {
     for seqs in [[].as_slice(), [4].as_slice()] {
-        assert_eq!(rt; clashes(rt.alloc(), seqs), Ok(([None, None], None)));
+        assert_eq!(rt; clashes(rt.alloc(), seqs), (Ok([None, None]), None));
     }
 }
 
@@ -160,28 +196,43 @@ fn tells_the_least_clash(rt: HostRuntime) {
     for (seqs, seq) in [([3, 4], 3), ([2, 3], 2)] {
         let dot = Dot { replica: B, seq };
         let refused = Some(LogFault::Conflict(dot));
-        assert_eq!(rt; clashes(rt.alloc(), &seqs), Ok(([Some(dot); 2], refused)));
+        assert_eq!(rt; clashes(rt.alloc(), &seqs), (Ok([Some(dot); 2]), refused));
     }
 }
 
-// How many references a log gives, and whether each is to the operation at its place.
-fn references(alloc: Global, dots: &[(Replica, u64)]) -> Result<(usize, bool), LogFault> {
-    let log = log_with(alloc, dots)?;
-    let refs = log.refs(alloc)?;
+// How many references a log gives, or the first that is not to the operation at its place.
+fn count_in_place<M: Allocator>(log: &Log<M>, refs: &[&Op<M>]) -> usize {
     for i in 0..refs.len() {
         if log.op_at(i) != Some(refs[i]) {
-            return Ok((i, false));
+            return i;
         }
     }
-    Ok((refs.len(), true))
+    refs.len()
+}
+
+// The same of a log that gets these dots.
+fn references<M: Allocator + Copy>(
+    log: &mut Log<M>,
+    memory: M,
+    dots: &[(Replica, u64)],
+) -> Result<usize, LogFault> {
+    add_dots(log, memory, dots)?;
+    let refs = log.refs(memory)?;
+    Ok(count_in_place(log, &refs))
+}
+
+fn count_of_references<M: Allocator + Copy>(
+    memory: M,
+    dots: &[(Replica, u64)],
+) -> Result<usize, LogFault> {
+    let mut log = Log::new(memory);
+    references(&mut log, memory, dots)
 }
 
 #[test]
 fn refers_to_its_operations_by_rising_dot(rt: HostRuntime) {
-    assert_eq!(rt;
-        references(rt.alloc(), &[(B, 1), (A, 2), (A, 1)]),
-        Ok((3, true))
-    );
+    let count = count_of_references(rt.alloc(), &[(B, 1), (A, 2), (A, 1)]);
+    assert_eq!(rt; count, Ok(3));
 }
 
 // ---- each growth refused in turn
@@ -198,72 +249,106 @@ const DOTS: [(Replica, u64); 8] = [
     (A, 4),
 ];
 
-// Adds operations of these dots until one is refused: how many were added.
+// Adds operations of these dots until one is refused memory: how many were added.
 fn added<M: Allocator + Copy>(log: &mut Log<M>, memory: M, dots: &[(Replica, u64)]) -> usize {
     for (i, (replica, seq)) in dots.iter().enumerate() {
-        let Ok(op) = op_of(memory, *replica, *seq) else {
-            return i;
-        };
-        if log.add(op).is_err() {
+        if add_dot(log, memory, *replica, *seq) == Err(LogFault::Memory) {
             return i;
         }
     }
     dots.len()
 }
 
-// Whether one was refused memory, whether as many stand as were added before, and how many there are once all
-// were added again.
-fn added_twice<M: Allocator + Copy>(memory: M) -> (bool, bool, usize) {
+// How many are added, whether as many then stand, and how many there are once all were added again.
+fn added_twice<M: Allocator + Copy>(memory: M) -> (usize, bool, usize) {
     let mut log = Log::new(memory);
     let first = added(&mut log, memory, &DOTS);
     let are_kept = log.len() == first;
     let _again = added(&mut log, memory, &DOTS);
-    (first < DOTS.len(), are_kept, log.len())
+    (first, are_kept, log.len())
 }
 
-// How many operations are added.
-fn added_once<M: Allocator + Copy>(memory: M) -> usize {
-    added(&mut Log::new(memory), memory, &DOTS)
+// Whether one is refused memory where the growth number `at` is, those before it stand, and all are there once they were added
+// again.
+fn goes_on_after(alloc: Global, at: u64) -> bool {
+    let memory = Refusing::new(alloc, at);
+    let (first, are_kept, count) = added_twice(&memory);
+    first < DOTS.len() && are_kept && count == DOTS.len()
+}
+
+// How often memory is asked for where all are added.
+fn growths_of_adding(alloc: Global) -> u64 {
+    let granted = Refusing::new(alloc, u64::MAX);
+    let count = added(&mut Log::new(&granted), &granted, &DOTS);
+    if count == DOTS.len() {
+        granted.allocations()
+    } else {
+        0
+    }
 }
 
 #[test]
 fn of_a_log_of_two_runs(rt: HostRuntime) {
-    let granted = Refusing::new(rt.alloc(), u64::MAX);
-    assert_eq!(rt; added_once(&granted), 8);
+    let growths = growths_of_adding(rt.alloc());
     assert!(rt;
-        granted.allocations() > 12,
+        growths > 12,
         "titles, runs and their list are refused memory"
     );
-    for at in 0..granted.allocations() {
-        let memory = Refusing::new(rt.alloc(), at);
-        assert_eq!(rt; added_twice(&memory), (true, true, 8), "at {at}");
+    for at in 0..growths {
+        assert!(rt; goes_on_after(rt.alloc(), at), "at {at}");
     }
 }
 
 // How many operations two logs have together, joined or merged.
-fn joined_len<M: Allocator + Copy>(memory: M, merges: bool) -> Result<usize, LogFault> {
-    let left = log_with(memory, &[(A, 1), (A, 3), (B, 1)])?;
-    let right = log_with(memory, &[(A, 2), (B, 2), (C, 1)])?;
-    if merges {
-        Ok(Log::merge(memory, &left, &right)?.len())
-    } else {
-        Ok(left.join(right)?.len())
+fn joined_len<M: Allocator + Copy>(memory: M) -> Result<usize, LogFault> {
+    let left = log_with(memory, &LEFT)?;
+    let all = left.join(log_with(memory, &RIGHT)?)?;
+    Ok(all.len())
+}
+
+fn merge_left_and_right<M: Allocator + Copy>(
+    left: &mut Log<M>,
+    right: &mut Log<M>,
+    memory: M,
+) -> Result<usize, LogFault> {
+    add_dots(left, memory, &LEFT)?;
+    add_dots(right, memory, &RIGHT)?;
+    match Log::merge(memory, left, right) {
+        Ok(log) => Ok(log.len()),
+        Err(fault) => Err(fault),
     }
 }
 
-// How many references a log gives.
-fn count_of_references<M: Allocator + Copy>(memory: M) -> Result<usize, LogFault> {
-    let log = log_with(memory, &[(A, 1), (A, 3), (B, 1)])?;
-    Ok(log.refs(memory)?.len())
+fn merged_len<M: Allocator + Copy>(memory: M) -> Result<usize, LogFault> {
+    let mut left = Log::new(memory);
+    let mut right = Log::new(memory);
+    merge_left_and_right(&mut left, &mut right, memory)
 }
 
-// How many operations the union of so many logs has, each with one of its own and one that all have.
-fn len_of_many<M: Allocator + Copy>(memory: M, logs: u64) -> Result<usize, LogFault> {
-    let mut many = Vec::new(memory);
+/// The dots of the two.
+const LEFT: [(Replica, u64); 3] = [(A, 1), (A, 3), (B, 1)];
+
+const RIGHT: [(Replica, u64); 3] = [(A, 2), (B, 2), (C, 1)];
+
+// Adds so many logs to a list, each with one operation of its own and one that all have.
+fn push_logs<M: Allocator + Copy>(
+    many: &mut Vec<Log<M>, M>,
+    memory: M,
+    logs: u64,
+) -> Result<(), LogFault> {
     for seq in 2..logs.saturating_add(2) {
         many.push(log_with(memory, &[(A, 1), (A, seq)])?)?;
     }
-    Ok(Log::join_all(memory, many)?.len())
+    Ok(())
+}
+
+// How many operations their union has.
+fn len_of_many<M: Allocator + Copy>(memory: M, logs: u64) -> Result<usize, LogFault> {
+    let mut many = Vec::new(memory);
+    match push_logs(&mut many, memory, logs) {
+        Ok(()) => Ok(Log::join_all(memory, many)?.len()),
+        Err(fault) => Err(fault),
+    }
 }
 
 /// What takes memory for several logs.
@@ -278,9 +363,9 @@ enum Work {
 // How many operations it comes to.
 fn len_of<M: Allocator + Copy>(memory: M, work: Work) -> Result<usize, LogFault> {
     match work {
-        Work::Join => joined_len(memory, false),
-        Work::Merge => joined_len(memory, true),
-        Work::Refer => count_of_references(memory),
+        Work::Join => joined_len(memory),
+        Work::Merge => merged_len(memory),
+        Work::Refer => count_of_references(memory, &LEFT),
         Work::JoinAll => len_of_many(memory, 9),
     }
 }

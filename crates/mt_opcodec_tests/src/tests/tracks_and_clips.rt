@@ -1,8 +1,6 @@
 //! Acts on tracks, on clips and on what sounds, as bytes.
-use super::texts::{is_read_back, is_text};
+use super::texts::{is_read_back, is_text, stamp};
 use mt_op::{Body, Digest, Gain, Title};
-use mt_stamp::Stamp;
-use mt_testkit::{A, B};
 use std::alloc::Allocator;
 use std::test::Fail;
 
@@ -80,45 +78,38 @@ pub const SOUND: [u8; 66] = [
     0, 0, 0, 1, 0,
 ];
 
-fn is_track<M: Allocator + Copy>(
-    memory: M,
-    stamp: Stamp,
-    after: Option<Stamp>,
-    title: &str,
-    text: &[u8],
-) -> Result<bool, Fail> {
-    let title = Title::new(memory, title)?;
-    is_text(memory, stamp, Body::AddTrack { after, title }, text)
+fn is_first_track<M: Allocator + Copy>(memory: M) -> Result<bool, Fail> {
+    let own = stamp(1)?;
+    let title = Title::new(memory, "Voice")?;
+    is_text(
+        memory,
+        own,
+        Body::AddTrack { after: None, title },
+        &ADD_FIRST_TRACK,
+    )
 }
 
-// operation_bytes
-#[test]
-fn writes_and_reads_added_tracks(rt: HostRuntime) -> Result<(), Fail> {
-    let first = Stamp::new(1, A, 1)?;
-    let second = Stamp::new(5, A, 3)?;
-    let place = Some(Stamp::new(2, B, 1)?);
-    assert!(rt; is_track(rt.alloc(), first, None, "Voice", &ADD_FIRST_TRACK)?);
-    assert!(rt; is_track(rt.alloc(), second, place, "Atmo", &ADD_TRACK)?);
-    Ok(())
+fn is_track<M: Allocator + Copy>(memory: M) -> Result<bool, Fail> {
+    let own = stamp(5)?;
+    let after = Some(stamp(2)?);
+    let title = Title::new(memory, "Atmo")?;
+    is_text(memory, own, Body::AddTrack { after, title }, &ADD_TRACK)
 }
 
-// operation_bytes
-#[test]
-fn writes_and_reads_moved_tracks(rt: HostRuntime) -> Result<(), Fail> {
-    let track = Stamp::new(1, A, 1)?;
-    let place = Stamp::new(5, A, 3)?;
-    let stamp = Stamp::new(6, B, 3)?;
-    let down = Body::MoveTrack {
-        track,
-        after: Some(place),
-    };
-    assert!(rt; is_text(rt.alloc(), stamp, down, &MOVE_TRACK)?);
-    let up = Body::MoveTrack {
-        track: place,
+fn is_moved_track<M: Allocator + Copy>(memory: M) -> Result<bool, Fail> {
+    let own = stamp(6)?;
+    let track = stamp(1)?;
+    let after = Some(stamp(5)?);
+    is_text(memory, own, Body::MoveTrack { track, after }, &MOVE_TRACK)
+}
+
+fn is_track_moved_first<M: Allocator + Copy>(memory: M) -> Result<bool, Fail> {
+    let own = stamp(6)?;
+    let moved = Body::MoveTrack {
+        track: stamp(5)?,
         after: None,
     };
-    assert!(rt; is_text(rt.alloc(), stamp, up, &MOVE_TRACK_FIRST)?);
-    Ok(())
+    is_text(memory, own, moved, &MOVE_TRACK_FIRST)
 }
 
 /// The digest of the recording that `ADD_CLIP` names.
@@ -130,84 +121,131 @@ fn source() -> Digest {
     Digest(bytes)
 }
 
-#[test]
-fn writes_and_reads_an_added_clip(rt: HostRuntime) -> Result<(), Fail> {
-    let stamp = Stamp::new(7, A, 4)?;
+fn is_clip<M: Allocator + Copy>(memory: M) -> Result<bool, Fail> {
+    let own = stamp(7)?;
+    let track = stamp(1)?;
     let added = Body::AddClip {
         source: source(),
-        track: Stamp::new(1, A, 1)?,
+        track,
         at: 48_000,
         offset: 0x0102_0304,
         len: 96_000,
     };
-    assert!(rt; is_text(rt.alloc(), stamp, added, &ADD_CLIP)?);
-    Ok(())
+    is_text(memory, own, added, &ADD_CLIP)
 }
 
-#[test]
-fn writes_and_reads_moved_and_trimmed_clips(rt: HostRuntime) -> Result<(), Fail> {
-    let clip = Stamp::new(7, A, 4)?;
-    let track = Stamp::new(5, A, 3)?;
-    let by_b = Stamp::new(9, B, 4)?;
-    let by_a = Stamp::new(10, A, 5)?;
-    let moved = Body::MoveClip {
-        clip,
-        track,
-        at: 0x8000_0001,
-    };
-    assert!(rt; is_text(rt.alloc(), by_b, moved, &MOVE_CLIP)?);
+fn is_moved_clip<M: Allocator + Copy>(memory: M) -> Result<bool, Fail> {
+    let own = stamp(9)?;
+    let clip = stamp(7)?;
+    let track = stamp(5)?;
+    let at = 0x8000_0001;
+    is_text(memory, own, Body::MoveClip { clip, track, at }, &MOVE_CLIP)
+}
+
+fn is_trim<M: Allocator + Copy>(memory: M) -> Result<bool, Fail> {
+    let own = stamp(10)?;
     let trimmed = Body::TrimClip {
-        clip,
+        clip: stamp(7)?,
         offset: 256,
         len: 1,
     };
-    assert!(rt; is_text(rt.alloc(), by_a, trimmed, &TRIM_CLIP)?);
-    Ok(())
+    is_text(memory, own, trimmed, &TRIM_CLIP)
 }
 
-#[test]
-fn writes_and_reads_a_gain(rt: HostRuntime) -> Result<(), Fail> {
-    let stamp = Stamp::new(11, B, 5)?;
-    let louder = Body::SetGain {
-        item: Stamp::new(7, A, 4)?,
-        gain: Gain::new(3, 258)?,
-    };
-    assert!(rt; is_text(rt.alloc(), stamp, louder, &SET_GAIN)?);
-    Ok(())
+fn is_gain<M: Allocator + Copy>(memory: M) -> Result<bool, Fail> {
+    let own = stamp(11)?;
+    let item = stamp(7)?;
+    let gain = Gain::new(3, 258)?;
+    is_text(memory, own, Body::SetGain { item, gain }, &SET_GAIN)
 }
 
+fn is_mute<M: Allocator + Copy>(memory: M, on: bool, text: &[u8]) -> Result<bool, Fail> {
+    let own = stamp(12)?;
+    let item = stamp(1)?;
+    is_text(memory, own, Body::SetMute { item, on }, text)
+}
+
+/// The acts that these texts are of.
+#[derive(Clone, Copy, Debug)]
+enum Act {
+    AddFirstTrack,
+    AddTrack,
+    MoveTrack,
+    MoveTrackFirst,
+    AddClip,
+    MoveClip,
+    TrimClip,
+    SetGain,
+    Mute,
+    Sound,
+}
+
+const ACTS: [Act; 10] = [
+    Act::AddFirstTrack,
+    Act::AddTrack,
+    Act::MoveTrack,
+    Act::MoveTrackFirst,
+    Act::AddClip,
+    Act::MoveClip,
+    Act::TrimClip,
+    Act::SetGain,
+    Act::Mute,
+    Act::Sound,
+];
+
+fn is_written_and_read<M: Allocator + Copy>(memory: M, act: Act) -> Result<bool, Fail> {
+    match act {
+        Act::AddFirstTrack => is_first_track(memory),
+        Act::AddTrack => is_track(memory),
+        Act::MoveTrack => is_moved_track(memory),
+        Act::MoveTrackFirst => is_track_moved_first(memory),
+        Act::AddClip => is_clip(memory),
+        Act::MoveClip => is_moved_clip(memory),
+        Act::TrimClip => is_trim(memory),
+        Act::SetGain => is_gain(memory),
+        Act::Mute => is_mute(memory, true, &MUTE),
+        Act::Sound => is_mute(memory, false, &SOUND),
+    }
+}
+
+// operation_bytes
 #[test]
-fn writes_and_reads_mutes(rt: HostRuntime) -> Result<(), Fail> {
-    let item = Stamp::new(1, A, 1)?;
-    let stamp = Stamp::new(12, A, 6)?;
-    for (on, text) in [(true, &MUTE), (false, &SOUND)] {
-        assert!(rt; is_text(rt.alloc(), stamp, Body::SetMute { item, on }, text)?);
+fn writes_and_reads_acts_on_tracks_and_clips(rt: HostRuntime) -> Result<(), Fail> {
+    for act in ACTS {
+        assert!(rt; is_written_and_read(rt.alloc(), act)?, "{act:?}");
     }
     Ok(())
+}
+
+fn is_gain_read_back<M: Allocator + Copy>(memory: M, num: u16, den: u16) -> Result<bool, Fail> {
+    let own = stamp(3)?;
+    let item = stamp(1)?;
+    let gain = Gain::new(num, den)?;
+    is_read_back(memory, own, Body::SetGain { item, gain })
 }
 
 // Where a number may be 0, or be the greatest.
 #[test]
 fn reads_gains_at_their_ends(rt: HostRuntime) -> Result<(), Fail> {
-    let item = Stamp::new(1, A, 1)?;
-    let own = Stamp::new(2, A, 2)?;
     for (num, den) in [(0, 1), (1, u16::MAX), (u16::MAX, 1), (u16::MAX, u16::MAX)] {
-        let gain = Gain::new(num, den)?;
-        assert!(rt;
-            is_read_back(rt.alloc(), own, Body::SetGain { item, gain })?,
-            "{num}/{den}"
-        );
+        assert!(rt; is_gain_read_back(rt.alloc(), num, den)?, "{num}/{den}");
     }
     Ok(())
 }
 
+fn is_trim_read_back<M: Allocator + Copy>(memory: M, offset: u32, len: u32) -> Result<bool, Fail> {
+    let own = stamp(3)?;
+    let clip = stamp(1)?;
+    is_read_back(memory, own, Body::TrimClip { clip, offset, len })
+}
+
 #[test]
 fn reads_trims_at_their_ends(rt: HostRuntime) -> Result<(), Fail> {
-    let clip = Stamp::new(1, A, 1)?;
-    let own = Stamp::new(2, A, 2)?;
     for (offset, len) in [(0, 1), (u32::MAX, u32::MAX)] {
-        let trim = Body::TrimClip { clip, offset, len };
-        assert!(rt; is_read_back(rt.alloc(), own, trim)?, "{offset}, {len}");
+        assert!(rt;
+            is_trim_read_back(rt.alloc(), offset, len)?,
+            "{offset}, {len}"
+        );
     }
     Ok(())
 }
