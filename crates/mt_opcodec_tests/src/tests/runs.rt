@@ -299,11 +299,21 @@ fn of_a_log_of_two_runs(rt: HostRuntime) {
     }
 }
 
-// How many operations two logs have together, joined or merged.
+// How many operations two logs have together.
 fn joined_len<M: Allocator + Copy>(memory: M) -> Result<usize, LogFault> {
     let left = log_with(memory, &LEFT)?;
     let all = left.join(log_with(memory, &RIGHT)?)?;
     Ok(all.len())
+}
+
+// The same of two that are seen to agree first.
+fn agreeing_len<M: Allocator + Copy>(memory: M) -> Result<usize, LogFault> {
+    let left = log_with(memory, &LEFT)?;
+    let right = log_with(memory, &RIGHT)?;
+    match left.clash(&right) {
+        None => Ok(left.join_agreeing(right)?.len()),
+        Some(dot) => Err(LogFault::Conflict(dot)),
+    }
 }
 
 fn merge_left_and_right<M: Allocator + Copy>(
@@ -355,6 +365,7 @@ fn len_of_many<M: Allocator + Copy>(memory: M, logs: u64) -> Result<usize, LogFa
 #[derive(Clone, Copy, Debug)]
 enum Work {
     Join,
+    JoinAgreeing,
     Merge,
     Refer,
     JoinAll,
@@ -364,6 +375,7 @@ enum Work {
 fn len_of<M: Allocator + Copy>(memory: M, work: Work) -> Result<usize, LogFault> {
     match work {
         Work::Join => joined_len(memory),
+        Work::JoinAgreeing => agreeing_len(memory),
         Work::Merge => merged_len(memory),
         Work::Refer => count_of_references(memory, &LEFT),
         Work::JoinAll => len_of_many(memory, 9),
@@ -390,6 +402,7 @@ fn refusals(alloc: Global, work: Work, len: usize) -> Option<u64> {
 fn of_several_logs(rt: HostRuntime) {
     for (work, len, least) in [
         (Work::Join, 6, 12),
+        (Work::JoinAgreeing, 6, 12),
         (Work::Merge, 6, 20),
         (Work::Refer, 3, 6),
         (Work::JoinAll, 10, 61),
