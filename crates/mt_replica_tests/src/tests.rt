@@ -6,12 +6,11 @@ mod kept;
 mod operations;
 mod refused_growth;
 
-use histories::{Answer, Step, edit, history, newcomer, take};
-use mt_replica::{Editor, EditorFault};
+use histories::{Answer, Step, history};
+use mt_replica::EditorFault;
 use mt_stamp::Stamp;
 use mt_testkit::{A, B};
 use operations::{Act, Name};
-use std::alloc::Allocator;
 use std::test::Fail;
 
 #[test]
@@ -153,33 +152,61 @@ fn removes_and_restores(rt: HostRuntime) -> Result<(), Fail> {
     Ok(())
 }
 
-// What an AddMarker is answered where the log has one marker of this stamp.
-fn answer_after<M: Allocator + Copy>(
-    editor: &mut Editor<M>,
-    memory: M,
-    last: Stamp,
-) -> Result<Answer, EditorFault> {
-    let _ = take(editor, memory, last, Act::AddMarker(Name::News))?;
-    edit(editor, memory, Act::AddMarker(Name::Weather))
-}
-
-// The same of an editor A.
-fn next_after<M: Allocator + Copy>(memory: M, last: Stamp) -> Result<Answer, EditorFault> {
-    let mut editor = newcomer(memory, A)?;
-    answer_after(&mut editor, memory, last)
+#[test]
+fn stops_at_the_greatest_clock(rt: HostRuntime) -> Result<(), Fail> {
+    let last = Stamp::new(Stamp::GREATEST, B, 1)?;
+    let rows = [
+        (
+            Step::Take(last, Act::AddMarker(Name::News)),
+            Ok(Answer::Applied(1)),
+            (1, 0, 1),
+        ),
+        (
+            Step::Edit(Act::AddMarker(Name::News)),
+            Err(EditorFault::ClockFull),
+            (1, 0, 1),
+        ),
+    ];
+    assert_eq!(rt; history(rt.alloc(), A, &rows), Ok(2));
+    Ok(())
 }
 
 #[test]
-fn stops_at_the_greatest_clock_and_number(rt: HostRuntime) -> Result<(), Fail> {
-    let full = Stamp::GREATEST;
+fn stops_at_the_greatest_number(rt: HostRuntime) -> Result<(), Fail> {
+    let last = Stamp::new(1, A, Stamp::GREATEST)?;
+    let rows = [
+        (
+            Step::Take(last, Act::AddMarker(Name::News)),
+            Ok(Answer::Applied(1)),
+            (1, 0, 1),
+        ),
+        (
+            Step::Edit(Act::AddMarker(Name::News)),
+            Err(EditorFault::SeqFull),
+            (1, 0, 1),
+        ),
+    ];
+    assert_eq!(rt; history(rt.alloc(), A, &rows), Ok(2));
+    Ok(())
+}
+
+#[test]
+fn passes_the_greatest_number_of_another(rt: HostRuntime) -> Result<(), Fail> {
+    let last = Stamp::new(1, B, Stamp::GREATEST)?;
     let next = Stamp::new(2, A, 1)?;
-    for (last, answer) in [
-        (Stamp::new(full, B, 1)?, Err(EditorFault::ClockFull)),
-        (Stamp::new(1, A, full)?, Err(EditorFault::SeqFull)),
-        (Stamp::new(1, B, full)?, Ok(Answer::Made(next))),
-    ] {
-        assert_eq!(rt; next_after(rt.alloc(), last), answer);
-    }
+    let rows = [
+        (
+            Step::Take(last, Act::AddMarker(Name::News)),
+            Ok(Answer::Applied(1)),
+            (1, 0, 1),
+        ),
+        (
+            Step::Edit(Act::AddMarker(Name::News)),
+            Ok(Answer::Made(next)),
+            (2, 0, 2),
+        ),
+    ];
+    assert_eq!(rt; history(rt.alloc(), A, &rows), Ok(2));
     Ok(())
 }
 
