@@ -1,4 +1,4 @@
-//! Tests of mt_mending: sessions that are mended operation by operation, in all orders, beside those that are made from nothing.
+//! Tests of mt_mending: a session that is mended operation by operation, beside the one that is made from nothing.
 #![tactic(auto)]
 
 #[cfg(test)]

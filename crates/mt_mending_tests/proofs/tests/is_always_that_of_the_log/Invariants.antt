@@ -4,7 +4,7 @@ use Rattle.mt_stamp.specs.Moment.{Moment, stamp_cmp}
 use Rattle.mt_items.specs.Noting.{is_noted}
 use Rattle.mt_mending.specs.Before.{ArePlacesOf}
 use Rattle.mt_mending.specs.Mending.{session_in}
-use Rattle.mt_mending_tests.proofs.tests.session.is_always_that_of_the_log.Given as goal
+use Rattle.mt_mending_tests.proofs.tests.is_always_that_of_the_log.Given as goal
 
 abbrev pub invariant-loop-number : goal.invariant-loop-number
 invariant-loop-number g l = record {

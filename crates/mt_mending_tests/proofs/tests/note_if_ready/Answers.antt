@@ -6,7 +6,7 @@ use Rattle.mt_items.specs.Noting.{is_noted}
 use Rattle.mt_items.proofs.Fresh.{one_more_known}
 use Rattle.mt_sessionview.specs.Content.{Content}
 use Rattle.mt_mending.specs.Mending.{session_in}
-use Rattle.mt_mending_tests.proofs.tests.session.note_if_ready.Goals as goal
+use Rattle.mt_mending_tests.proofs.tests.note_if_ready.Goals as goal
 
 -- a session of operations is the one with the number held that it has
 keeps_held : (new : Content) (ops : List Operation) (held : ℕ) → new ≡ session_in ops held → new ≡ session_in ops new.held
