@@ -125,12 +125,19 @@ fn add_silence(log: &mut Log, alloc: Global, source: Digest) -> bool {
     added
 }
 
-// The session of the clips at gains of every kind, perhaps with a silent track that takes the wide way.
-fn session_of_gains(alloc: Global, source: Digest, num: u16, is_wide: bool) -> Option<Session> {
+// The same log, perhaps with a silent track that takes the wide way.
+fn log_by_way(alloc: Global, source: Digest, num: u16, is_wide: bool) -> Option<Log> {
     let mut log = log_of_gains(alloc, source, num)?;
-    if is_wide && !add_silence(&mut log, alloc, source) {
-        return None;
+    if !is_wide || add_silence(&mut log, alloc, source) {
+        Some(log)
+    } else {
+        None
     }
+}
+
+// The session of that log.
+fn session_of_gains(alloc: Global, source: Digest, num: u16, is_wide: bool) -> Option<Session> {
+    let log = log_by_way(alloc, source, num, is_wide)?;
     from_scratch(alloc, &log).ok()
 }
 

@@ -72,27 +72,27 @@ fn count_of(catalogue: &Catalogue<'_, &Refusing<Global>>, files: &[&[u8]]) -> us
     there
 }
 
-// Whether recordings are refused where the growth of this number is; and how many of them are there then.
-fn add_files(alloc: Global, growth: u64, files: &[&[u8]]) -> (bool, usize) {
+// Whether five recordings of two digests are refused where the growth of this number is; and how many of them are there then.
+fn add_five(alloc: Global, growth: u64, first: &[u8], second: &[u8]) -> (bool, usize) {
+    let files = [first, second, first, second, first];
     let memory = Refusing::new(alloc, growth);
     let mut catalogue = Catalogue::new(&memory);
-    let refused = catalogue.add_all(&memory, files).is_err();
-    (refused, count_of(&catalogue, files))
+    let refused = catalogue.add_all(&memory, &files).is_err();
+    (refused, count_of(&catalogue, &files))
 }
 
 #[test]
 fn refuses_each_growth_of_five(rt: HostRuntime) -> Result<(), Fail> {
     let first = wave(rt.alloc(), 1, 1, 8, &[1])?;
     let second = wave(rt.alloc(), 1, 1, 8, &[2])?;
-    let files: [&[u8]; 5] = [&first, &second, &first, &second, &first];
     for growth in 0..100 {
-        let (refused, there) = add_files(rt.alloc(), growth, &files);
+        let (refused, there) = add_five(rt.alloc(), growth, &first, &second);
         if !refused {
             assert!(rt; growth > 1, "digests and entries grew");
-            assert_eq!(rt; there, 5);
+            assert!(rt; there == 5);
             return Ok(());
         }
-        assert_eq!(rt; there, 0);
+        assert!(rt; there == 0, "at {growth}");
     }
     Err(Fail::from("each run met a refusal"))
 }

@@ -34,25 +34,41 @@ pub fn mixed(
     mixed_session(alloc, &session, sources)
 }
 
-// missing_sources: covered clips count, muted ones do not
-#[test]
-fn misses_recordings_before_it_looks_at_rates(rt: HostRuntime) -> Result<(), Fail> {
-    let other = wave(rt.alloc(), 2, 1, 16, &[100, 0, 100, 0])?;
-    let (absent, of_other) = (Digest([9; 32]), Digest::of(&other));
-    let clips = two_clips(of_other, absent, 0);
-    let acts = [
+const ABSENT: Digest = Digest([9; 32]);
+
+// Two clips, the second of a recording that is absent; then that clip is muted, and then the track.
+fn clips_and_mutes(first: Digest) -> [(Key, Act); 5] {
+    let clips = two_clips(first, ABSENT, 0);
+    [
         clips[0],
         clips[1],
         clips[2],
         ((7, A, 3), Act::Mute(OTHER)),
         ((8, A, 4), Act::Mute(TRACK)),
-    ];
-    let missing = mixed(rt.alloc(), &acts[..3], &[&other]);
-    assert!(rt; missing == Some(Err(MixFault::MissingSource(absent))));
-    let differs = mixed(rt.alloc(), &acts[..4], &[&other]);
-    assert!(rt; differs == Some(Err(MixFault::RateDiffers(of_other))));
-    assert!(rt; mixed(rt.alloc(), &acts, &[]) == Some(Ok(())));
+    ]
+}
+
+// missing_sources: covered clips count, muted ones do not
+#[test]
+fn misses_recordings_before_it_looks_at_rates(rt: HostRuntime) -> Result<(), Fail> {
+    let other = wave(rt.alloc(), 2, 1, 16, &[100, 0, 100, 0])?;
+    let of_other = Digest::of(&other);
+    for (count, fault) in [
+        (3, MixFault::MissingSource(ABSENT)),
+        (4, MixFault::RateDiffers(of_other)),
+    ] {
+        let acts = clips_and_mutes(of_other);
+        let first = acts.get(..count).unwrap_or(&[]);
+        let refused = mixed(rt.alloc(), first, &[&other]);
+        assert!(rt; refused == Some(Err(fault)));
+    }
     Ok(())
+}
+
+#[test]
+fn needs_no_recording_where_all_is_muted(rt: HostRuntime) {
+    let acts = clips_and_mutes(Digest([8; 32]));
+    assert!(rt; mixed(rt.alloc(), &acts, &[]) == Some(Ok(())));
 }
 
 // The length and the format of a mix of a session over no recording.
@@ -76,7 +92,7 @@ pub fn made_of_none(alloc: Global, acts: &[(Key, Act)], format: Format) -> Optio
 // missing_sources: a muted clip has no length
 #[test]
 fn has_no_length_where_all_is_muted(rt: HostRuntime) -> Result<(), Fail> {
-    let clip = one_clip(Digest([9; 32]), (1, 1));
+    let clip = one_clip(ABSENT, (1, 1));
     let acts = [clip[0], clip[1], clip[2], ((7, A, 4), Act::Mute(CLIP))];
     let format = Format::new(256, 16, 1)?;
     assert!(rt; made_of_none(rt.alloc(), &acts, format) == Some((0, format)));
@@ -117,40 +133,53 @@ fn refuses_formats(rt: HostRuntime) {
 #[test]
 fn takes_a_format_at_its_limits(rt: HostRuntime) -> Result<(), Fail> {
     let format = Format::new(384000, 24, 2)?;
-    assert_eq!(rt; format.rate(), 384000);
-    assert_eq!(rt; format.bits(), 24);
-    assert_eq!(rt; format.channels(), 2);
+    assert!(rt; format.rate() == 384000);
+    assert!(rt; format.bits() == 24);
+    assert!(rt; format.channels() == 2);
     Ok(())
+}
+
+// Whether a recording is answered by its digest, once and again.
+fn is_kept<'a>(catalogue: &mut Catalogue<'a>, bytes: &'a [u8]) -> bool {
+    let digest = Digest::of(bytes);
+    catalogue.add(bytes) == Ok(digest) && catalogue.add(bytes) == Ok(digest)
+}
+
+// Whether bytes that are no recording are refused, and are not there.
+fn is_refused(catalogue: &mut Catalogue<'_>) -> bool {
+    catalogue.add(b"RIFX") == Err(SourceFault::Wave(WaveFault::NotRiff))
+        && catalogue.find(&Digest::of(b"RIFX")).is_none()
 }
 
 // smallest_wave
 #[test]
 fn keeps_the_first_bytes_of_a_digest(rt: HostRuntime) -> Result<(), Fail> {
     let bytes = wave(rt.alloc(), 1, 1, 8, &[0])?;
-    let digest = Digest::of(&bytes);
     let mut catalogue = Catalogue::new(rt.alloc());
-    assert!(rt; catalogue.add(&bytes) == Ok(digest));
-    assert!(rt; catalogue.add(&bytes) == Ok(digest));
-    assert!(rt; catalogue.add(b"RIFX") == Err(SourceFault::Wave(WaveFault::NotRiff)));
-    assert!(rt; catalogue.find(&Digest::of(b"RIFX")).is_none());
-    assert!(rt;
-        catalogue
-            .find(&digest)
-            .is_some_and(|found| found.frames() == 1)
-    );
+    assert!(rt; is_kept(&mut catalogue, &bytes));
+    assert!(rt; is_refused(&mut catalogue));
+    let found = catalogue.find(&Digest::of(&bytes));
+    assert!(rt; found.is_some_and(|found| found.frames() == 1));
     Ok(())
 }
 
 #[test]
-fn numbers_its_refusals(rt: HostRuntime) {
-    let digest = Digest([0; 32]);
-    assert_eq!(rt; SourceFault::Memory.number(), 0);
-    assert_eq!(rt; SourceFault::Wave(WaveFault::NoData).number(), 32);
-    assert_eq!(rt; FormatFault::BadFormat.number(), 47);
-    assert_eq!(rt; MixFault::Memory.number(), 0);
-    assert_eq!(rt; MixFault::MissingSource(digest).number(), 33);
-    assert_eq!(rt; MixFault::RateDiffers(digest).number(), 34);
-    assert_eq!(rt; MixFault::TooLong.number(), 35);
+fn numbers_refused_sources_and_formats(rt: HostRuntime) {
+    assert!(rt; SourceFault::Memory.number() == 0);
+    assert!(rt; SourceFault::Wave(WaveFault::NoData).number() == 32);
+    assert!(rt; FormatFault::BadFormat.number() == 47);
+}
+
+#[test]
+fn numbers_refused_mixes(rt: HostRuntime) {
+    for (fault, number) in [
+        (MixFault::Memory, 0),
+        (MixFault::MissingSource(ABSENT), 33),
+        (MixFault::RateDiffers(ABSENT), 34),
+        (MixFault::TooLong, 35),
+    ] {
+        assert!(rt; fault.number() == number, "{number}");
+    }
 }
 
 // How long the mix of a session over a catalogue is.
