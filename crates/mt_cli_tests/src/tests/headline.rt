@@ -102,13 +102,28 @@ fn take_all(editor: &mut Editor, mut ops: Vec<Op>, number: usize) -> bool {
     take_in_order(editor, ops, number) && take_twice(editor, before) && take_twice(editor, last)
 }
 
+// A copy of an editor's log.
+fn copy_of_log(editor: &Editor) -> Option<Log> {
+    match editor.log() {
+        Some(log) => log.try_clone().ok(),
+        None => None,
+    }
+}
+
+// The same after a script.
+fn log_after(alloc: Global, editor: &mut Editor, script: &[u8]) -> Option<Log> {
+    match run(alloc, editor, script) {
+        Ok(_) => copy_of_log(editor),
+        Err(_) => None,
+    }
+}
+
 // The log of an editor that went on with a log by a script.
 fn went_on(alloc: Global, name: Replica, log: Log, script: &[u8]) -> Option<Log> {
-    let mut editor = Editor::from_log(alloc, name, log).ok()?;
-    if run(alloc, &mut editor, script).is_err() {
-        return None;
+    match Editor::from_log(alloc, name, log) {
+        Ok(mut editor) => log_after(alloc, &mut editor, script),
+        Err(_) => None,
     }
-    editor.log()?.try_clone().ok()
 }
 
 // The union of the logs of two editors who go on with a log, B by one script and A by another.
@@ -149,21 +164,30 @@ fn taker_of(alloc: Global, log: &Log, number: usize) -> Option<Editor> {
     }
 }
 
-// Whether such a newcomer agrees with an editor of the log in each of so many orders.
-fn agrees_in_orders(alloc: Global, whole: &Editor, orders: usize) -> Option<bool> {
-    let mut all = true;
-    for order in 0..orders {
-        let other = taker_of(alloc, whole.log()?, order)?;
-        all &= agree(alloc, whole, &other);
+// Whether such a newcomer agrees with an editor of the log.
+fn agrees_in_order(alloc: Global, whole: &Editor, log: &Log, number: usize) -> bool {
+    match taker_of(alloc, log, number) {
+        Some(other) => agree(alloc, whole, &other),
+        None => false,
     }
-    Some(all)
 }
 
-// How many operations the union of two editors' logs has, and whether a newcomer agrees with an editor of it in each of so many orders.
+// How many operations an editor's log has, and whether such a newcomer agrees with the editor in each of so many orders.
+fn agreements_with(alloc: Global, whole: &Editor, orders: usize) -> Option<(usize, bool)> {
+    let log = whole.log()?;
+    let mut all = true;
+    for order in 0..orders {
+        all &= agrees_in_order(alloc, whole, log, order);
+    }
+    Some((log.len(), all))
+}
+
+// The same of an editor of the union of two editors' logs.
 fn agreements(alloc: Global, scripts: [&[u8]; 3], orders: usize) -> Option<(usize, bool)> {
-    let whole = editor_of_union(alloc, scripts)?;
-    let count = whole.log()?.len();
-    Some((count, agrees_in_orders(alloc, &whole, orders)?))
+    match editor_of_union(alloc, scripts) {
+        Some(whole) => agreements_with(alloc, &whole, orders),
+        None => None,
+    }
 }
 
 // Each script of B ends with three_sample_file's track and clip: they are the last two operations of the union.
@@ -227,11 +251,20 @@ fn edited(alloc: Global, log: Log, change: &Change) -> Option<Editor> {
     Some(editor)
 }
 
+// Whether an editor of a log that makes a change agrees with another.
+fn edits_as(alloc: Global, log: Log, change: &Change, other: &Editor) -> Option<bool> {
+    match edited(alloc, log, change) {
+        Some(editor) => Some(agree(alloc, &editor, other)),
+        None => None,
+    }
+}
+
 // Whether an editor that makes a change of a log agrees with one that makes it by a script.
 fn edits_as_scripted(alloc: Global, log: Log, change: &Change, script: &[u8]) -> Option<bool> {
-    let other = scripted(alloc, &log, script)?;
-    let editor = edited(alloc, log, change)?;
-    Some(agree(alloc, &editor, &other))
+    match scripted(alloc, &log, script) {
+        Some(other) => edits_as(alloc, log, change, &other),
+        None => None,
+    }
 }
 
 // three_sample_file, moved by `edit`
