@@ -10,10 +10,11 @@ mod views;
 use mt_bwfread::WaveFault;
 use mt_cli::CliFault;
 use mt_op::{Digest, Op};
-use mt_opcodec::{Log, LogFault, ReadFault};
+use mt_opcodec::{Latch, Log, LogFault, ReadFault};
 use mt_render::MixFault;
 use mt_stamp::{Dot, Stamp};
-use mt_testkit::{A, B, marker, retitle};
+use mt_testkit::{A, B, FailingWriter, marker, retitle};
+use std::alloc::Global;
 use std::test::Fail;
 
 /// The text of the log of one operation.
@@ -39,11 +40,46 @@ pub fn other(rt: &HostRuntime) -> Result<Vec<u8>, Fail> {
     log_of(rt, marker(rt.alloc(), Stamp::new(1, A, 1)?, "Other")?)
 }
 
+/// What a command did to its output: whether it wrote this text, or its refusal where it wrote nothing.
+pub fn told(
+    answer: Result<(), CliFault>,
+    output: Latch<Vec<u8>>,
+    text: &[u8],
+) -> Result<bool, CliFault> {
+    let failed = output.failed();
+    let written = output.into_inner();
+    match answer {
+        Ok(()) => Ok(!failed && written.as_slice() == text),
+        Err(fault) => {
+            if failed || !written.is_empty() {
+                Ok(false)
+            } else {
+                Err(fault)
+            }
+        }
+    }
+}
+
+/// Whether a command wrote so many bytes of a text to a writer that fails behind them, and was refused where there are more.
+pub fn is_cut(
+    answer: Result<(), CliFault>,
+    output: Latch<FailingWriter<Global>>,
+    text: &[u8],
+    good: usize,
+) -> bool {
+    let failed = output.failed();
+    let writer = output.into_inner();
+    let wanted = if good < text.len() {
+        Err(CliFault::Write)
+    } else {
+        Ok(())
+    };
+    answer == wanted && failed == answer.is_err() && text.get(..good) == Some(writer.written())
+}
+
 #[test]
-fn numbers_its_refusals(rt: HostRuntime) {
-    let dot = Dot { replica: A, seq: 1 };
+fn numbers_refused_logs(rt: HostRuntime) {
     for (fault, number) in [
-        (CliFault::Memory, 0),
         (CliFault::Read(3), 45),
         (CliFault::Log(0, LogFault::BadMagic), 11),
         (CliFault::Log(0, LogFault::BadVersion), 12),
@@ -54,18 +90,35 @@ fn numbers_its_refusals(rt: HostRuntime) {
         ),
         (CliFault::Log(3, LogFault::OutOfOrder(1)), 15),
         (CliFault::Log(4, LogFault::Trailing), 16),
-        (CliFault::Merge(dot), 17),
-        (CliFault::Source(0, WaveFault::NotRiff), 26),
-        (CliFault::Source(1, WaveFault::NotWave), 27),
-        (CliFault::Source(2, WaveFault::Truncated), 28),
-        (CliFault::Source(3, WaveFault::NoFmt), 29),
-        (CliFault::Source(4, WaveFault::BadFmt), 30),
-        (CliFault::Source(5, WaveFault::Unsupported), 31),
-        (CliFault::Source(6, WaveFault::NoData), 32),
+        (CliFault::Merge(Dot { replica: A, seq: 1 }), 17),
+    ] {
+        assert!(rt; fault.number() == number, "{number}");
+    }
+}
+
+#[test]
+fn numbers_refused_recordings(rt: HostRuntime) {
+    for (fault, number) in [
+        (WaveFault::NotRiff, 26),
+        (WaveFault::NotWave, 27),
+        (WaveFault::Truncated, 28),
+        (WaveFault::NoFmt, 29),
+        (WaveFault::BadFmt, 30),
+        (WaveFault::Unsupported, 31),
+        (WaveFault::NoData, 32),
+    ] {
+        assert!(rt; CliFault::Source(0, fault).number() == number, "{number}");
+    }
+}
+
+#[test]
+fn numbers_refused_programmes(rt: HostRuntime) {
+    for (fault, number) in [
+        (CliFault::Memory, 0),
         (CliFault::Mix(MixFault::RateDiffers(Digest([0; 32]))), 34),
         (CliFault::Mix(MixFault::TooLong), 35),
         (CliFault::Write, 37),
     ] {
-        assert_eq!(rt; fault.number(), number);
+        assert!(rt; fault.number() == number, "{number}");
     }
 }

@@ -27,13 +27,18 @@ fn log_with<M: Allocator + Clone>(memory: &M, stamps: &[Stamp]) -> Result<Log<M>
     }
 }
 
-// An editor who has taken markers of these stamps.
-fn editor_of<M: Allocator + Clone>(memory: &M, stamps: &[Stamp]) -> Result<Editor<M>, TalkFault> {
-    let log = log_with(memory, stamps)?;
+// An editor of a log.
+fn editor_from<M: Allocator + Clone>(memory: &M, log: Log<M>) -> Result<Editor<M>, TalkFault> {
     match Editor::from_log(memory.clone()?, NOBODY, log) {
         Ok(editor) => Ok(editor),
         Err(_) => Err(TalkFault::Memory),
     }
+}
+
+// An editor who has taken markers of these stamps.
+fn editor_of<M: Allocator + Clone>(memory: &M, stamps: &[Stamp]) -> Result<Editor<M>, TalkFault> {
+    let log = log_with(memory, stamps)?;
+    editor_from(memory, log)
 }
 
 // How many operations an editor has, if it has not failed.
@@ -60,20 +65,15 @@ fn talk_of<M: Allocator + Clone>(
     }
 }
 
-// Feeds a talk a stream in pieces of this size, and gathers what it answers.
-fn feed_in<M: Allocator + Clone>(
+// Feeds a talk a piece, and gives what is wanted behind its reply, if what is wanted begins with that.
+fn feed_piece<'w, M: Allocator + Clone>(
     talk: &mut Talk<M>,
     editor: &mut Editor<M>,
-    memory: &M,
-    stream: &[u8],
-    size: usize,
-) -> Result<Vec<u8, M>, TalkFault> {
-    let mut said = Vec::new(memory.clone()?);
-    for piece in stream.chunks(size.max(1)) {
-        let reply = talk.feed(editor, piece)?;
-        said.extend_from_slice(reply.as_slice())?;
-    }
-    Ok(said)
+    piece: &[u8],
+    wanted: &'w [u8],
+) -> Result<Option<&'w [u8]>, TalkFault> {
+    let reply = talk.feed(editor, piece)?;
+    Ok(wanted.strip_prefix(reply.as_slice()))
 }
 
 // What came of a stream.
@@ -88,25 +88,29 @@ struct Told {
 
 // Whether a talk that reads a stream in pieces of this size answers what is wanted.
 fn replies<M: Allocator + Clone>(
-    memory: &M,
     talk: &mut Talk<M>,
     editor: &mut Editor<M>,
     (stream, size): (&[u8], usize),
     wanted: &[u8],
 ) -> Result<bool, TalkFault> {
-    let said = feed_in(talk, editor, memory, stream, size)?;
-    Ok(said.as_slice() == wanted)
+    let mut rest = wanted;
+    for piece in stream.chunks(size.max(1)) {
+        match feed_piece(talk, editor, piece, rest)? {
+            Some(behind) => rest = behind,
+            None => return Ok(false),
+        }
+    }
+    Ok(rest.is_empty())
 }
 
 // What comes of it.
 fn tell_talk<M: Allocator + Clone>(
-    memory: &M,
     talk: &mut Talk<M>,
     editor: &mut Editor<M>,
     stream: (&[u8], usize),
     wanted: &[u8],
 ) -> Result<Told, TalkFault> {
-    let replied = replies(memory, talk, editor, stream, wanted)?;
+    let replied = replies(talk, editor, stream, wanted)?;
     Ok(Told {
         replied,
         ended: talk.ended(),
@@ -123,7 +127,7 @@ fn tell_editor<M: Allocator + Clone>(
     wanted: &[u8],
 ) -> Result<Told, TalkFault> {
     let mut talk = talk_of(memory, frames, side, editor)?;
-    tell_talk(memory, &mut talk, editor, stream, wanted)
+    tell_talk(&mut talk, editor, stream, wanted)
 }
 
 // An editor of markers of these stamps whose talk does so.
@@ -134,8 +138,10 @@ fn tell<M: Allocator + Clone>(
     stream: (&[u8], usize),
     wanted: &[u8],
 ) -> Result<Told, TalkFault> {
-    let mut editor = editor_of(memory, own)?;
-    tell_editor(memory, frames, (side, &mut editor), stream, wanted)
+    match editor_of(memory, own) {
+        Ok(mut editor) => tell_editor(memory, frames, (side, &mut editor), stream, wanted),
+        Err(fault) => Err(fault),
+    }
 }
 
 const ALL: Told = Told {

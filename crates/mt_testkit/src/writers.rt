@@ -2,27 +2,42 @@
 use std::alloc::Allocator;
 use std::io::{Error, ErrorKind, Result, Write};
 
-/// Takes one byte at each of its first `good` writes, and then fails.
+/// Takes one byte, or up to so many, at each of its first `good` writes, and then fails.
 #[derive(Drop)]
 pub struct FailingWriter<A: Allocator> {
+    at_once: usize,
     good: usize,
     kind: ErrorKind,
     asked: usize,
+    greatest: usize,
     written: Vec<u8, A>,
 }
 
 impl<A: Allocator> FailingWriter<A> {
+    /// One that takes one byte at each write.
     pub fn new(alloc: A, good: usize, kind: ErrorKind) -> FailingWriter<A> {
+        FailingWriter::of_pieces(alloc, 1, good, kind)
+    }
+
+    /// One that takes up to `at_once` bytes at each write.
+    pub fn of_pieces(alloc: A, at_once: usize, good: usize, kind: ErrorKind) -> FailingWriter<A> {
         FailingWriter {
+            at_once,
             good,
             kind,
             asked: 0,
+            greatest: 0,
             written: Vec::new(alloc),
         }
     }
 
     pub fn asked(&self) -> usize {
         self.asked
+    }
+
+    /// How many bytes it was given at one write at most.
+    pub fn greatest(&self) -> usize {
+        self.greatest
     }
 
     pub fn written(&self) -> &[u8] {
@@ -34,10 +49,11 @@ impl<A: Allocator> Write for FailingWriter<A> {
     fn write(&mut self, buf: &[u8]) -> Result<usize> {
         let number = self.asked;
         self.asked = number.wrapping_add(1);
+        self.greatest = self.greatest.max(buf.len());
         if number >= self.good {
             return Err(Error::from(self.kind));
         }
-        let count = buf.len().min(1);
+        let count = buf.len().min(self.at_once);
         self.written.extend_from_slice(&buf[..count])?;
         Ok(count)
     }

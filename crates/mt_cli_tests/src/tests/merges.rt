@@ -1,80 +1,86 @@
 //! Merges over memory and over devices that fail.
-use super::{news, other};
+use super::{is_cut, news, other, told};
 use mt_cli::{CliFault, merge_logs};
 use mt_opcodec::{Latch, Log, LogFault};
 use mt_stamp::Dot;
 use mt_testkit::{A, FailingWriter, SlowReader};
-use std::io::ErrorKind;
+use std::alloc::Global;
+use std::io::{ErrorKind, Read};
 use std::test::Fail;
 
-/// The text of the merge of these logs.
-fn merge(rt: &HostRuntime, logs: &[&[u8]]) -> Result<Vec<u8>, CliFault> {
-    let mut inputs = Vec::new(rt.alloc());
-    for log in logs {
-        inputs.push(Latch::new(*log))?;
-    }
-    let mut output = Latch::new(Vec::new(rt.alloc()));
-    merge_logs(rt.alloc(), &mut inputs, &mut output)?;
-    Ok(output.into_inner())
+// What a merge of these logs answers that is to write this text.
+fn merge<R: Read>(alloc: Global, inputs: &mut [Latch<R>], text: &[u8]) -> Result<bool, CliFault> {
+    let mut output = Latch::new(Vec::new(alloc));
+    let answer = merge_logs(alloc, inputs, &mut output);
+    told(answer, output, text)
 }
 
 // empty_log
 #[test]
 fn merges_no_log_into_the_empty_one(rt: HostRuntime) -> Result<(), Fail> {
     let empty = Log::new(rt.alloc()).write()?;
-    assert_eq!(rt; merge(&rt, &[])?.as_slice(), empty.as_slice());
-    assert_eq!(rt; merge(&rt, &[&empty, &empty])?.as_slice(), empty.as_slice());
+    let mut none: [Latch<&[u8]>; 0] = [];
+    assert!(rt; merge(rt.alloc(), &mut none, &empty) == Ok(true));
+    let mut two = [Latch::new(empty.as_slice()), Latch::new(empty.as_slice())];
+    assert!(rt; merge(rt.alloc(), &mut two, &empty) == Ok(true));
     Ok(())
+}
+
+// What a merge of three logs is refused as.
+fn merge_three(alloc: Global, logs: [&[u8]; 3]) -> Result<bool, CliFault> {
+    let mut inputs = [
+        Latch::new(logs[0]),
+        Latch::new(logs[1]),
+        Latch::new(logs[2]),
+    ];
+    merge(alloc, &mut inputs, b"")
 }
 
 #[test]
 fn refuses_in_order_and_writes_nothing(rt: HostRuntime) -> Result<(), Fail> {
     let (news, other) = (news(&rt)?, other(&rt)?);
-    let (news, other) = (news.as_slice(), other.as_slice());
-    let conflict = CliFault::Merge(Dot { replica: A, seq: 1 });
     let no_log = CliFault::Log(2, LogFault::BadMagic);
-    for (logs, fault) in [
-        ([news, other, b"abc"], no_log),
-        ([news, news, other], conflict),
-    ] {
-        let mut inputs = [
-            Latch::new(logs[0]),
-            Latch::new(logs[1]),
-            Latch::new(logs[2]),
-        ];
-        let mut output = Latch::new(Vec::new(rt.alloc()));
-        assert_eq!(rt;
-            merge_logs(rt.alloc(), &mut inputs, &mut output),
-            Err(fault)
-        );
-        assert!(rt; !output.failed());
-        assert!(rt; output.into_inner().is_empty());
-    }
+    assert!(rt; merge_three(rt.alloc(), [&news, &other, b"abc"]) == Err(no_log));
+    let conflict = CliFault::Merge(Dot { replica: A, seq: 1 });
+    assert!(rt; merge_three(rt.alloc(), [&news, &news, &other]) == Err(conflict));
     Ok(())
+}
+
+// What a merge of one log answers where the read of this number fails.
+fn merge_cut(alloc: Global, news: &[u8], fails_at: usize) -> Result<bool, CliFault> {
+    merge(
+        alloc,
+        &mut [Latch::new(SlowReader::new(news, fails_at))],
+        b"",
+    )
 }
 
 // failing_devices
 #[test]
-fn each_read_and_each_write_fails_in_turn(rt: HostRuntime) -> Result<(), Fail> {
+fn each_read_fails_in_turn(rt: HostRuntime) -> Result<(), Fail> {
     let news = news(&rt)?;
     for fails_at in 0..news.len() + 1 {
-        let mut inputs = [Latch::new(SlowReader::new(&news, fails_at))];
-        let mut output = Latch::new(Vec::new(rt.alloc()));
-        let merged = merge_logs(rt.alloc(), &mut inputs, &mut output);
-        assert_eq!(rt; merged, Err(CliFault::Read(0)), "at {fails_at}");
-        assert!(rt; output.into_inner().is_empty());
+        assert!(rt;
+            merge_cut(rt.alloc(), &news, fails_at) == Err(CliFault::Read(0)),
+            "at {fails_at}"
+        );
     }
-    for fails_at in 0..news.len() + 1 {
-        let mut inputs = [Latch::new(SlowReader::new(&news, usize::MAX))];
-        let mut output = Latch::new(FailingWriter::new(rt.alloc(), fails_at, ErrorKind::Other));
-        let merged = merge_logs(rt.alloc(), &mut inputs, &mut output);
-        if fails_at < news.len() {
-            assert_eq!(rt; merged, Err(CliFault::Write), "at {fails_at}");
-            assert!(rt; output.failed());
-        } else {
-            assert_eq!(rt; merged, Ok(()));
-        }
-        assert_eq!(rt; output.into_inner().written(), &news[..fails_at]);
+    Ok(())
+}
+
+// Whether a merge stops where the writer fails behind so many bytes.
+fn stops_behind(alloc: Global, news: &[u8], good: usize) -> bool {
+    let mut inputs = [Latch::new(SlowReader::new(news, usize::MAX))];
+    let mut output = Latch::new(FailingWriter::new(alloc, good, ErrorKind::Other));
+    let answer = merge_logs(alloc, &mut inputs, &mut output);
+    is_cut(answer, output, news, good)
+}
+
+#[test]
+fn each_write_fails_in_turn(rt: HostRuntime) -> Result<(), Fail> {
+    let news = news(&rt)?;
+    for good in 0..news.len() + 1 {
+        assert!(rt; stops_behind(rt.alloc(), &news, good), "behind {good}");
     }
     Ok(())
 }

@@ -1,30 +1,46 @@
 //! Each growth of a view and of a merge refused in turn, until a run meets no refusal.
 use super::views::LATE_TEXT;
-use super::{late, news};
+use super::{late, news, told};
 use mt_cli::{CliFault, merge_logs, view_log, view_logs};
 use mt_opcodec::Latch;
 use mt_testkit::Refusing;
+use std::alloc::{Allocator, Global};
 use std::test::Fail;
+
+// What a view of two logs answers.
+fn view_two<M: Allocator + Clone>(
+    memory: M,
+    alloc: Global,
+    (news, late): (&[u8], &[u8]),
+) -> Result<bool, CliFault> {
+    let mut inputs = [Latch::new(news), Latch::new(late)];
+    let mut output = Latch::new(Vec::new(alloc));
+    let answer = view_logs(memory, &mut inputs, &mut output);
+    told(answer, output, LATE_TEXT.as_bytes())
+}
 
 #[test]
 fn of_two_logs(rt: HostRuntime) -> Result<(), Fail> {
     let (news, late) = (news(&rt)?, late(&rt)?);
     for at in 0..100 {
         let memory = Refusing::new(rt.alloc(), at);
-        let mut inputs = [Latch::new(news.as_slice()), Latch::new(late.as_slice())];
-        let mut output = Latch::new(Vec::new(rt.alloc()));
-        let shown = view_logs(&memory, &mut inputs, &mut output);
-        assert!(rt; !output.failed());
+        let shown = view_two(&memory, rt.alloc(), (&news, &late));
         if !memory.has_refused() {
-            assert_eq!(rt; shown, Ok(()));
-            assert_eq!(rt; output.into_inner().as_slice(), LATE_TEXT.as_bytes());
+            assert!(rt; shown == Ok(true));
             assert!(rt; at > 10, "several growths were refused");
             return Ok(());
         }
-        assert_eq!(rt; shown, Err(CliFault::Memory), "at {at}");
-        assert!(rt; output.into_inner().is_empty(), "at {at}");
+        assert!(rt; shown == Err(CliFault::Memory), "at {at}");
     }
     Err(Fail::from("each run met a refusal"))
+}
+
+// What a view of one log answers.
+fn view_one<M: Allocator + Clone>(memory: M, alloc: Global, late: &[u8]) -> Result<bool, CliFault> {
+    let mut input = Latch::new(late);
+    let mut output = Latch::new(Vec::new(alloc));
+    let answer = view_log(memory, &mut input, &mut output);
+    told(answer, output, b"held 1\n")
 }
 
 #[test]
@@ -32,20 +48,33 @@ fn of_one_log(rt: HostRuntime) -> Result<(), Fail> {
     let late = late(&rt)?;
     for at in 0..100 {
         let memory = Refusing::new(rt.alloc(), at);
-        let mut input = Latch::new(late.as_slice());
-        let mut output = Latch::new(Vec::new(rt.alloc()));
-        let shown = view_log(&memory, &mut input, &mut output);
-        assert!(rt; !output.failed());
+        let shown = view_one(&memory, rt.alloc(), &late);
         if !memory.has_refused() {
-            assert_eq!(rt; shown, Ok(()));
-            assert_eq!(rt; output.into_inner().as_slice(), b"held 1\n".as_slice());
+            assert!(rt; shown == Ok(true));
             assert!(rt; at > 4, "several growths were refused");
             return Ok(());
         }
-        assert_eq!(rt; shown, Err(CliFault::Memory), "at {at}");
-        assert!(rt; output.into_inner().is_empty(), "at {at}");
+        assert!(rt; shown == Err(CliFault::Memory), "at {at}");
     }
     Err(Fail::from("each run met a refusal"))
+}
+
+// How many bytes a merge of two logs writes, or its refusal where it writes none.
+fn merge_two<M: Allocator + Clone>(
+    memory: M,
+    alloc: Global,
+    (news, late): (&[u8], &[u8]),
+) -> Result<usize, CliFault> {
+    let mut inputs = [Latch::new(news), Latch::new(late)];
+    let mut output = Latch::new(Vec::new(alloc));
+    let answer = merge_logs(memory, &mut inputs, &mut output);
+    let failed = output.failed();
+    let written = output.into_inner().len();
+    match answer {
+        Ok(()) if !failed => Ok(written),
+        Err(fault) if !failed && written == 0 => Err(fault),
+        _ => Ok(0),
+    }
 }
 
 #[test]
@@ -53,19 +82,14 @@ fn of_merged_logs(rt: HostRuntime) -> Result<(), Fail> {
     let (news, late) = (news(&rt)?, late(&rt)?);
     for at in 0..100 {
         let memory = Refusing::new(rt.alloc(), at);
-        let mut inputs = [Latch::new(news.as_slice()), Latch::new(late.as_slice())];
-        let mut output = Latch::new(Vec::new(rt.alloc()));
-        let merged = merge_logs(&memory, &mut inputs, &mut output);
-        assert!(rt; !output.failed());
+        let merged = merge_two(&memory, rt.alloc(), (&news, &late));
         if !memory.has_refused() {
-            assert_eq!(rt; merged, Ok(()));
             // the frame of a log, a marker of 42 bytes and a title of 70
-            assert_eq!(rt; output.into_inner().len(), 45 + 42 + 70);
+            assert!(rt; merged == Ok(45 + 42 + 70));
             assert!(rt; at > 10, "several growths were refused");
             return Ok(());
         }
-        assert_eq!(rt; merged, Err(CliFault::Memory), "at {at}");
-        assert!(rt; output.into_inner().is_empty(), "at {at}");
+        assert!(rt; merged == Err(CliFault::Memory), "at {at}");
     }
     Err(Fail::from("each run met a refusal"))
 }

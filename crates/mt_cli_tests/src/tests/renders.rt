@@ -15,69 +15,111 @@ fn one_clip(alloc: Global) -> Result<Vec<u8>, Fail> {
     Ok(log_of_a_clip(alloc, 3)?.write()?)
 }
 
-// The answer for these logs and recordings, and what was written. A text of which only a part is read is a reader that fails.
-fn render<M: Allocator + Clone>(
+// Readers of these texts, each of which fails at the read of its number.
+fn readers<'a>(alloc: Global, texts: &[(&'a [u8], usize)]) -> Option<Vec<Latch<SlowReader<'a>>>> {
+    let mut readers = Vec::new(alloc);
+    for (text, fails_at) in texts {
+        if readers
+            .push(Latch::new(SlowReader::new(text, *fails_at)))
+            .is_err()
+        {
+            return None;
+        }
+    }
+    Some(readers)
+}
+
+// Whether a file is that of three samples.
+fn is_of_three_samples(file: &[u8]) -> bool {
+    file.len() == 692
+        && file.get(..8) == Some(b"RIFF\xac\x02\0\0".as_slice())
+        && file.get(674..) == Some(b"data\x09\0\0\0\x01\0\0\x02\0\0\x03\0\0\0".as_slice())
+}
+
+// Whether the file of three samples was written, or the refusal where nothing was.
+fn rendered(answer: Result<(), CliFault>, file: &[u8]) -> Result<bool, CliFault> {
+    match answer {
+        Ok(()) => Ok(is_of_three_samples(file)),
+        Err(fault) => {
+            if file.is_empty() {
+                Err(fault)
+            } else {
+                Ok(false)
+            }
+        }
+    }
+}
+
+// The same of these readers.
+fn render_readers<'a, M: Allocator + Clone>(
     memory: M,
     alloc: Global,
-    logs: &[(&[u8], usize)],
-    sources: &[(&[u8], usize)],
-) -> Result<(Result<(), CliFault>, Vec<u8>), Fail> {
-    let (mut first, mut second) = (Vec::new(alloc), Vec::new(alloc));
-    for (text, good) in logs {
-        first.push(Latch::new(SlowReader::new(text, *good)))?;
-    }
-    for (text, good) in sources {
-        second.push(Latch::new(SlowReader::new(text, *good)))?;
-    }
-    let head = Head::new("", "", "", "2000-01-01", "00:00:00", 0)?;
+    logs: &mut [Latch<SlowReader<'a>>],
+    sources: &mut [Latch<SlowReader<'a>>],
+) -> Result<bool, CliFault> {
+    let Ok(head) = Head::new("", "", "", "2000-01-01", "00:00:00", 0) else {
+        return Ok(false);
+    };
+    let Ok(format) = Format::new(48000, 24, 1) else {
+        return Ok(false);
+    };
     let mut output = Latch::new(Vec::new(alloc));
-    let answer = bounce_logs(
-        memory,
-        &mut first,
-        &mut second,
-        &head,
-        Format::new(48000, 24, 1)?,
-        &mut output,
-    );
-    Ok((answer, output.into_inner()))
+    let answer = bounce_logs(memory, logs, sources, &head, format, &mut output);
+    rendered(answer, &output.into_inner())
 }
+
+// The same of these logs and recordings. A text of which only a part is read is a reader that fails.
+fn render<'a, M: Allocator + Clone>(
+    memory: M,
+    alloc: Global,
+    logs: &[(&'a [u8], usize)],
+    sources: &[(&'a [u8], usize)],
+) -> Result<bool, CliFault> {
+    let Some(mut logs) = readers(alloc, logs) else {
+        return Ok(false);
+    };
+    let Some(mut sources) = readers(alloc, sources) else {
+        return Ok(false);
+    };
+    render_readers(memory, alloc, &mut logs, &mut sources)
+}
+
+const WHOLE: usize = 9999;
 
 // three_sample_file
 #[test]
 fn renders_three_samples(rt: HostRuntime) -> Result<(), Fail> {
     let log = one_clip(rt.alloc())?;
     let empty = Log::new(rt.alloc()).write()?;
-    let logs = [(log.as_slice(), 9999), (empty.as_slice(), 9999)];
-    let (answer, file) = render(rt.alloc(), rt.alloc(), &logs, &[(RECORDING, 9999)])?;
-    assert_eq!(rt; answer, Ok(()));
-    assert_eq!(rt; file.len(), 692);
-    assert!(rt; file.get(..8) == Some(b"RIFF\xac\x02\0\0".as_slice()));
-    assert!(rt; file.get(674..) == Some(b"data\x09\0\0\0\x01\0\0\x02\0\0\x03\0\0\0".as_slice()));
+    let logs = [(log.as_slice(), WHOLE), (empty.as_slice(), WHOLE)];
+    let found = render(rt.alloc(), rt.alloc(), &logs, &[(RECORDING, WHOLE)]);
+    assert!(rt; found == Ok(true));
     Ok(())
-}
-
-// The refusal of these logs and recordings, none where something was written.
-fn refusal(
-    alloc: Global,
-    logs: &[(&[u8], usize)],
-    sources: &[(&[u8], usize)],
-) -> Result<Option<CliFault>, Fail> {
-    let (answer, file) = render(alloc, alloc, logs, sources)?;
-    Ok(if file.is_empty() { answer.err() } else { None })
 }
 
 // failing_devices: readers are counted through, and recordings by themselves
 #[test]
 fn names_the_reader_at_fault(rt: HostRuntime) -> Result<(), Fail> {
     let log = one_clip(rt.alloc())?;
-    let logs = [(log.as_slice(), 9999), (log.as_slice(), 9999)];
-    let cut = [logs[0], (log.as_slice(), 20)];
-    let found = refusal(rt.alloc(), &cut, &[(RECORDING, 20)])?;
-    assert_eq!(rt; found, Some(CliFault::Read(1)));
-    let found = refusal(rt.alloc(), &logs, &[(RECORDING, 9999), (RECORDING, 20)])?;
-    assert_eq!(rt; found, Some(CliFault::Read(3)));
-    let found = refusal(rt.alloc(), &logs, &[(RECORDING, 9999), (b"RIFX", 9999)])?;
-    assert_eq!(rt; found, Some(CliFault::Source(1, WaveFault::NotRiff)));
+    let (whole, cut) = ((log.as_slice(), WHOLE), (log.as_slice(), 20));
+    let recording = (RECORDING, WHOLE);
+    for (second, source, fault) in [
+        (cut, (RECORDING, 20), CliFault::Read(1)),
+        (whole, (RECORDING, 20), CliFault::Read(3)),
+        (
+            whole,
+            (b"RIFX".as_slice(), WHOLE),
+            CliFault::Source(1, WaveFault::NotRiff),
+        ),
+    ] {
+        let found = render(
+            rt.alloc(),
+            rt.alloc(),
+            &[whole, second],
+            &[recording, source],
+        );
+        assert!(rt; found == Err(fault));
+    }
     Ok(())
 }
 
@@ -85,15 +127,15 @@ fn names_the_reader_at_fault(rt: HostRuntime) -> Result<(), Fail> {
 fn refuses_in_order(rt: HostRuntime) -> Result<(), Fail> {
     let log = one_clip(rt.alloc())?;
     let another = other(&rt)?;
-    let logs = [(log.as_slice(), 9999)];
-    let found = refusal(rt.alloc(), &[(b"RMTS", 9999)], &[(RECORDING, 0)])?;
-    assert_eq!(rt; found, Some(CliFault::Log(0, LogFault::BadVersion)));
-    let both = [logs[0], (another.as_slice(), 9999)];
-    let found = refusal(rt.alloc(), &both, &[(RECORDING, 0)])?;
-    assert!(rt; matches!(found, Some(CliFault::Merge(_))));
-    let found = refusal(rt.alloc(), &logs, &[])?;
+    let unread = [(RECORDING, 0)];
+    let found = render(rt.alloc(), rt.alloc(), &[(b"RMTS", WHOLE)], &unread);
+    assert!(rt; found == Err(CliFault::Log(0, LogFault::BadVersion)));
+    let both = [(log.as_slice(), WHOLE), (another.as_slice(), WHOLE)];
+    let found = render(rt.alloc(), rt.alloc(), &both, &unread);
+    assert!(rt; matches!(found, Err(CliFault::Merge(_))));
+    let found = render(rt.alloc(), rt.alloc(), &[(log.as_slice(), WHOLE)], &[]);
     let missing = MixFault::MissingSource(Digest::of(RECORDING));
-    assert_eq!(rt; found, Some(CliFault::Mix(missing)));
+    assert!(rt; found == Err(CliFault::Mix(missing)));
     Ok(())
 }
 
@@ -101,18 +143,15 @@ fn refuses_in_order(rt: HostRuntime) -> Result<(), Fail> {
 #[test]
 fn refuses_each_growth(rt: HostRuntime) -> Result<(), Fail> {
     let log = one_clip(rt.alloc())?;
-    let logs = [(log.as_slice(), 9999)];
     for at in 0..200 {
         let memory = Refusing::new(rt.alloc(), at);
-        let (answer, file) = render(&memory, rt.alloc(), &logs, &[(RECORDING, 9999)])?;
+        let found = render(&memory, rt.alloc(), &[(&log, WHOLE)], &[(RECORDING, WHOLE)]);
         if !memory.has_refused() {
-            assert_eq!(rt; answer, Ok(()));
-            assert_eq!(rt; file.len(), 692);
+            assert!(rt; found == Ok(true));
             assert!(rt; at > 10, "several growths were refused");
             return Ok(());
         }
-        assert_eq!(rt; answer, Err(CliFault::Memory), "at {at}");
-        assert!(rt; file.is_empty(), "at {at}");
+        assert!(rt; found == Err(CliFault::Memory), "at {at}");
     }
     Err(Fail::from("each run met a refusal"))
 }

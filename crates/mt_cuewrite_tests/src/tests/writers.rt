@@ -1,128 +1,166 @@
 //! Outputs that fail, or take little at once.
 
-use super::fakes::{Counter, FailsAt, Narrow};
 use super::{bounce_log, file_of};
 use mt_cuewrite::BounceFault;
 use mt_opcodec::{Latch, Log};
-use mt_testkit::{Refusing, log_of_a_clip};
-use std::alloc::Global;
+use mt_testkit::{FailingWriter, Refusing, log_of_a_clip};
+use std::alloc::{Allocator, Global};
+use std::io::ErrorKind;
 use std::test::Fail;
 
-// What a writer holds that takes so many bytes at once and in all, and the answer.
-fn written(
+// What came of writing a file.
+#[derive(Clone, Copy, Debug, PartialEq, Eq)]
+struct Written {
+    answer: Result<(), BounceFault>,
+    // how many bytes the writer holds, if they are those that the file begins with
+    held: Option<usize>,
+    // how many writes there were
+    asked: usize,
+}
+
+// How many bytes these are, if the file begins with them.
+fn front_of(file: &[u8], held: &[u8]) -> Option<usize> {
+    if file.starts_with(held) {
+        Some(held.len())
+    } else {
+        None
+    }
+}
+
+// What comes of writing the file of a log to a writer that takes so many bytes at once, and so many times.
+fn write_log(
     alloc: Global,
     log: &Log,
-    at_once: usize,
-    left: usize,
-) -> Result<(Result<(), BounceFault>, Vec<u8>, usize), Fail> {
-    let mut output = Latch::new(Narrow::new(alloc, at_once, left));
+    file: &[u8],
+    (at_once, good): (usize, usize),
+) -> Option<Written> {
+    let writer = FailingWriter::of_pieces(alloc, at_once, good, ErrorKind::Other);
+    let mut output = Latch::new(writer);
     let answer = bounce_log(alloc, alloc, log, 1, &mut output)?;
     let writer = output.into_inner();
-    Ok((answer, writer.written().to_vec(alloc)?, writer.asked()))
+    Some(Written {
+        answer,
+        held: front_of(file, writer.written()),
+        asked: writer.asked(),
+    })
+}
+
+// The same, with the file as it is written to memory.
+fn write_twice(alloc: Global, log: &Log, pieces: (usize, usize)) -> Option<Written> {
+    let file = file_of(alloc, log)?;
+    write_log(alloc, log, &file, pieces)
+}
+
+// The same of a log of so many frames.
+fn write_frames(
+    alloc: Global,
+    frames: u32,
+    pieces: (usize, usize),
+) -> Result<Option<Written>, Fail> {
+    let log = log_of_a_clip(alloc, frames)?;
+    Ok(write_twice(alloc, &log, pieces))
 }
 
 // failing_devices
 #[test]
 fn stops_after_100_bytes(rt: HostRuntime) -> Result<(), Fail> {
-    let log = log_of_a_clip(rt.alloc(), 3)?;
-    let file = file_of(rt.alloc(), &log)?;
-    let (answer, held, _asked) = written(rt.alloc(), &log, 1000, 100)?;
-    assert_eq!(rt; answer, Err(BounceFault::Write));
-    assert!(rt; Some(held.as_slice()) == file.get(..100));
+    let wanted = Written {
+        answer: Err(BounceFault::Write),
+        held: Some(100),
+        asked: 2,
+    };
+    assert!(rt; write_frames(rt.alloc(), 3, (100, 1))? == Some(wanted));
     Ok(())
 }
 
 #[test]
 fn takes_one_byte_at_a_time(rt: HostRuntime) -> Result<(), Fail> {
-    let log = log_of_a_clip(rt.alloc(), 3)?;
-    let file = file_of(rt.alloc(), &log)?;
-    let (answer, held, asked) = written(rt.alloc(), &log, 1, 10000)?;
-    assert_eq!(rt; answer, Ok(()));
-    assert!(rt; held == file);
-    assert_eq!(rt; asked, 692);
+    let wanted = Written {
+        answer: Ok(()),
+        held: Some(692),
+        asked: 692,
+    };
+    assert!(rt; write_frames(rt.alloc(), 3, (1, 10000))? == Some(wanted));
     Ok(())
 }
 
 #[test]
 fn stops_where_no_byte_is_taken(rt: HostRuntime) -> Result<(), Fail> {
-    let log = log_of_a_clip(rt.alloc(), 3)?;
-    let (answer, held, asked) = written(rt.alloc(), &log, 0, 10000)?;
-    assert_eq!(rt; answer, Err(BounceFault::Write));
-    assert_eq!(rt; held.len(), 0);
-    assert_eq!(rt; asked, 1);
+    let wanted = Written {
+        answer: Err(BounceFault::Write),
+        held: Some(0),
+        asked: 1,
+    };
+    assert!(rt; write_frames(rt.alloc(), 3, (0, 10000))? == Some(wanted));
     Ok(())
 }
 
-// What a writer holds that fails at the write of this number, and whether it was asked again, and the answer.
-fn failing_at(
-    alloc: Global,
-    log: &Log,
-    number: usize,
-) -> Result<(Result<(), BounceFault>, Vec<u8>, bool), Fail> {
-    let mut output = Latch::new(FailsAt::new(alloc, number));
-    let answer = bounce_log(alloc, alloc, log, 1, &mut output)?;
-    let writer = output.into_inner();
-    Ok((answer, writer.written().to_vec(alloc)?, writer.past()))
+// Whether a file is not written, and the writer is not asked again behind the write that failed.
+fn fails_after(told: Option<Written>, good: usize) -> bool {
+    match told {
+        Some(told) => {
+            told.answer == Err(BounceFault::Write)
+                && told.held.is_some()
+                && told.asked == good.saturating_add(1)
+        }
+        None => false,
+    }
 }
 
 #[test]
 fn stops_at_each_failed_write(rt: HostRuntime) -> Result<(), Fail> {
-    let log = log_of_a_clip(rt.alloc(), 20000)?;
-    let file = file_of(rt.alloc(), &log)?;
     // the head, and five blocks
-    for number in 1..100 {
-        let (answer, held, past) = failing_at(rt.alloc(), &log, number)?;
-        assert!(rt; !past, "asked again after write {number}");
-        assert!(rt; file.starts_with(&held), "write {number}");
-        if answer.is_ok() {
-            assert!(rt; held == file);
-            assert_eq!(rt; number, 7);
-            return Ok(());
-        }
-        assert_eq!(rt; answer, Err(BounceFault::Write), "write {number}");
+    for good in 0..6 {
+        let told = write_frames(rt.alloc(), 20000, (usize::MAX, good))?;
+        assert!(rt; fails_after(told, good), "after {good}");
     }
-    Err(Fail::from("each run met a failed write"))
+    let whole = Written {
+        answer: Ok(()),
+        held: Some(60682),
+        asked: 6,
+    };
+    assert!(rt; write_frames(rt.alloc(), 20000, (usize::MAX, 6))? == Some(whole));
+    Ok(())
 }
 
-// How many bytes a file of so many frames on two channels has, and how many of them are written at once at most.
-fn sizes(alloc: Global, frames: u32) -> Result<(usize, usize), Fail> {
-    let log = log_of_a_clip(alloc, frames)?;
-    let mut output = Latch::new(Counter::new());
-    bounce_log(alloc, alloc, &log, 2, &mut output)??;
-    let counter = output.into_inner();
-    Ok((counter.total, counter.greatest))
+// How many bytes the file of a log on two channels has, and how many of them are written at once at most.
+fn sizes(alloc: Global, log: &Log) -> Option<(usize, usize)> {
+    let writer = FailingWriter::of_pieces(alloc, usize::MAX, usize::MAX, ErrorKind::Other);
+    let mut output = Latch::new(writer);
+    let answer = bounce_log(alloc, alloc, log, 2, &mut output);
+    let writer = output.into_inner();
+    if answer == Some(Ok(())) {
+        Some((writer.written().len(), writer.greatest()))
+    } else {
+        None
+    }
 }
 
 #[test]
 fn writes_block_by_block(rt: HostRuntime) -> Result<(), Fail> {
-    let (total, greatest) = sizes(rt.alloc(), 10000)?;
-    assert_eq!(rt; total, 60684);
-    assert_eq!(rt; greatest, 24576);
+    let log = log_of_a_clip(rt.alloc(), 10000)?;
+    assert!(rt; sizes(rt.alloc(), &log) == Some((60684, 24576)));
     Ok(())
 }
 
-// The answer where the growth of this number is refused, whether one was, and how many bytes were written.
-fn without_memory(
+// The answer over a memory, and how many bytes were written.
+fn write_in<M: Allocator>(
+    memory: M,
     alloc: Global,
     log: &Log,
-    number: u64,
-) -> Result<(Result<(), BounceFault>, bool, usize), Fail> {
-    let memory = Refusing::new(alloc, number);
-    let mut output = Latch::new(Counter::new());
-    let answer = bounce_log(&memory, alloc, log, 1, &mut output)?;
-    Ok((answer, memory.has_refused(), output.into_inner().total))
+) -> Option<(Result<(), BounceFault>, usize)> {
+    let mut output = Latch::new(Vec::new(alloc));
+    let answer = bounce_log(memory, alloc, log, 1, &mut output)?;
+    Some((answer, output.into_inner().len()))
 }
 
 #[test]
 fn refuses_its_one_growth(rt: HostRuntime) -> Result<(), Fail> {
     let log = log_of_a_clip(rt.alloc(), 5000)?;
-    assert_eq!(rt;
-        without_memory(rt.alloc(), &log, 0)?,
-        (Err(BounceFault::Memory), true, 0)
-    );
-    assert_eq!(rt;
-        without_memory(rt.alloc(), &log, 1)?,
-        (Ok(()), false, 15682)
-    );
+    for (number, wanted) in [(0, (Err(BounceFault::Memory), 0)), (1, (Ok(()), 15682))] {
+        let memory = Refusing::new(rt.alloc(), number);
+        assert!(rt; write_in(&memory, rt.alloc(), &log) == Some(wanted));
+        assert!(rt; memory.has_refused() == wanted.0.is_err());
+    }
     Ok(())
 }

@@ -1,77 +1,101 @@
 //! What is refused: mixes, formats, recordings and memory.
 
 use super::limits::placed;
-use super::{change, one_clip, two_clips, wave};
+use super::{Act, CLIP, Key, OTHER, TRACK, catalogue_of, one_clip, session_of, two_clips, wave};
 use mt_bwfread::WaveFault;
-use mt_op::{Body, Digest, Op};
-use mt_opcodec::Log;
+use mt_op::Digest;
 use mt_render::{Catalogue, Format, FormatFault, Mix, MixFault, SourceFault};
-use mt_sessionview::{Session, from_scratch};
-use mt_stamp::Stamp;
-use mt_testkit::{A, B, Refusing, add_track};
+use mt_sessionview::Session;
+use mt_testkit::{A, Refusing};
 use std::alloc::{Allocator, Global};
 use std::test::Fail;
 
-// The fault of a mix at 256 frames a second, 16 bits and one channel, over these recordings; none where it is made.
-pub fn fault(alloc: Global, log: &Log, sources: &[&[u8]]) -> Result<Option<MixFault>, Fail> {
-    let session = from_scratch(alloc, log)?;
-    let mut catalogue = Catalogue::new(alloc);
-    for bytes in sources {
-        let _digest = catalogue.add(bytes)?;
+// What a mix of a session at 256 frames a second, 16 bits and one channel answers over these recordings.
+fn mixed_session(
+    alloc: Global,
+    session: &Session,
+    sources: &[&[u8]],
+) -> Option<Result<(), MixFault>> {
+    let catalogue = catalogue_of(alloc, sources)?;
+    let format = Format::new(256, 16, 1).ok()?;
+    match Mix::new(alloc, session, &catalogue, format) {
+        Ok(_) => Some(Ok(())),
+        Err(fault) => Some(Err(fault)),
     }
-    Ok(Mix::new(alloc, &session, &catalogue, Format::new(256, 16, 1)?).err())
+}
+
+// The same of a log of these acts.
+pub fn mixed(
+    alloc: Global,
+    acts: &[(Key, Act)],
+    sources: &[&[u8]],
+) -> Option<Result<(), MixFault>> {
+    let session = session_of(&alloc, acts)?;
+    mixed_session(alloc, &session, sources)
+}
+
+const ABSENT: Digest = Digest([9; 32]);
+
+// Two clips, the second of a recording that is absent; then that clip is muted, and then the track.
+fn clips_and_mutes(first: Digest) -> [(Key, Act); 5] {
+    let clips = two_clips(first, ABSENT, 0);
+    [
+        clips[0],
+        clips[1],
+        clips[2],
+        ((7, A, 3), Act::Mute(OTHER)),
+        ((8, A, 4), Act::Mute(TRACK)),
+    ]
 }
 
 // missing_sources: covered clips count, muted ones do not
 #[test]
 fn misses_recordings_before_it_looks_at_rates(rt: HostRuntime) -> Result<(), Fail> {
     let other = wave(rt.alloc(), 2, 1, 16, &[100, 0, 100, 0])?;
-    let (absent, of_other) = (Digest([9; 32]), Digest::of(&other));
-    let mut log = two_clips(rt.alloc(), of_other, absent, 0)?;
-    assert_eq!(rt;
-        fault(rt.alloc(), &log, &[&other])?,
-        Some(MixFault::MissingSource(absent))
-    );
-    let item = Stamp::new(6, B, 1)?;
-    change(
-        &mut log,
-        Stamp::new(7, A, 3)?,
-        Body::SetMute { item, on: true },
-    )?;
-    assert_eq!(rt;
-        fault(rt.alloc(), &log, &[&other])?,
-        Some(MixFault::RateDiffers(of_other))
-    );
-    let item = Stamp::new(1, A, 1)?;
-    change(
-        &mut log,
-        Stamp::new(8, A, 4)?,
-        Body::SetMute { item, on: true },
-    )?;
-    assert_eq!(rt; fault(rt.alloc(), &log, &[])?, None);
+    let of_other = Digest::of(&other);
+    for (count, fault) in [
+        (3, MixFault::MissingSource(ABSENT)),
+        (4, MixFault::RateDiffers(of_other)),
+    ] {
+        let acts = clips_and_mutes(of_other);
+        let first = acts.get(..count).unwrap_or(&[]);
+        let refused = mixed(rt.alloc(), first, &[&other]);
+        assert!(rt; refused == Some(Err(fault)));
+    }
     Ok(())
 }
 
-// The length and the format of a mix over no recording.
-fn made_of_none(alloc: Global, log: &Log, format: Format) -> Result<(u64, Format), Fail> {
-    let session = from_scratch(alloc, log)?;
+#[test]
+fn needs_no_recording_where_all_is_muted(rt: HostRuntime) {
+    let acts = clips_and_mutes(Digest([8; 32]));
+    assert!(rt; mixed(rt.alloc(), &acts, &[]) == Some(Ok(())));
+}
+
+// The length and the format of a mix of a session over no recording.
+fn made_of_session(alloc: Global, session: &Session, format: Format) -> Option<(u64, Format)> {
     let catalogue = Catalogue::new(alloc);
-    let mix = Mix::new(alloc, &session, &catalogue, format)?;
-    Ok((mix.length(), mix.format()))
+    match Mix::new(alloc, session, &catalogue, format) {
+        Ok(mix) => {
+            mix.block(0, &mut []);
+            Some((mix.length(), mix.format()))
+        }
+        Err(_) => None,
+    }
+}
+
+// The same of a log of these acts.
+pub fn made_of_none(alloc: Global, acts: &[(Key, Act)], format: Format) -> Option<(u64, Format)> {
+    let session = session_of(&alloc, acts)?;
+    made_of_session(alloc, &session, format)
 }
 
 // missing_sources: a muted clip has no length
 #[test]
 fn has_no_length_where_all_is_muted(rt: HostRuntime) -> Result<(), Fail> {
-    let mut log = one_clip(rt.alloc(), Digest([9; 32]), 1, 1)?;
-    let item = Stamp::new(2, A, 2)?;
-    change(
-        &mut log,
-        Stamp::new(7, A, 4)?,
-        Body::SetMute { item, on: true },
-    )?;
+    let clip = one_clip(ABSENT, (1, 1));
+    let acts = [clip[0], clip[1], clip[2], ((7, A, 4), Act::Mute(CLIP))];
     let format = Format::new(256, 16, 1)?;
-    assert_eq!(rt; made_of_none(rt.alloc(), &log, format)?, (0, format));
+    assert!(rt; made_of_none(rt.alloc(), &acts, format) == Some((0, format)));
     Ok(())
 }
 
@@ -80,19 +104,19 @@ fn has_no_length_where_all_is_muted(rt: HostRuntime) -> Result<(), Fail> {
 fn is_too_long_past_4000000000_bytes(rt: HostRuntime) -> Result<(), Fail> {
     let bytes = wave(rt.alloc(), 1, 1, 16, &[100, 0])?;
     for (at, wanted) in [
-        (4294967295, Some(MixFault::TooLong)),
-        (2000000000, Some(MixFault::TooLong)),
-        (1999999999, None),
+        (4294967295, Err(MixFault::TooLong)),
+        (2000000000, Err(MixFault::TooLong)),
+        (1999999999, Ok(())),
     ] {
-        let log = placed(rt.alloc(), Digest::of(&bytes), (at, 0, 1))?;
-        assert_eq!(rt; fault(rt.alloc(), &log, &[&bytes])?, wanted, "{at}");
+        let acts = placed(Digest::of(&bytes), (at, 0, 1));
+        assert!(rt; mixed(rt.alloc(), &acts, &[&bytes]) == Some(wanted), "{at}");
     }
     Ok(())
 }
 
 // refused_formats
 #[test]
-fn refuses_formats(rt: HostRuntime) -> Result<(), Fail> {
+fn refuses_formats(rt: HostRuntime) {
     for (rate, bits, channels) in [
         (0, 16, 1),
         (384001, 16, 1),
@@ -101,17 +125,30 @@ fn refuses_formats(rt: HostRuntime) -> Result<(), Fail> {
         (48000, 16, 0),
         (48000, 16, 3),
     ] {
-        assert_eq!(rt;
-            Format::new(rate, bits, channels),
-            Err(FormatFault::BadFormat),
-            "{rate}"
-        );
+        let refused = Format::new(rate, bits, channels) == Err(FormatFault::BadFormat);
+        assert!(rt; refused, "{rate}");
     }
+}
+
+#[test]
+fn takes_a_format_at_its_limits(rt: HostRuntime) -> Result<(), Fail> {
     let format = Format::new(384000, 24, 2)?;
-    assert_eq!(rt; format.rate(), 384000);
-    assert_eq!(rt; format.bits(), 24);
-    assert_eq!(rt; format.channels(), 2);
+    assert!(rt; format.rate() == 384000);
+    assert!(rt; format.bits() == 24);
+    assert!(rt; format.channels() == 2);
     Ok(())
+}
+
+// Whether a recording is answered by its digest, once and again.
+fn is_kept<'a>(catalogue: &mut Catalogue<'a>, bytes: &'a [u8]) -> bool {
+    let digest = Digest::of(bytes);
+    catalogue.add(bytes) == Ok(digest) && catalogue.add(bytes) == Ok(digest)
+}
+
+// Whether bytes that are no recording are refused, and are not there.
+fn is_refused(catalogue: &mut Catalogue<'_>) -> bool {
+    catalogue.add(b"RIFX") == Err(SourceFault::Wave(WaveFault::NotRiff))
+        && catalogue.find(&Digest::of(b"RIFX")).is_none()
 }
 
 // smallest_wave
@@ -119,97 +156,86 @@ fn refuses_formats(rt: HostRuntime) -> Result<(), Fail> {
 fn keeps_the_first_bytes_of_a_digest(rt: HostRuntime) -> Result<(), Fail> {
     let bytes = wave(rt.alloc(), 1, 1, 8, &[0])?;
     let mut catalogue = Catalogue::new(rt.alloc());
-    assert_eq!(rt; catalogue.add(&bytes), Ok(Digest::of(&bytes)));
-    assert_eq!(rt; catalogue.add(&bytes), Ok(Digest::of(&bytes)));
-    assert_eq!(rt;
-        catalogue.add(b"RIFX"),
-        Err(SourceFault::Wave(WaveFault::NotRiff))
-    );
-    assert!(rt; catalogue.find(&Digest::of(b"RIFX")).is_none());
-    assert!(rt;
-        catalogue
-            .find(&Digest::of(&bytes))
-            .is_some_and(|found| found.frames() == 1)
-    );
+    assert!(rt; is_kept(&mut catalogue, &bytes));
+    assert!(rt; is_refused(&mut catalogue));
+    let found = catalogue.find(&Digest::of(&bytes));
+    assert!(rt; found.is_some_and(|found| found.frames() == 1));
     Ok(())
 }
 
 #[test]
-fn numbers_its_refusals(rt: HostRuntime) {
-    let digest = Digest([0; 32]);
-    assert_eq!(rt; SourceFault::Memory.number(), 0);
-    assert_eq!(rt; SourceFault::Wave(WaveFault::NoData).number(), 32);
-    assert_eq!(rt; FormatFault::BadFormat.number(), 47);
-    assert_eq!(rt; MixFault::Memory.number(), 0);
-    assert_eq!(rt; MixFault::MissingSource(digest).number(), 33);
-    assert_eq!(rt; MixFault::RateDiffers(digest).number(), 34);
-    assert_eq!(rt; MixFault::TooLong.number(), 35);
+fn numbers_refused_sources_and_formats(rt: HostRuntime) {
+    assert!(rt; SourceFault::Memory.number() == 0);
+    assert!(rt; SourceFault::Wave(WaveFault::NoData).number() == 32);
+    assert!(rt; FormatFault::BadFormat.number() == 47);
 }
 
-// The session of a track with one clip.
-fn session_of_a_clip<M: Allocator + Clone>(
-    memory: M,
-    track: Stamp,
-    clip: Stamp,
-    source: Digest,
-) -> Result<Session<M>, MixFault> {
-    let mut log = Log::new(memory.clone()?);
-    let placed = Body::AddClip {
-        source,
-        track,
-        at: 5,
-        offset: 0,
-        len: 2,
-    };
-    let (Ok(added), Ok(placed)) = (
-        add_track(memory.clone()?, track, None),
-        Op::new(clip, placed),
-    ) else {
-        return Err(MixFault::Memory);
-    };
-    if log.add(added).is_err() || log.add(placed).is_err() {
-        return Err(MixFault::Memory);
+#[test]
+fn numbers_refused_mixes(rt: HostRuntime) {
+    for (fault, number) in [
+        (MixFault::Memory, 0),
+        (MixFault::MissingSource(ABSENT), 33),
+        (MixFault::RateDiffers(ABSENT), 34),
+        (MixFault::TooLong, 35),
+    ] {
+        assert!(rt; fault.number() == number, "{number}");
     }
-    from_scratch(memory, &log).map_err(|_| MixFault::Memory)
 }
 
-// How long the mix of a session is.
-fn length_of<M: Allocator + Clone>(
+// How long the mix of a session over a catalogue is.
+fn length_over<M: Allocator + Clone>(
     memory: M,
     session: &Session<M>,
+    catalogue: &Catalogue<'_, M>,
+) -> Result<u64, MixFault> {
+    let Ok(format) = Format::new(256, 16, 1) else {
+        return Ok(0);
+    };
+    Ok(Mix::new(memory, session, catalogue, format)?.length())
+}
+
+// The same over a recording.
+fn length_of<M: Allocator + Clone>(
+    memory: &M,
+    session: &Session<M>,
     bytes: &[u8],
-    format: Format,
 ) -> Result<u64, MixFault> {
     let mut catalogue = Catalogue::new(memory.clone()?);
     if catalogue.add(bytes).is_err() {
         return Err(MixFault::Memory);
     }
-    Ok(Mix::new(memory, session, &catalogue, format)?.length())
+    length_over(memory.clone()?, session, &catalogue)
+}
+
+// The same of the session of a clip at frame 5; none where that is not made.
+fn length_of_a_clip<M: Allocator + Clone>(
+    memory: &M,
+    bytes: &[u8],
+) -> Option<Result<u64, MixFault>> {
+    let session = session_of(memory, &placed(Digest::of(bytes), (5, 0, 2)))?;
+    Some(length_of(memory, &session, bytes))
 }
 
 #[test]
 fn refuses_each_growth(rt: HostRuntime) -> Result<(), Fail> {
     let bytes = wave(rt.alloc(), 1, 1, 16, &[1, 0, 2, 0])?;
-    let (track, clip) = (Stamp::new(1, A, 1)?, Stamp::new(2, A, 2)?);
-    let format = Format::new(256, 16, 1)?;
     let mut made_with = 0;
     for at in 0..200u64 {
         let memory = Refusing::new(rt.alloc(), at);
-        let Ok(session) = session_of_a_clip(&memory, track, clip, Digest::of(&bytes)) else {
-            made_with = at;
-            continue;
-        };
-        let length = length_of(&memory, &session, &bytes, format);
-        assert_eq!(rt; length.is_err(), memory.has_refused(), "at {at}");
+        let length = length_of_a_clip(&&memory, &bytes);
         if !memory.has_refused() {
-            assert_eq!(rt; length, Ok(7));
+            assert!(rt; length == Some(Ok(7)));
             assert!(rt;
                 at.saturating_sub(made_with) > 3,
                 "catalogue, segments and parts grew"
             );
             return Ok(());
         }
-        assert_eq!(rt; length, Err(MixFault::Memory));
+        if length.is_none() {
+            made_with = at;
+        } else {
+            assert!(rt; length == Some(Err(MixFault::Memory)), "at {at}");
+        }
     }
     Err(Fail::from("each run met a refusal"))
 }

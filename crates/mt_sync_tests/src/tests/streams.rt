@@ -31,20 +31,20 @@ struct Heard {
 
 // What a new answerer of this editor answers to a piece and then to no byte.
 fn hears_in<M: Allocator + Clone>(
-    memory: M,
+    memory: &M,
     frames: Global,
     editor: &mut Editor<M>,
     piece: &[u8],
-) -> Heard {
-    let mut talk = Talk::answer(memory, frames);
+) -> Result<Heard, TalkFault> {
+    let mut talk = Talk::answer(memory.clone()?, frames);
     let first = fed(&mut talk, editor, piece);
     let again = fed(&mut talk, editor, &[]);
-    Heard {
+    Ok(Heard {
         first,
         again,
         ended: talk.ended(),
         held: held(editor),
-    }
+    })
 }
 
 // The same, of an editor with no operation.
@@ -53,9 +53,10 @@ fn hears<M: Allocator + Clone>(
     frames: Global,
     piece: &[u8],
 ) -> Result<Heard, TalkFault> {
-    let answerer = memory.clone()?;
-    let mut editor = editor_of(memory, &[])?;
-    Ok(hears_in(answerer, frames, &mut editor, piece))
+    match editor_of(memory, &[]) {
+        Ok(mut editor) => hears_in(memory, frames, &mut editor, piece),
+        Err(fault) => Err(fault),
+    }
 }
 
 // Whether it stops at the piece with this refusal, and for good.
@@ -103,29 +104,30 @@ fn ends_at_bye(rt: HostRuntime) {
     assert_eq!(rt; hears(&rt.alloc(), rt.alloc(), ANSWERER), Ok(wanted));
 }
 
-// What taking operations out of bytes answers.
+// What taking operations out of bytes answers, and how many operations the editor has then.
 fn taken<M: Allocator + Clone>(
-    memory: M,
+    memory: &M,
     frames: Global,
     editor: &mut Editor<M>,
     bytes: &[u8],
-) -> u8 {
-    match take_ops(memory, frames, editor, bytes) {
+) -> Result<(u8, Option<usize>), TalkFault> {
+    let number = match take_ops(memory.clone()?, frames, editor, bytes) {
         Ok(()) => 255,
         Err(fault) => fault.number(),
-    }
+    };
+    Ok((number, held(editor)))
 }
 
-// The same of an editor with no operation, and how many it has then.
+// The same of an editor with no operation.
 fn takes<M: Allocator + Clone>(
     memory: &M,
     frames: Global,
     bytes: &[u8],
 ) -> Result<(u8, Option<usize>), TalkFault> {
-    let taker = memory.clone()?;
-    let mut editor = editor_of(memory, &[])?;
-    let number = taken(taker, frames, &mut editor, bytes);
-    Ok((number, held(&editor)))
+    match editor_of(memory, &[]) {
+        Ok(mut editor) => taken(memory, frames, &mut editor, bytes),
+        Err(fault) => Err(fault),
+    }
 }
 
 #[test]

@@ -136,12 +136,12 @@ fn ops_for<M: Allocator + Clone>(
 
 // How many operations an editor has once it has taken those.
 fn take_in<M: Allocator + Clone>(
-    memory: M,
+    memory: &M,
     frames: Global,
     editor: &mut Editor<M>,
     ops: &[u8],
 ) -> Result<Option<usize>, TalkFault> {
-    match take_ops(memory, frames, editor, ops) {
+    match take_ops(memory.clone()?, frames, editor, ops) {
         Ok(()) => Ok(held(editor)),
         Err(_) => Err(TalkFault::Memory),
     }
@@ -154,9 +154,10 @@ fn taken<M: Allocator + Clone>(
     stamps: &[Stamp],
     ops: &[u8],
 ) -> Result<Option<usize>, TalkFault> {
-    let taker = memory.clone()?;
-    let mut editor = editor_of(memory, stamps)?;
-    take_in(taker, frames, &mut editor, ops)
+    match editor_of(memory, stamps) {
+        Ok(mut editor) => take_in(memory, frames, &mut editor, ops),
+        Err(fault) => Err(fault),
+    }
 }
 
 // How many bytes one sends to another who has told its Have, and how many operations that one has then.
@@ -246,20 +247,23 @@ fn calls_in(
     }
 }
 
+// An editor of one marker.
+fn editor_of_one(global: Global) -> Option<Editor> {
+    let stamp = Stamp::new(1, A, 1).ok()?;
+    editor_of(&global, &[stamp]).ok()
+}
+
 // Whether the caller of the log of one marker comes to that.
 fn calls(global: Global, reads: (&[u8], usize), write_fails: usize, wanted: (u8, usize)) -> bool {
-    let Ok(stamp) = Stamp::new(1, A, 1) else {
-        return false;
-    };
-    let Ok(mut editor) = editor_of(&global, &[stamp]) else {
-        return false;
-    };
     let wanted = Spoken {
         number: wanted.0,
         written: Some(wanted.1),
         held: Some(1),
     };
-    calls_in(global, &mut editor, reads, write_fails) == wanted
+    match editor_of_one(global) {
+        Some(mut editor) => calls_in(global, &mut editor, reads, write_fails) == wanted,
+        None => false,
+    }
 }
 
 const NEVER: usize = usize::MAX;
