@@ -1,12 +1,9 @@
 //! The operations of the tests, in the order in which they are noted.
 
 use mt_op::{Body, Digest, Gain, Op, OpFault, Title};
-use mt_stamp::{List, Replica, Stamp, StampFault};
+use mt_stamp::{Stamp, StampFault};
+use mt_testkit::{A, B, removal};
 use std::alloc::Allocator;
-
-const A: Replica = Replica(10);
-
-const B: Replica = Replica(11);
 
 /// How many there are.
 pub(crate) const OPERATIONS: u32 = 15;
@@ -92,13 +89,6 @@ fn titled_op<M: Allocator>(memory: M, number: u32, stamps: &Stamps) -> Result<Op
     }
 }
 
-// The first track is removed.
-fn removal<M: Allocator>(memory: M, stamps: &Stamps) -> Result<Op<M>, OpFault> {
-    let item = stamps.voice;
-    let tags = List::new(Vec::from_slice(memory, &[item])?);
-    Op::new(stamps.own, Body::Remove { item, tags })
-}
-
 // The first track moves behind the second, returns after it was removed, moves to the head, by a stamp that loses, and gets a gain.
 fn on_tracks<M: Allocator>(number: u32, stamps: &Stamps) -> Body<M> {
     let (track, item) = (stamps.voice, stamps.voice);
@@ -143,10 +133,11 @@ fn plain<M: Allocator>(number: u32, stamps: &Stamps) -> Body<M> {
     }
 }
 
+// The first track is removed by the fifth operation.
 fn made<M: Allocator>(memory: M, number: u32, stamps: &Stamps) -> Result<Op<M>, OpFault> {
     match number {
         0 | 1 | 7 | 8 | 12 | 14 => titled_op(memory, number, stamps),
-        4 => removal(memory, stamps),
+        4 => removal(memory, stamps.own, stamps.voice, &[stamps.voice]),
         _ => Op::new(stamps.own, plain(number, stamps)),
     }
 }
