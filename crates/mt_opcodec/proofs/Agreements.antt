@@ -11,10 +11,10 @@ use Rattle.mt_opcodec.specs.Union.{Agree, union, AgreeFrom}
 use Rattle.mt_opcodec.specs.Laws.{PairsAgree, AgreePairwise, AgreeGrouped}
 use Rattle.mt_opcodec.proofs.Union.{get-union}
 
-in_first : (x y : Option Operation) (o : Operation) → x ≡ Some o → cond (is_some x) x y ≡ Some o
+pub in_first : (x y : Option Operation) (o : Operation) → x ≡ Some o → cond (is_some x) x y ≡ Some o
 in_first x y o e = subst (λ (z : Option Operation). cond (is_some z) z y ≡ Some o) (sym e) refl
 
-in_second : (x y : Option Operation) → x ≡ None → cond (is_some x) x y ≡ y
+pub in_second : (x y : Option Operation) → x ≡ None → cond (is_some x) x y ≡ y
 in_second x y e = subst (λ (z : Option Operation). cond (is_some z) z y ≡ y) (sym e) refl
 
 pub of_first : (a b c : LogMap) → Agree (union a b) c → Agree a c

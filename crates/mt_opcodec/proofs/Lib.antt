@@ -34,4 +34,6 @@ pub mod RunLogs
 pub mod Refs
 pub mod JoiningAll
 pub mod Seeing
-pub mod SeenRefs
+pub mod Halves
+pub mod TakenInTurns
+pub mod Walked

@@ -10,3 +10,4 @@ pub mod Faults
 pub mod Runs
 pub mod Clashing
 pub mod Seen
+pub mod Turns

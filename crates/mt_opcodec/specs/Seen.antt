@@ -6,9 +6,7 @@ use Rattle.mt_stamp.specs.declared.name.Dot.{Dot}
 use Rattle.mt_stamp.specs.Moment.{dot_cmp}
 use Rattle.mt_op.specs.Operation.{Operation}
 use Rattle.mt_op.specs.Dots.{op_dot}
-use Rattle.mt_opcodec.specs.LogValue.{LogMap, log_of, AreLogged}
-use Rattle.mt_opcodec.specs.Laws.{PairsAgree}
-use Rattle.mt_opcodec.specs.Union.{Agree, union, union_all}
+use Rattle.mt_opcodec.specs.LogValue.{LogMap}
 
 -- under each dot stands what a log has there
 abbrev pub AreSeen : (Dot → Option Operation) → LogMap → Type 0
@@ -18,15 +16,3 @@ AreSeen seen log = (dot : Dot) → seen dot ≡ map.get log dot
 abbrev pub seen_after : List Operation → (Dot → Option Operation) → Dot → Option Operation
 seen_after [] seen dot = seen dot
 seen_after (o ∷ ops) seen dot = seen_after ops (λ q. cond (is_eq (dot_cmp (op_dot o) q)) (Some o) (seen q)) dot
-
--- the operations of two lists whose logs agree, by rising dot
-pub record AreUnionOf (left right ops : List Operation) : Type 0 where
-  pub logged : AreLogged ops
-  pub agree : Agree (log_of left) (log_of right)
-  pub is : log_of ops ≡ union (log_of left) (log_of right)
-
--- the operations of logs that agree, by rising dot
-pub record AreAllOf (logs : List LogMap) (ops : List Operation) : Type 0 where
-  pub logged : AreLogged ops
-  pub agree : PairsAgree logs
-  pub is : log_of ops ≡ union_all logs

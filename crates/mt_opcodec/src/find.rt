@@ -15,8 +15,12 @@ pub(crate) fn find_run<A: Allocator>(runs: &[Run<A>], replica: Replica) -> Resul
     ensures absent { IfErr result (IsRunGap runs.now replica) }
 {
     match runs.last() {
-        Some(last) if last.replica().cmp(&replica).is_lt() => Err(runs.len()),
-        _ => halve(runs, replica),
+        Some(last) => match last.replica().cmp(&replica) {
+            Ordering::Less => Err(runs.len()),
+            Ordering::Equal => Ok(runs.len() - 1),
+            Ordering::Greater => halve(runs, replica),
+        },
+        None => halve(runs, replica),
     }
 }
 

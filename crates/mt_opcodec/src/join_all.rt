@@ -6,7 +6,9 @@ ghost use Rattle.mt_opcodec.specs.Union.{Agree, union, union_all, AllAgree, Join
 
 use crate::fault::LogFault;
 use crate::log::Log;
+use crate::merging_in_turns::join_in_turns;
 use crate::seen::first_clash;
+use crate::turns::{is_often, turns_of};
 use std::alloc::Allocator;
 use std::collections::VecDeque;
 
@@ -29,8 +31,8 @@ fn join_from_left<A: Allocator + Clone>(alloc: A, logs: Vec<Log<A>, A>) -> Resul
     }
 }
 
-// The union of logs that agree: those of one half are joined, then those of the other, and then both, so that each operation is
-// walked once for each doubling of the number of logs, and what was joined last is joined next.
+// The union of logs that agree: those of one half are joined, then those of the other, and then both. Runs that no other log has, or
+// that follow one another, are moved whole.
 fn join_halves<A: Allocator + Clone>(alloc: A, logs: Vec<Log<A>, A>) -> Result<Log<A>, LogFault>
     requires agree { PairsAgree logs.items }
     ensures ok { IfOk result (λ all. all ≡ union_all logs.items) }
@@ -48,6 +50,23 @@ fn join_halves<A: Allocator + Clone>(alloc: A, logs: Vec<Log<A>, A>) -> Result<L
     let left = join_halves(alloc.clone()?, first)?;
     let right = join_halves(alloc, second)?;
     left.join_agreeing(right)
+}
+
+// The union of logs that agree and take these turns: where they take turns seldom, whole runs are moved, and else one operation after
+// another.
+fn join_agreed<A: Allocator + Clone>(
+    alloc: A,
+    logs: Vec<Log<A>, A>,
+    turns: &[usize],
+) -> Result<Log<A>, LogFault>
+    requires agree { PairsAgree logs.items }
+    ensures ok { IfOk result (λ all. all ≡ union_all logs.items) }
+    ensures err { IfErr result (λ fault. fault ≡ LogFault.Memory) }
+{
+    if is_often(turns) {
+        return join_in_turns(alloc, logs, turns);
+    }
+    join_halves(alloc, logs)
 }
 
 impl<A: Allocator + Clone> Log<A> {
@@ -68,9 +87,10 @@ impl<A: Allocator + Clone> Log<A> {
     /// another operation under a dot than the logs before it, with the least such dot of the first such log, and as
     /// `Memory` (0) where a growth was refused; all are then dropped.
     ///
-    /// Four logs or fewer are joined one after another. Of more it is first seen whether they agree, which takes memory
-    /// for two references to each operation, and then they are joined by halves: n operations in k logs cost n log k looks and
-    /// as many moves, and n log n looks in a map of references more where they do not agree.
+    /// Four logs or fewer are joined one after another. Of more it is first seen whether they agree, by one walk over all of them by
+    /// rising dot, which takes memory for the index of a run for each operation, and looks up all in a map of references where they do not. Then
+    /// each operation is moved once, in the order of the walk, or, where the logs take turns seldom, they are joined by halves, which moves whole
+    /// runs: n operations in k logs cost n log k looks.
     pub fn join_all(alloc: A, logs: Vec<Log<A>, A>) -> Result<Log<A>, LogFault>
         ensures ok { IfOk result (λ all. AllAgree logs.items × (all ≡ union_all logs.items)) }
         ensures err { IfErr result (JoinAllFails logs.items) }
@@ -78,9 +98,10 @@ impl<A: Allocator + Clone> Log<A> {
         if logs.len() <= FEW {
             return join_from_left(alloc, logs);
         }
-        match first_clash(alloc.clone()?, &logs)? {
+        let turns = turns_of(&alloc, &logs)?;
+        match first_clash(alloc.clone()?, &logs, &turns)? {
             Some(dot) => Err(LogFault::Conflict(dot)),
-            None => Ok(join_halves(alloc, logs)?),
+            None => Ok(join_agreed(alloc, logs, &turns)?),
         }
     }
 }

@@ -61,11 +61,13 @@ mod joining;
 pub mod laws;
 mod log;
 mod log_reader;
+mod merging_in_turns;
 mod op_reader;
 mod op_writer;
 mod run;
 mod run_list;
 mod seen;
+mod turns;
 
 pub use fault::{LogFault, ReadFault};
 pub use log::Log;

@@ -73,6 +73,15 @@ impl<A: Allocator> Log<A> {
         &self.runs
     }
 
+    // Its runs.
+    pub(crate) fn into_runs(self) -> Vec<Run<A>, A>
+        ensures runs { AreRuns result.items }
+        ensures value { log_of (run_ops result.items) ≡ self }
+    {
+        let Log { runs, .. } = self;
+        runs
+    }
+
     /// How many operations there are.
     pub fn len(&self) -> usize
         ensures { result ≡ map.len self.now }

@@ -1,6 +1,6 @@
 //! The operations of one replica.
 
-ghost use Rattle.std.specs.Prelude.{◌≡◌, ◌∷◌, [], IfOk, IfErr, Ok, true, IsTrue};
+ghost use Rattle.std.specs.Prelude.{◌≡◌, ◌≤◌, ◌∷◌, [], length, insert, IfOk, IfErr, OnOk, Ok, true, IsTrue};
 ghost use Rattle.std.specs.Option.{option_copied};
 ghost use Rattle.std.specs.FinMap as map;
 ghost use Rattle.mt_op.specs.Dots.{dots_rise, IsAt, IsGapFor};
@@ -12,6 +12,7 @@ use mt_op::laws::equal_ops;
 use mt_op::{Op, find_op};
 use mt_stamp::{Dot, Replica};
 use std::alloc::{AllocError, Allocator, Global};
+use std::cmp::Ordering;
 use std::marker::Model;
 
 /// The operations of one replica, by rising number.
@@ -32,16 +33,38 @@ impl<A: Allocator> Model for Run<A> {
 }
 
 // The place of the operation with this dot, or the one at which it would go: at the end without a search where all dots
-// are smaller.
+// are smaller or it is the last.
 fn place_of<A: Allocator>(ops: &[Op<A>], dot: Dot) -> Result<usize, usize>
     requires { IsTrue (dots_rise ops.now) }
     ensures found { IfOk result (IsAt ops.now dot) }
     ensures absent { IfErr result (IsGapFor ops.now dot) }
 {
     match ops.last() {
-        Some(last) if last.dot().cmp(&dot).is_lt() => Err(ops.len()),
-        _ => find_op(ops, dot),
+        Some(last) => match last.dot().cmp(&dot) {
+            Ordering::Less => Err(ops.len()),
+            Ordering::Equal => Ok(ops.len() - 1),
+            Ordering::Greater => find_op(ops, dot),
+        },
+        None => find_op(ops, dot),
     }
+}
+
+// Puts an operation at a place: most are the last, behind which nothing has to move.
+fn put_at<A: Allocator>(
+    ops: &mut Vec<Op<A>, A>,
+    place: usize,
+    op: Op<A>,
+) -> Result<(), AllocError>
+    requires { place ≤ length ops.old.items }
+    ensures items { OnOk result (ops.new.items ≡ insert ops.old.items place op) }
+    ensures kept { IfErr result (λ e. ops.new.items ≡ ops.old.items) }
+{
+    if place == ops.len() {
+        ops.push(op)?;
+    } else {
+        ops.insert(place, op)?;
+    }
+    Ok(())
 }
 
 impl<A: Allocator> Run<A> {
@@ -64,6 +87,14 @@ impl<A: Allocator> Run<A> {
         ensures is_run { IsRun self.now }
     {
         &self.ops
+    }
+
+    // Its operations.
+    pub(crate) fn into_ops(self) -> Vec<Op<A>, A>
+        ensures { result.items ≡ self.ops }
+    {
+        let Run { ops, .. } = self;
+        ops
     }
 
     // The run of one operation, in a block of its own size.
@@ -101,7 +132,7 @@ impl<A: Allocator> Run<A> {
             Ok(place) if equal_ops(&self.ops[place], &op) => Ok(false),
             Ok(_) => Err(LogFault::Conflict(op.dot())),
             Err(place) => {
-                self.ops.insert(place, op)?;
+                put_at(&mut self.ops, place, op)?;
                 Ok(true)
             }
         }

@@ -86,15 +86,16 @@ fn note_runs<'a, A: Allocator, B: Allocator + Clone>(
     Ok(())
 }
 
-// The first dot at which one of the logs clashes with those before it, or none where all agree, which is seen first. Only where
+// The first dot at which one of the logs clashes with those before it, or none where all agree, which is seen first, by a walk in these turns. Only where
 // they do not, it takes a map of references to all operations, to see which clash is the first: n log n for n of them.
 pub(crate) fn first_clash<A: Allocator, B: Allocator + Clone>(
     alloc: B,
     logs: &[Log<A>],
+    turns: &[usize],
 ) -> Result<Option<Dot>, AllocError>
     ensures { IfOk result (λ dot. MatchOption dot (AllAgree logs.now) (FirstClash logs.now)) }
 {
-    if all_agree(&alloc, logs)? {
+    if all_agree(alloc.clone()?, logs, turns)? {
         return Ok(None);
     }
     let mut seen = BTreeMap::new(alloc);

@@ -1,8 +1,7 @@
-use Rattle.std.proofs.Common.{Bor, Vec, map}
+use Rattle.std.proofs.Common.{Bor, List, map}
 use Rattle.mt_op.specs.declared.op.Op.{Op}
-use Rattle.mt_opcodec.proofs.SeenRefs.{seen_agree}
+use Rattle.mt_opcodec.proofs.Walked.{lists_agree}
 use Rattle.mt_opcodec.proofs.agreeing.all_agree.Goals as goal
 
 pub returns : goal.returns
-returns g c =
-    seen_agree (λ (refs : Vec (Bor (Op g.row.A.Denot)) g.row.B.Denot). map (λ (o : Bor (Op g.row.A.Denot)). o.now) refs.items) c.args.logs.now c.in_ok-refs_of_all.field-0 c.is_some.result c.in_ok-refs_of_all.ensures c.is_some.ensures
+returns g c = λ told. lists_agree c.args.logs.now (map (λ (l : Bor (List (Op g.row.A.Denot))). l.now) c.in_ok-lists.lists.items) c.in_ok-lists.ensures (c.rise_in_turns.ensures told)

@@ -3,7 +3,7 @@ use Rattle.std.proofs.lemmas.Result.{IfOk-weaker}
 use Rattle.mt_opcodec.specs.LogValue.{LogMap}
 use Rattle.mt_opcodec.specs.Laws.{PairsAgree}
 use Rattle.mt_opcodec.specs.Union.{Agree, union, union_all}
-use Rattle.mt_opcodec.proofs.SeenRefs.{all_apart, halves_are, halves_agree, pairs_first, pairs_second, last_alone}
+use Rattle.mt_opcodec.proofs.Halves.{all_apart, halves_are, halves_agree, pairs_first, pairs_second, last_alone}
 use Rattle.mt_opcodec.proofs.join_all.+join_halves.Goals as goal
 
 pub returns-in-Some-clause-ok : goal.returns-in-Some-clause-ok

@@ -30,8 +30,8 @@ returns-in-Ok-2-clause-answer g c =
       ),
     )
 
-pub returns-in_err-insert-in-Err-clause-answer : goal.returns-in_err-insert-in-Err-clause-answer
-returns-in_err-insert-in-Err-clause-answer g c =
+pub returns-in_err-put_at-in-Err-clause-answer : goal.returns-in_err-put_at-in-Err-clause-answer
+returns-in_err-put_at-in-Err-clause-answer g c =
     let gap : IsGapFor c.self.inside.ops.items (op_dot c.args.op) c.in-Err.place = subst (λ (l : List Operation). IsGapFor l (op_dot c.args.op) c.in-Err.place) c.deref.ensures.value (subst (λ (d : Dot). IsGapFor c.deref.result.now d c.in-Err.place) c.dot.ensures.value c.in-Err.ensures.absent) in
     let p = err_from_is_err_and c.from_residual.result c.from_residual.ensures.1 in
     rw (p.1, p.2) (get_absent (log_of c.args.self.now.ops) c.self.inside.ops.items (ap (λ (r : RunOf). log_of r.ops) c.self.view_is) c.self.invariant.logged (op_dot c.args.op) c.in-Err.place gap)
@@ -39,7 +39,7 @@ returns-in_err-insert-in-Err-clause-answer g c =
 pub invariant_of-self-in-Err : goal.invariant_of-self-in-Err
 invariant_of-self-in-Err g c =
     let gap : IsGapFor c.self.inside.ops.items (op_dot c.args.op) c.in-Err.place = subst (λ (l : List Operation). IsGapFor l (op_dot c.args.op) c.in-Err.place) c.deref.ensures.value (subst (λ (d : Dot). IsGapFor c.deref.result.now d c.in-Err.place) c.dot.ensures.value c.in-Err.ensures.absent) in
-    subst (λ (l : List Operation). IsRun (record { replica = c.self.inside.replica; ops = l })) (sym c.in_ok-insert-in-Err.ensures.items)
+    subst (λ (l : List Operation). IsRun (record { replica = c.self.inside.replica; ops = l })) (sym c.in_ok-put_at-in-Err.ensures.items)
     (IsRun-insert c.self.inside.replica c.self.inside.ops.items c.args.op c.in-Err.place c.self.invariant c.dot.ensures.valid (c.requires ∙ ap (λ (r : RunOf). r.replica) (sym c.self.view_is)) gap)
 
 pub returns-clause-answer : goal.returns-clause-answer
@@ -50,10 +50,10 @@ returns-clause-answer g c =
 pub returns-clause-added : goal.returns-clause-added
 returns-clause-added g c =
     let gap : IsGapFor c.self.inside.ops.items (op_dot c.args.op) c.in-Err.place = subst (λ (l : List Operation). IsGapFor l (op_dot c.args.op) c.in-Err.place) c.deref.ensures.value (subst (λ (d : Dot). IsGapFor c.deref.result.now d c.in-Err.place) c.dot.ensures.value c.in-Err.ensures.absent) in
-    λ _. ap log_of c.in_ok-insert-in-Err.ensures.items ∙ insert_is (log_of c.args.self.now.ops) c.self.inside.ops.items (ap (λ (r : RunOf). log_of r.ops) c.self.view_is) c.self.invariant.logged c.args.op c.in-Err.place gap
+    λ _. ap log_of c.in_ok-put_at-in-Err.ensures.items ∙ insert_is (log_of c.args.self.now.ops) c.self.inside.ops.items (ap (λ (r : RunOf). log_of r.ops) c.self.view_is) c.self.invariant.logged c.args.op c.in-Err.place gap
 
 pub returns-clause-is_run : goal.returns-clause-is_run
 returns-clause-is_run g c =
     let gap : IsGapFor c.self.inside.ops.items (op_dot c.args.op) c.in-Err.place = subst (λ (l : List Operation). IsGapFor l (op_dot c.args.op) c.in-Err.place) c.deref.ensures.value (subst (λ (d : Dot). IsGapFor c.deref.result.now d c.in-Err.place) c.dot.ensures.value c.in-Err.ensures.absent) in
-    subst (λ (l : List Operation). IsRun (record { replica = c.self.inside.replica; ops = l })) (sym c.in_ok-insert-in-Err.ensures.items)
+    subst (λ (l : List Operation). IsRun (record { replica = c.self.inside.replica; ops = l })) (sym c.in_ok-put_at-in-Err.ensures.items)
     (IsRun-insert c.self.inside.replica c.self.inside.ops.items c.args.op c.in-Err.place c.self.invariant c.dot.ensures.valid (c.requires ∙ ap (λ (r : RunOf). r.replica) (sym c.self.view_is)) gap)
