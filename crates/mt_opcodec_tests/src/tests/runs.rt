@@ -352,7 +352,45 @@ fn push_logs<M: Allocator + Copy>(
     Ok(())
 }
 
+// Adds nine operations of one replica.
+fn add_nine<M: Allocator + Copy>(
+    log: &mut Log<M>,
+    memory: M,
+    replica: Replica,
+) -> Result<(), LogFault> {
+    for seq in 1..10 {
+        let _new = add_dot(log, memory, replica, seq)?;
+    }
+    Ok(())
+}
+
+// A log of them.
+fn log_of_nine<M: Allocator + Copy>(memory: M, replica: Replica) -> Result<Log<M>, LogFault> {
+    let mut log = Log::new(memory);
+    match add_nine(&mut log, memory, replica) {
+        Ok(()) => Ok(log),
+        Err(fault) => Err(fault),
+    }
+}
+
+// Adds five logs that share no replica, so that their runs are moved whole.
+fn push_apart<M: Allocator + Copy>(many: &mut Vec<Log<M>, M>, memory: M) -> Result<(), LogFault> {
+    for replica in 20..25 {
+        many.push(log_of_nine(memory, Replica(replica))?)?;
+    }
+    Ok(())
+}
+
 // How many operations their union has.
+fn len_of_apart<M: Allocator + Copy>(memory: M) -> Result<usize, LogFault> {
+    let mut many = Vec::new(memory);
+    match push_apart(&mut many, memory) {
+        Ok(()) => Ok(Log::join_all(memory, many)?.len()),
+        Err(fault) => Err(fault),
+    }
+}
+
+// The same of logs that share one operation.
 fn len_of_many<M: Allocator + Copy>(memory: M, logs: u64) -> Result<usize, LogFault> {
     let mut many = Vec::new(memory);
     match push_logs(&mut many, memory, logs) {
@@ -369,6 +407,7 @@ enum Work {
     Merge,
     Refer,
     JoinAll,
+    JoinApart,
 }
 
 // How many operations it comes to.
@@ -379,6 +418,7 @@ fn len_of<M: Allocator + Copy>(memory: M, work: Work) -> Result<usize, LogFault>
         Work::Merge => merged_len(memory),
         Work::Refer => count_of_references(memory, &LEFT),
         Work::JoinAll => len_of_many(memory, 9),
+        Work::JoinApart => len_of_apart(memory),
     }
 }
 
@@ -406,6 +446,7 @@ fn of_several_logs(rt: HostRuntime) {
         (Work::Merge, 6, 20),
         (Work::Refer, 3, 6),
         (Work::JoinAll, 10, 61),
+        (Work::JoinApart, 45, 61),
     ] {
         let refused = refusals(rt.alloc(), work, len);
         assert!(rt; refused >= Some(least), "{work:?}");
