@@ -6,7 +6,6 @@ use crate::merge::put_log;
 use crate::part::Part;
 use crate::read::read_log;
 use crate::stop::Stop;
-use clap::{Arg, ArgAction};
 use mt_opcodec::Latch;
 use mt_replica::Editor;
 use mt_stamp::Replica;
@@ -28,19 +27,6 @@ pub(crate) mod render;
 pub(crate) mod serve;
 pub(crate) mod take;
 pub(crate) mod view;
-
-// The words of a command that names logs.
-fn logs<'a>(alloc: Global, help: &'a str) -> Arg<'a> {
-    Arg::new(alloc, "LOG")
-        .action(ArgAction::Append)
-        .num_args(0..)
-        .help(help)
-}
-
-// A word that has to be there.
-fn word<'a>(alloc: Global, name: &'a str, help: &'a str) -> Arg<'a> {
-    Arg::new(alloc, name).required(true).help(help)
-}
 
 // The name of an editor that makes nothing of its own.
 const NOBODY: Replica = Replica(0);

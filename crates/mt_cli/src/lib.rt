@@ -56,6 +56,7 @@ mod stop;
 mod tell;
 mod union;
 mod view;
+mod words;
 
 pub use fault::CliFault;
 pub use info::write_info;

@@ -7,6 +7,7 @@ use crate::commands::{
 };
 use crate::fault::CliFault;
 use crate::stop::Stop;
+use crate::words::{Words, bare, with_all};
 use clap::{ArgMatches, Command};
 use mt_opcodec::{BufferedLatch, Latch};
 use std::alloc::{AllocError, Global};
@@ -127,42 +128,54 @@ fn swap<F: Files + Net + AllocGlobal>(
 
 // The command line of `radio`.
 fn radio<'a>(alloc: Global) -> Result<Command<'a>, AllocError> {
-    with_swaps(alloc, with_files(alloc, named(alloc)?)?)?
-        .subcommand(info::words(alloc)?)?
-        .subcommand(explain::words(alloc)?)
+    let command = with_all(alloc, named(alloc)?, of_logs())?;
+    let command = with_all(alloc, command, of_swaps())?;
+    with_all(alloc, command, of_others())
 }
+
+// The commands that show logs and make files of them.
+fn of_logs() -> &'static [Words] {
+    &OF_LOGS
+}
+
+const OF_LOGS: [Words; 5] = [
+    view::WORDS,
+    log::WORDS,
+    merge::WORDS,
+    edit::WORDS,
+    render::WORDS,
+];
+
+// The commands by which editors swap operations.
+fn of_swaps() -> &'static [Words] {
+    &OF_SWAPS
+}
+
+const OF_SWAPS: [Words; 5] = [
+    have::WORDS,
+    lack::WORDS,
+    take::WORDS,
+    serve::WORDS,
+    meet::WORDS,
+];
+
+// The commands that tell of other files, and of refusals.
+fn of_others() -> &'static [Words] {
+    &OF_OTHERS
+}
+
+const OF_OTHERS: [Words; 2] = [info::WORDS, explain::WORDS];
 
 // Its name and what is told of it as a whole.
 fn named<'a>(alloc: Global) -> Result<Command<'a>, AllocError> {
+    let about = "A nondestructive multitrack audio editor whose sessions are replicated";
+    let command = bare(alloc, "radio", about, AFTER_HELP).bin_name("radio")?;
     Ok(
-        Command::new(alloc, "radio")
-            .bin_name("radio")?
+        command
             .version("0.1.0")
-            .about("A nondestructive multitrack audio editor whose sessions are replicated")
-            .after_help(AFTER_HELP)
             .no_binary_name(true)
             .subcommand_required(true),
     )
-}
-
-// With the commands that show logs and make files of them.
-fn with_files<'a>(alloc: Global, command: Command<'a>) -> Result<Command<'a>, AllocError> {
-    command
-        .subcommand(view::words(alloc)?)?
-        .subcommand(log::words(alloc)?)?
-        .subcommand(merge::words(alloc)?)?
-        .subcommand(edit::words(alloc)?)?
-        .subcommand(render::words(alloc)?)
-}
-
-// With the commands by which editors swap operations.
-fn with_swaps<'a>(alloc: Global, command: Command<'a>) -> Result<Command<'a>, AllocError> {
-    command
-        .subcommand(have::words(alloc)?)?
-        .subcommand(lack::words(alloc)?)?
-        .subcommand(take::words(alloc)?)?
-        .subcommand(serve::words(alloc)?)?
-        .subcommand(meet::words(alloc)?)
 }
 
 const AFTER_HELP: &str =

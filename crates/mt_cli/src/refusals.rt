@@ -20,7 +20,7 @@ const DAMAGED_LOG: &str =
     "The file was damaged or made by another program: take the copy of another editor, or an older one.";
 
 /// The refusals of stamps, operations and their bytes.
-pub const OF_OPERATIONS: [Refusal; 11] = [
+const OF_OPERATIONS: [Refusal; 11] = [
     Refusal {
         number: 0,
         name: "Memory",
@@ -90,7 +90,7 @@ pub const OF_OPERATIONS: [Refusal; 11] = [
 ];
 
 /// The refusals of logs, of lists of tracks and of what waits.
-pub const OF_LOGS: [Refusal; 10] = [
+const OF_LOGS: [Refusal; 10] = [
     Refusal {
         number: 11,
         name: "BadMagic",
@@ -154,7 +154,7 @@ pub const OF_LOGS: [Refusal; 10] = [
 ];
 
 /// The refusals of edits.
-pub const OF_EDITS: [Refusal; 5] = [
+const OF_EDITS: [Refusal; 5] = [
     Refusal {
         number: 21,
         name: "NoSuchItem",
@@ -188,7 +188,7 @@ pub const OF_EDITS: [Refusal; 5] = [
 ];
 
 /// The refusals of wave files.
-pub const OF_WAVES: [Refusal; 7] = [
+const OF_WAVES: [Refusal; 7] = [
     Refusal {
         number: 26,
         name: "NotRiff",
@@ -234,7 +234,7 @@ pub const OF_WAVES: [Refusal; 7] = [
 ];
 
 /// The refusals of rendering.
-pub const OF_RENDERING: [Refusal; 4] = [
+const OF_RENDERING: [Refusal; 4] = [
     Refusal {
         number: 33,
         name: "MissingSource",
@@ -262,7 +262,7 @@ pub const OF_RENDERING: [Refusal; 4] = [
 ];
 
 /// The refusals of reading and writing, of exchange, of scripts, and of the parts of operations.
-pub const OF_FILES_AND_PARTS: [Refusal; 13] = [
+const OF_FILES_AND_PARTS: [Refusal; 13] = [
     Refusal {
         number: 37,
         name: "Write",

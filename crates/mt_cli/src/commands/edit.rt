@@ -1,36 +1,45 @@
 //! `radio edit`.
 
-use super::{editor_of, word};
+use super::editor_of;
 use crate::fault::CliFault;
 use crate::files::open;
 use crate::merge::put_log;
 use crate::part::Part;
 use crate::read::read_all;
 use crate::stop::Stop;
-use clap::{ArgMatches, Command};
+use crate::words::{Word, Words};
+use clap::ArgMatches;
 use mt_opcodec::{BufferedLatch, Latch};
 use mt_replica::Editor;
 use mt_script::run as run_script;
 use mt_stamp::Replica;
-use std::alloc::{AllocError, Global};
+use std::alloc::Global;
 use std::io::{Read, Write};
 use std::rt::Files;
 
-pub(crate) fn words<'a>(alloc: Global) -> Result<Command<'a>, AllocError> {
-    Command::new(alloc, "edit")
-        .about("Makes the changes of a script, all or none, and writes the new log")
-        .after_help(
-            "Example: radio edit 00000000-0000-0000-0000-00000000000a desk.log changes.txt desk.log\n\nExit status: 0 done, 1 refused (`radio explain` tells why), 2 the command line does not parse.",
-        )
-        .arg(word(
-            alloc,
-            "REPLICA",
-            "The UUID of the editor who makes the changes",
-        ))?
-        .arg(word(alloc, "LOG", "The log to begin with"))?
-        .arg(word(alloc, "SCRIPT", "The changes, a line each"))?
-        .arg(word(alloc, "OUT", "The log to write, which may be LOG"))
-}
+pub(crate) const WORDS: Words = Words {
+    name: "edit",
+    about: "Makes the changes of a script, all or none, and writes the new log",
+    after: "Example: radio edit 00000000-0000-0000-0000-00000000000a desk.log changes.txt desk.log\n\nExit status: 0 done, 1 refused (`radio explain` tells why), 2 the command line does not parse.",
+    words: &[
+        Word::Needed {
+            name: "REPLICA",
+            help: "The UUID of the editor who makes the changes",
+        },
+        Word::Needed {
+            name: "LOG",
+            help: "The log to begin with",
+        },
+        Word::Needed {
+            name: "SCRIPT",
+            help: "The changes, a line each",
+        },
+        Word::Needed {
+            name: "OUT",
+            help: "The log to write, which may be LOG",
+        },
+    ],
+};
 
 // Writes the editor's log into the part, and how many operations were made to the output.
 fn put_edited<W: Write, P: Write>(

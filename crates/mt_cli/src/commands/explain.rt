@@ -1,29 +1,25 @@
 //! `radio explain`.
 
 use crate::fault::CliFault;
-use crate::refusals::{
-    OF_EDITS, OF_FILES_AND_PARTS, OF_LOGS, OF_OPERATIONS, OF_RENDERING, OF_WAVES, Refusal,
-    find_refusal,
-};
+use crate::refusals::{Refusal, find_refusal};
 use crate::stop::Stop;
+use crate::words::{Word, Words, command_of};
 use clap::error::ErrorKind;
-use clap::{Arg, ArgMatches, Command, value_parser};
+use clap::{ArgMatches, Command, Error};
 use mt_opcodec::{BufferedLatch, Latch};
 use std::alloc::{AllocError, Global};
 use std::io::Write;
 
-pub(crate) fn words<'a>(alloc: Global) -> Result<Command<'a>, AllocError> {
-    let number = Arg::new(alloc, "N").value_parser(value_parser!(u8)).help(
-        "The number of a refusal, as `radio: fault N` tells it; with none, all refusals",
-    );
-    Command::new(alloc, "explain")
-        .bin_name("radio explain")?
-        .about("Prints what a refusal means, and what can be done about it")
-        .after_help(
-            "Example: radio explain 45\n\nExit status: 0 done, 1 refused (`radio explain` tells why), 2 the command line does not parse.",
-        )
-        .arg(number)
-}
+pub(crate) const WORDS: Words = Words {
+    name: "explain",
+    about: "Prints what a refusal means, and what can be done about it",
+    after: "Example: radio explain 45\n\nExit status: 0 done, 1 refused (`radio explain` tells why), 2 the command line does not parse.",
+    words: &[Word::Number {
+        name: "N",
+        greatest: u8::MAX as u64,
+        help: "The number of a refusal, as `radio: fault N` tells it; with none, all refusals",
+    }],
+};
 
 pub(crate) fn run<W: Write>(
     alloc: Global,
@@ -44,21 +40,27 @@ pub(crate) fn run<W: Write>(
 // What is told of a number that is no refusal.
 fn unknown(alloc: Global, number: u8) -> Result<Stop, AllocError> {
     let text = format!(in alloc; "no refusal has the number {number}")?;
-    let error = words(alloc)?.error(ErrorKind::ValueValidation, text.as_str())?;
-    Ok(Stop::told(alloc, error))
+    Ok(Stop::told(alloc, mistake(alloc, text.as_str())?))
 }
 
-// Puts all refusals, a line each.
+// A mistake on the command line, told in these words.
+fn mistake(alloc: Global, text: &str) -> Result<Error, AllocError> {
+    let mut command = named(alloc)?;
+    command.error(ErrorKind::ValueValidation, text)
+}
+
+// The command by its whole name.
+fn named<'a>(alloc: Global) -> Result<Command<'a>, AllocError> {
+    match command_of(alloc, &WORDS) {
+        Ok(command) => command.bin_name("radio explain"),
+        Err(error) => Err(error),
+    }
+}
+
+// Puts all refusals, a line each, by their numbers.
 fn put_all<W: Write>(output: &mut BufferedLatch<'_, W>) {
-    for table in [
-        OF_OPERATIONS.as_slice(),
-        OF_LOGS.as_slice(),
-        OF_EDITS.as_slice(),
-        OF_WAVES.as_slice(),
-        OF_RENDERING.as_slice(),
-        OF_FILES_AND_PARTS.as_slice(),
-    ] {
-        for one in table {
+    for number in 0..=u8::MAX {
+        if let Some(one) = find_refusal(number) {
             put_line(output, one);
         }
     }

@@ -1,24 +1,29 @@
 //! `radio have`.
 
-use super::word;
 use crate::files::open;
 use crate::part::put_file;
 use crate::read::read_log;
 use crate::stop::Stop;
-use clap::{ArgMatches, Command};
+use crate::words::{Word, Words};
+use clap::ArgMatches;
 use mt_sync::have_bytes;
-use std::alloc::{AllocError, Global};
 use std::rt::Files;
 
-pub(crate) fn words<'a>(alloc: Global) -> Result<Command<'a>, AllocError> {
-    Command::new(alloc, "have")
-        .about("Writes which operations a log has, for another editor to see what it lacks")
-        .after_help(
-            "Example: radio have home.log home.have\n\nExit status: 0 done, 1 refused (`radio explain` tells why), 2 the command line does not parse.",
-        )
-        .arg(word(alloc, "LOG", "The log"))?
-        .arg(word(alloc, "OUT", "The summary to write"))
-}
+pub(crate) const WORDS: Words = Words {
+    name: "have",
+    about: "Writes which operations a log has, for another editor to see what it lacks",
+    after: "Example: radio have home.log home.have\n\nExit status: 0 done, 1 refused (`radio explain` tells why), 2 the command line does not parse.",
+    words: &[
+        Word::Needed {
+            name: "LOG",
+            help: "The log",
+        },
+        Word::Needed {
+            name: "OUT",
+            help: "The summary to write",
+        },
+    ],
+};
 
 pub(crate) fn run<F: Files + AllocGlobal>(rt: &F, words: &ArgMatches<'_>) -> Result<(), Stop> {
     let alloc = rt.alloc();

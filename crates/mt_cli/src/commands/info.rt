@@ -4,21 +4,21 @@ use crate::files::open;
 use crate::info::write_info;
 use crate::read::read_all;
 use crate::stop::Stop;
-use clap::{Arg, ArgMatches, Command};
+use crate::words::{Word, Words};
+use clap::ArgMatches;
 use mt_opcodec::Latch;
-use std::alloc::{AllocError, Global};
 use std::io::Write;
 use std::rt::Files;
 
-pub(crate) fn words<'a>(alloc: Global) -> Result<Command<'a>, AllocError> {
-    let wave = Arg::new(alloc, "WAVE").required(true).help("A wave file");
-    Command::new(alloc, "info")
-        .about("Prints what a wave file says of itself")
-        .after_help(
-            "Example: radio info jingle.wav\n\nExit status: 0 done, 1 refused (`radio explain` tells why), 2 the command line does not parse.",
-        )
-        .arg(wave)
-}
+pub(crate) const WORDS: Words = Words {
+    name: "info",
+    about: "Prints what a wave file says of itself",
+    after: "Example: radio info jingle.wav\n\nExit status: 0 done, 1 refused (`radio explain` tells why), 2 the command line does not parse.",
+    words: &[Word::Needed {
+        name: "WAVE",
+        help: "A wave file",
+    }],
+};
 
 pub(crate) fn run<F: Files + AllocGlobal, W: Write>(
     rt: &F,

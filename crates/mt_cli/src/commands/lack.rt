@@ -1,29 +1,33 @@
 //! `radio lack`.
 
-use super::word;
 use crate::files::open;
 use crate::part::put_file;
 use crate::read::{read_all, read_log};
 use crate::stop::Stop;
-use clap::{ArgMatches, Command};
+use crate::words::{Word, Words};
+use clap::ArgMatches;
 use mt_sync::lack_bytes;
-use std::alloc::{AllocError, Global};
 use std::rt::Files;
 
-pub(crate) fn words<'a>(alloc: Global) -> Result<Command<'a>, AllocError> {
-    Command::new(alloc, "lack")
-        .about("Writes the operations of a log that another editor lacks")
-        .after_help(
-            "Example: radio lack desk.log home.have for-home.ops\n\nExit status: 0 done, 1 refused (`radio explain` tells why), 2 the command line does not parse.",
-        )
-        .arg(word(alloc, "LOG", "The log"))?
-        .arg(word(
-            alloc,
-            "HAVE",
-            "What the other editor has, as `radio have` wrote it",
-        ))?
-        .arg(word(alloc, "OUT", "The operations to write"))
-}
+pub(crate) const WORDS: Words = Words {
+    name: "lack",
+    about: "Writes the operations of a log that another editor lacks",
+    after: "Example: radio lack desk.log home.have for-home.ops\n\nExit status: 0 done, 1 refused (`radio explain` tells why), 2 the command line does not parse.",
+    words: &[
+        Word::Needed {
+            name: "LOG",
+            help: "The log",
+        },
+        Word::Needed {
+            name: "HAVE",
+            help: "What the other editor has, as `radio have` wrote it",
+        },
+        Word::Needed {
+            name: "OUT",
+            help: "The operations to write",
+        },
+    ],
+};
 
 pub(crate) fn run<F: Files + AllocGlobal>(rt: &F, words: &ArgMatches<'_>) -> Result<(), Stop> {
     let alloc = rt.alloc();

@@ -1,26 +1,23 @@
 //! `radio log`.
 
-use crate::commands::logs;
 use crate::files::open_all;
 use crate::list::{list_log, list_logs};
 use crate::stop::Stop;
-use clap::{ArgMatches, Command};
+use crate::words::{Word, Words};
+use clap::ArgMatches;
 use mt_opcodec::Latch;
-use std::alloc::{AllocError, Global};
 use std::io::{Read, Write};
 use std::rt::Files;
 
-pub(crate) fn words<'a>(alloc: Global) -> Result<Command<'a>, AllocError> {
-    Command::new(alloc, "log")
-        .about("Prints the operations of the union of the logs, a line each by rising stamp")
-        .after_help(
-            "Example: radio log desk.log home.log\n\nExit status: 0 done, 1 refused (`radio explain` tells why), 2 the command line does not parse.",
-        )
-        .arg(logs(
-            alloc,
-            "Logs, joined from left to right; with none, one log from standard input",
-        ))
-}
+pub(crate) const WORDS: Words = Words {
+    name: "log",
+    about: "Prints the operations of the union of the logs, a line each by rising stamp",
+    after: "Example: radio log desk.log home.log\n\nExit status: 0 done, 1 refused (`radio explain` tells why), 2 the command line does not parse.",
+    words: &[Word::Any {
+        name: "LOG",
+        help: "Logs, joined from left to right; with none, one log from standard input",
+    }],
+};
 
 pub(crate) fn run<F: Files + AllocGlobal, R: Read, W: Write>(
     rt: &F,

@@ -1,29 +1,28 @@
 //! `radio merge`.
 
-use crate::commands::logs;
 use crate::files::open_all;
 use crate::merge::merge_logs;
 use crate::part::Part;
 use crate::stop::Stop;
-use clap::{Arg, ArgMatches, Command};
-use std::alloc::{AllocError, Global};
+use crate::words::{Word, Words};
+use clap::ArgMatches;
 use std::rt::Files;
 
-pub(crate) fn words<'a>(alloc: Global) -> Result<Command<'a>, AllocError> {
-    let out = Arg::new(alloc, "OUT")
-        .required(true)
-        .help("The log to write");
-    Command::new(alloc, "merge")
-        .about("Writes the union of the logs as one log")
-        .after_help(
-            "Example: radio merge both.log desk.log home.log\n\nExit status: 0 done, 1 refused (`radio explain` tells why), 2 the command line does not parse.",
-        )
-        .arg(out)?
-        .arg(logs(
-            alloc,
-            "Logs, joined from left to right; with none, the log of no operation",
-        ))
-}
+pub(crate) const WORDS: Words = Words {
+    name: "merge",
+    about: "Writes the union of the logs as one log",
+    after: "Example: radio merge both.log desk.log home.log\n\nExit status: 0 done, 1 refused (`radio explain` tells why), 2 the command line does not parse.",
+    words: &[
+        Word::Needed {
+            name: "OUT",
+            help: "The log to write",
+        },
+        Word::Any {
+            name: "LOG",
+            help: "Logs, joined from left to right; with none, the log of no operation",
+        },
+    ],
+};
 
 pub(crate) fn run<F: Files + AllocGlobal>(rt: &F, words: &ArgMatches<'_>) -> Result<(), Stop> {
     let out = words.get_str("OUT").unwrap_or("");

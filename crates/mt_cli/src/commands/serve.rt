@@ -1,23 +1,32 @@
 //! `radio serve`.
 
-use super::{open_editor, swap, word};
+use super::{open_editor, swap};
 use crate::stop::Stop;
-use clap::{ArgMatches, Command};
+use crate::words::{Word, Words};
+use clap::ArgMatches;
 use mt_sync::Side;
-use std::alloc::{AllocError, Global};
 use std::net::{Net, OpenListener, TcpListener};
 use std::rt::Files;
 
-pub(crate) fn words<'a>(alloc: Global) -> Result<Command<'a>, AllocError> {
-    Command::new(alloc, "serve")
-        .about("Waits for one editor who meets it, swaps operations, and writes the new log")
-        .after_help(
-            "Example: radio serve 127.0.0.1:7000 desk.log desk.log\n\nExit status: 0 done, 1 refused (`radio explain` tells why), 2 the command line does not parse.",
-        )
-        .arg(word(alloc, "ADDR", "The address to wait at, as 127.0.0.1:7000"))?
-        .arg(word(alloc, "LOG", "The log to begin with"))?
-        .arg(word(alloc, "OUT", "The log to write, which may be LOG"))
-}
+pub(crate) const WORDS: Words = Words {
+    name: "serve",
+    about: "Waits for one editor who meets it, swaps operations, and writes the new log",
+    after: "Example: radio serve 127.0.0.1:7000 desk.log desk.log\n\nExit status: 0 done, 1 refused (`radio explain` tells why), 2 the command line does not parse.",
+    words: &[
+        Word::Needed {
+            name: "ADDR",
+            help: "The address to wait at, as 127.0.0.1:7000",
+        },
+        Word::Needed {
+            name: "LOG",
+            help: "The log to begin with",
+        },
+        Word::Needed {
+            name: "OUT",
+            help: "The log to write, which may be LOG",
+        },
+    ],
+};
 
 // The stream of the first caller at an address.
 fn accepted<N: Net>(net: &N, address: &str) -> Result<N::Stream, Stop> {

@@ -1,27 +1,37 @@
 //! `radio take`.
 
-use super::{NOBODY, editor_of, put_editor, word};
+use super::{NOBODY, editor_of, put_editor};
 use crate::files::open;
 use crate::read::read_all;
 use crate::stop::Stop;
-use clap::{ArgMatches, Command};
+use crate::words::{Word, Words};
+use clap::ArgMatches;
 use mt_opcodec::Latch;
 use mt_replica::Editor;
 use mt_sync::take_ops;
-use std::alloc::{AllocError, Global};
+use std::alloc::Global;
 use std::io::Read;
 use std::rt::Files;
 
-pub(crate) fn words<'a>(alloc: Global) -> Result<Command<'a>, AllocError> {
-    Command::new(alloc, "take")
-        .about("Takes the operations that another editor sent, and writes the new log")
-        .after_help(
-            "Example: radio take home.log for-home.ops home.log\n\nExit status: 0 done, 1 refused (`radio explain` tells why), 2 the command line does not parse.",
-        )
-        .arg(word(alloc, "LOG", "The log to begin with"))?
-        .arg(word(alloc, "OPS", "The operations, as `radio lack` wrote them"))?
-        .arg(word(alloc, "OUT", "The log to write, which may be LOG"))
-}
+pub(crate) const WORDS: Words = Words {
+    name: "take",
+    about: "Takes the operations that another editor sent, and writes the new log",
+    after: "Example: radio take home.log for-home.ops home.log\n\nExit status: 0 done, 1 refused (`radio explain` tells why), 2 the command line does not parse.",
+    words: &[
+        Word::Needed {
+            name: "LOG",
+            help: "The log to begin with",
+        },
+        Word::Needed {
+            name: "OPS",
+            help: "The operations, as `radio lack` wrote them",
+        },
+        Word::Needed {
+            name: "OUT",
+            help: "The log to write, which may be LOG",
+        },
+    ],
+};
 
 // Lets an editor take the operations that the second input holds.
 fn take_all<R: Read>(alloc: Global, editor: &mut Editor, ops: &mut Latch<R>) -> Result<(), Stop> {

@@ -1,0 +1,164 @@
+//! The words of commands, as data, and what the parser takes of them.
+
+use clap::builder::ValueParser;
+use clap::{Arg, ArgAction, Command};
+use std::alloc::{AllocError, Global};
+
+/// What a command is called with, and what its help says.
+pub(crate) struct Words {
+    pub(crate) name: &'static str,
+    /// What it does.
+    pub(crate) about: &'static str,
+    /// What stands behind the list of its words: an example, and the exit statuses.
+    pub(crate) after: &'static str,
+    pub(crate) words: &'static [Word],
+}
+
+/// A word of a command, or any number of them, and what its help says.
+pub(crate) enum Word {
+    /// One that has to be there.
+    Needed {
+        name: &'static str,
+        help: &'static str,
+    },
+    /// As many as are named, or none.
+    Any {
+        name: &'static str,
+        help: &'static str,
+    },
+    /// A number that may be left out.
+    Number {
+        name: &'static str,
+        greatest: u64,
+        help: &'static str,
+    },
+    /// An option with a text.
+    Text {
+        name: &'static str,
+        default: &'static str,
+        help: &'static str,
+    },
+    /// An option with a number.
+    Count {
+        name: &'static str,
+        default: &'static str,
+        greatest: u64,
+        help: &'static str,
+    },
+}
+
+/// The command of these words.
+pub(crate) fn command_of<'a>(alloc: Global, words: &Words) -> Result<Command<'a>, AllocError> {
+    let command = bare(alloc, words.name, words.about, words.after);
+    with_words(alloc, command, words.words)
+}
+
+/// A command with no words.
+pub(crate) fn bare<'a>(
+    alloc: Global,
+    name: &'a str,
+    about: &'a str,
+    after: &'a str,
+) -> Command<'a> {
+    Command::new(alloc, name).about(about).after_help(after)
+}
+
+fn with_words<'a>(
+    alloc: Global,
+    command: Command<'a>,
+    words: &[Word],
+) -> Result<Command<'a>, AllocError> {
+    let mut command = command;
+    for word in words {
+        command = command.arg(word_of(alloc, word))?;
+    }
+    Ok(command)
+}
+
+/// A command with all of these below it.
+pub(crate) fn with_all<'a>(
+    alloc: Global,
+    command: Command<'a>,
+    all: &[Words],
+) -> Result<Command<'a>, AllocError> {
+    let mut command = command;
+    for words in all {
+        command = with_one(alloc, command, words)?;
+    }
+    Ok(command)
+}
+
+fn with_one<'a>(
+    alloc: Global,
+    command: Command<'a>,
+    words: &Words,
+) -> Result<Command<'a>, AllocError> {
+    match command_of(alloc, words) {
+        Ok(one) => command.subcommand(one),
+        Err(error) => Err(error),
+    }
+}
+
+fn word_of<'a>(alloc: Global, word: &Word) -> Arg<'a> {
+    match word {
+        Word::Needed { name, help } => needed(alloc, name, help),
+        Word::Any { name, help } => any(alloc, name, help),
+        Word::Number {
+            name,
+            greatest,
+            help,
+        } => number(alloc, name, *greatest, help),
+        Word::Text {
+            name,
+            default,
+            help,
+        } => text(alloc, name, default, help),
+        Word::Count {
+            name,
+            default,
+            greatest,
+            help,
+        } => count(alloc, name, default, *greatest, help),
+    }
+}
+
+fn needed<'a>(alloc: Global, name: &'a str, help: &'a str) -> Arg<'a> {
+    Arg::new(alloc, name).required(true).help(help)
+}
+
+fn any<'a>(alloc: Global, name: &'a str, help: &'a str) -> Arg<'a> {
+    Arg::new(alloc, name)
+        .action(ArgAction::Append)
+        .num_args(0..)
+        .help(help)
+}
+
+fn number<'a>(alloc: Global, name: &'a str, greatest: u64, help: &'a str) -> Arg<'a> {
+    Arg::new(alloc, name)
+        .value_parser(ValueParser::Unsigned(0, greatest))
+        .help(help)
+}
+
+fn text<'a>(alloc: Global, name: &'a str, default: &'a str, help: &'a str) -> Arg<'a> {
+    option(alloc, name, default, help).value_name("TEXT")
+}
+
+fn count<'a>(
+    alloc: Global,
+    name: &'a str,
+    default: &'a str,
+    greatest: u64,
+    help: &'a str,
+) -> Arg<'a> {
+    option(alloc, name, default, help)
+        .value_name("N")
+        .value_parser(ValueParser::Unsigned(0, greatest))
+}
+
+// An option with a value.
+fn option<'a>(alloc: Global, name: &'a str, default: &'a str, help: &'a str) -> Arg<'a> {
+    Arg::new(alloc, name)
+        .long(name)
+        .default_value(default)
+        .help(help)
+}
