@@ -13,7 +13,7 @@ both_refuse("output_full", 37, ["log"], files={"log": ONE}, output="full")
 both_refuse("output_to_a_closed_pipe", 37, ["log"], files={"log": ONE}, output="pipe")
 
 # command lines
-STATUS = "\nExit status: 0 done, 1 refused (`radio explain` tells why), 2 the command line does not parse.\n"
+STATUS = "\nExit status: 0 done, 1 refused (the line `radio: fault N`; `radio explain N` tells why), 2 the command line does not parse.\n"
 USAGE = "Usage: radio <COMMAND>\n\nFor more information, try '--help'.\n"
 case("no_argument", [], status=2, stderr="error: 'radio' requires a subcommand but one was not provided\n  [subcommands: view, log, merge, edit, render, have, lack, take, serve, meet, info, explain, help]\n\n" + USAGE)
 case("frob", ["frob"], status=2, stderr="error: unrecognized subcommand 'frob'\n\n" + USAGE)
@@ -38,7 +38,7 @@ Commands:
   serve    Waits for one editor who meets it, swaps operations, and writes the new log
   meet     Meets an editor who serves, swaps operations, and writes the new log
   info     Prints what a wave file says of itself
-  explain  Prints what a refusal means, and what can be done about it
+  explain  Prints what refusal N means, and what can be done about it; with no N all refusals
   help     Print this message or the help of the given subcommand(s)
 
 Options:
@@ -57,7 +57,7 @@ VIEW = """Prints the session of the union of the logs
 Usage: radio view [LOG]...
 
 Arguments:
-  [LOG]...  Logs, joined from left to right; with none, one log from standard input
+  [LOG]...  Logs, in any order; with none, one log from standard input
 
 Options:
   -h, --help  Print help
@@ -70,13 +70,16 @@ MERGE = """Writes the union of the logs as one log
 Usage: radio merge <OUT> [LOG]...
 
 Arguments:
-  <OUT>     The log to write
-  [LOG]...  Logs, joined from left to right; with none, the log of no operation
+  <OUT>     The log to write; one that is there is replaced
+  [LOG]...  Logs, in any order; with none, OUT becomes the log of no operation
 
 Options:
   -h, --help  Print help
 
 Example: radio merge both.log desk.log home.log
+
+OUT is read only where it is one of the LOGs: `radio merge desk.log home.log desk.log` adds home.log to desk.log, and `radio merge desk.log`
+alone replaces desk.log, with all that is in it, by the log of no operation.
 """ + STATUS
 case("help_of_merge", ["merge", "--help"], stdout=MERGE)
 case("merge_of_nothing", ["merge"], status=2, stderr="error: the following required arguments were not provided:\n  <OUT>\n\nUsage: radio merge <OUT> [LOG]...\n\nFor more information, try '--help'.\n")

@@ -128,12 +128,21 @@ Usage: radio edit <REPLICA> <LOG> <SCRIPT> <OUT>
 Arguments:
   <REPLICA>  The UUID of the editor who makes the changes
   <LOG>      The log to begin with
-  <SCRIPT>   The changes, a line each
+  <SCRIPT>   The changes, a line each (see below)
   <OUT>      The log to write, which may be LOG
 
 Options:
   -h, --help  Print help
 
 Example: radio edit 00000000-0000-0000-0000-00000000000a desk.log changes.txt desk.log
+
+A line of SCRIPT is one of these, with one space between words (docs/formats.md, Scripts, says all of them):
+  add-track AFTER TITLE, add-clip DIGEST TRACK AT OFFSET LEN, add-marker AT TITLE, retitle ITEM TITLE,
+  move-track ITEM AFTER, move-clip CLIP TRACK AT, move-marker ITEM AT, trim-clip ITEM OFFSET LEN,
+  gain ITEM NUM/DEN, mute ITEM on, mute ITEM off, remove ITEM, restore ITEM
+An ITEM, a TRACK or a CLIP is a stamp that `radio view` prints, or $k for what line k adds; AFTER is a track, or `head` for the top;
+AT, OFFSET and LEN are frames; DIGEST is what `radio info` prints. Two lines:
+  add-marker 480 Headlines
+  move-marker 1.1.00000000-0000-0000-0000-00000000000a 96000
 """
     + STATUS)

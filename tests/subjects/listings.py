@@ -98,12 +98,12 @@ case("help_of_log", ["log", "--help"], stdout="""Prints the operations of the un
 Usage: radio log [LOG]...
 
 Arguments:
-  [LOG]...  Logs, joined from left to right; with none, one log from standard input
+  [LOG]...  Logs, in any order; with none, one log from standard input
 
 Options:
   -h, --help  Print help
 
 Example: radio log desk.log home.log
 
-Exit status: 0 done, 1 refused (`radio explain` tells why), 2 the command line does not parse.
+Exit status: 0 done, 1 refused (the line `radio: fault N`; `radio explain N` tells why), 2 the command line does not parse.
 """)

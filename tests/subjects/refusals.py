@@ -27,7 +27,7 @@ case("explain_to_a_full_disk", ["explain"], status=1, stderr="radio: fault 37\n"
 case(
     "help_of_explain",
     ["explain", "--help"],
-    stdout="""Prints what a refusal means, and what can be done about it
+    stdout="""Prints what refusal N means, and what can be done about it; with no N all refusals
 
 Usage: radio explain [N]
 

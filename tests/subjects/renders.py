@@ -156,9 +156,9 @@ Options:
       --rate <N>            Frames a second, 1 to 384000 [default: 48000]
       --bits <N>            Bits of a sample, 16 or 24 [default: 24]
       --channels <N>        Channels, 1 or 2 [default: 1]
-      --description <TEXT>  What it is, of at most 256 bytes [default: ""]
-      --originator <TEXT>   Who made it, of at most 32 bytes [default: ""]
-      --reference <TEXT>    Its reference there, of at most 32 bytes [default: ""]
+      --description <TEXT>  What it is, at most 256 bytes of printing ASCII (0x20 to 0x7E) [default: ""]
+      --originator <TEXT>   Who made it, at most 32 bytes of printing ASCII [default: ""]
+      --reference <TEXT>    Its reference there, at most 32 bytes of printing ASCII [default: ""]
       --date <TEXT>         The date, as dddd-dd-dd [default: 2000-01-01]
       --time <TEXT>         The time, as dd:dd:dd [default: 00:00:00]
       --time-reference <N>  Frames from midnight to the first [default: 0]
@@ -166,6 +166,6 @@ Options:
 
 Example: radio render news.wav desk.log jingle.wav interview.wav --bits 16 --description 'Morning news'
 
-Exit status: 0 done, 1 refused (`radio explain` tells why), 2 the command line does not parse.
+Exit status: 0 done, 1 refused (the line `radio: fault N`; `radio explain N` tells why), 2 the command line does not parse.
 """
 case("help_of_render", ["render", "--help"], stdout=HELP)

@@ -20,7 +20,7 @@ use std::rt::Files;
 pub(crate) const WORDS: Words = Words {
     name: "edit",
     about: "Makes the changes of a script, all or none, and writes the new log",
-    after: "Example: radio edit 00000000-0000-0000-0000-00000000000a desk.log changes.txt desk.log\n\nExit status: 0 done, 1 refused (`radio explain` tells why), 2 the command line does not parse.",
+    after: "Example: radio edit 00000000-0000-0000-0000-00000000000a desk.log changes.txt desk.log\n\nA line of SCRIPT is one of these, with one space between words (docs/formats.md, Scripts, says all of them):\n  add-track AFTER TITLE, add-clip DIGEST TRACK AT OFFSET LEN, add-marker AT TITLE, retitle ITEM TITLE,\n  move-track ITEM AFTER, move-clip CLIP TRACK AT, move-marker ITEM AT, trim-clip ITEM OFFSET LEN,\n  gain ITEM NUM/DEN, mute ITEM on, mute ITEM off, remove ITEM, restore ITEM\nAn ITEM, a TRACK or a CLIP is a stamp that `radio view` prints, or $k for what line k adds; AFTER is a track, or `head` for the top;\nAT, OFFSET and LEN are frames; DIGEST is what `radio info` prints. Two lines:\n  add-marker 480 Headlines\n  move-marker 1.1.00000000-0000-0000-0000-00000000000a 96000\n\nExit status: 0 done, 1 refused (the line `radio: fault N`; `radio explain N` tells why), 2 the command line does not parse.",
     words: &[
         Word::Needed {
             name: "REPLICA",
@@ -32,7 +32,7 @@ pub(crate) const WORDS: Words = Words {
         },
         Word::Needed {
             name: "SCRIPT",
-            help: "The changes, a line each",
+            help: "The changes, a line each (see below)",
         },
         Word::Needed {
             name: "OUT",

@@ -12,8 +12,8 @@ use std::io::Write;
 
 pub(crate) const WORDS: Words = Words {
     name: "explain",
-    about: "Prints what a refusal means, and what can be done about it",
-    after: "Example: radio explain 45\n\nExit status: 0 done, 1 refused (`radio explain` tells why), 2 the command line does not parse.",
+    about: "Prints what refusal N means, and what can be done about it; with no N all refusals",
+    after: "Example: radio explain 45\n\nExit status: 0 done, 1 refused (the line `radio: fault N`; `radio explain N` tells why), 2 the command line does not parse.",
     words: &[Word::Number {
         name: "N",
         greatest: u8::MAX as u64,

@@ -12,7 +12,7 @@ use std::rt::Files;
 pub(crate) const WORDS: Words = Words {
     name: "have",
     about: "Writes which operations a log has, for another editor to see what it lacks",
-    after: "Example: radio have home.log home.have\n\nExit status: 0 done, 1 refused (`radio explain` tells why), 2 the command line does not parse.",
+    after: "Example: radio have home.log home.have\n\nExit status: 0 done, 1 refused (the line `radio: fault N`; `radio explain N` tells why), 2 the command line does not parse.",
     words: &[
         Word::Needed {
             name: "LOG",

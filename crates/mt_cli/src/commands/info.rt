@@ -13,7 +13,7 @@ use std::rt::Files;
 pub(crate) const WORDS: Words = Words {
     name: "info",
     about: "Prints what a wave file says of itself",
-    after: "Example: radio info jingle.wav\n\nExit status: 0 done, 1 refused (`radio explain` tells why), 2 the command line does not parse.",
+    after: "Example: radio info jingle.wav\n\nExit status: 0 done, 1 refused (the line `radio: fault N`; `radio explain N` tells why), 2 the command line does not parse.",
     words: &[Word::Needed {
         name: "WAVE",
         help: "A wave file",

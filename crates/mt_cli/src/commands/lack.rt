@@ -12,7 +12,7 @@ use std::rt::Files;
 pub(crate) const WORDS: Words = Words {
     name: "lack",
     about: "Writes the operations of a log that another editor lacks",
-    after: "Example: radio lack desk.log home.have for-home.ops\n\nExit status: 0 done, 1 refused (`radio explain` tells why), 2 the command line does not parse.",
+    after: "Example: radio lack desk.log home.have for-home.ops\n\nExit status: 0 done, 1 refused (the line `radio: fault N`; `radio explain N` tells why), 2 the command line does not parse.",
     words: &[
         Word::Needed {
             name: "LOG",

@@ -11,7 +11,7 @@ use std::rt::Files;
 pub(crate) const WORDS: Words = Words {
     name: "meet",
     about: "Meets an editor who serves, swaps operations, and writes the new log",
-    after: "Example: radio meet 127.0.0.1:7000 home.log home.log\n\nExit status: 0 done, 1 refused (`radio explain` tells why), 2 the command line does not parse.",
+    after: "Example: radio meet 127.0.0.1:7000 home.log home.log\n\nExit status: 0 done, 1 refused (the line `radio: fault N`; `radio explain N` tells why), 2 the command line does not parse.",
     words: &[
         Word::Needed {
             name: "ADDR",

@@ -11,15 +11,15 @@ use std::rt::Files;
 pub(crate) const WORDS: Words = Words {
     name: "merge",
     about: "Writes the union of the logs as one log",
-    after: "Example: radio merge both.log desk.log home.log\n\nExit status: 0 done, 1 refused (`radio explain` tells why), 2 the command line does not parse.",
+    after: "Example: radio merge both.log desk.log home.log\n\nOUT is read only where it is one of the LOGs: `radio merge desk.log home.log desk.log` adds home.log to desk.log, and `radio merge desk.log`\nalone replaces desk.log, with all that is in it, by the log of no operation.\n\nExit status: 0 done, 1 refused (the line `radio: fault N`; `radio explain N` tells why), 2 the command line does not parse.",
     words: &[
         Word::Needed {
             name: "OUT",
-            help: "The log to write",
+            help: "The log to write; one that is there is replaced",
         },
         Word::Any {
             name: "LOG",
-            help: "Logs, joined from left to right; with none, the log of no operation",
+            help: "Logs, in any order; with none, OUT becomes the log of no operation",
         },
     ],
 };

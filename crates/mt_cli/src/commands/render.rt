@@ -13,7 +13,7 @@ use std::rt::Files;
 pub(crate) const WORDS: Words = Words {
     name: "render",
     about: "Writes the session of a log as a broadcast wave file, its markers as cue points",
-    after: "Example: radio render news.wav desk.log jingle.wav interview.wav --bits 16 --description 'Morning news'\n\nExit status: 0 done, 1 refused (`radio explain` tells why), 2 the command line does not parse.",
+    after: "Example: radio render news.wav desk.log jingle.wav interview.wav --bits 16 --description 'Morning news'\n\nExit status: 0 done, 1 refused (the line `radio: fault N`; `radio explain N` tells why), 2 the command line does not parse.",
     words: &[
         Word::Needed {
             name: "OUT",
@@ -48,17 +48,17 @@ pub(crate) const WORDS: Words = Words {
         Word::Text {
             name: "description",
             default: "",
-            help: "What it is, of at most 256 bytes",
+            help: "What it is, at most 256 bytes of printing ASCII (0x20 to 0x7E)",
         },
         Word::Text {
             name: "originator",
             default: "",
-            help: "Who made it, of at most 32 bytes",
+            help: "Who made it, at most 32 bytes of printing ASCII",
         },
         Word::Text {
             name: "reference",
             default: "",
-            help: "Its reference there, of at most 32 bytes",
+            help: "Its reference there, at most 32 bytes of printing ASCII",
         },
         Word::Text {
             name: "date",

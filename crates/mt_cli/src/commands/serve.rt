@@ -11,7 +11,7 @@ use std::rt::Files;
 pub(crate) const WORDS: Words = Words {
     name: "serve",
     about: "Waits for one editor who meets it, swaps operations, and writes the new log",
-    after: "Example: radio serve 127.0.0.1:7000 desk.log desk.log\n\nExit status: 0 done, 1 refused (`radio explain` tells why), 2 the command line does not parse.",
+    after: "Example: radio serve 127.0.0.1:7000 desk.log desk.log\n\nExit status: 0 done, 1 refused (the line `radio: fault N`; `radio explain N` tells why), 2 the command line does not parse.",
     words: &[
         Word::Needed {
             name: "ADDR",

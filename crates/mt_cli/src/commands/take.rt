@@ -16,7 +16,7 @@ use std::rt::Files;
 pub(crate) const WORDS: Words = Words {
     name: "take",
     about: "Takes the operations that another editor sent, and writes the new log",
-    after: "Example: radio take home.log for-home.ops home.log\n\nExit status: 0 done, 1 refused (`radio explain` tells why), 2 the command line does not parse.",
+    after: "Example: radio take home.log for-home.ops home.log\n\nExit status: 0 done, 1 refused (the line `radio: fault N`; `radio explain N` tells why), 2 the command line does not parse.",
     words: &[
         Word::Needed {
             name: "LOG",

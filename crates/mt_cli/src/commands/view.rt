@@ -12,10 +12,10 @@ use std::rt::Files;
 pub(crate) const WORDS: Words = Words {
     name: "view",
     about: "Prints the session of the union of the logs",
-    after: "Example: radio view desk.log home.log\n\nExit status: 0 done, 1 refused (`radio explain` tells why), 2 the command line does not parse.",
+    after: "Example: radio view desk.log home.log\n\nExit status: 0 done, 1 refused (the line `radio: fault N`; `radio explain N` tells why), 2 the command line does not parse.",
     words: &[Word::Any {
         name: "LOG",
-        help: "Logs, joined from left to right; with none, one log from standard input",
+        help: "Logs, in any order; with none, one log from standard input",
     }],
 };
 
