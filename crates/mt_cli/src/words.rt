@@ -47,8 +47,7 @@ pub(crate) enum Word {
     },
 }
 
-/// The command of these words.
-pub(crate) fn command_of<'a>(alloc: Global, words: &Words) -> Result<Command<'a>, AllocError> {
+fn command_of<'a>(alloc: Global, words: &Words) -> Result<Command<'a>, AllocError> {
     let command = bare(alloc, words.name, words.about, words.after);
     with_words(alloc, command, words.words)
 }

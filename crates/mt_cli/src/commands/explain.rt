@@ -3,9 +3,8 @@
 use crate::fault::CliFault;
 use crate::refusals::{Refusal, find_refusal};
 use crate::stop::Stop;
-use crate::words::{Word, Words, command_of};
-use clap::error::ErrorKind;
-use clap::{ArgMatches, Command, Error};
+use crate::words::{Word, Words};
+use clap::ArgMatches;
 use mt_opcodec::{BufferedLatch, Latch};
 use std::alloc::{AllocError, Global};
 use std::io::Write;
@@ -37,24 +36,15 @@ pub(crate) fn run<W: Write>(
     Ok(lines.flush().map_err(|_| CliFault::Write)?)
 }
 
-// What is told of a number that is no refusal.
+// What is told of a number that is no refusal, as the parser tells of a mistake.
 fn unknown(alloc: Global, number: u8) -> Result<Stop, AllocError> {
-    let text = format!(in alloc; "no refusal has the number {number}")?;
-    Ok(Stop::told(alloc, mistake(alloc, text.as_str())?))
-}
-
-// A mistake on the command line, told in these words.
-fn mistake(alloc: Global, text: &str) -> Result<Error, AllocError> {
-    let mut command = named(alloc)?;
-    command.error(ErrorKind::ValueValidation, text)
-}
-
-// The command by its whole name.
-fn named<'a>(alloc: Global) -> Result<Command<'a>, AllocError> {
-    match command_of(alloc, &WORDS) {
-        Ok(command) => command.bin_name("radio explain"),
-        Err(error) => Err(error),
-    }
+    let text = format!(in alloc;
+        "error: no refusal has the number {number}\n\nUsage: radio explain [N]\n\nFor more information, try '--help'.\n"
+    )?;
+    Ok(Stop::Told {
+        text,
+        is_mistake: true,
+    })
 }
 
 // Puts all refusals, a line each, by their numbers.
