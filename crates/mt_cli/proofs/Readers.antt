@@ -1,13 +1,14 @@
 -- Readers that gave logs, one after another.
-use Rattle.std.proofs.Common.{◌≡◌, ℕ, zero, suc, ◌+◌, ◌<◌, List, [], ◌∷◌, ◌++◌, Option, length, get_or, take, drop, refl, sym, ap, subst, ◌∙◌, arith, inl, inr}
-use Rattle.std.proofs.lemmas.List.{drop-drop, drop-set-lt, get_or-drop}
+use Rattle.std.proofs.Common.{◌≡◌, ℕ, zero, suc, ◌+◌, ◌<◌, List, [], ◌∷◌, ◌++◌, Option, length, get_or, take, drop, refl, sym, ap, subst, ◌∙◌, arith, inl, inr, Result, Ok, Err}
+use Rattle.std.specs.Prelude.{IfErr, IsErrAnd}
+use Rattle.std.proofs.lemmas.List.{drop-drop, drop-set-lt, get_or-drop, length-set, get_or-set_same, take-set}
 use Rattle.std.proofs.Math.ListN.{set}
 use Rattle.mt_latch.specs.Latch.{Latched}
 use Rattle.mt_opcodec.specs.LogValue.{LogMap}
 use Rattle.mt_cli.specs.declared.fault.CliFault.{CliFault}
 use Rattle.mt_cli.specs.declared.fault.CliFault.TheVariants.{Memory}
 use Rattle.std.specs.List.{AllByRecursion}
-use Rattle.mt_cli.specs.Reading.{Gave, GaveLogs, AreRead, IsCause, HasCause, text_of}
+use Rattle.mt_cli.specs.Reading.{Gave, GaveLogs, IsRead, AreRead, IsCause, HasCause, text_of}
 
 module _ {R : Type 0} (remaining : R → Option (List ℕ)) where
   pub GaveLogs-more : (latches : List (Latched R)) (logs : List LogMap) (i : ℕ) (latch : Latched R) (m : LogMap) → i < length latches → latch ≡ get_or latches i latch
@@ -64,3 +65,31 @@ pub all_more : {X : Type 0} (P : X → Type 0) (i : ℕ) (xs : List X) (x : X) �
 all_more P i [] x lt h p = absurd (omega arith)
 all_more P zero (y ∷ xs) x lt h p = (p, tt)
 all_more P (suc i) (y ∷ xs) x lt h p = (h.0, all_more P i xs x (omega arith) h.1 p)
+
+-- what is told of a refusal, as after `?`
+pub told_as : {T E : Type 0} (r : Result T E) (P : E → Type 0) (fault : E) → IsErrAnd r (λ e. e ≡ fault) → P fault → IfErr r P
+told_as (Ok x) P fault is p = tt
+told_as (Err e) P fault is p = subst P (sym is) p
+
+-- ---- of the slice of readers after the one at a place was read
+
+module _ {R : Type 0} (remaining : R → Option (List ℕ)) (entry inputs : List (Latched R)) (i : ℕ) (latch after : Latched R) (same : length inputs ≡ length entry) (lt : i < length entry) where
+  within : i < length inputs
+  within = omega (arith, same, lt)
+
+  pub cause_at : (logs : List LogMap) (fault : CliFault) → drop i inputs ≡ drop i entry → latch ≡ get_or inputs i latch → GaveLogs remaining (take i entry) logs → AreRead remaining (take i inputs)
+      → IsCause remaining i (get_or inputs i latch) after fault → HasCause remaining 0 entry (set inputs i after) fault
+  cause_at logs fault left at gave read cause =
+      let next : i + 1 ≡ suc i = omega arith in
+      HasCause-at remaining entry (set inputs i after) logs i 0 latch after fault (length-set inputs i after ∙ same) lt (left_at i inputs entry latch within same left at) (sym (get_or-set_same inputs i after after within)) gave
+      (subst (AreRead remaining) (sym (take-set inputs i after)) read) (subst (λ (n : ℕ). drop n (set inputs i after) ≡ drop n entry) next (left_more i inputs entry after left)) (IsCause-same remaining i (get_or inputs i latch) latch after fault at cause)
+
+  pub gave_more : (logs : List LogMap) (m : LogMap) → drop i inputs ≡ drop i entry → latch ≡ get_or inputs i latch → GaveLogs remaining (take i entry) logs → Gave remaining (get_or inputs i latch) (text_of m) → GaveLogs remaining (take (i + 1) entry) (logs ++ m ∷ [])
+  gave_more logs m left at gave more =
+      let next : suc i ≡ i + 1 = omega arith in
+      subst (λ (n : ℕ). GaveLogs remaining (take n entry) (logs ++ m ∷ [])) next (GaveLogs-more remaining entry logs i latch m lt (left_at i inputs entry latch within same left at) gave (Gave-same remaining (get_or inputs i latch) latch m at more))
+
+  pub read_more : AreRead remaining (take i inputs) → IsRead remaining after → AreRead remaining (take (i + 1) (set inputs i after))
+  read_more read is =
+      let next : suc i ≡ i + 1 = omega arith in
+      subst (λ (n : ℕ). AreRead remaining (take n (set inputs i after))) next (all_more (IsRead remaining) i inputs after within read is)

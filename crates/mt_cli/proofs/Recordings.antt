@@ -8,7 +8,8 @@ use Rattle.std.specs.FinMap.{slice_cmp-IsAntisymmetric, nat_cmp-IsAntisymmetric}
 use Rattle.std.specs.declared.cmp.Ordering.{Ordering}
 use Rattle.std.specs.declared.cmp.Ordering.TheVariants.{Less, Equal, Greater}
 use Rattle.std.proofs.lemmas.Bool.{cases_Bool, false≢true}
-use Rattle.std.proofs.lemmas.List.{take_more, map-append}
+use Rattle.std.proofs.lemmas.List.{take_more, map-append, length-set, get_or-set_same, take-set}
+use Rattle.std.proofs.Math.ListN.{set}
 use Rattle.std.proofs.lemmas.Map.Text.{is_eq-slice_cmp}
 use Rattle.std.specs.Str.{bytes_eq}
 use Rattle.mt_stamp.proofs.Texts.{unlike}
@@ -20,6 +21,7 @@ use Rattle.mt_cli.specs.declared.fault.CliFault.{CliFault}
 use Rattle.mt_cli.specs.declared.fault.CliFault.TheVariants.{Memory}
 use Rattle.mt_cli.specs.Reading.{Gave, AreRead}
 use Rattle.mt_cli.specs.Sources.{bytes_in, GaveWaves, IsSourceCause, HasSourceCause}
+use Rattle.mt_cli.proofs.Readers.{left_at, left_more}
 
 -- ---- from readers
 
@@ -57,6 +59,24 @@ module _ {R : Type 0} (remaining : R → Option (List ℕ)) where
   HasSourceCause-memory others start [] new same = refl
   HasSourceCause-memory others start (x ∷ old) [] same = absurd (omega arith)
   HasSourceCause-memory others start (x ∷ old) (y ∷ new) same = inl (tt, λ other. absurd (other refl))
+
+-- ---- of the slice of readers after the one at a place was read
+
+module _ {R : Type 0} (remaining : R → Option (List ℕ)) (others : ℕ) (entry inputs : List (Latched R)) (i : ℕ) (latch after : Latched R) (same : length inputs ≡ length entry) (lt : i < length entry) where
+  within : i < length inputs
+  within = omega (arith, same, lt)
+
+  pub source_cause_at : (texts : List (List ℕ)) (fault : CliFault) → drop i inputs ≡ drop i entry → latch ≡ get_or inputs i latch → GaveWaves remaining (take i entry) texts → AreRead remaining (take i inputs)
+      → IsSourceCause remaining others i (get_or inputs i latch) after fault → HasSourceCause remaining others 0 entry (set inputs i after) fault
+  source_cause_at texts fault left at gave read cause =
+      let next : i + 1 ≡ suc i = omega arith in
+      HasSourceCause-at remaining others entry (set inputs i after) texts i 0 latch after fault (length-set inputs i after ∙ same) lt (left_at i inputs entry latch within same left at) (sym (get_or-set_same inputs i after after within)) gave
+      (subst (AreRead remaining) (sym (take-set inputs i after)) read) (subst (λ (n : ℕ). drop n (set inputs i after) ≡ drop n entry) next (left_more i inputs entry after left)) (IsSourceCause-same remaining others i (get_or inputs i latch) latch after fault at cause)
+
+  pub waves_more : (texts : List (List ℕ)) (text : List ℕ) → drop i inputs ≡ drop i entry → latch ≡ get_or inputs i latch → GaveWaves remaining (take i entry) texts → Gave remaining (get_or inputs i latch) text × IsWave text → GaveWaves remaining (take (i + 1) entry) (texts ++ text ∷ [])
+  waves_more texts text left at gave more =
+      let next : suc i ≡ i + 1 = omega arith in
+      subst (λ (n : ℕ). GaveWaves remaining (take n entry) (texts ++ text ∷ [])) next (GaveWaves-more remaining entry texts i latch text lt (left_at i inputs entry latch within same left at) gave (wave_same remaining (get_or inputs i latch) latch text at more))
 
 -- one more vector, and its bytes
 pub bytes_more : {Z : Type 0} (texts : List (Vec ℕ Z)) (text : Vec ℕ Z) → bytes_in (texts ++ text ∷ []) ≡ bytes_in texts ++ text.items ∷ []

@@ -1,15 +1,16 @@
 use Rattle.std.proofs.Common.{ℕ, List, refl, sym, subst, inl}
 use Rattle.std.specs.Prelude.{Vec}
-use Rattle.std.proofs.lemmas.Result.{err_from_is_err_and}
+use Rattle.mt_cli.specs.declared.fault.CliFault.TheVariants.{Memory}
+use Rattle.mt_cli.specs.Bouncing.{BounceFails}
 use Rattle.mt_cli.specs.Sources.{GaveWaves, bytes_in}
-use Rattle.mt_cli.proofs.Readers.{HasCause-memory}
+use Rattle.mt_cli.proofs.Readers.{HasCause-memory, told_as}
 use Rattle.mt_cli.proofs.Rendering.{rendered, not_rendered}
 use Rattle.mt_cli.proofs.render.bounce_logs.Goals as goal
 
 pub returns-in_err-clone-clause-err : goal.returns-in_err-clone-clause-err
 returns-in_err-clone-clause-err g c =
-    let p = err_from_is_err_and c.from_residual.result c.from_residual.ensures.1 in
-    rw (p.1, p.2) (inl (inl (HasCause-memory g.R.Read.remaining 0 c.args.logs.now c.args.logs.now refl), refl, refl))
+    told_as c.from_residual.result (BounceFails g.W.Write.contents g.R.Read.remaining c.args.logs.now c.args.logs.now c.args.sources.now c.args.sources.now c.args.format c.args.head.now c.args.output.now c.args.output.now) Memory c.from_residual.ensures.1
+    (inl (inl (HasCause-memory g.R.Read.remaining 0 c.args.logs.now c.args.logs.now refl), refl, refl))
 
 pub returns-clause-ok : goal.returns-clause-ok
 returns-clause-ok g c =
