@@ -1,22 +1,10 @@
 -- Readers that gave recordings, one after another, and the recordings under their digests.
-use Rattle.std.proofs.Common.{◌≡◌, ◌≢◌, ℕ, zero, suc, ◌+◌, ◌<◌, true, false, List, [], ◌∷◌, ◌++◌, Option, Some, None, length, get_or, take, drop, unwrap_or, refl, sym, ap, subst, ◌∙◌, arith, inl, inr}
-use Rattle.std.specs.Prelude.{Vec, Ok, Err, is_err, IfOk}
-use Rattle.std.specs.declared.result.Result.{Result}
-use Rattle.std.specs.Ordering.{is_eq}
-use Rattle.std.specs.Option.{option_or}
-use Rattle.std.specs.FinMap.{slice_cmp-IsAntisymmetric, nat_cmp-IsAntisymmetric}
-use Rattle.std.specs.declared.cmp.Ordering.{Ordering}
-use Rattle.std.specs.declared.cmp.Ordering.TheVariants.{Less, Equal, Greater}
-use Rattle.std.proofs.lemmas.Bool.{cases_Bool, false≢true}
-use Rattle.std.proofs.lemmas.List.{take_more, map-append, length-set, get_or-set_same, take-set}
+use Rattle.std.proofs.Common.{◌≡◌, ℕ, zero, suc, ◌+◌, ◌<◌, List, [], ◌∷◌, ◌++◌, Option, length, get_or, take, drop, refl, sym, subst, ◌∙◌, arith, inl, inr}
+use Rattle.std.specs.Prelude.{Vec}
+use Rattle.std.proofs.lemmas.List.{map-append, length-set, get_or-set_same, take-set}
 use Rattle.std.proofs.Math.ListN.{set}
-use Rattle.std.proofs.lemmas.Map.Text.{is_eq-slice_cmp}
-use Rattle.std.specs.Str.{bytes_eq}
-use Rattle.mt_stamp.proofs.Texts.{unlike}
-use Rattle.sha2.specs.Sha256.{sha256}
 use Rattle.mt_bwfread.specs.Wave.{IsWave}
 use Rattle.mt_latch.specs.Latch.{Latched}
-use Rattle.mt_render.specs.Sources.{Sources, digest_cmp, found}
 use Rattle.mt_cli.specs.declared.fault.CliFault.{CliFault}
 use Rattle.mt_cli.specs.declared.fault.CliFault.TheVariants.{Memory}
 use Rattle.mt_cli.specs.Reading.{Gave, AreRead}

@@ -6,12 +6,10 @@ use Rattle.mt_op.specs.Gain.{Ratio}
 use Rattle.mt_op.specs.declared.digest.Digest.{Digest}
 use Rattle.mt_sessionview.specs.Content.{Clip, Track, Marker}
 use Rattle.mt_bwfread.specs.Riff.{chunk_text}
-use Rattle.mt_render.specs.declared.fault.MixFault.{MixFault}
-use Rattle.mt_render.specs.declared.fault.MixFault.TheVariants.{Memory, MissingSource, RateDiffers, TooLong}
 use Rattle.mt_render.specs.Layout.{Layout}
 use Rattle.mt_render.specs.Sources.{Sources, found}
 use Rattle.mt_render.specs.Mix.{Programme, length_of, clip_sample, track_sample, mixed, mixed_sample, output, contribution, heard, sounding}
-use Rattle.mt_render.specs.Refusals.{IsMixable, IsMixFault, IsLeast, PassAll, is_missing, rate_differs, missing_from, differs_from, audible}
+use Rattle.mt_render.specs.Refusals.{IsMixable, PassAll, is_missing, rate_differs, missing_from, differs_from, audible}
 use Rattle.mt_cuewrite.specs.Head.{HeadText}
 use Rattle.mt_cuewrite.specs.File.{padded, bext, format, sample, channels_from, frames_from, before, marker_chunks, riff, file}
 

@@ -1,13 +1,12 @@
 -- Texts that are written or refused.
-use Rattle.std.proofs.Common.{◌≡◌, ℕ, List, Option, Result, Ok, Err, inr, subst}
+use Rattle.std.proofs.Common.{◌≡◌, ℕ, List, Option, Result, Ok, Err, inr}
 use Rattle.std.specs.Prelude.{OnOk, IfErr}
 use Rattle.mt_latch.specs.Latch.{Latched}
 use Rattle.mt_opcodec.specs.LogValue.{LogMap}
 use Rattle.mt_opcodec.specs.Union.{union_all, AllAgree}
 use Rattle.mt_cli.specs.declared.fault.CliFault.{CliFault}
-use Rattle.mt_cli.specs.Reading.{text_of, Gave, GaveLogs, IsRead, AreRead}
-use Rattle.mt_cli.specs.declared.fault.CliFault.TheVariants as faults
-use Rattle.mt_cli.specs.Writing.{WriteFails, WriteUnionFails, InputsFail, InputFails}
+use Rattle.mt_cli.specs.Reading.{text_of, Gave, GaveLogs, IsRead}
+use Rattle.mt_cli.specs.Writing.{WriteFails, InputFails}
 
 pub log_written : (result : Result (Unit {0}) CliFault) (log : LogMap) (Given : LogMap → Type 0) (Writes : LogMap → Type 0) → Given log → OnOk result (Writes log) → OnOk result ((m : LogMap) × (Given m × Writes m))
 log_written (Ok unit) log Given Writes given writes = (log, (given, writes))
