@@ -144,6 +144,16 @@ pub more_made : {Y : Type 0} (made grown new before rest whole : List Y) → mad
 more_made {Y} made grown new before rest whole so_far split is =
     ap (λ (l : List Y). l ++ rest) is ∙ append_assoc made new rest ∙ ap (λ (l : List Y). made ++ l) (sym split) ∙ so_far
 
+-- the same of a loop that keeps what passes, at an element that does
+pub one_kept : {Y : Type 0} (p : Y → Bool) (made grown before rest whole : List Y) (y : Y) → made ++ filter p before ≡ whole → before ≡ y ∷ rest → p y ≡ true → grown ≡ made ++ y ∷ [] → grown ++ filter p rest ≡ whole
+one_kept {Y} p made grown before rest whole y so_far split passes =
+    more_made made grown (y ∷ []) (filter p before) (filter p rest) whole so_far (ap (filter p) split ∙ ap (λ (b : Bool). cond b (y ∷ filter p rest) (filter p rest)) passes)
+
+-- and at one that does not
+pub none_kept : {Y : Type 0} (p : Y → Bool) (made before rest whole : List Y) (y : Y) → made ++ filter p before ≡ whole → before ≡ y ∷ rest → p y ≡ false → made ++ filter p rest ≡ whole
+none_kept {Y} p made before rest whole y so_far split fails =
+    ap (λ (l : List Y). made ++ l) (sym (ap (filter p) split ∙ ap (λ (b : Bool). cond b (y ∷ filter p rest) (filter p rest)) fails)) ∙ so_far
+
 -- nothing is left
 pub all_made : {X Y : Type 0} (F : List X → List Y) (xs : List X) (n : ℕ) (made whole : List Y) → F [] ≡ [] → length xs ≤ n → made ++ F (drop n xs) ≡ whole → made ≡ whole
 all_made {X} {Y} F xs n made whole none past so_far = sym (append-nil made) ∙ ap (λ (l : List Y). made ++ l) (sym (ap F (drop_all xs n past) ∙ none)) ∙ so_far

@@ -1,9 +1,10 @@
-use Rattle.std.proofs.Common.{◌≡◌, ◌∙◌, List, map, ap, Bor}
+use Rattle.std.proofs.Common.{◌≡◌, ℕ, ◌<◌, ◌∙◌, List, length, map, sym, ap, subst, Bor}
+use Rattle.std.specs.Prelude.{Some, slice_get}
 use Rattle.mt_op.specs.declared.op.Op.{Op}
 use Rattle.mt_op.specs.Operation.{Operation}
 use Rattle.mt_tracklist.specs.Rising.{given_tree}
 use Rattle.mt_sessionview.specs.Read.{tree_place, ops_at}
-use Rattle.mt_sessionview.proofs.PlacedOps.{are_a_tree, places_rise, placed_refs, rising_differ}
+use Rattle.mt_sessionview.proofs.PlacedOps.{as_many, are_a_tree, places_rise, placed_refs, rising_differ}
 use Rattle.mt_sessionview.proofs.placed.placed_ops.Goals as goal
 
 pub order_of-requires-clause-rising : goal.order_of-requires-clause-rising
@@ -21,6 +22,19 @@ order_of-requires-clause-tree g c =
     let places_are : given_tree c.deref-2.result.now ≡ map tree_place (map now c.in_ok-ops.ops.items) =
     ap given_tree c.deref-2.ensures.value ∙ c.in_ok-places.ensures ∙ ap (λ (l : List Ref). map tree_place (map now l)) c.deref.ensures.value in
     are_a_tree now (map now c.args.ops.now) c.in_ok-ops.ops.items c.in_ok-ops.ensures.ok c.deref-2.result.now places_are c.requires.tree
+
+pub ops_at-requires : goal.ops_at-requires
+ops_at-requires g c =
+    let Ref = Bor (Op g.row.A.Denot) in
+    let now : Ref → Operation = λ o. o.now in
+    let places_are : given_tree c.deref-2.result.now ≡ map tree_place (map now c.in_ok-ops.ops.items) =
+    ap given_tree c.deref-2.ensures.value ∙ c.in_ok-places.ensures ∙ ap (λ (l : List Ref). map tree_place (map now l)) c.deref.ensures.value in
+    let many = as_many now (map now c.args.ops.now) c.in_ok-ops.ops.items c.in_ok-ops.ensures.ok c.deref-2.result.now places_are in
+    record {
+      below = λ k p at.
+          subst (λ (n : ℕ). p < n) (many ∙ ap length (sym c.deref-3.ensures.value))
+          (c.in_ok-order.ensures.below k p (subst (λ (l : List ℕ). slice_get l k ≡ Some p) c.deref-4.ensures.value at));
+    }
 
 pub returns-clause-ok : goal.returns-clause-ok
 returns-clause-ok g c =
