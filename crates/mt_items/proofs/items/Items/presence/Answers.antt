@@ -7,6 +7,21 @@ use Rattle.mt_items.proofs.Reading.{not_item}
 use Rattle.mt_items.proofs.Roles.{nothing_marked}
 use Rattle.mt_items.proofs.items.Items.presence.Goals as goal
 
+pub returns-in-Some : goal.returns-in-Some
+returns-in-Some g c =
+    let cells = c.in-Some.cells.now in
+    subst (λ (l : List Operation). HoldsTags c.args.item l cells.presence) c.self.view_is (c.self.invariant.tracks.each c.args.item cells (sym c.in-Some.ensures.value)).presence
+
+pub returns-in-Some-get : goal.returns-in-Some-get
+returns-in-Some-get g c =
+    let cells = c.in-Some-get.cells.now in
+    subst (λ (l : List Operation). HoldsTags c.args.item l cells.presence) c.self.view_is (c.self.invariant.clips.each c.args.item cells (sym c.in-Some-get.ensures.value)).presence
+
+pub returns-in-Some-get-2 : goal.returns-in-Some-get-2
+returns-in-Some-get-2 g c =
+    let cells = c.in-Some-get-2.cells.now in
+    subst (λ (l : List Operation). HoldsTags c.args.item l cells.presence) c.self.view_is (c.self.invariant.markers.each c.args.item cells (sym c.in-Some-get-2.ensures.value)).presence
+
 pub returns-in-None-get-2 : goal.returns-in-None-get-2
 returns-in-None-get-2 g c =
     let all = c.self.invariant in
