@@ -45,3 +45,6 @@ pub returns-clause-items : goal.returns-clause-items
 returns-clause-items g c =
     let now : Bor (Op g.row.A.Denot) → Operation = λ o. o.now in
     (all_collected (map now c.args.ops.now) c.loop-op.items (map now (drop c.loop-op.op-index c.args.ops.now)) (map now c.loop-op.ready.items) (ap (map now) (drop_all c.loop-op.op-index c.args.ops.now c.loop-op-test.false)) c.requires.rising c.loop-op.invariant).0
+
+pub returns-clause-noted : goal.returns-clause-noted
+returns-clause-noted g c = c.loop-op.invariant.noted
