@@ -30,7 +30,7 @@ use Rattle.mt_op.proofs.Needs.{stamp_eq-true}
 use Rattle.mt_opcodec.specs.LogValue.{LogMap, operations, AreLogged}
 use Rattle.mt_items.specs.Noting.{is_noted}
 use Rattle.mt_holdback.specs.declared.hold_back.Offered.{Offered}
-use Rattle.mt_holdback.specs.HoldBack.{IsHoldBack, offered_with}
+use Rattle.mt_holdback.specs.HoldBack.{Kept, IsHoldBack, offered_with}
 use Rattle.mt_holdback.specs.State.{State}
 use Rattle.mt_holdback.specs.Ops.{op_key, op_needs}
 use Rattle.mt_sessionview.specs.Session.{ready_ops, stamps_of}
@@ -192,6 +192,16 @@ module _ (first newly old ready : List Operation) (differ : DifferBy stamp_of re
 
 -- ---- one operation more
 
+-- one under a new dot was not offered before
+pub it_is_new : (log : LogMap) (o : Operation) (kept : Kept Operation) → fin.get log (op_dot o) ≡ None → AreLogged (operations (with_op log o)) → SameItems (all_offered kept) (operations log) → is_offered kept o.stamp ≡ false
+it_is_new log o kept absent logged offered =
+    let count : Operation → ℕ = λ x. cond (stamp_eq o.stamp x.stamp) 1 0 in
+    let once = own_stamps (operations (with_op log o)) (every_stamp (operations (with_op log o)) logged.rise) o.stamp in
+    let sum = insert_same log o absent count in
+    let one = count_own o (operations log) in
+    let same = offered count in
+    none_known o.stamp (all_offered kept) (omega (arith, once, sum, one, same))
+
 module _ (state : Named) (o : Operation) (was : State Operation) (items : List Operation) (clock seq : ℕ) (absent : fin.get state.log (op_dot o) ≡ None) (logged : AreLogged (operations (with_op state.log o))) (is : IsState state was items clock seq) where
   differ : DifferBy stamp_of (operations (with_op state.log o))
   differ = every_stamp (operations (with_op state.log o)) logged.rise
@@ -201,16 +211,6 @@ module _ (state : Named) (o : Operation) (was : State Operation) (items : List O
 
   are : SameItems (operations (with_op state.log o)) (o ∷ operations state.log)
   are = insert_same state.log o absent
-
-  -- it was not offered before
-  pub it_is_new : is_offered was.kept o.stamp ≡ false
-  it_is_new =
-      let count : Operation → ℕ = λ x. cond (stamp_eq o.stamp x.stamp) 1 0 in
-      let once = own o.stamp in
-      let sum = are count in
-      let one = count_own o (operations state.log) in
-      let same = is.offered count in
-      none_known o.stamp (all_offered was.kept) (omega (arith, once, sum, one, same))
 
   -- what is offered with it is what is in the log with it
   pub still_offered : SameItems (all_offered (with_offered was.kept o)) (operations (with_op state.log o))
@@ -224,12 +224,15 @@ module _ (state : Named) (o : Operation) (was : State Operation) (items : List O
       ap (max (own_seq state.name o)) (is.seq_is ∙ sym (own_is state.name (operations state.log))) ∙ own_is state.name (o ∷ operations state.log)
       ∙ sym (seq_same state.name (operations (with_op state.log o)) (o ∷ operations state.log) are)
 
-  module _ (now : State Operation) (newly : List Operation) (before : ℕ) (offered : now ≡ record { kept = with_offered was.kept o; failed = false }) (rule_was : IsHoldBack op_key op_needs fits was.kept) (rule_now : IsHoldBack op_key op_needs fits now.kept) (rise : StampsRise (newly_released was.kept o)) (before_is : before ≡ length was.kept.released) (newly_is : newly ≡ drop before now.kept.released) where
+  module _ (now : State Operation) (before : ℕ) (offered : now ≡ record { kept = with_offered was.kept o; failed = false }) (rule_was : IsHoldBack op_key op_needs fits was.kept) (rule_now : IsHoldBack op_key op_needs fits now.kept) (rise : StampsRise (newly_released was.kept o)) (before_is : before ≡ length was.kept.released) where
+    abbrev newly : List Operation
+    newly = drop before now.kept.released
+
     rule_with : IsHoldBack op_key op_needs fits (with_offered was.kept o)
     rule_with = subst (λ (w : State Operation). IsHoldBack op_key op_needs fits w.kept) offered rule_now
 
     newly_are : newly ≡ newly_released was.kept o
-    newly_are = newly_is ∙ (λ i. drop (before_is i) (offered i).kept.released) ∙ drop-append_seam was.kept.released (newly_released was.kept o)
+    newly_are = (λ i. drop (before_is i) (offered i).kept.released) ∙ drop-append_seam was.kept.released (newly_released was.kept o)
 
     -- what became ready may be noted
     pub all_follow : MayAllFollow items newly

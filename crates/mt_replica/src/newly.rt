@@ -1,19 +1,32 @@
 //! What became of an operation that was offered, and of the operations that became ready by it.
 
-ghost use Rattle.std.specs.Prelude.{◌≡◌, IfOk, IfErr};
+ghost use Rattle.std.specs.Prelude.{◌≡◌, ◌≤◌, drop, length, option_map, IfOk, IfErr};
+ghost use Rattle.std.specs.List.{sum_by};
+ghost use Rattle.std.specs.Io.Iter.{u64_saturate};
 ghost use Rattle.mt_sessionview.specs.Session.{stamps_of};
 ghost use Rattle.mt_replica.specs.Holding.{MayAllFollow, noted_after, TakenGives};
+ghost use Rattle.mt_replica.specs.Joins.{joins_of};
 
 use crate::fault::EditorFault;
+use crate::holding::released_from;
+use crate::joins::joins_of_all;
 use crate::taken::Taken;
 use crate::view::View;
-use mt_holdback::Offered;
+use mt_holdback::{HoldBack, Offered};
 use mt_op::Op;
 use mt_stamp::{List, Stamp};
 use std::alloc::{AllocError, Allocator};
 
-/// What is noted with these operations, one after another.
-pub(crate) fn all_noted<A: Allocator + Clone>(
+/// What is kept beside a log after an offer, what became of the operation, and how many cells were joined, up to the greatest number.
+#[derive(Drop)]
+pub(crate) struct Told<A: Allocator> {
+    pub view: View<A>,
+    pub taken: Taken<A>,
+    pub joins: u64,
+}
+
+// What is noted with these operations, one after another.
+fn all_noted<A: Allocator + Clone>(
     alloc: &A,
     view: View<A>,
     ops: &[Op<A>],
@@ -40,8 +53,8 @@ fn stamps_of<A: Allocator>(alloc: A, ops: &[Op<A>]) -> Result<Vec<Stamp, A>, All
     Ok(stamps)
 }
 
-/// What became of an operation, from what its offer answered and what became ready by it.
-pub(crate) fn taken_as<A: Allocator + Clone>(
+// What became of an operation, from what its offer answered and what became ready by it.
+fn taken_as<A: Allocator + Clone>(
     alloc: &A,
     offered: Offered,
     newly: &[Op<A>],
@@ -56,4 +69,27 @@ pub(crate) fn taken_as<A: Allocator + Clone>(
             Ok(Taken::Applied(List::new(stamps)))
         }
     }
+}
+
+/// Notes what was released from an index on, tells what became of the operation that was offered, and says how many wait.
+pub(crate) fn tell<A: Allocator + Clone>(
+    alloc: &A,
+    waiting: &HoldBack<Op<A>, A>,
+    first: usize,
+    offered: Offered,
+    view: View<A>,
+) -> Result<Told<A>, EditorFault>
+    requires bound { first ≤ length waiting.now.kept.released }
+    requires follow { MayAllFollow view.ops (drop first waiting.now.kept.released) }
+    ensures view { IfOk result (λ told. told.view ≡ record { ops = noted_after view.ops (drop first waiting.now.kept.released); held = option_map (λ h. length waiting.now.kept.waiting) view.held }) }
+    ensures taken { IfOk result (λ told. TakenGives offered (drop first waiting.now.kept.released) told.taken) }
+    ensures joins { IfOk result (λ told. told.joins ≡ u64_saturate (sum_by joins_of (drop first waiting.now.kept.released))) }
+    ensures err { IfErr result (λ fault. fault ≡ EditorFault.Memory) }
+{
+    let newly = released_from(waiting, first);
+    let joins = joins_of_all(newly);
+    let mut view = all_noted(alloc, view, newly)?;
+    view.set_held(waiting.held());
+    let taken = taken_as(alloc, offered, newly)?;
+    Ok(Told { view, taken, joins })
 }

@@ -1,11 +1,17 @@
 //! A log, and what an editor keeps beside it.
 
-ghost use Rattle.std.specs.Prelude.{◌≡◌, ◌⊎◌, IfOk, IfErr, OnOk, None, Some, Ok, Err, true, false, if◌then◌else◌};
+ghost use Rattle.std.specs.Prelude.{◌≡◌, ◌⊎◌, ℕ, IfOk, IfErr, OnOk, None, Some, Ok, Err, true, false, if◌then◌else◌};
 ghost use Rattle.std.specs.Option.{option_copied};
 ghost use Rattle.std.specs.FinMap as map;
+ghost use Rattle.std.specs.List.{sum_by};
+ghost use Rattle.mt_holdback.specs.HoldBack.{IsHoldBack};
+ghost use Rattle.mt_holdback.specs.Ops.{op_key, op_needs};
+ghost use Rattle.mt_op.specs.Needs.{fits};
+ghost use Rattle.mt_op.specs.Operation.{Operation};
+ghost use Rattle.mt_replica.specs.Holding.{all_offered, newly_released, offer_gives, with_offered, StampsRise};
 ghost use Rattle.mt_op.specs.Dots.{op_dot};
 ghost use Rattle.mt_op.specs.Bodies.{act_of};
-ghost use Rattle.mt_opcodec.specs.LogValue.{operations};
+ghost use Rattle.mt_opcodec.specs.LogValue.{operations, AreLogged};
 ghost use Rattle.mt_replica.specs.Changes.{edit_of};
 ghost use Rattle.mt_replica.specs.Made.{made, made_act, made_stamp, stamp_refused, or_made};
 ghost use Rattle.std.specs.Io.Iter.{u64_saturate};
@@ -19,13 +25,12 @@ use crate::by_stamp::beside_log;
 use crate::change::Change;
 use crate::fault::EditorFault;
 use crate::greatest::{greater, greatest_clock, greatest_seq, own_seq};
-use crate::holding::{copied, offer_new, released_from};
-use crate::joins::joins_of_all;
+use crate::holding::{copied, offer_new};
 use crate::names::names_refused;
-use crate::newly::{all_noted, taken_as};
+use crate::newly::{Told, tell};
 use crate::taken::Taken;
 use crate::view::View;
-use mt_holdback::HoldBack;
+use mt_holdback::{HoldBack, Offered};
 use mt_op::laws::equal_ops;
 use mt_op::{Body, Op};
 use mt_opcodec::{Log, LogFault};
@@ -184,6 +189,7 @@ impl<A: Allocator + Clone> State<A> {
         ensures alone { IfOk result (λ state. joins_by (Some self.named.log) op.now ≡ joins_of op.now) }
         ensures err { IfErr result (λ fault. fault ≡ EditorFault.Memory) }
     {
+        let copy = copied(op)?;
         let State {
             name,
             mut log,
@@ -193,10 +199,7 @@ impl<A: Allocator + Clone> State<A> {
         } = self;
         let _ = log.runs();
         let mut view = view.note(alloc, op)?;
-        add_new(&mut log, copied(op)?)?;
-        let _ = log.runs();
-        offer_new(&mut waiting, copied(op)?)?;
-        let _ = waiting.released();
+        let _ = taken_in(&mut log, &mut waiting, copy)?;
         view.set_held(waiting.held());
         Ok(State {
             name,
@@ -237,15 +240,9 @@ impl<A: Allocator + Clone> State<A> {
         } = self;
         let clock = greater(op.stamp().clock(), clock);
         let seq = greater(own_seq(name, &op), seq);
-        add_new(&mut log, copied(&op)?)?;
-        let _ = log.runs();
         let before = waiting.released().len();
-        let offered = offer_new(&mut waiting, op)?;
-        let newly = released_from(&waiting, before);
-        let joins = joins_of_all(newly);
-        let mut view = all_noted(alloc, view, newly)?;
-        let taken = taken_as(alloc, offered, newly)?;
-        view.set_held(waiting.held());
+        let offered = taken_in(&mut log, &mut waiting, op)?;
+        let Told { view, taken, joins } = tell(alloc, &waiting, before, offered, view)?;
         let state = State {
             name,
             log,
@@ -262,15 +259,42 @@ impl<A: Allocator + Clone> State<A> {
     }
 }
 
-// Adds an operation under a new dot.
-fn add_new<A: Allocator + Clone>(log: &mut Log<A>, op: Op<A>) -> Result<(), EditorFault>
-    requires new { map.get log.old (op_dot op) ≡ None }
-    ensures added { OnOk result (log.new ≡ with_op log.old op) }
+// Adds a copy of an operation under a new dot.
+fn add_copy<A: Allocator + Clone>(log: &mut Log<A>, op: &Op<A>) -> Result<(), EditorFault>
+    requires new { map.get log.old (op_dot op.now) ≡ None }
+    ensures added { OnOk result (log.new ≡ with_op log.old op.now) }
     ensures err { IfErr result (λ fault. fault ≡ EditorFault.Memory) }
 {
-    match log.add(op) {
+    let copy = copied(op)?;
+    match log.add(copy) {
         Ok(_) => Ok(()),
         Err(LogFault::Memory) => Err(EditorFault::Memory),
         Err(_) => unreachable!(),
     }
+}
+
+// Adds an operation under a new dot to a log, and offers it to what holds the log's operations back.
+fn taken_in<A: Allocator + Clone>(
+    log: &mut Log<A>,
+    waiting: &mut HoldBack<Op<A>, A>,
+    op: Op<A>,
+) -> Result<Offered, EditorFault>
+    requires new { map.get log.old (op_dot op) ≡ None }
+    requires whole { waiting.old.failed ≡ false }
+    requires offered { (f : Operation → ℕ) → sum_by f (all_offered waiting.old.kept) ≡ sum_by f (operations log.old) }
+    ensures added { OnOk result (log.new ≡ with_op log.old op) }
+    ensures logged { OnOk result (AreLogged (operations (with_op log.old op))) }
+    ensures kept { OnOk result (waiting.new ≡ record { kept = with_offered waiting.old.kept op; failed = false }) }
+    ensures answered { IfOk result (λ offered. offered ≡ offer_gives waiting.old.kept op) }
+    ensures rising { OnOk result (StampsRise (newly_released waiting.old.kept op)) }
+    ensures exact { OnOk result (IsHoldBack op_key op_needs fits waiting.new.kept) }
+    ensures err { IfErr result (λ fault. fault ≡ EditorFault.Memory) }
+{
+    add_copy(log, &op)?;
+    // brings that the log's operations have stamps of their own
+    let _ = log.runs();
+    let offered = offer_new(waiting, op)?;
+    // brings the rule by which operations are held back
+    let _ = waiting.released();
+    Ok(offered)
 }
