@@ -1,5 +1,6 @@
 use Rattle.std.proofs.Common.{◌∙◌, List, sym, ap, subst}
 use Rattle.mt_op.specs.Operation.{Operation}
+use Rattle.mt_items.specs.Noting.{AreNoted}
 use Rattle.mt_sessionview.specs.Content.{Content}
 use Rattle.mt_mending.specs.Before.{ArePlacesOf}
 use Rattle.mt_mending.specs.Mending.{session_in}
@@ -12,3 +13,32 @@ returns-clause-shown g c =
       places_are = subst (λ (ops : List Operation). ArePlacesOf c.with_place.new.places ops) (sym c.in_ok-items.ensures.ok) c.in_ok-with_place.ensures.ok;
       session_is = session ∙ ap (session_in c.in_ok-items.items) (sym (ap (λ (s : Content). s.held) session));
     }
+
+pub with_place-requires-clause-follows : goal.with_place-requires-clause-follows
+with_place-requires-clause-follows g c = (c.requires.follows, subst AreNoted c.items.view_is c.items.invariant.noted)
+
+pub with_place-requires-clause-places : goal.with_place-requires-clause-places
+with_place-requires-clause-places g c = c.requires.shown.places_are
+
+pub mended-requires-clause-places : goal.mended-requires-clause-places
+mended-requires-clause-places g c = subst (λ (ops : List Operation). ArePlacesOf c.with_place.new.places ops) (sym c.in_ok-items.ensures.ok) c.in_ok-with_place.ensures.ok
+
+pub mended-requires-clause-stood : goal.mended-requires-clause-stood
+mended-requires-clause-stood g c = record {
+  before = c.args.items;
+  one_more = record {
+    last = c.args.op.now;
+    are = c.in_ok-items.ensures.ok;
+    noted = subst AreNoted (sym c.in_ok-items.ensures.ok) (c.requires.follows, subst AreNoted c.items.view_is c.items.invariant.noted);
+    about = c.subject_of-item.ensures;
+  };
+  tracks_are = ap (λ (s : Content). s.tracks) c.requires.shown.session_is;
+  markers_are = ap (λ (s : Content). s.markers) c.requires.shown.session_is;
+  stood_is = c.stood-stood.ensures;
+}
+
+pub returns-clause-items : goal.returns-clause-items
+returns-clause-items g c = c.in_ok-items.ensures.ok
+
+pub returns-clause-held : goal.returns-clause-held
+returns-clause-held g c = ap (λ (s : Content). s.held) c.in_ok-mended.ensures.ok
