@@ -1,4 +1,5 @@
 use Rattle.std.proofs.Common.{List, ◌+◌, map, drop, ap, subst, Bor}
+use Rattle.std.proofs.lemmas.List.{drop_all}
 use Rattle.mt_op.specs.Operation.{Operation}
 use Rattle.mt_op.specs.declared.op.Op.{Op}
 use Rattle.mt_op.proofs.TagLists.{drop_here}
@@ -32,3 +33,17 @@ loop-op-preserved g c =
     let here = ap now (drop_here ops c.loop-op.op-index c.op-item.result c.loop-op-test.true c.op-item.is) in
     let so_far = subst (λ (l : List Operation). IsTaking c.loop-op.waiting c.loop-op.items l (now ops)) here c.loop-op.invariant in
     next_taken c.loop-op.waiting c.take_next.new.waiting c.op-item.result.now c.loop-op.items c.in_ok-items.items (now (drop (c.loop-op.op-index + 1) ops)) (now ops) so_far c.in_ok-items.ensures.kept c.in_ok-items.ensures.same
+
+pub take_next-requires-clause-whole : goal.take_next-requires-clause-whole
+take_next-requires-clause-whole g c = c.loop-op.invariant.offered.whole
+
+pub take_next-requires-clause-same : goal.take_next-requires-clause-same
+take_next-requires-clause-same g c = c.loop-op.invariant.same
+
+pub returns-clause-offered : goal.returns-clause-offered
+returns-clause-offered g c =
+    let now : List (Bor (Op g.row.A.Denot)) → List Operation = λ refs. map (λ (o : Bor (Op g.row.A.Denot)). o.now) refs in
+    (subst (λ (l : List (Bor (Op g.row.A.Denot))). IsTaking c.loop-op.waiting c.loop-op.items (now l) (now c.args.ops.now)) (drop_all c.loop-op.op-index c.args.ops.now c.loop-op-test.false) c.loop-op.invariant).offered
+
+pub returns-clause-noted : goal.returns-clause-noted
+returns-clause-noted g c = c.loop-op.invariant.same
