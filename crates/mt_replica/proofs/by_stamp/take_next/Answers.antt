@@ -14,11 +14,20 @@ noted-requires g c =
 pub offer_met-requires-clause-met : goal.offer_met-requires-clause-met
 offer_met-requires-clause-met g c = rw c.in_ok-copied.ensures.ok (met_same c.args.items c.args.waiting.now.kept c.requires.same c.args.op.now ∙ sym c.are_needs_met.ensures.met ∙ c.if-are_needs_met.true)
 
+pub offer_met-requires-clause-unknown : goal.offer_met-requires-clause-unknown
+offer_met-requires-clause-unknown g c = rw c.in_ok-copied.ensures.ok c.requires.unknown
+
+pub offer_new-requires-clause-unknown : goal.offer_new-requires-clause-unknown
+offer_new-requires-clause-unknown g c = rw c.in_ok-copied-2.ensures.ok c.requires.unknown
+
+pub returns-then-are_needs_met-clause-kept : goal.returns-then-are_needs_met-clause-kept
+returns-then-are_needs_met-clause-kept g c = c.in_ok-offer_met.ensures.kept ∙ ap (λ (o : Operation). record { kept = with_offered c.args.waiting.now.kept o; failed = false }) c.in_ok-copied.ensures.ok
+
 pub returns-then-are_needs_met-clause-same : goal.returns-then-are_needs_met-clause-same
 returns-then-are_needs_met-clause-same g c = λ f.
     noted_released c.args.items c.args.waiting.now.kept c.requires.same c.args.op.now c.released-released.ensures.exact c.requires.unknown (op_names_older c.args.op.now c.stamp-stamp.ensures.valid) c.requires.above
     c.in_ok-items.items c.in_ok-items.ensures.ok (sym c.are_needs_met.ensures.met ∙ c.if-are_needs_met.true) f
-    ∙ ap (λ (w : State Operation). sum_by f w.kept.released) (sym (c.in_ok-offer_met.ensures.kept ∙ ap (λ (o : Operation). record { kept = with_offered c.args.waiting.now.kept o; failed = false }) c.in_ok-copied.ensures.ok))
+    ∙ ap (λ (w : State Operation). sum_by f w.kept.released) (sym (returns-then-are_needs_met-clause-kept g c))
 
 pub returns-clause-kept : goal.returns-clause-kept
 returns-clause-kept g c = c.in_ok-offer_new.ensures.kept ∙ ap (λ (o : Operation). record { kept = with_offered c.args.waiting.now.kept o; failed = false }) c.in_ok-copied-2.ensures.ok
