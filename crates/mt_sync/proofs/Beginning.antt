@@ -1,5 +1,5 @@
 -- How a caller begins.
-use Rattle.std.proofs.Common.{◌≡◌, ℕ, List, [], Option, Some, None, Result, Ok, Err, refl, sym, ◌∙◌, subst, inl, inr}
+use Rattle.std.proofs.Common.{◌≡◌, ℕ, List, [], Option, Some, None, Result, Ok, Err, refl, sym, ◌∙◌, subst, inl}
 use Rattle.std.specs.Io.KnownBytes.{Appends}
 use Rattle.mt_opcodec.specs.LogValue.{LogMap}
 use Rattle.mt_latch.specs.Latch.{AppendsPrefix}
@@ -10,8 +10,8 @@ use Rattle.mt_sync.specs.declared.fault.SyncFault.TheVariants as fault
 use Rattle.mt_sync.specs.declared.fault.Side.{Side}
 use Rattle.mt_sync.specs.declared.fault.Side.TheVariants.{Caller}
 use Rattle.mt_sync.specs.Conversation.{greets}
-use Rattle.mt_sync.specs.Feeding.{Talking, end_of, CallsFrom, Calls}
-use Rattle.mt_sync.specs.Conversing.{Converses, Begins, NotBegun, ConversesAs}
+use Rattle.mt_sync.specs.Feeding.{Talking, CallsFrom, Calls}
+use Rattle.mt_sync.specs.Conversing.{Begins, NotBegun, ConversesAs}
 
 err_same : {X : Type 0} (a b : TalkFault) → ◌≡◌ {A = Result X TalkFault} (Err a) (Err b) → a ≡ b
 err_same a b e = cc

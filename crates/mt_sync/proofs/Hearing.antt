@@ -14,7 +14,7 @@ use Rattle.mt_frames.proofs.Fronts.{whole_of}
 use Rattle.mt_sync.specs.declared.fault.TalkFault.{TalkFault}
 use Rattle.mt_sync.specs.declared.fault.TalkFault.TheVariants.{Memory, Conflict, Failed, BadMessage, OutOfTurn, FrameTooLong}
 use Rattle.mt_sync.specs.Conversation.{Turn, greets, takes, ended, stopped, End, Told, stop, body_in, told}
-use Rattle.mt_sync.specs.Feeding.{IsOpen, IsGoing, Waits, end_at, TakesBody, Hears, IsFaultOf, over_at, Fed}
+use Rattle.mt_sync.specs.Feeding.{IsOpen, IsGoing, Waits, end_at, TakesBody, Hears, IsFaultOf, over_at}
 use Rattle.mt_sync.proofs.Cuts.{after, with_reply}
 use Rattle.mt_sync.proofs.Fronting.{told_stopped, told_ended, told_short, told_long, told_whole, told_again}
 

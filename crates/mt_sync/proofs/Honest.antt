@@ -191,7 +191,7 @@ ops_body own other turn set list is short there gains =
 
 -- ---- how a list is cut
 
-all_front : {X : Type 0} (P : X → Type 0) (xs ys : List X) → AllByRecursion P (xs ++ ys) → AllByRecursion P xs
+pub all_front : {X : Type 0} (P : X → Type 0) (xs ys : List X) → AllByRecursion P (xs ++ ys) → AllByRecursion P xs
 all_front P [] ys h = tt
 all_front P (x ∷ xs) ys h = (h.0, all_front P xs ys h.1)
 
@@ -203,7 +203,7 @@ below_front : (dot : Dot) (xs ys : List Operation) → below_all dot_cmp dot (ma
 below_front dot [] ys h = refl
 below_front dot (x ∷ xs) ys h = both _ _ (and_first _ _ h) (below_front dot xs ys (and_second _ _ h))
 
-rise_front : (xs ys : List Operation) → dots_rise (xs ++ ys) ≡ true → dots_rise xs ≡ true
+pub rise_front : (xs ys : List Operation) → dots_rise (xs ++ ys) ≡ true → dots_rise xs ≡ true
 rise_front [] ys h = refl
 rise_front (x ∷ xs) ys h = both _ _ (below_front (op_dot x) xs ys (and_first _ _ h)) (rise_front xs ys (and_second _ _ h))
 

@@ -1,6 +1,6 @@
 -- Operations that join a set one by one.
-use Rattle.std.proofs.Common.{◌≡◌, ◌≢◌, Bool, true, false, cond, eqb, not, List, [], ◌∷◌, map, Option, Some, None, Err, refl, sym, ap, ap₂, ◌∙◌, subst, append-nil}
-use Rattle.std.specs.Prelude.{is_some}
+use Rattle.std.proofs.Common.{◌≡◌, ◌≢◌, Bool, true, false, cond, eqb, not, length, List, [], ◌∷◌, ◌++◌, map, Option, Some, None, Err, refl, sym, ap, ◌∙◌, subst, append-nil, arith}
+use Rattle.std.specs.Prelude.{is_some, option_map, Result, Ok}
 use Rattle.std.specs.List.{AllByRecursion}
 use Rattle.std.specs.Cmp.Lexicographic.{pointwise}
 use Rattle.std.specs.Ordering.{is_eq}
@@ -16,10 +16,15 @@ use Rattle.mt_op.proofs.Equal.{bytes_same, bytes_itself}
 use Rattle.mt_opcodec.specs.OpText.{op_text}
 use Rattle.mt_opcodec.specs.LogValue.{LogMap, operations}
 use Rattle.mt_opcodec.proofs.Operations.{op_text-apart}
+use Rattle.mt_replica.specs.Kept.{Kept, TakeOf, TakeGives, after_take}
+use Rattle.mt_replica.specs.declared.fault.EditorFault.{EditorFault}
+use Rattle.mt_replica.specs.declared.fault.EditorFault.TheVariants as editor
+use Rattle.mt_replica.specs.declared.taken.Taken.{Taken}
+use Rattle.mt_replica.specs.declared.taken.Taken.TheVariants.{Already, Held, Applied}
 use Rattle.mt_sync.specs.declared.fault.TalkFault.{TalkFault}
 use Rattle.mt_sync.specs.declared.fault.TalkFault.TheVariants.{Memory, Conflict, Failed, BadMessage, OutOfTurn, FrameTooLong}
 use Rattle.mt_sync.specs.Conversation.{clashes, with_op, joined}
-use Rattle.mt_sync.specs.Joining.{JoinsOne, Joins}
+use Rattle.mt_sync.specs.Taking.{refusal_of, TakesSet, TakesIn}
 
 found_valid : (dot : Dot) (p : Operation) (es : List (Dot × Operation)) → find dot_cmp dot es ≡ Some p → AllByRecursion IsOperation (map (λ (e : Dot × Operation). e.1) es) → IsOperation p
 found_valid dot p [] is valid = absurd (none-some p is)
@@ -51,15 +56,98 @@ is_other set o other dot at there differs valid all =
         let apart = op_text-apart other o [] [] (member_valid set dot other there all) valid (append-nil (op_text other) ∙ same ∙ sym (append-nil (op_text o))) in
         absurd (differs apart.0)
 
-pub one_more : (set new : LogMap) (o : Operation) (list : List Operation) (total : LogMap × Option Dot) → (clashes (fin.get set (op_dot o)) o ≡ false) × (new ≡ with_op set o) → joined set (o ∷ list) ≡ total → joined new list ≡ total
-one_more set new o list total h so_far =
-    ap (λ (m : LogMap). joined m list) h.1 ∙ sym (ap (λ (b : Bool). cond b (set, Some (op_dot o)) (joined (with_op set o) list)) h.0) ∙ so_far
+-- what joins behind operations that have all joined
+pub joined_behind : (set mid : LogMap) (xs ys : List Operation) → joined set xs ≡ (mid, None) → joined set (xs ++ ys) ≡ joined mid ys
+joined_behind set mid [] ys is = ap (λ (j : LogMap × Option Dot). joined j.0 ys) is
+joined_behind set mid (o ∷ xs) ys is = by (clashes (fin.get set (op_dot o)) o) is (joined_behind (with_op set o) mid xs ys)
+  where
+    by : (b : Bool) → cond b (set, Some (op_dot o)) (joined (with_op set o) xs) ≡ (mid, None) → (joined (with_op set o) xs ≡ (mid, None) → joined (with_op set o) (xs ++ ys) ≡ joined mid ys)
+        → cond b (set, Some (op_dot o)) (joined (with_op set o) (xs ++ ys)) ≡ joined mid ys
+    by true is next = absurd (none-some (op_dot o) (sym (ap (λ (j : LogMap × Option Dot). j.1) is)))
+    by false is next = next is
 
-pub one_refused : (fault : TalkFault) (set new : LogMap) (o : Operation) (list : List Operation) (total : LogMap × Option Dot) → JoinsOne set o (Err fault) new → joined set (o ∷ list) ≡ total → Joins total (Err fault) new
-one_refused Memory set new o list total h so_far = tt
-one_refused (Conflict dot) set new o list total h so_far =
-    sym so_far ∙ ap (λ (b : Bool). cond b (set, Some (op_dot o)) (joined (with_op set o) list)) h.0 ∙ ap₂ (λ (m : LogMap) (d : Dot). (m, Some d)) (sym h.2) (sym h.1)
-one_refused Failed set new o list total h so_far = h
-one_refused BadMessage set new o list total h so_far = h
-one_refused OutOfTurn set new o list total h so_far = h
-one_refused FrameTooLong set new o list total h so_far = h
+-- ---- one operation taken, and then the others
+
+-- what one operation comes to
+abbrev one_of : LogMap → Operation → Bool → LogMap × Option Dot
+one_of set o b = cond b (set, Some (op_dot o)) (with_op set o, None)
+
+-- it is in the set, or new there
+one_in : (set new : LogMap) (o : Operation) → (clashes (fin.get set (op_dot o)) o ≡ false) × (new ≡ with_op set o) → TakesIn (Some set) (o ∷ []) (Ok tt) (Some new)
+one_in set new o h = (ap (λ (b : Bool). (one_of set o b).1) h.0, ap Some h.1 ∙ sym (ap (λ (b : Bool). Some (one_of set o b).0) h.0))
+
+-- what a log is once it was taken
+abbrev log_after : {A : Type 0} → Option LogMap → Operation → Taken A → Option LogMap
+log_after log o Already = log
+log_after log o Held = option_map (λ (set : LogMap). fin.insert set (op_dot o) o) log
+log_after log o (Applied stamps) = option_map (λ (set : LogMap). fin.insert set (op_dot o) o) log
+
+one_in_log : {A : Type 0} (log : Option LogMap) (o : Operation) (taken : Taken A) → TakeGives log o (Ok taken) → TakesIn log (o ∷ []) (Ok tt) (log_after log o taken)
+one_in_log None o taken h = absurd cc
+one_in_log (Some set) o Already h = one_in set set o (is_there set set o h refl)
+one_in_log (Some set) o Held h = one_in set (fin.insert set (op_dot o) o) o (is_new set (fin.insert set (op_dot o) o) o h.0 refl)
+one_in_log (Some set) o (Applied stamps) h = one_in set (fin.insert set (op_dot o) o) o (is_new set (fin.insert set (op_dot o) o) o h.0 refl)
+
+pub one_taken : {A : Type 0} (kept new : Kept) (o : Operation) (taken : Taken A) → TakeGives kept.log o (Ok taken) → new ≡ after_take kept o (Ok taken) → TakesIn kept.log (o ∷ []) (Ok tt) new.log
+one_taken kept new o Already gives holds = subst (λ (k : Kept). TakesIn kept.log (o ∷ []) (Ok tt) k.log) (sym holds) (one_in_log kept.log o Already gives)
+one_taken kept new o Held gives holds = subst (λ (k : Kept). TakesIn kept.log (o ∷ []) (Ok tt) k.log) (sym holds) (one_in_log kept.log o Held gives)
+one_taken kept new o (Applied stamps) gives holds = subst (λ (k : Kept). TakesIn kept.log (o ∷ []) (Ok tt) k.log) (sym holds) (one_in_log kept.log o (Applied stamps) gives)
+
+-- another one is there
+one_other : (A : Type 0) (kept new : Kept) (set : LogMap) (o : Operation) (dot : Dot) → kept.log ≡ Some set → IsOperation o → AllByRecursion IsOperation (operations set)
+    → TakeOf {A = A} set o (Err (editor.Conflict dot)) → new ≡ kept → TakesIn (Some set) (o ∷ []) (Err (Conflict dot)) new.log
+one_other A kept new set o dot at valid all h holds =
+    let clash : clashes (fin.get set (op_dot o)) o ≡ true = is_other set o h.1.0 dot h.0 h.1.1.0 h.1.1.1 valid all in
+    (ap (λ (b : Bool). (one_of set o b).1) clash ∙ ap Some (sym h.0), ap (λ (k : Kept). k.log) holds ∙ at ∙ sym (ap (λ (b : Bool). Some (one_of set o b).0) clash))
+
+pub one_untaken : (A : Type 0) (kept new : Kept) (set : LogMap) (o : Operation) (fault : EditorFault) → kept.log ≡ Some set → IsOperation o → AllByRecursion IsOperation (operations set)
+    → TakeGives {A = A} kept.log o (Err fault) → new ≡ after_take {A = A} kept o (Err fault) → TakesIn kept.log (o ∷ []) (Err (refusal_of fault)) new.log
+one_untaken A kept new set o fault at valid all gives holds =
+    subst (λ (l : Option LogMap). TakesIn l (o ∷ []) (Err (refusal_of fault)) new.log) (sym at)
+    (by fault (subst (λ (l : Option LogMap). TakeGives {A = A} l o (Err fault)) at gives) holds)
+  where
+    by : (fault : EditorFault) → TakeOf {A = A} set o (Err fault) → new ≡ after_take {A = A} kept o (Err fault) → TakesIn (Some set) (o ∷ []) (Err (refusal_of fault)) new.log
+    by editor.Memory h is = ap (λ (k : Kept). k.log) is
+    by (editor.Conflict dot) h is = one_other A kept new set o dot at valid all h is
+    by editor.Failed h is = absurd h
+    by editor.ZeroLength h is = absurd h
+    by (editor.NoSuchItem stamp) h is = absurd h
+    by (editor.Absent stamp) h is = absurd h
+    by editor.TooManyTags h is = absurd h
+    by editor.ClockFull h is = absurd h
+    by editor.SeqFull h is = absurd h
+
+pub one_more : (log mid new : Option LogMap) (o : Operation) (u : Unit {0}) (list : List Operation) (r : Result (Unit {0}) TalkFault) → TakesIn log (o ∷ []) (Ok u) mid → TakesIn mid list r new → TakesIn log (o ∷ list) r new
+one_more None mid new o u list r h more = absurd cc
+one_more (Some set) mid new o u list r h more = by (clashes (fin.get set (op_dot o)) o) h
+  where
+    by : (b : Bool) → TakesSet (one_of set o b) (Ok u) mid → TakesSet (cond b (set, Some (op_dot o)) (joined (with_op set o) list)) r new
+    by true h = absurd (none-some (op_dot o) (sym h.0))
+    by false h = subst (λ (m : Option LogMap). TakesIn m list r new) h.1 more
+
+pub one_refused : (log new : Option LogMap) (o : Operation) (list : List Operation) (fault : TalkFault) → TakesIn log (o ∷ []) (Err fault) new → TakesIn log (o ∷ list) (Err fault) new
+one_refused None new o list fault h = h
+one_refused (Some set) new o list fault h = by (clashes (fin.get set (op_dot o)) o) fault h
+  where
+    by : (b : Bool) (fault : TalkFault) → TakesSet (one_of set o b) (Err fault) new → TakesSet (cond b (set, Some (op_dot o)) (joined (with_op set o) list)) (Err fault) new
+    by true fault h = h
+    by false Memory h = h
+    by false (Conflict dot) h = absurd (none-some dot h.0)
+    by false Failed h = h
+    by false BadMessage h = h
+    by false OutOfTurn h = h
+    by false FrameTooLong h = h
+
+-- an editor that has not failed takes none
+pub none_taken : (log : Option LogMap) → log ≢ None → TakesIn log [] (Ok tt) log
+none_taken None going = absurd (going refl)
+none_taken (Some set) going = (refl, refl)
+
+-- one that has taken some has not failed
+pub still_going : (log new : Option LogMap) (list : List Operation) (u : Unit {0}) → TakesIn log list (Ok u) new → new ≢ None
+still_going None new list u h = absurd cc
+still_going (Some set) new list u h = λ e. none-some (joined set list).0 (sym e ∙ h.1)
+
+pub nothing_left : {X : Type 0} (l : List X) → length l ≡ 0 → l ≡ []
+nothing_left [] h = refl
+nothing_left (x ∷ xs) h = absurd (omega arith)

@@ -12,3 +12,4 @@ pub mod Swapping
 pub mod Leaving
 pub mod Unions
 pub mod Turns
+pub mod Cutting

@@ -89,16 +89,17 @@ is_log m stands =
       all_of = ap (λ (l : List (Dot × Operation)). fin.from_sorted {R = dot_cmp} l) same ∙ fin.same_entries_map (fin.from_sorted {R = dot_cmp} es) m (fin.entries-from_sorted dot_cmp es (holds _ sorted));
     }
 
-stands_in : (d : Dot) (o : Operation) (ops : List Operation) → AllByRecursion IsOperation ops → find dot_cmp d (map entry_of ops) ≡ Some o → StandsAt d o
-stands_in d o [] valid is = absurd (none-some o is)
-stands_in d o (x ∷ ops) valid is = by (is_eq (dot_cmp d (op_dot x))) refl (stands_in d o ops valid.1) is
+-- what is found under a dot stands under it, and what holds of all operations holds of it
+pub found_in : (P : Operation → Type 0) (d : Dot) (o : Operation) (ops : List Operation) → AllByRecursion P ops → find dot_cmp d (map entry_of ops) ≡ Some o → (d ≡ op_dot o) × P o
+found_in P d o [] all is = absurd (none-some o is)
+found_in P d o (x ∷ ops) all is = by (is_eq (dot_cmp d (op_dot x))) refl (found_in P d o ops all.1) is
   where
-    by : (b : Bool) → is_eq (dot_cmp d (op_dot x)) ≡ b → (find dot_cmp d (map entry_of ops) ≡ Some o → StandsAt d o) → cond b (Some x) (find dot_cmp d (map entry_of ops)) ≡ Some o → StandsAt d o
-    by true tie later h = subst (StandsAt d) (same_Some x o h) (dot_cmp-IsAntisymmetric d (op_dot x) (equal_of _ tie), valid.0)
+    by : (b : Bool) → is_eq (dot_cmp d (op_dot x)) ≡ b → (find dot_cmp d (map entry_of ops) ≡ Some o → (d ≡ op_dot o) × P o) → cond b (Some x) (find dot_cmp d (map entry_of ops)) ≡ Some o → (d ≡ op_dot o) × P o
+    by true tie later h = subst (λ (y : Operation). (d ≡ op_dot y) × P y) (same_Some x o h) (dot_cmp-IsAntisymmetric d (op_dot x) (equal_of _ tie), all.0)
     by false tie later h = later h
 
 log_stands : (m : LogMap) → IsLog m → (d : Dot) (o : Operation) → fin.get m d ≡ Some o → StandsAt d o
-log_stands m is d o at = stands_in d o (operations m) is.logged.valid (sym (get-log_of (operations m) d is.logged.rise) ∙ ap (λ (n : LogMap). fin.get n d) is.all_of ∙ at)
+log_stands m is d o at = found_in IsOperation d o (operations m) is.logged.valid (sym (get-log_of (operations m) d is.logged.rise) ∙ ap (λ (n : LogMap). fin.get n d) is.all_of ∙ at)
 
 pub union_is_log : (a b : LogMap) → IsLog a → IsLog b → IsLog (union a b)
 union_is_log a b is also = is_log (union a b) (λ d o at. by d o (fin.get a d) refl (sym (get-union a b d) ∙ at))

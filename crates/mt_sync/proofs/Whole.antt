@@ -19,13 +19,7 @@ use Rattle.mt_opcodec.specs.LogValue.{LogMap, log_of}
 use Rattle.mt_opcodec.specs.Union.{Agree, union}
 use Rattle.mt_opcodec.proofs.Logs.{get-log_of, get-at}
 use Rattle.mt_opcodec.proofs.Union.{same_log, get-union}
-use Rattle.std.specs.Prelude.{Result, Ok, Err, OnOk, IfErr}
-use Rattle.mt_stamp.specs.declared.name.Replica.{Replica}
-use Rattle.mt_replica.specs.Kept.{Kept}
-use Rattle.mt_sync.specs.declared.fault.TalkFault.{TalkFault}
-use Rattle.mt_sync.specs.declared.fault.TalkFault.TheVariants.{Memory, Conflict, Failed, BadMessage, OutOfTurn, FrameTooLong}
 use Rattle.mt_sync.specs.Conversation.{clashes, with_op, joined}
-use Rattle.mt_sync.specs.Joining.{JoinsSet}
 
 equal_of : (o : Ordering) → is_eq o ≡ true → o ≡ Equal
 equal_of Less h = absurd cc
@@ -54,7 +48,7 @@ one_after_another None f false o = refl
 one_after_another (Some y) f b o = refl
 
 -- an operation is new to a set, or there
-abbrev Meets : LogMap → Operation → Type 0
+abbrev pub Meets : LogMap → Operation → Type 0
 Meets set o = (fin.get set (op_dot o) ≡ None) ⊎ (fin.get set (op_dot o) ≡ Some o)
 
 put_new : (x : Option Operation) (b : Bool) (o : Operation) → (b ≡ true → x ≡ None) → cond b (Some o) x ≡ cond (is_some x) x (cond b (Some o) None)
@@ -120,28 +114,12 @@ meets None o agree = inl refl
 meets (Some p) o agree = inr (ap Some (agree p refl))
 
 -- together they are the union
-pub joined_whole : (set : LogMap) (list : List Operation) → dots_rise list ≡ true → Agree set (log_of list) → joined set list ≡ (union set (log_of list), None)
-joined_whole set list rise agree =
-    let each = all_of list (λ k o at. meets (fin.get set (op_dot o)) o (λ p there. agree (op_dot o) p o there (get-at list o (op_dot o) k rise at refl))) in
-    let end = joins set list rise each in
+pub joined_meeting : (set : LogMap) (list : List Operation) → dots_rise list ≡ true → AllByRecursion (Meets set) list → joined set list ≡ (union set (log_of list), None)
+joined_meeting set list rise all =
+    let end = joins set list rise all in
     let same = same_log end.new (union set (log_of list)) (λ d. end.has d ∙ ap (λ (y : Option Operation). cond (is_some (fin.get set d)) (fin.get set d) y) (sym (get-log_of list d rise)) ∙ sym (get-union set (log_of list) d)) in
     end.is ∙ ap (λ (m : LogMap). (m, None)) same
 
--- what is answered once the log is the union, or memory ran out
-pub whole_joins : (r : Result (Unit {0}) TalkFault) (name : Replica) (set all : LogMap) (list : List Operation) (new : Kept) → joined set list ≡ (all, None)
-    → OnOk r (new ≡ record { name = name; log = Some all; joins = 0 }) → IfErr r (λ fault. fault ≡ Memory) → IfErr r (λ fault. new.log ≡ Some set) → JoinsSet (joined set list) set r new.log
-whole_joins (Ok u) name set all list new is ok err kept = (ap (λ (j : LogMap × Option Dot). j.1) is, ap (λ (k : Kept). k.log) ok ∙ ap (λ (j : LogMap × Option Dot). Some j.0) (sym is))
-whole_joins (Err Memory) name set all list new is ok err kept = kept
-whole_joins (Err (Conflict dot)) name set all list new is ok err kept = absurd cc
-whole_joins (Err Failed) name set all list new is ok err kept = absurd cc
-whole_joins (Err BadMessage) name set all list new is ok err kept = absurd cc
-whole_joins (Err OutOfTurn) name set all list new is ok err kept = absurd cc
-whole_joins (Err FrameTooLong) name set all list new is ok err kept = absurd cc
-
-pub name_stays : (r : Result (Unit {0}) TalkFault) (old new : Kept) (all : LogMap) → OnOk r (new ≡ record { name = old.name; log = Some all; joins = 0 }) → IfErr r (λ fault. new ≡ old) → new.name ≡ old.name
-name_stays (Ok u) old new all ok kept = ap (λ (k : Kept). k.name) ok
-name_stays (Err fault) old new all ok kept = ap (λ (k : Kept). k.name) kept
-
-pub log_stays : (r : Result (Unit {0}) TalkFault) (old new : Kept) (set : LogMap) → old.log ≡ Some set → IfErr r (λ fault. new ≡ old) → IfErr r (λ fault. new.log ≡ Some set)
-log_stays (Ok u) old new set is kept = tt
-log_stays (Err fault) old new set is kept = ap (λ (k : Kept). k.log) kept ∙ is
+pub joined_whole : (set : LogMap) (list : List Operation) → dots_rise list ≡ true → Agree set (log_of list) → joined set list ≡ (union set (log_of list), None)
+joined_whole set list rise agree =
+    joined_meeting set list rise (all_of list (λ k o at. meets (fin.get set (op_dot o)) o (λ p there. agree (op_dot o) p o there (get-at list o (op_dot o) k rise at refl))))

@@ -3,6 +3,8 @@ use Rattle.std.specs.Prelude.{◌≡◌, List, Option, Some, None, Result, Ok, E
 use Rattle.mt_stamp.specs.declared.name.Dot.{Dot}
 use Rattle.mt_op.specs.Operation.{Operation}
 use Rattle.mt_opcodec.specs.LogValue.{LogMap}
+use Rattle.mt_replica.specs.declared.fault.EditorFault.{EditorFault}
+use Rattle.mt_replica.specs.declared.fault.EditorFault.TheVariants as editor
 use Rattle.mt_sync.specs.declared.fault.TalkFault.{TalkFault}
 use Rattle.mt_sync.specs.declared.fault.TalkFault.TheVariants.{Memory, Conflict, Failed}
 use Rattle.mt_sync.specs.Conversation.{joined}
@@ -17,3 +19,9 @@ TakesSet j (Err _) new = ⊥
 abbrev pub TakesIn : Option LogMap → List Operation → Result (Unit {0}) TalkFault → Option LogMap → Type 0
 TakesIn None list result new = (result ≡ Err Failed) × (new ≡ None)
 TakesIn (Some set) list result new = TakesSet (joined set list) result new
+
+-- why a message stops at an operation that an editor refuses to take (what an edit alone is refused as never comes)
+abbrev pub refusal_of : EditorFault → TalkFault
+refusal_of (editor.Conflict dot) = Conflict dot
+refusal_of editor.Failed = Failed
+refusal_of _ = Memory

@@ -1,53 +1,74 @@
-//! Operations that join the log of an editor.
+//! Operations that join the log of an editor as a whole.
 
-ghost use Rattle.std.specs.Prelude.{◌≡◌, IfOk, IfErr, IfSome, OnOk, Some, map};
-ghost use Rattle.mt_opcodec.specs.LogValue.{AreLogged, log_of, operations};
+ghost use Rattle.std.specs.Prelude.{◌≡◌, ◌≢◌, IfOk, IfErr, OnOk, Some};
+ghost use Rattle.mt_opcodec.specs.Clashing.{HasAnother};
+ghost use Rattle.mt_opcodec.specs.LogValue.{AreLogged, log_of};
 ghost use Rattle.mt_opcodec.specs.Union.{Agree, union};
 ghost use Rattle.mt_sync.specs.Conversation.{joined};
-ghost use Rattle.mt_sync.specs.Joining.{JoinsOne, Joins, JoinsIn};
+ghost use Rattle.mt_sync.specs.Joining.{JoinsIn};
 
 use crate::fault::TalkFault;
 use mt_op::Op;
-use mt_opcodec::{Log, LogFault};
+use mt_op::laws::equal_ops;
+use mt_opcodec::Log;
 use mt_replica::Editor;
+use mt_stamp::Dot;
 use std::alloc::Allocator;
 
-fn join_op<A: Allocator + Clone>(log: &mut Log<A>, op: Op<A>) -> Result<(), TalkFault>
-    ensures { JoinsOne log.old op result log.new }
+// Whether a log has another operation under this one's dot.
+fn has_another<A: Allocator>(log: &Log<A>, op: &Op<A>) -> bool
+    ensures { HasAnother log.now op.now result }
 {
-    // each is an operation, the new one and those of the log
-    let _ = op.dot();
+    match log.get(&op.dot()) {
+        Some(there) => !equal_ops(there, op),
+        None => false,
+    }
+}
+
+// Cuts operations, which rise by dot, before the first whose dot names another one in the log, and gives that dot: what is left agrees
+// with the log.
+fn cut_at_clash<A: Allocator>(log: &Log<A>, ops: &mut Vec<Op<A>, A>) -> Option<Dot>
+    requires rising { AreLogged ops.old.items }
+    ensures rising { AreLogged ops.new.items }
+    ensures agree { Agree log.now (log_of ops.new.items) }
+    ensures joined { joined log.now ops.old.items ≡ (union log.now (log_of ops.new.items), result) }
+{
+    // each is an operation of the log
     let _ = log.runs();
-    match log.add(op) {
-        Ok(true) => Ok(()),
-        Ok(false) => Ok(()),
-        Err(LogFault::Conflict(dot)) => Err(TalkFault::Conflict(dot)),
+    for place in 0..ops.len() {
+        let op = &ops[place];
+        if has_another(log, op) {
+            let dot = op.dot();
+            ops.truncate(place);
+            return Some(dot);
+        }
+    }
+    None
+}
+
+// The log of operations that rise by dot.
+fn log_of<A: Allocator + Clone>(alloc: &A, ops: Vec<Op<A>, A>) -> Result<Log<A>, TalkFault>
+    requires rising { AreLogged ops.items }
+    ensures ok { IfOk result (λ log. log ≡ log_of ops.items) }
+    ensures err { IfErr result (λ fault. fault ≡ TalkFault.Memory) }
+{
+    match Log::of_ops(alloc.clone()?, ops) {
+        Ok(log) => Ok(log),
         Err(_) => Err(TalkFault::Memory),
     }
 }
 
-// The operations join the log one by one, up to the first whose dot names another one there.
-fn join_all<A: Allocator + Clone>(log: &mut Log<A>, ops: &[&Op<A>]) -> Result<(), TalkFault>
-    ensures { Joins (joined log.old (map (λ o. o.now) ops.now)) result log.new }
-{
-    for op in ops {
-        let Ok(copy) = op.try_clone() else {
-            return Err(TalkFault::Memory);
-        };
-        match join_op(log, copy) {
-            Ok(()) => {}
-            Err(fault) => return Err(fault),
-        }
-    }
-    Ok(())
-}
-
-fn copy_of<A: Allocator + Clone>(log: &Log<A>) -> Result<Log<A>, TalkFault>
-    ensures ok { IfOk result (λ copy. copy ≡ log.now) }
+// The union of a log, of which a copy is made, and of one that agrees with it.
+fn union_of<A: Allocator + Clone>(log: &Log<A>, more: Log<A>) -> Result<Log<A>, TalkFault>
+    requires agree { Agree log.now more }
+    ensures ok { IfOk result (λ all. all ≡ union log.now more) }
     ensures err { IfErr result (λ fault. fault ≡ TalkFault.Memory) }
 {
-    match log.try_clone() {
-        Ok(copy) => Ok(copy),
+    let Ok(copy) = log.try_clone() else {
+        return Err(TalkFault::Memory);
+    };
+    match copy.join_agreeing(more) {
+        Ok(all) => Ok(all),
         Err(_) => Err(TalkFault::Memory),
     }
 }
@@ -71,60 +92,8 @@ fn replace<A: Allocator + Clone>(
     }
 }
 
-// The union of two logs, where no dot names one operation in the one and another in the other.
-fn union_of<A: Allocator + Clone>(
-    alloc: &A,
-    log: &Log<A>,
-    more: &Log<A>,
-) -> Result<Option<Log<A>>, TalkFault>
-    ensures ok { IfOk result (λ both. IfSome both (λ all. Agree log.now more.now × (all ≡ union log.now more.now))) }
-    ensures err { IfErr result (λ fault. fault ≡ TalkFault.Memory) }
-{
-    match Log::merge(alloc.clone()?, log, more) {
-        Ok(all) => Ok(Some(all)),
-        Err(LogFault::Conflict(_)) => Ok(None),
-        Err(_) => Err(TalkFault::Memory),
-    }
-}
-
-// The operations of a log join the editor's log one by one, up to the first whose dot names another one there.
-fn join_up_to<A: Allocator + Clone>(
-    alloc: &A,
-    editor: &mut Editor<A>,
-    more: &Log<A>,
-) -> Result<(), TalkFault>
-    ensures joins { JoinsIn editor.old.log (operations more.now) result editor.new.log }
-    ensures name { editor.new.name ≡ editor.old.name }
-{
-    let mut log = match editor.log() {
-        Some(log) => copy_of(log)?,
-        None => return Err(TalkFault::Failed),
-    };
-    let ops = more.refs(alloc.clone()?)?;
-    match join_all(&mut log, &ops) {
-        Ok(()) => replace(alloc, editor, log),
-        Err(TalkFault::Conflict(dot)) => {
-            replace(alloc, editor, log)?;
-            Err(TalkFault::Conflict(dot))
-        }
-        Err(_) => Err(TalkFault::Memory),
-    }
-}
-
-// The log of operations that rise by dot.
-fn log_of<A: Allocator + Clone>(alloc: &A, ops: Vec<Op<A>, A>) -> Result<Log<A>, TalkFault>
-    requires rising { AreLogged ops.items }
-    ensures ok { IfOk result (λ log. log ≡ log_of ops.items) }
-    ensures err { IfErr result (λ fault. fault ≡ TalkFault.Memory) }
-{
-    match Log::of_ops(alloc.clone()?, ops) {
-        Ok(log) => Ok(log),
-        Err(_) => Err(TalkFault::Memory),
-    }
-}
-
-// The operations of a message, which rise by dot, join the editor's log, up to the first whose dot names another one there. Where there
-// is none, which is so among editors with names of their own, both logs are walked at once. The session is worked out once.
+// The operations of a message, which rise by dot, join the editor's log, up to the first whose dot names another one there. Those
+// before it are joined as a whole, replica by replica, and the session is worked out once.
 pub(crate) fn join_ops<A: Allocator + Clone>(
     alloc: &A,
     editor: &mut Editor<A>,
@@ -134,15 +103,16 @@ pub(crate) fn join_ops<A: Allocator + Clone>(
     ensures joins { JoinsIn editor.old.log ops.items result editor.new.log }
     ensures name { editor.new.name ≡ editor.old.name }
 {
-    let (both, more) = match editor.log() {
-        Some(log) => {
-            let more = log_of(alloc, ops)?;
-            (union_of(alloc, log, &more)?, more)
-        }
-        None => return Err(TalkFault::Failed),
+    let Some(log) = editor.log() else {
+        return Err(TalkFault::Failed);
     };
-    match both {
-        Some(all) => replace(alloc, editor, all),
-        None => join_up_to(alloc, editor, &more),
+    let mut ops = ops;
+    let clash = cut_at_clash(log, &mut ops);
+    let more = log_of(alloc, ops)?;
+    let all = union_of(log, more)?;
+    replace(alloc, editor, all)?;
+    match clash {
+        Some(dot) => Err(TalkFault::Conflict(dot)),
+        None => Ok(()),
     }
 }

@@ -33,6 +33,7 @@
 mod conversing;
 mod exchanging;
 mod fault;
+mod following;
 mod frames_of;
 mod joining;
 pub mod laws;

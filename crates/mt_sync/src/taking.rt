@@ -1,17 +1,63 @@
 //! Operations that an editor takes.
 
-ghost use Rattle.std.specs.Prelude.{◌≡◌};
+ghost use Rattle.std.specs.Prelude.{◌≡◌, ◌≢◌, ◌∷◌, [], None};
 ghost use Rattle.mt_opcodec.specs.LogValue.{AreLogged};
-ghost use Rattle.mt_sync.specs.Taking.{TakesIn};
+ghost use Rattle.mt_sync.specs.Taking.{refusal_of, TakesIn};
 
 use crate::fault::TalkFault;
+use crate::following::are_few_at_ends;
 use crate::joining::join_ops;
 use mt_op::Op;
-use mt_replica::Editor;
+use mt_replica::{Editor, EditorFault};
 use std::alloc::Allocator;
 
-// The operations of a message, which rise by dot, join the editor's log, up to the first whose dot names another one there. Where
-// memory runs out the editor has failed, as after a take that was refused memory.
+// Why a message stops at an operation that an editor refuses to take.
+fn refusal_of(fault: EditorFault) -> TalkFault
+    ensures { result ≡ refusal_of fault }
+{
+    match fault {
+        EditorFault::Conflict(dot) => TalkFault::Conflict(dot),
+        EditorFault::Failed => TalkFault::Failed,
+        _ => TalkFault::Memory,
+    }
+}
+
+// The editor takes one operation.
+fn take_one<A: Allocator + Clone>(editor: &mut Editor<A>, op: Op<A>) -> Result<(), TalkFault>
+    ensures takes { TakesIn editor.old.log (op ∷ []) result editor.new.log }
+    ensures name { editor.new.name ≡ editor.old.name }
+{
+    let Some(log) = editor.log() else {
+        return Err(TalkFault::Failed);
+    };
+    // each is an operation, the new one and those of the log
+    let (_dot, _runs) = (op.dot(), log.runs());
+    match editor.take(op) {
+        Ok(_taken) => Ok(()),
+        Err(fault) => Err(refusal_of(fault)),
+    }
+}
+
+// The editor takes operations one by one, up to the first whose dot names another one in its log.
+fn take_each<A: Allocator + Clone>(
+    editor: &mut Editor<A>,
+    ops: Vec<Op<A>, A>,
+) -> Result<(), TalkFault>
+    requires going { editor.old.log ≢ None }
+    ensures takes { TakesIn editor.old.log ops.items result editor.new.log }
+    ensures name { editor.new.name ≡ editor.old.name }
+{
+    for op in ops {
+        match take_one(editor, op) {
+            Ok(()) => {}
+            Err(fault) => return Err(fault),
+        }
+    }
+    Ok(())
+}
+
+// The operations of a message, which rise by dot, join the editor's log, up to the first whose dot names another one there: one by
+// one where that is less work, else as a whole. Where memory runs out the editor has failed, as after a take that was refused memory.
 pub(crate) fn take_all<A: Allocator + Clone>(
     alloc: &A,
     editor: &mut Editor<A>,
@@ -21,6 +67,13 @@ pub(crate) fn take_all<A: Allocator + Clone>(
     ensures takes { TakesIn editor.old.log ops.items result editor.new.log }
     ensures name { editor.new.name ≡ editor.old.name }
 {
+    let one_by_one = match editor.log() {
+        Some(log) => are_few_at_ends(log, &ops),
+        None => return Err(TalkFault::Failed),
+    };
+    if one_by_one {
+        return take_each(editor, ops);
+    }
     match join_ops(alloc, editor, ops) {
         Ok(()) => Ok(()),
         Err(TalkFault::Memory) => {

@@ -91,7 +91,9 @@ impl<A: Allocator + Clone> Talk<A> {
     }
 
     /// Reads a piece of the other end's bytes, and answers the bytes to send back. Operations join the editor's log frame by
-    /// frame.
+    /// frame. Those of a frame are taken one by one where the log has at least 16 times as many, and where each of them has a greater number
+    /// than those of its replica there; so such a frame costs what it brings. Others join as a whole: the editor is then made anew of
+    /// its log, and counts its joins from 0.
     ///
     /// Refused as `OutOfTurn` (39) after a fault, and after the end for a piece that is not empty. Then frame by frame:
     /// `FrameTooLong` (40) where its length is over 8,388,608, before the body is looked at; `BadMessage` (38) where the body is no message;
