@@ -113,7 +113,10 @@ fn refuses_each_growth_of_an_exchange(rt: HostRuntime) -> Result<(), Fail> {
 }
 
 // The Have of markers of these stamps.
-fn have_of<M: Allocator + Clone>(memory: &M, stamps: &[Stamp]) -> Result<Vec<u8, M>, TalkFault> {
+pub(super) fn have_of<M: Allocator + Clone>(
+    memory: &M,
+    stamps: &[Stamp],
+) -> Result<Vec<u8, M>, TalkFault> {
     let log = log_with(memory, stamps)?;
     match have_bytes(memory.clone()?, &log) {
         Ok(have) => Ok(have),
@@ -122,7 +125,7 @@ fn have_of<M: Allocator + Clone>(memory: &M, stamps: &[Stamp]) -> Result<Vec<u8,
 }
 
 // What a Have lacks of markers of these stamps.
-fn ops_for<M: Allocator + Clone>(
+pub(super) fn ops_for<M: Allocator + Clone>(
     memory: &M,
     stamps: &[Stamp],
     have: &[u8],
