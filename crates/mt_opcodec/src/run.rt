@@ -50,11 +50,7 @@ fn place_of<A: Allocator>(ops: &[Op<A>], dot: Dot) -> Result<usize, usize>
 }
 
 // Puts an operation at a place: most are the last, behind which nothing has to move.
-fn put_at<A: Allocator>(
-    ops: &mut Vec<Op<A>, A>,
-    place: usize,
-    op: Op<A>,
-) -> Result<(), AllocError>
+fn put_at<A: Allocator>(ops: &mut Vec<Op<A>, A>, place: usize, op: Op<A>) -> Result<(), AllocError>
     requires { place ≤ length ops.old.items }
     ensures items { OnOk result (ops.new.items ≡ insert ops.old.items place op) }
     ensures kept { IfErr result (λ e. ops.new.items ≡ ops.old.items) }
