@@ -16,6 +16,10 @@ use std::collections::VecDeque;
 // operation of all logs.
 const FEW: usize = 4;
 
+// Up to so many logs that agree are joined by halves, and more one operation after another where they take turns often: that is one
+// move for each, where halving takes one for each doubling of the number of logs.
+const MANY: usize = 16;
+
 // The union of the logs, joined from left to right.
 fn join_from_left<A: Allocator + Clone>(alloc: A, logs: Vec<Log<A>, A>) -> Result<Log<A>, LogFault>
     ensures ok { IfOk result (λ all. AllAgree logs.items × (all ≡ union_all logs.items)) }
@@ -52,8 +56,7 @@ fn join_halves<A: Allocator + Clone>(alloc: A, logs: Vec<Log<A>, A>) -> Result<L
     left.join_agreeing(right)
 }
 
-// The union of logs that agree and take these turns: where they take turns seldom, whole runs are moved, and else one operation after
-// another.
+// The union of logs that agree and take these turns.
 fn join_agreed<A: Allocator + Clone>(
     alloc: A,
     logs: Vec<Log<A>, A>,
@@ -63,7 +66,7 @@ fn join_agreed<A: Allocator + Clone>(
     ensures ok { IfOk result (λ all. all ≡ union_all logs.items) }
     ensures err { IfErr result (λ fault. fault ≡ LogFault.Memory) }
 {
-    if is_often(turns) {
+    if logs.len() > MANY && is_often(turns) {
         return join_in_turns(alloc, logs, turns);
     }
     join_halves(alloc, logs)
@@ -88,9 +91,9 @@ impl<A: Allocator + Clone> Log<A> {
     /// `Memory` (0) where a growth was refused; all are then dropped.
     ///
     /// Four logs or fewer are joined one after another. Of more it is first seen whether they agree, by one walk over all of them by
-    /// rising dot, which takes memory for the index of a run for each operation, and looks up all in a map of references where they do not. Then
-    /// each operation is moved once, in the order of the walk, or, where the logs take turns seldom, they are joined by halves, which moves whole
-    /// runs: n operations in k logs cost n log k looks.
+    /// rising dot, which takes memory for the index of a run for each operation, and looks up all in a map of references where they do not. Up to
+    /// sixteen are then joined by halves, and so are more where they take turns seldom, which moves whole runs; else each operation is moved once,
+    /// in the order of the walk. n operations in k logs cost n log k looks.
     pub fn join_all(alloc: A, logs: Vec<Log<A>, A>) -> Result<Log<A>, LogFault>
         ensures ok { IfOk result (λ all. AllAgree logs.items × (all ≡ union_all logs.items)) }
         ensures err { IfErr result (JoinAllFails logs.items) }

@@ -407,6 +407,7 @@ enum Work {
     Merge,
     Refer,
     JoinAll,
+    JoinInTurns,
     JoinApart,
 }
 
@@ -418,6 +419,7 @@ fn len_of<M: Allocator + Copy>(memory: M, work: Work) -> Result<usize, LogFault>
         Work::Merge => merged_len(memory),
         Work::Refer => count_of_references(memory, &LEFT),
         Work::JoinAll => len_of_many(memory, 9),
+        Work::JoinInTurns => len_of_many(memory, 17),
         Work::JoinApart => len_of_apart(memory),
     }
 }
@@ -446,6 +448,7 @@ fn of_several_logs(rt: HostRuntime) {
         (Work::Merge, 6, 20),
         (Work::Refer, 3, 6),
         (Work::JoinAll, 10, 61),
+        (Work::JoinInTurns, 18, 100),
         (Work::JoinApart, 45, 61),
     ] {
         let refused = refusals(rt.alloc(), work, len);
