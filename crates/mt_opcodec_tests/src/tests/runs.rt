@@ -448,7 +448,7 @@ fn of_several_logs(rt: HostRuntime) {
         (Work::Merge, 6, 20),
         (Work::Refer, 3, 6),
         (Work::JoinAll, 10, 61),
-        (Work::JoinInTurns, 18, 100),
+        (Work::JoinInTurns, 18, 61),
         (Work::JoinApart, 45, 61),
     ] {
         let refused = refusals(rt.alloc(), work, len);
