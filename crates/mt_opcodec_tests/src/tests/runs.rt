@@ -375,8 +375,8 @@ fn log_of_nine<M: Allocator + Copy>(memory: M, replica: Replica) -> Result<Log<M
 
 // Adds five logs that share no replica, so that their runs are moved whole.
 fn push_apart<M: Allocator + Copy>(many: &mut Vec<Log<M>, M>, memory: M) -> Result<(), LogFault> {
-    for replica in 20..25 {
-        many.push(log_of_nine(memory, Replica(replica))?)?;
+    for replica in 20_u64..25 {
+        many.push(log_of_nine(memory, Replica(u128::from(replica)))?)?;
     }
     Ok(())
 }
