@@ -25,7 +25,7 @@ module _ {R : Type 0} (remaining : R → Option (List ℕ)) where
   HasCause-at (x ∷ old) [] logs i start before after fault same lt at_old at_new gave read later cause = absurd (omega arith)
   HasCause-at (x ∷ old) (y ∷ new) logs zero start before after fault same lt at_old at_new gave read later cause =
       let here : start + 0 ≡ start = omega arith in
-      inl ((subst (λ (n : ℕ). IsCause remaining n x y fault) here (subst (λ (l : Latched R). IsCause remaining (start + 0) x l fault) at_new (subst (λ (l : Latched R). IsCause remaining (start + 0) l after fault) at_old cause))), λ _. later)
+      inl ((subst (λ (n : ℕ). IsCause remaining n x y fault) here (subst (λ (l : Latched R). IsCause remaining (start + 0) x l fault) at_new (subst (λ (l : Latched R). IsCause remaining (start + 0) l after fault) at_old cause))), later)
   HasCause-at (x ∷ old) (y ∷ new) [] (suc i) start before after fault same lt at_old at_new gave read later cause = absurd gave
   HasCause-at (x ∷ old) (y ∷ new) (m ∷ logs) (suc i) start before after fault same lt at_old at_new gave read later cause =
       let next : start + suc i ≡ (start + 1) + i = omega arith in
@@ -40,10 +40,10 @@ module _ {R : Type 0} (remaining : R → Option (List ℕ)) where
       let here : place ≡ 0 + place = omega arith in
       subst (λ (n : ℕ). IsCause remaining n latch after fault) here (subst (λ (l : Latched R). IsCause remaining place l after fault) (sym same) cause)
 
-  pub HasCause-memory : (start : ℕ) (old new : List (Latched R)) → length new ≡ length old → HasCause remaining start old new Memory
-  HasCause-memory start [] new same = refl
-  HasCause-memory start (x ∷ old) [] same = absurd (omega arith)
-  HasCause-memory start (x ∷ old) (y ∷ new) same = inl (tt, λ other. absurd (other refl))
+  -- memory that runs out before any reader is asked
+  pub HasCause-memory : (start : ℕ) (latches : List (Latched R)) → HasCause remaining start latches latches Memory
+  HasCause-memory start [] = refl
+  HasCause-memory start (x ∷ latches) = inl (tt, refl)
 
 -- after one more reader was read
 pub left_more : {X : Type 0} (i : ℕ) (xs ys : List X) (x : X) → drop i xs ≡ drop i ys → drop (i + 1) (set xs i x) ≡ drop (i + 1) ys

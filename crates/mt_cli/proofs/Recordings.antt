@@ -28,7 +28,7 @@ module _ {R : Type 0} (remaining : R → Option (List ℕ)) where
   HasSourceCause-at others (x ∷ old) [] texts i start before after fault same lt at_old at_new gave read later cause = absurd (omega arith)
   HasSourceCause-at others (x ∷ old) (y ∷ new) texts zero start before after fault same lt at_old at_new gave read later cause =
       let here : start + 0 ≡ start = omega arith in
-      inl (subst (λ (n : ℕ). IsSourceCause remaining others n x y fault) here (subst (λ (l : Latched R). IsSourceCause remaining others (start + 0) x l fault) at_new (subst (λ (l : Latched R). IsSourceCause remaining others (start + 0) l after fault) at_old cause)), λ _. later)
+      inl (subst (λ (n : ℕ). IsSourceCause remaining others n x y fault) here (subst (λ (l : Latched R). IsSourceCause remaining others (start + 0) x l fault) at_new (subst (λ (l : Latched R). IsSourceCause remaining others (start + 0) l after fault) at_old cause)), later)
   HasSourceCause-at others (x ∷ old) (y ∷ new) [] (suc i) start before after fault same lt at_old at_new gave read later cause = absurd gave
   HasSourceCause-at others (x ∷ old) (y ∷ new) (t ∷ texts) (suc i) start before after fault same lt at_old at_new gave read later cause =
       let next : start + suc i ≡ (start + 1) + i = omega arith in
@@ -43,10 +43,10 @@ module _ {R : Type 0} (remaining : R → Option (List ℕ)) where
       let here : place ≡ 0 + place = omega arith in
       subst (λ (n : ℕ). IsSourceCause remaining others n latch after fault) here (subst (λ (l : Latched R). IsSourceCause remaining others place l after fault) (sym same) cause)
 
-  pub HasSourceCause-memory : (others start : ℕ) (old new : List (Latched R)) → length new ≡ length old → HasSourceCause remaining others start old new Memory
-  HasSourceCause-memory others start [] new same = refl
-  HasSourceCause-memory others start (x ∷ old) [] same = absurd (omega arith)
-  HasSourceCause-memory others start (x ∷ old) (y ∷ new) same = inl (tt, λ other. absurd (other refl))
+  -- memory that runs out before any reader is asked
+  pub HasSourceCause-memory : (others start : ℕ) (latches : List (Latched R)) → HasSourceCause remaining others start latches latches Memory
+  HasSourceCause-memory others start [] = refl
+  HasSourceCause-memory others start (x ∷ latches) = inl (tt, refl)
 
 -- ---- of the slice of readers after the one at a place was read
 

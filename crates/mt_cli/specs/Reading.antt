@@ -42,9 +42,9 @@ module _ {R : Type 0} (remaining : R → Option (List ℕ)) where
   IsCause index old new _ = ⊥
 
   -- The same of the readers from an index on: those before the one at fault gave logs and are at their ends, and those
-  -- behind it were not asked, unless memory ran out.
+  -- behind it were not asked. Where memory ran out, it is the one that was being read, or the next.
   abbrev pub HasCause : ℕ → List (Latched R) → List (Latched R) → CliFault → Type 0
   HasCause index [] new fault = fault ≡ Memory
   HasCause index (latch ∷ latches) [] fault = ⊥
   HasCause index (latch ∷ latches) (after ∷ afters) fault =
-      (IsCause index latch after fault × (fault ≢ Memory → afters ≡ latches)) ⊎ ((m : LogMap) × (Gave latch (text_of m) × (IsRead after × HasCause (index + 1) latches afters fault)))
+      (IsCause index latch after fault × (afters ≡ latches)) ⊎ ((m : LogMap) × (Gave latch (text_of m) × (IsRead after × HasCause (index + 1) latches afters fault)))

@@ -1,5 +1,5 @@
 -- Reading recordings from readers, and why one is refused.
-use Rattle.std.specs.Prelude.{◌≡◌, ◌≢◌, ℕ, true, List, [], ◌∷◌, ◌+◌, Option, Some, map, Vec, ◌⊎◌}
+use Rattle.std.specs.Prelude.{◌≡◌, ℕ, true, List, [], ◌∷◌, ◌+◌, Option, Some, map, Vec, ◌⊎◌}
 use Rattle.mt_latch.specs.Latch.{Latched}
 use Rattle.mt_bwfread.specs.Wave.{IsWave, fault_of}
 use Rattle.mt_cli.specs.declared.fault.CliFault.{CliFault}
@@ -27,9 +27,9 @@ module _ {R : Type 0} (remaining : R → Option (List ℕ)) where
   IsSourceCause others index old new _ = ⊥
 
   -- The same of the readers from an index on: those before the one at fault gave wave files and are at their ends, and those behind
-  -- it were not asked, unless memory ran out.
+  -- it were not asked. Where memory ran out, it is the one that was being read, or the next.
   abbrev pub HasSourceCause : ℕ → ℕ → List (Latched R) → List (Latched R) → CliFault → Type 0
   HasSourceCause others index [] new fault = fault ≡ Memory
   HasSourceCause others index (latch ∷ latches) [] fault = ⊥
   HasSourceCause others index (latch ∷ latches) (after ∷ afters) fault =
-      (IsSourceCause others index latch after fault × (fault ≢ Memory → afters ≡ latches)) ⊎ ((text : List ℕ) × ((Gave remaining latch text × IsWave text) × (IsRead remaining after × HasSourceCause others (index + 1) latches afters fault)))
+      (IsSourceCause others index latch after fault × (afters ≡ latches)) ⊎ ((text : List ℕ) × ((Gave remaining latch text × IsWave text) × (IsRead remaining after × HasSourceCause others (index + 1) latches afters fault)))

@@ -10,7 +10,7 @@ use Rattle.mt_cli.proofs.render.bounce_logs.Goals as goal
 pub returns-in_err-clone-clause-err : goal.returns-in_err-clone-clause-err
 returns-in_err-clone-clause-err g c =
     told_as c.from_residual.result (BounceFails g.W.Write.contents g.R.Read.remaining c.args.logs.now c.args.logs.now c.args.sources.now c.args.sources.now c.args.format c.args.head.now c.args.output.now c.args.output.now) Memory c.from_residual.ensures.1
-    (inl (inl (HasCause-memory g.R.Read.remaining 0 c.args.logs.now c.args.logs.now refl), refl, refl))
+    (inl (inl (HasCause-memory g.R.Read.remaining 0 c.args.logs.now), refl, refl))
 
 pub returns-clause-ok : goal.returns-clause-ok
 returns-clause-ok g c =
