@@ -25,6 +25,11 @@
 //! }
 //! ```
 //!
+//! A format is a rate of 1 to 384,000 frames a second, 16 or 24 bits, and 1 or 2 channels (else 47). `add` refuses what is no wave file
+//! (26 to 32), and `new` a recording that is missing (33) or of another rate (34), and samples of over 4,000,000,000 bytes (35); both also want of
+//! memory (0). Samples are whole numbers of the format's bits, the channels of a frame side by side. A block has whole frames and ends at
+//! `length()` frames at most, which the caller shows.
+//!
 //! At each frame, on each track that is not muted, the clip that was placed last sounds alone of those that cover the frame and are not
 //! muted. Its sample at 32-bit scale, times the gains of the clip and of the track, is rounded to the nearest whole number,
 //! halves up; the sum over the tracks is rounded to the bits that are put out, and cut to their range. `specs/Mix.antt` says it in a

@@ -28,6 +28,12 @@
 //!     Ok(())
 //! }
 //! ```
+//!
+//! The first allocator is for what is answered, the second for the bytes of a frame that is not whole. `feed` refuses a length over
+//! 8,388,608 bytes (40), a body that is no message (38), a message that is not due (39), a conflict (17), an editor that has failed (20) and
+//! want of memory (0). The editor then holds its own operations and those before the fault, or has failed where memory ran out while
+//! operations joined, and the talk answers 39 from then on. `converse` does all this over a reader and a writer, `exchange` in memory,
+//! and `have_bytes`, `lack_bytes` and `take_ops` with bytes that are carried by hand.
 #![tactic(auto)]
 
 mod conversing;
