@@ -1,5 +1,5 @@
 #!/usr/bin/env python3
-"""Tries wrong bodies many at a time: tests/wrong_bodies.py [--folder NAME] [--jobs N] [CRATE]...
+"""Tries wrong bodies many at a time: tests/wrong_bodies.py [--changed] [--folder NAME] [--jobs N] [CRATE]...
 
 The edits are those of crates/CRATE/wrong-bodies, or of the folder named, in the form of must-fail edits. `rt must-fail` checks a crate
 once for each edit; here a round applies one edit to each of many functions, checks the crate once, and wants each edited function
@@ -7,18 +7,26 @@ to be refused for itself: by a goal of its own that is left open, or by an answe
 refused only since it calls one that is not proved does not count: its edit goes into another round, and at last into a check of its
 own. One that is refused only since its proof names what the edit took away (as a branch that is gone) is told, since that says little
 of the contract. An edit of what is no function's body is a round of its own, and names the function that has to be refused in a line
-`refused: NAME`. It works on copies of the crates, over what their checks keep in out/, which it makes first where it is not there."""
+`refused: NAME`. It works on copies of the crates, over what their checks keep in out/, which it makes first where it is not there.
+
+tests/wrong_bodies.tried has a line for each crate whose wrong bodies were all refused: its name, how many there were, and a sum of all
+that this hung on: the files of the crate and of those that it stands on, the wrong bodies, this script and the toolchain's version. With
+--changed, as the gate calls it, the crates whose line still holds are passed over, and all others are tried."""
 import argparse
 import concurrent.futures
 import glob
+import hashlib
 import os
 import re
 import shutil
 import subprocess
 import sys
 import tempfile
+import threading
 
 TOP = os.path.dirname(os.path.dirname(os.path.abspath(__file__)))
+TRIED = os.path.join(TOP, "tests", "wrong_bodies.tried")
+WRITING = threading.Lock()
 
 
 class Function:
@@ -197,10 +205,48 @@ def crates_below(name, lines):
     return reached
 
 
+def crate_lines():
+    """The lines of crates.txt, by the names of the crates."""
+    with open(os.path.join(TOP, "crates.txt")) as file:
+        return {line.partition(":")[0].strip(): line for line in file if not line.startswith("#") and ":" in line}
+
+
+def sum_of(name):
+    """A sum of all that it hangs on whether a crate's wrong bodies are refused."""
+    lines = crate_lines()
+    reached = sorted(crates_below(name, lines))
+    folders = [os.path.join("crates", one, part) for one in reached for part in ["src", "specs", "proofs"]]
+    folders.append(os.path.join("crates", name, "wrong-bodies"))
+    files = [os.path.join(at, file) for folder in folders for at, _, found in os.walk(os.path.join(TOP, folder)) for file in found]
+    made = hashlib.sha256(subprocess.run(["rt", "version"], capture_output=True, check=True).stdout)
+    for line in [lines[one] for one in reached]:
+        made.update(line.encode())
+    for path in sorted(files) + [os.path.abspath(__file__)]:
+        with open(path, "rb") as file:
+            made.update(("%s %s\n" % (os.path.relpath(path, TOP), hashlib.sha256(file.read()).hexdigest())).encode())
+    return made.hexdigest()
+
+
+def tried():
+    """The lines of crates whose wrong bodies were all refused, by the names of the crates."""
+    if not os.path.exists(TRIED):
+        return {}
+    with open(TRIED) as file:
+        return {line.split()[0]: line for line in file}
+
+
+def note_tried(name, count, made):
+    """Notes that so many wrong bodies of a crate, all that it has, were refused."""
+    with WRITING:
+        lines = tried()
+        lines[name] = "%s %d %s\n" % (name, count, made)
+        with open(TRIED, "w") as file:
+            file.writelines(lines[one] for one in sorted(lines))
+
+
 def copy_project(name, top):
     """Copies a crate and those that it stands on, with what is needed of what their checks kept, and lists them alone."""
-    with open(os.path.join(TOP, "crates.txt")) as file:
-        lines = {line.partition(":")[0].strip(): line for line in file if not line.startswith("#") and ":" in line}
+    lines = crate_lines()
     reached = crates_below(name, lines)
     for one in reached:
         passed = ["must-fail", "wrong-bodies"] + (["incremental"] if one != name else [])
@@ -225,7 +271,7 @@ def tried_alone(edits, crate, name, kept, weak):
 def try_crate(name, folder):
     kept = os.path.join(TOP, "crates", name)
     edits = [Edit(path, kept) for path in sorted(glob.glob(os.path.join(kept, folder, "*.edit")))]
-    wrong, weak = {}, []
+    made, wrong, weak = sum_of(name), {}, []
     with tempfile.TemporaryDirectory() as top:
         crate = copy_project(name, top)
         first = subprocess.run(["rt", "check", "--jobs", "1"], cwd=crate, capture_output=True, text=True)
@@ -252,6 +298,8 @@ def try_crate(name, folder):
     if weak:
         print("%s: refused only since names of the proof are gone: %s" % (name, " ".join(sorted(weak))))
     print("%s: %d wrong bodies in %d checks, %d not refused" % (name, len(edits), checks, len(wrong)), flush=True)
+    if folder == "wrong-bodies" and not wrong and made == sum_of(name):
+        note_tried(name, len(edits), made)
     return len(wrong)
 
 
@@ -259,9 +307,17 @@ def main():
     parser = argparse.ArgumentParser(description=__doc__.split("\n")[0])
     parser.add_argument("crates", nargs="*")
     parser.add_argument("--folder", default="wrong-bodies")
-    parser.add_argument("--jobs", type=int, default=1, help="how many crates at a time")
+    parser.add_argument("--changed", action="store_true", help="only those crates whose line in wrong_bodies.tried does not hold")
+    parser.add_argument("--jobs", type=int, default=min(4, os.cpu_count() or 1), help="how many crates at a time (a check takes 1 to 4 GB)")
     options = parser.parse_args()
-    crates = options.crates or sorted(os.path.basename(os.path.dirname(path)) for path in glob.glob(os.path.join(TOP, "crates", "*", options.folder)))
+    folders = glob.glob(os.path.join(TOP, "crates", "*", options.folder))
+    # the longest first
+    crates = options.crates or [os.path.basename(os.path.dirname(path)) for path in sorted(folders, key=lambda path: (-len(os.listdir(path)), path))]
+    if options.changed:
+        lines = tried()
+        holds = [name for name in crates if name in lines and lines[name].split()[2] == sum_of(name)]
+        print("wrong bodies: %d were refused in %d crates that did not change since" % (sum(int(lines[name].split()[1]) for name in holds), len(holds)))
+        crates = [name for name in crates if name not in holds]
     for name in crates:
         # proves it and those that it stands on, so that the rounds begin with what this keeps in out/
         if subprocess.run(["rt", "check"], cwd=os.path.join(TOP, "crates", name), capture_output=True).returncode != 0:

@@ -3,8 +3,8 @@
 
 Types the commands of the page in its order, in a folder that has `examples` and the program where a build puts it, and compares what
 they print with what the README says that they print. Only those that try and test the program are not typed, and in place of `rt run`
-the program runs. Then makes the logs of `examples/` anew from their scripts, which have to be the same bytes, and looks at the sessions
-of the picture.
+the program runs. The scripts that it shows have to be those of `examples/`. Then makes the logs of `examples/` anew from their scripts, which
+have to be the same bytes, and looks at the sessions of the picture.
 """
 import filecmp
 import os
@@ -33,12 +33,27 @@ def steps_of(readme):
     the text block behind it, where there is one."""
     steps = []
     for language, text in blocks(readme):
+        if language == "script":
+            continue
         if language == "sh":
             steps.append((text, "".join(line + "\n" for line in re.findall(r"# (ops \d+)$", text, re.M))))
         else:
             commands, printed = steps.pop()
             steps.append((commands, printed + text))
     return steps
+
+
+def check_scripts(readme):
+    """How many scripts the page shows, each as it stands in `examples`."""
+    kept = []
+    for name in sorted(os.listdir(EXAMPLES)):
+        if name.endswith(".txt"):
+            with open(os.path.join(EXAMPLES, name)) as file:
+                kept.append(file.read())
+    shown = [text for language, text in blocks(readme) if language == "script"]
+    for text in shown:
+        assert text in kept, "no script of examples is\n%s" % text
+    return len(shown)
 
 
 def follow(readme, folder):
@@ -102,6 +117,7 @@ def main():
         os.symlink(program, os.path.join(built, "radio"))
         os.symlink(EXAMPLES, os.path.join(clone, "examples"))
         steps = follow(readme, clone)
+        scripts = check_scripts(readme)
         subprocess.run(["sh", os.path.join(EXAMPLES, "make.sh"), program], check=True, cwd=folder, stdout=subprocess.DEVNULL)
         made = sorted(os.listdir(folder))
         for name in made:
@@ -109,7 +125,7 @@ def main():
                 assert new.read() == kept.read(), "examples/%s is not what its scripts make" % name
         assert made == sorted(name for name in os.listdir(EXAMPLES) if name.endswith(".log")), made
         lines = check_picture(program, folder)
-    print("the README's commands in %d steps, %d example logs made anew, %d lines of sessions in its picture" % (steps, len(made), lines))
+    print("the README's commands in %d steps, %d scripts that it shows, %d example logs made anew, %d lines of sessions in its picture" % (steps, scripts, len(made), lines))
 
 
 main()
