@@ -1,12 +1,19 @@
 #!/bin/sh
-# Whether `radio explain` and docs/refusals.md have the same numbers and names: sh tests/checks/refusals.sh PROGRAM
+# Whether `radio explain` and docs/refusals.md have the same numbers and names, and each fault type of the libraries gives a variant the
+# number under which they have its name, or that of both (`TooLong` of `FrameFault` is FrameTooLong): sh tests/checks/refusals.sh PROGRAM
 set -eu
 program=$1
-page=$(dirname "$0")/../../docs/refusals.md
+top=$(dirname "$0")/../..
 told=$(mktemp)
 written=$(mktemp)
-trap 'rm -f "$told" "$written"' EXIT
+given=$(mktemp)
+trap 'rm -f "$told" "$written" "$given"' EXIT
 "$program" explain | sed 's/: .*//' > "$told"
-sed -n 's/^| \([0-9][0-9]*\) | \([^|]*\) |.*/\1 \2/p' "$page" > "$written"
+sed -n 's/^| \([0-9][0-9]*\) | \([^|]*\) |.*/\1 \2/p' "$top/docs/refusals.md" > "$written"
 diff "$written" "$told"
-echo "$(wc -l < "$told") refusals are told as they are written"
+sed -n 's/^ *\([A-Za-z]*\)Fault::\([A-Za-z]*\)[^=]*=> \([0-9][0-9]*\),$/\3 \1 \2/p' "$top"/crates/*/src/*.rt | sort -u > "$given"
+[ -s "$given" ]
+while read -r number type name; do
+  grep -q "^$number \(.*, \)\{0,1\}\($type\)\{0,1\}$name\(, .*\)\{0,1\}$" "$written" || { echo "${type}Fault has $name under $number, and the table has not"; exit 1; }
+done < "$given"
+echo "$(wc -l < "$told") refusals are told as they are written, and $(wc -l < "$given") variants of fault types have their numbers"
