@@ -5,8 +5,8 @@ The edits are those of crates/CRATE/wrong-bodies, or of the folder named, in the
 once for each edit; here a round applies one edit to each of many functions, checks the crate once, and wants each edited function
 to be refused for itself: by a goal of its own that is left open, or by an answer of its proof that no longer holds. A function that is
 refused only since it calls one that is not proved does not count: its edit goes into another round, and at last into a check of its
-own. One that is refused only since its proof names what the edit took away (as a branch that is gone) is told, since that says little
-of the contract. An edit of what is no function's body is a round of its own, and names the function that has to be refused in a line
+own. One that is refused only since its proof names what the edit took away (as a branch that is gone) says little of the contract: it is told, and has to
+be mended. An edit of what is no function's body is a round of its own, and names the function that has to be refused in a line
 `refused: NAME`. It works on copies of the crates, over what their checks keep in out/, which it makes first where it is not there.
 
 tests/wrong_bodies.tried has a line for each crate whose wrong bodies were all refused: its name, how many there were, and a sum of all
@@ -298,9 +298,9 @@ def try_crate(name, folder):
     if weak:
         print("%s: refused only since names of the proof are gone: %s" % (name, " ".join(sorted(weak))))
     print("%s: %d wrong bodies in %d checks, %d not refused" % (name, len(edits), checks, len(wrong)), flush=True)
-    if folder == "wrong-bodies" and not wrong and made == sum_of(name):
+    if folder == "wrong-bodies" and not wrong and not weak and made == sum_of(name):
         note_tried(name, len(edits), made)
-    return len(wrong)
+    return len(wrong) + len(weak)
 
 
 def main():
