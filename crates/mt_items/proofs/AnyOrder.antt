@@ -1,13 +1,14 @@
 -- The answers to questions do not depend on the order in which operations were noted.
-use Rattle.std.proofs.Common.{◌≡◌, ℕ, zero, suc, Bool, List, [], ◌∷◌, ◌||◌, Some, map, sym, ap, ◌∙◌, true, true≢false}
-use Rattle.std.specs.Prelude.{slice_get}
-use Rattle.std.specs.Cmp.{on_total}
-use Rattle.std.specs.List.{filter, list_any, All, AllByRecursion}
+use Rattle.std.proofs.Common.{◌≡◌, ℕ, zero, suc, Bool, List, [], ◌∷◌, ◌||◌, Some, map, refl, sym, ap, ◌∙◌, true, true≢false, arith}
+use Rattle.std.specs.Prelude.{slice_get, reverse}
+use Rattle.std.specs.List.{filter, list_any, sum_by, All, AllByRecursion}
+use Rattle.std.proofs.lemmas.List.{reverse-append}
+use Rattle.std.proofs.lemmas.List.Sums.{sum_by-cons, sum_by-append}
 use Rattle.std.specs.List.Sorted.{IsPermutation}
 use Rattle.std.proofs.lemmas.Option.{same_Some, none-some, slice_get-get_or}
 use Rattle.std.proofs.lemmas.List.Elements.{recursion_from_All}
 use Rattle.std.proofs.lemmas.List.Sorted.{All-permutation, sum_by-IsPermutation}
-use Rattle.mt_stamp.specs.Moment.{Moment, stamp_eq}
+use Rattle.mt_stamp.specs.Moment.{Moment, stamp_cmp, stamp_eq}
 use Rattle.mt_stamp.proofs.Order.{stamp_cmp_total, stamp_cmp-IsAntisymmetric, stamp_eq-itself}
 use Rattle.mt_stamp.proofs.Differing.{all_kept}
 use Rattle.mt_stamp.proofs.SameItems.{SameItems, same_filter, same_map, same_flat_map, same_any}
@@ -15,13 +16,13 @@ use Rattle.mt_stamp.proofs.Sorting.{sort_same}
 use Rattle.mt_op.specs.declared.need.Role.{Role}
 use Rattle.mt_stamp.specs.Presence.{is_left}
 use Rattle.mt_op.specs.Operation.{Operation}
-use Rattle.mt_op.specs.ByStamp.{stamp_of, op_cmp}
+use Rattle.mt_op.specs.ByStamp.{stamp_of}
 use Rattle.mt_op.specs.Needs.{fits, meets, is_tag_of}
 use Rattle.mt_op.specs.Presence.{is_listed, tags_removed, tags, removed_tags, live_tags}
 use Rattle.mt_op.specs.Writes.{title_written, gain_written, mute_written, track_place_written, clip_place_written, trim_written, source_written, position_written}
 use Rattle.mt_op.proofs.SameWrites.{last_write_same, present_same}
 use Rattle.mt_items.specs.Noting.{AreNoted, is_noted}
-use Rattle.mt_items.specs.Cells.{items_of}
+use Rattle.mt_items.specs.Cells.{items_of, rising_items}
 use Rattle.mt_items.specs.Laws.{AnswerAlike}
 use Rattle.mt_items.proofs.Noting.{either_true}
 
@@ -54,13 +55,20 @@ live_same r u same item tag =
 
 -- ---- the same operations
 
+pub same_reverse : {X : Type 0} (f : X → ℕ) (xs : List X) → sum_by f (reverse xs) ≡ sum_by f xs
+same_reverse f [] = refl
+same_reverse f (x ∷ xs) = ap (sum_by f) (reverse-append (x ∷ []) xs) ∙ sum_by-append f (reverse xs) (x ∷ []) ∙ omega (arith, same_reverse f xs, sum_by-cons f x xs, sum_by-cons f x [])
+
 -- of two lists in which operations of one stamp are one
 module _ (P : Operation → Type 0) (one : (a b : Operation) → P a → P b → a.stamp ≡ b.stamp → a ≡ b) (r u : List Operation) (all_r : AllByRecursion P r) (all_u : AllByRecursion P u) (same : SameItems r u) where
-  same_items : (kind : Role) → items_of kind r ≡ items_of kind u
+  same_items : (kind : Role) → rising_items kind r ≡ rising_items kind u
   same_items kind =
-      ap (map stamp_of)
-      (sort_same op_cmp (on_total stamp_of stamp_cmp_total) P (λ a b in_a in_b tied. one a b in_a in_b (stamp_cmp-IsAntisymmetric a.stamp b.stamp tied)) (filter (fits kind) r) (filter (fits kind) u)
-      (all_kept P (fits kind) r all_r) (all_kept P (fits kind) u all_u) (same_filter r u same (fits kind)))
+      sort_same stamp_cmp stamp_cmp_total (λ s. Unit {0}) (λ a b in_a in_b tied. stamp_cmp-IsAntisymmetric a b tied) (items_of kind r) (items_of kind u) (every (items_of kind r)) (every (items_of kind u))
+      (same_map (reverse (filter (fits kind) r)) (reverse (filter (fits kind) u)) (λ f. same_reverse f (filter (fits kind) r) ∙ same_filter r u same (fits kind) f ∙ sym (same_reverse f (filter (fits kind) u))) stamp_of)
+    where
+      every : (xs : List Moment) → AllByRecursion (λ s. Unit {0}) xs
+      every [] = tt
+      every (x ∷ xs) = (tt, every xs)
 
   pub same_answers : AnswerAlike r u
   same_answers = record {

@@ -13,8 +13,12 @@ use Rattle.mt_op.specs.Operation.{Operation}
 use Rattle.mt_op.specs.ByStamp.{op_cmp}
 use Rattle.mt_op.specs.Needs.{names_are_older}
 use Rattle.mt_items.specs.Noting.{is_noted, are_needs_met, one_pass, MayFollow}
-use Rattle.mt_items.proofs.Each.{at_is}
+use Rattle.std.specs.Cmp.{eq_by_cmp_equiv}
+use Rattle.mt_items.proofs.Marking.{tests_alike}
 use Rattle.mt_items.proofs.Noting.{unmet}
+
+at_is : (k item : Moment) → is_eq (stamp_cmp k item) ≡ stamp_eq item k
+at_is k item = (eq_by_cmp_equiv stamp_cmp_total).symm k item ∙ tests_alike item k
 
 less_is_not_equal : {A : Type 0} → Less ≡ Equal → A
 less_is_not_equal e = absurd (cc e)
@@ -70,6 +74,10 @@ pub record IsPassing (all noted rest : List Operation) : Type 0 where
   pub below : AreBelow noted rest
   pub rises : RisesStrictly op_cmp rest
   pub older : AllByRecursion IsOlder rest → AllByRecursion IsOlder all
+
+-- nothing is noted at first
+pub passes_all : (all noted : List Operation) → RisesStrictly op_cmp all → noted ≡ [] → IsPassing all noted all
+passes_all all noted rises none = rw none (record { passed = refl; below = tt; rises = rises; older = λ h. h })
 
 pub next_follows : (all noted rest : List Operation) (o : Operation) → IsPassing all noted (o ∷ rest) → are_needs_met noted o ≡ true → MayFollow noted o
 next_follows all noted rest o so_far met = record { fresh = fresh_after noted o (firsts noted o rest so_far.below); met = met }

@@ -1,8 +1,7 @@
 -- What all cells hold of the operations noted.
-use Rattle.std.specs.Prelude.{◌≡◌, List}
-use Rattle.std.specs.BTreeMap.{BTreeMap}
-use Rattle.std.specs.BTreeSet.{BTreeSet, contains}
-use Rattle.mt_stamp.specs.Moment.{Moment, stamp_cmp}
+use Rattle.std.specs.Prelude.{◌≡◌, List, is_some}
+use Rattle.std.specs.Map.{lookup}
+use Rattle.mt_stamp.specs.Moment.{Moment, stamp_eq}
 use Rattle.mt_op.specs.declared.need.Role.TheVariants.{Place}
 use Rattle.mt_op.specs.Operation.{Operation}
 use Rattle.mt_op.specs.Needs.{need_of}
@@ -13,11 +12,11 @@ use Rattle.mt_items.specs.declared.cells.ClipCells.{ClipCells}
 use Rattle.mt_items.specs.declared.cells.TrackCells.{TrackCells}
 
 -- A working predicate: the places that were given.
-abbrev pub HoldsPlaces : List Operation → BTreeSet Moment → Type 0
-HoldsPlaces ops places = (stamp : Moment) → contains stamp_cmp places stamp ≡ is_need_met ops (need_of Place stamp)
+abbrev pub HoldsPlaces : {U : Type 0} → List Operation → List (Moment × U) → Type 0
+HoldsPlaces ops places = (stamp : Moment) → is_some (lookup (stamp_eq stamp) places) ≡ is_need_met ops (need_of Place stamp)
 
 -- A working predicate: all that an `Items` holds.
-pub record HoldsAll {A : Type 0} (ops : List Operation) (t : BTreeMap Moment (TrackCells A)) (c : BTreeMap Moment (ClipCells A)) (m : BTreeMap Moment (MarkerCells A)) (p : BTreeSet Moment) : Type 0 where
+pub record HoldsAll {A U : Type 0} (ops : List Operation) (t : List (Moment × TrackCells A)) (c : List (Moment × ClipCells A)) (m : List (Moment × MarkerCells A)) (p : List (Moment × U)) : Type 0 where
   pub noted : AreNoted ops
   pub tracks : HoldsTracks ops t
   pub clips : HoldsClips ops c

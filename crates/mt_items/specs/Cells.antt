@@ -1,11 +1,11 @@
 -- The items of a kind, and what the cells of items hold of the operations noted.
-use Rattle.std.specs.Prelude.{◌≡◌, ◌≤◌, List, Some, is_some, map, filter}
-use Rattle.std.specs.BTreeMap.{BTreeMap, get, keys}
-use Rattle.mt_stamp.specs.Moment.{Moment, stamp_cmp}
+use Rattle.std.specs.Prelude.{◌≡◌, ◌≤◌, List, Some, is_some, map, filter, reverse}
+use Rattle.std.specs.Map.{lookup, keys_of}
+use Rattle.mt_stamp.specs.Moment.{Moment, stamp_cmp, stamp_eq}
 use Rattle.mt_op.specs.declared.need.Role.{Role}
 use Rattle.mt_op.specs.declared.need.Role.TheVariants.{Track, Clip, Marker}
 use Rattle.mt_op.specs.Operation.{Operation}
-use Rattle.mt_op.specs.ByStamp.{stamp_of, op_cmp}
+use Rattle.mt_op.specs.ByStamp.{stamp_of}
 use Rattle.mt_op.specs.Needs.{need_of, fits}
 use Rattle.mt_op.specs.Writes.{position_written, title_written, gain_written, mute_written, trim_written, source_written, clip_place_written, track_place_written}
 use Rattle.mt_stamp.specs.Sorting.{sort_by}
@@ -40,21 +40,25 @@ pub record HoldsTrack {A : Type 0} (item : Moment) (ops : List Operation) (cells
   pub mute : HoldsLast mute_written item ops cells.mute
   pub presence : HoldsTags item ops cells.presence
 
--- the items of a kind, by rising stamp
+-- the items of a kind, in the order in which they were noted
 abbrev pub items_of : Role → List Operation → List Moment
-items_of kind ops = map stamp_of (sort_by op_cmp (filter (fits kind) ops))
+items_of kind ops = map stamp_of (reverse (filter (fits kind) ops))
+
+-- and by rising stamp
+abbrev pub rising_items : Role → List Operation → List Moment
+rising_items kind ops = sort_by stamp_cmp (items_of kind ops)
 
 -- A working predicate: the cells of the items of a kind, and of nothing else.
-pub record HoldsEach {C : Type 0} (kind : Role) (Holds : Moment → List Operation → C → Type 0) (ops : List Operation) (cells : BTreeMap Moment C) : Type 0 where
-  pub each : (item : Moment) (c : C) → get stamp_cmp cells item ≡ Some c → Holds item ops c
-  pub keys : keys cells ≡ items_of kind ops
-  pub only : (item : Moment) → is_some (get stamp_cmp cells item) ≡ is_need_met ops (need_of kind item)
+pub record HoldsEach {C : Type 0} (kind : Role) (Holds : Moment → List Operation → C → Type 0) (ops : List Operation) (cells : List (Moment × C)) : Type 0 where
+  pub each : (item : Moment) (c : C) → lookup (stamp_eq item) cells ≡ Some c → Holds item ops c
+  pub keys : keys_of cells ≡ items_of kind ops
+  pub only : (item : Moment) → is_some (lookup (stamp_eq item) cells) ≡ is_need_met ops (need_of kind item)
 
-abbrev pub HoldsMarkers : {A : Type 0} → List Operation → BTreeMap Moment (MarkerCells A) → Type 0
+abbrev pub HoldsMarkers : {A : Type 0} → List Operation → List (Moment × MarkerCells A) → Type 0
 HoldsMarkers ops cells = HoldsEach Marker HoldsMarker ops cells
 
-abbrev pub HoldsClips : {A : Type 0} → List Operation → BTreeMap Moment (ClipCells A) → Type 0
+abbrev pub HoldsClips : {A : Type 0} → List Operation → List (Moment × ClipCells A) → Type 0
 HoldsClips ops cells = HoldsEach Clip HoldsClip ops cells
 
-abbrev pub HoldsTracks : {A : Type 0} → List Operation → BTreeMap Moment (TrackCells A) → Type 0
+abbrev pub HoldsTracks : {A : Type 0} → List Operation → List (Moment × TrackCells A) → Type 0
 HoldsTracks ops cells = HoldsEach Track HoldsTrack ops cells

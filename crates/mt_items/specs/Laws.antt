@@ -7,12 +7,12 @@ use Rattle.mt_op.specs.Operation.{Operation}
 use Rattle.mt_op.specs.Presence.{is_present, is_listed, live_tags}
 use Rattle.mt_op.specs.Writes.{title_written, gain_written, mute_written, track_place_written, clip_place_written, trim_written, source_written, position_written, last_write}
 use Rattle.mt_items.specs.Noting.{is_need_met}
-use Rattle.mt_items.specs.Cells.{items_of}
+use Rattle.mt_items.specs.Cells.{rising_items}
 
 -- Two lists of operations give the same answer to each question.
 pub record AnswerAlike (r u : List Operation) : Type 0 where
   pub needs : (need : Need) → is_need_met r need ≡ is_need_met u need
-  pub items : (kind : Role) → items_of kind r ≡ items_of kind u
+  pub items : (kind : Role) → rising_items kind r ≡ rising_items kind u
   pub present : (item : Moment) → is_present r item ≡ is_present u item
   pub live : (item tag : Moment) → is_listed (live_tags item r) tag ≡ is_listed (live_tags item u) tag
   pub titles : (item : Moment) → last_write title_written item r ≡ last_write title_written item u

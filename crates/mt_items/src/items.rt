@@ -1,7 +1,7 @@
 //! The state of items.
 
 ghost use Rattle.std.specs.Prelude.{◌≡◌, false, List, [], ◌∷◌, Some, ◌≤◌, IfOk, IfErr, IfSome, MatchOption, option_map, slice_get};
-ghost use Rattle.std.specs.BTreeMap.{keys};
+ghost use Rattle.std.specs.Map.{keys_of};
 ghost use Rattle.std.specs.List.{AllByRecursion};
 ghost use Rattle.std.specs.List.Sorted.{IsStrictlySortedBy};
 ghost use Rattle.mt_stamp.specs.Moment.{Moment, stamp_cmp};
@@ -14,7 +14,7 @@ ghost use Rattle.mt_op.specs.Presence.{is_present, is_listed, live_tags};
 ghost use Rattle.mt_op.specs.Writes.{title_written, gain_written, mute_written, track_place_written, clip_place_written, trim_written, source_written, position_written, last_write};
 ghost use Rattle.mt_cells.specs.Marks.{unmarked};
 ghost use Rattle.mt_items.specs.Noting.{MayFollow, AreNoted, is_need_met, are_needs_met};
-ghost use Rattle.mt_items.specs.Cells.{HoldsTrack, HoldsClip, HoldsMarker, items_of};
+ghost use Rattle.mt_items.specs.Cells.{HoldsTrack, HoldsClip, HoldsMarker, items_of, rising_items};
 ghost use Rattle.mt_items.specs.Tags.{HoldsTags};
 
 use crate::cells::{ClipCells, MarkerCells, TrackCells};
@@ -29,8 +29,8 @@ use crate::track::note as note_track;
 use mt_cells::Register;
 use mt_op::{Digest, Gain, Need, Op, Placement, Role, Title, TrimRange};
 use mt_stamp::Stamp;
+use mt_stampmap::StampMap;
 use std::alloc::{Allocator, Global};
-use std::collections::{BTreeMap, BTreeSet};
 use std::marker::Model;
 
 /// What noted operations leave of tracks, clips and markers: the last write of each field, and the tags of each item.
@@ -41,10 +41,10 @@ use std::marker::Model;
 #[derive(Drop)]
 pub struct Items<A: Allocator = Global> {
     alloc: A,
-    tracks: BTreeMap<Stamp, TrackCells<A>, A>,
-    clips: BTreeMap<Stamp, ClipCells<A>, A>,
-    markers: BTreeMap<Stamp, MarkerCells<A>, A>,
-    places: BTreeSet<Stamp, A>,
+    tracks: StampMap<TrackCells<A>, A>,
+    clips: StampMap<ClipCells<A>, A>,
+    markers: StampMap<MarkerCells<A>, A>,
+    places: StampMap<(), A>,
     noted: History<Op<A>>,
 }
 
@@ -73,10 +73,10 @@ impl<A: Allocator> Items<A> {
         ensures err { IfErr result (λ fault. fault ≡ ItemsFault.Memory) }
     {
         Ok(Items {
-            tracks: BTreeMap::new(alloc.clone()?),
-            clips: BTreeMap::new(alloc.clone()?),
-            markers: BTreeMap::new(alloc.clone()?),
-            places: BTreeSet::new(alloc.clone()?),
+            tracks: StampMap::new(alloc.clone()?)?,
+            clips: StampMap::new(alloc.clone()?)?,
+            markers: StampMap::new(alloc.clone()?)?,
+            places: StampMap::new(alloc.clone()?)?,
             alloc,
             noted: History::new(),
         })
@@ -119,11 +119,11 @@ impl<A: Allocator> Items<A> {
     fn presence(&self, item: Stamp) -> Option<&ItemMarks<A>>
         ensures { MatchOption result (HoldsTags item self.now unmarked) (λ p. HoldsTags item self.now p.now) }
     {
-        match self.tracks.get(&item) {
+        match self.tracks.get(item) {
             Some(cells) => Some(&cells.presence),
-            None => match self.clips.get(&item) {
+            None => match self.clips.get(item) {
                 Some(cells) => Some(&cells.presence),
-                None => match self.markers.get(&item) {
+                None => match self.markers.get(item) {
                     Some(cells) => Some(&cells.presence),
                     None => None,
                 },
@@ -135,21 +135,21 @@ impl<A: Allocator> Items<A> {
     fn is_track(&self, stamp: Stamp) -> bool
         ensures { result ≡ is_need_met self.now (need_of Track stamp) }
     {
-        self.tracks.contains_key(&stamp)
+        self.tracks.contains(stamp)
     }
 
     // Whether a stamp names a clip.
     fn is_clip(&self, stamp: Stamp) -> bool
         ensures { result ≡ is_need_met self.now (need_of Clip stamp) }
     {
-        self.clips.contains_key(&stamp)
+        self.clips.contains(stamp)
     }
 
     // Whether a stamp names a marker.
     fn is_marker(&self, stamp: Stamp) -> bool
         ensures { result ≡ is_need_met self.now (need_of Marker stamp) }
     {
-        self.markers.contains_key(&stamp)
+        self.markers.contains(stamp)
     }
 
     // Whether a stamp names an item that sounds.
@@ -177,7 +177,7 @@ impl<A: Allocator> Items<A> {
     fn is_place(&self, stamp: Stamp) -> bool
         ensures { result ≡ is_need_met self.now (need_of Place stamp) }
     {
-        self.places.contains(&stamp)
+        self.places.contains(stamp)
     }
 
     // Whether a stamp names a tag of an item.
@@ -262,9 +262,9 @@ impl<A: Allocator> Items<A> {
     pub fn title(&self, item: Stamp) -> Option<&Register<Title<A>>>
         ensures { option_map (λ r. r.now) result ≡ last_write title_written item self.now }
     {
-        match self.tracks.get(&item) {
+        match self.tracks.get(item) {
             Some(track) => Some(&track.title),
-            None => match self.markers.get(&item) {
+            None => match self.markers.get(item) {
                 Some(marker) => Some(&marker.title),
                 None => None,
             },
@@ -275,9 +275,9 @@ impl<A: Allocator> Items<A> {
     pub fn gain(&self, item: Stamp) -> Option<&Register<Gain>>
         ensures { option_map (λ r. r.now) result ≡ last_write gain_written item self.now }
     {
-        match self.tracks.get(&item) {
+        match self.tracks.get(item) {
             Some(track) => Some(&track.gain),
-            None => match self.clips.get(&item) {
+            None => match self.clips.get(item) {
                 Some(clip) => Some(&clip.gain),
                 None => None,
             },
@@ -288,9 +288,9 @@ impl<A: Allocator> Items<A> {
     pub fn mute(&self, item: Stamp) -> Option<&Register<bool>>
         ensures { option_map (λ r. r.now) result ≡ last_write mute_written item self.now }
     {
-        match self.tracks.get(&item) {
+        match self.tracks.get(item) {
             Some(track) => Some(&track.mute),
-            None => match self.clips.get(&item) {
+            None => match self.clips.get(item) {
                 Some(clip) => Some(&clip.mute),
                 None => None,
             },
@@ -302,7 +302,7 @@ impl<A: Allocator> Items<A> {
     pub fn track_place(&self, track: Stamp) -> Option<&Register<Option<Stamp>>>
         ensures { option_map (λ r. r.now) result ≡ last_write track_place_written track self.now }
     {
-        match self.tracks.get(&track) {
+        match self.tracks.get(track) {
             Some(found) => Some(&found.place),
             None => None,
         }
@@ -324,7 +324,7 @@ impl<A: Allocator> Items<A> {
     pub fn clip_place(&self, clip: Stamp) -> Option<&Register<Placement>>
         ensures { option_map (λ r. r.now) result ≡ last_write clip_place_written clip self.now }
     {
-        match self.clips.get(&clip) {
+        match self.clips.get(clip) {
             Some(cells) => Some(&cells.place),
             None => None,
         }
@@ -336,7 +336,7 @@ impl<A: Allocator> Items<A> {
         ensures write { option_map (λ r. r.now) result ≡ last_write trim_written clip self.now }
         ensures positive { IfSome result (λ r. 1 ≤ r.now.value.len) }
     {
-        match self.clips.get(&clip) {
+        match self.clips.get(clip) {
             Some(cells) => Some(&cells.trim),
             None => None,
         }
@@ -346,7 +346,7 @@ impl<A: Allocator> Items<A> {
     pub fn source(&self, clip: Stamp) -> Option<Digest>
         ensures { option_map (λ source. record { writer = clip; value = source }) result ≡ last_write source_written clip self.now }
     {
-        match self.clips.get(&clip) {
+        match self.clips.get(clip) {
             Some(cells) => Some(cells.source),
             None => None,
         }
@@ -356,7 +356,7 @@ impl<A: Allocator> Items<A> {
     pub fn position(&self, marker: Stamp) -> Option<&Register<u32>>
         ensures { option_map (λ r. r.now) result ≡ last_write position_written marker self.now }
     {
-        match self.markers.get(&marker) {
+        match self.markers.get(marker) {
             Some(cells) => Some(&cells.position),
             None => None,
         }
@@ -367,27 +367,25 @@ impl<A: Allocator> Items<A> {
         ensures { MatchOption result (is_need_met self.now (need_of Track track) ≡ false) (λ cells. HoldsTrack track self.now cells.now) }
     {
         let _ = &self.noted;
-        self.tracks.get(&track)
+        self.tracks.get(track)
     }
 
-    /// The clips with their cells, present or not, from the least stamp to the greatest.
-    pub fn clip_cells(&self) -> &BTreeMap<Stamp, ClipCells<A>, A>
-        ensures clips { keys result.now ≡ items_of Clip self.now }
-        ensures each { AllByRecursion (λ e. HoldsClip e.0 self.now e.1) result.now.entries }
+    /// The clips with their cells, present or not, in the order in which they were noted.
+    pub fn clip_cells(&self) -> &[(Stamp, ClipCells<A>)]
+        ensures clips { keys_of result.now ≡ items_of Clip self.now }
+        ensures each { AllByRecursion (λ e. HoldsClip e.0 self.now e.1) result.now }
     {
-        // brings that the stamps rise
-        let (_noted, _count) = (&self.noted, self.clips.len());
-        &self.clips
+        let _ = &self.noted;
+        self.clips.entries()
     }
 
-    /// The markers with their cells, present or not, from the least stamp to the greatest.
-    pub fn marker_cells(&self) -> &BTreeMap<Stamp, MarkerCells<A>, A>
-        ensures markers { keys result.now ≡ items_of Marker self.now }
-        ensures each { AllByRecursion (λ e. HoldsMarker e.0 self.now e.1) result.now.entries }
+    /// The markers with their cells, present or not, in the order in which they were noted.
+    pub fn marker_cells(&self) -> &[(Stamp, MarkerCells<A>)]
+        ensures markers { keys_of result.now ≡ items_of Marker self.now }
+        ensures each { AllByRecursion (λ e. HoldsMarker e.0 self.now e.1) result.now }
     {
-        // brings that the stamps rise
-        let (_noted, _count) = (&self.noted, self.markers.len());
-        &self.markers
+        let _ = &self.noted;
+        self.markers.entries()
     }
 
     /// The stamps of the tracks, present or not, from the least to the greatest. Refused only as `Memory` (0), where
@@ -395,10 +393,10 @@ impl<A: Allocator> Items<A> {
     pub fn tracks(&self) -> Result<Vec<Stamp, A>, ItemsFault>
     where
         A: Clone,
-        ensures ok { IfOk result (λ stamps. stamps.items ≡ items_of Track self.now) }
+        ensures ok { IfOk result (λ stamps. stamps.items ≡ rising_items Track self.now) }
         ensures err { IfErr result (λ fault. fault ≡ ItemsFault.Memory) }
     {
-        stamps_of(self.alloc.clone()?, &self.tracks)
+        stamps_of(self.alloc.clone()?, self.tracks.entries())
     }
 
     /// The stamps of the clips, present or not, from the least to the greatest. Refused only as `Memory` (0), where a
@@ -406,10 +404,10 @@ impl<A: Allocator> Items<A> {
     pub fn clips(&self) -> Result<Vec<Stamp, A>, ItemsFault>
     where
         A: Clone,
-        ensures ok { IfOk result (λ stamps. stamps.items ≡ items_of Clip self.now) }
+        ensures ok { IfOk result (λ stamps. stamps.items ≡ rising_items Clip self.now) }
         ensures err { IfErr result (λ fault. fault ≡ ItemsFault.Memory) }
     {
-        stamps_of(self.alloc.clone()?, &self.clips)
+        stamps_of(self.alloc.clone()?, self.clips.entries())
     }
 
     /// The stamps of the markers, present or not, from the least to the greatest. Refused only as `Memory` (0), where
@@ -417,9 +415,9 @@ impl<A: Allocator> Items<A> {
     pub fn markers(&self) -> Result<Vec<Stamp, A>, ItemsFault>
     where
         A: Clone,
-        ensures ok { IfOk result (λ stamps. stamps.items ≡ items_of Marker self.now) }
+        ensures ok { IfOk result (λ stamps. stamps.items ≡ rising_items Marker self.now) }
         ensures err { IfErr result (λ fault. fault ≡ ItemsFault.Memory) }
     {
-        stamps_of(self.alloc.clone()?, &self.markers)
+        stamps_of(self.alloc.clone()?, self.markers.entries())
     }
 }

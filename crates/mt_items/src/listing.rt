@@ -1,24 +1,35 @@
 //! The items of a kind, as a list.
 
 ghost use Rattle.std.specs.Prelude.{◌≡◌, IfOk, IfErr};
-ghost use Rattle.std.specs.BTreeMap.{keys};
+ghost use Rattle.std.specs.Map.{keys_of};
+ghost use Rattle.mt_stamp.specs.Moment.{stamp_cmp};
+ghost use Rattle.mt_stamp.specs.Sorting.{sort_by};
 
 use crate::fault::ItemsFault;
 use mt_stamp::Stamp;
 use std::alloc::Allocator;
-use std::collections::BTreeMap;
 
-// The stamps of a map, in order.
-pub(crate) fn stamps_of<C, A: Allocator + Clone>(
-    alloc: A,
-    cells: &BTreeMap<Stamp, C, A>,
-) -> Result<Vec<Stamp, A>, ItemsFault>
-    ensures ok { IfOk result (λ stamps. stamps.items ≡ keys cells.now) }
+// The stamps of entries, in their order.
+fn keys_of<C, A: Allocator>(alloc: A, entries: &[(Stamp, C)]) -> Result<Vec<Stamp, A>, ItemsFault>
+    ensures ok { IfOk result (λ stamps. stamps.items ≡ keys_of entries.now) }
     ensures err { IfErr result (λ fault. fault ≡ ItemsFault.Memory) }
 {
     let mut stamps = Vec::new(alloc);
-    for (stamp, _) in cells {
+    for (stamp, _) in entries {
         stamps.push(*stamp)?;
     }
+    Ok(stamps)
+}
+
+// The stamps of entries, from the least to the greatest.
+pub(crate) fn stamps_of<C, A: Allocator>(
+    alloc: A,
+    entries: &[(Stamp, C)],
+) -> Result<Vec<Stamp, A>, ItemsFault>
+    ensures ok { IfOk result (λ stamps. stamps.items ≡ sort_by stamp_cmp (keys_of entries.now)) }
+    ensures err { IfErr result (λ fault. fault ≡ ItemsFault.Memory) }
+{
+    let mut stamps = keys_of(alloc, entries)?;
+    stamps.sort()?;
     Ok(stamps)
 }

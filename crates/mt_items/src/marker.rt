@@ -1,6 +1,8 @@
 //! The cells of a marker.
 
-ghost use Rattle.std.specs.Prelude.{◌≡◌, false, IfErr, OnOk, IfOk, MatchOption, is_some};
+ghost use Rattle.std.specs.Prelude.{◌≡◌, false, None, IfErr, OnOk, IfOk, MatchOption, is_some};
+ghost use Rattle.std.specs.Map.{lookup};
+ghost use Rattle.mt_stamp.specs.Moment.{stamp_eq};
 ghost use Rattle.mt_op.specs.Needs.{adds_marker};
 ghost use Rattle.mt_items.specs.Keeping.{Makes, Keeps, KeepsAll};
 ghost use Rattle.mt_items.specs.Cells.{HoldsMarker, HoldsMarkers};
@@ -11,9 +13,8 @@ use crate::fields::{write, written_position, written_title};
 use crate::marks::ItemMarks;
 use mt_cells::Register;
 use mt_op::{Body, Op};
-use mt_stamp::Stamp;
+use mt_stampmap::StampMap;
 use std::alloc::Allocator;
-use std::collections::BTreeMap;
 
 // The cells of the marker that an operation adds, where it adds one.
 fn added<A: Allocator + Clone>(op: &Op<A>) -> Result<Option<MarkerCells<A>>, ItemsFault>
@@ -54,9 +55,10 @@ fn change<A: Allocator + Clone>(
 // Notes an operation among the markers.
 pub(crate) fn note<A: Allocator + Clone>(
     alloc: &A,
-    markers: &mut BTreeMap<Stamp, MarkerCells<A>, A>,
+    markers: &mut StampMap<MarkerCells<A>, A>,
     op: &Op<A>,
 ) -> Result<(), ItemsFault>
+    requires new { lookup (stamp_eq op.now.stamp) markers.old ≡ None }
     ensures ok { OnOk result (KeepsAll HoldsMarkers op.now markers.old markers.new) }
     ensures err { IfErr result (λ fault. fault ≡ ItemsFault.Memory) }
 {
@@ -64,7 +66,7 @@ pub(crate) fn note<A: Allocator + Clone>(
         markers.insert(op.stamp(), cells)?;
         return Ok(());
     }
-    if let Some(cells) = markers.get_mut(&subject(op)) {
+    if let Some(cells) = markers.get_mut(subject(op)) {
         change(alloc, cells, op)?;
     }
     Ok(())

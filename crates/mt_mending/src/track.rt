@@ -31,7 +31,7 @@ fn clip_on<A: Allocator>(items: &Items<A>, track: Stamp, clip: Stamp) -> Option<
     }
 }
 
-// The clips that are on a track, by rising stamp.
+// The clips that are on a track, in the order in which they were noted.
 fn clips_on<A: Allocator + Clone>(
     alloc: A,
     items: &Items<A>,
@@ -41,7 +41,7 @@ fn clips_on<A: Allocator + Clone>(
     ensures err { IfErr result (λ fault. fault ≡ SessionFault.Memory) }
 {
     let mut clips = Vec::new(alloc);
-    for clip in &items.clips()? {
+    for (clip, _) in items.clip_cells() {
         if let Some(view) = clip_on(items, track, *clip) {
             clips.push(view)?;
         }

@@ -1,33 +1,32 @@
 -- What is read of the items of operations is what a session shows of them.
-use Rattle.std.proofs.Common.{◌≡◌, ℕ, Bool, true, false, cond, ◌&&◌, List, [], ◌∷◌, Option, Some, None, map, refl, sym, ap, ◌∙◌, subst}
-use Rattle.std.specs.Prelude.{option_map, unwrap_or}
+use Rattle.std.proofs.Common.{◌≡◌, ℕ, Bool, true, false, cond, ◌&&◌, List, [], ◌∷◌, ◌++◌, Option, Some, None, map, refl, sym, ap, ◌∙◌, subst}
+use Rattle.std.specs.Prelude.{option_map, unwrap_or, reverse}
 use Rattle.std.specs.Cmp.{IsTotalOrder}
 use Rattle.std.specs.List.{AllByRecursion, filter, filter_map, cons_option, sum_by}
 use Rattle.std.specs.List.Sorted.{IsPermutation, IsSorted}
 use Rattle.std.specs.declared.cmp.Ordering.{Ordering}
 use Rattle.std.specs.declared.cmp.Ordering.TheVariants.{Equal}
-use Rattle.std.proofs.lemmas.Cmp.{on_total}
+use Rattle.std.proofs.lemmas.List.{reverse-append}
 use Rattle.std.proofs.lemmas.List.Elements.{All-from_recursion}
 use Rattle.mt_stamp.specs.Moment.{Moment, stamp_eq}
 use Rattle.mt_stamp.specs.Sorting.{sort_by}
-use Rattle.mt_stamp.proofs.Order.{stamp_cmp_total}
 use Rattle.mt_stamp.proofs.Members.{IsMember}
-use Rattle.mt_stamp.proofs.Differing.{all_sorted}
 use Rattle.mt_stamp.proofs.SameItems.{SameItems, same_filter, same_map, all_passing}
-use Rattle.mt_stamp.proofs.Sorting.{sorts, sorted_is_sort_by, sort_same}
+use Rattle.mt_stamp.proofs.Sorting.{sorted_is_sort_by, sort_same}
 use Rattle.mt_op.specs.declared.need.Role.{Role}
 use Rattle.mt_stamp.specs.Written.{Written}
 use Rattle.mt_op.specs.declared.need.Role.TheVariants.{Clip as ClipRole, Marker as MarkerRole}
 use Rattle.mt_op.specs.declared.digest.Digest.{Digest}
 use Rattle.mt_op.specs.declared.value.Placement.{Placement}
 use Rattle.mt_op.specs.declared.value.TrimRange.{TrimRange}
-use Rattle.mt_op.specs.ByStamp.{stamp_of, op_cmp}
+use Rattle.mt_op.specs.ByStamp.{stamp_of}
 use Rattle.mt_op.specs.Gain.{unchanged}
 use Rattle.mt_op.specs.Operation.{Act, AddClip, AddMarker, Operation}
 use Rattle.mt_op.specs.Needs.{fits, adds_clip, adds_marker}
 use Rattle.mt_op.specs.Presence.{is_present}
 use Rattle.mt_op.specs.Writes.{title_written, gain_written, mute_written, clip_place_written, trim_written, source_written, position_written, last_write}
 use Rattle.mt_items.specs.Cells.{items_of}
+use Rattle.mt_items.proofs.AnyOrder.{same_reverse}
 use Rattle.mt_sessionview.specs.Content.{Clip, Marker, clip_cmp, marker_cmp}
 use Rattle.mt_sessionview.specs.Noted.{value_in, is_shown_in, marker_in, markers_in, clip_place_in, clip_in, is_clip_on_in, clips_in}
 use Rattle.mt_sessionview.specs.Read.{marker_from, marker_read, clip_from, if_on, clip_on}
@@ -53,12 +52,20 @@ kept_of_kind p q inner (x ∷ xs) = by (p x) refl (kept_of_kind p q inner xs)
     by true is rest = λ i. cond (q x) (x ∷ rest i) (rest i)
     by false is rest = rest ∙ ap (λ (b : Bool). cond b (x ∷ filter q xs) (filter q xs)) (sym (inner x is))
 
+all_ended : (P : Operation → Type 0) (xs : List Operation) (x : Operation) → AllByRecursion P xs → P x → AllByRecursion P (xs ++ x ∷ [])
+all_ended P [] x all here = (here, tt)
+all_ended P (y ∷ xs) x all here = (all.0, all_ended P xs x all.1 here)
+
+all_reversed : (P : Operation → Type 0) (xs : List Operation) → AllByRecursion P xs → AllByRecursion P (reverse xs)
+all_reversed P [] all = tt
+all_reversed P (x ∷ xs) all = subst (AllByRecursion P) (sym (reverse-append (x ∷ []) xs)) (all_ended P (reverse xs) x (all_reversed P xs all.1) all.0)
+
 module _ (r : List Operation) where
   abbrev ops_of : Role → List Operation
-  ops_of kind = sort_by op_cmp (filter (fits kind) r)
+  ops_of kind = reverse (filter (fits kind) r)
 
   ops_in : (kind : Role) → AllByRecursion (λ o. IsMember o r × (fits kind o ≡ true)) (ops_of kind)
-  ops_in kind = all_sorted op_cmp (λ o. IsMember o r × (fits kind o ≡ true)) (filter (fits kind) r) (all_passing (λ o. IsMember o r) (fits kind) r (all_members (λ o. IsMember o r) r (λ o m. m)))
+  ops_in kind = all_reversed (λ o. IsMember o r × (fits kind o ≡ true)) (filter (fits kind) r) (all_passing (λ o. IsMember o r) (fits kind) r (all_members (λ o. IsMember o r) r (λ o m. m)))
 
   module _ {V : Type 0} (kind : Role) (f : Moment → Option V) (q : Operation → Bool) (view : Operation → V) (inner : (o : Operation) → fits kind o ≡ false → q o ≡ false)
       (reads : (o : Operation) → IsMember o r → fits kind o ≡ true → f o.stamp ≡ cond (q o) (Some (view o)) None) where
@@ -68,7 +75,7 @@ module _ (r : List Operation) where
     same_shown : SameItems (map view (filter q (ops_of kind))) (map view (filter q r))
     same_shown =
         same_map (filter q (ops_of kind)) (filter q r)
-        (λ g. same_filter (ops_of kind) (filter (fits kind) r) (λ h. (sorts op_cmp (on_total stamp_of stamp_cmp_total)).same h (filter (fits kind) r)) q g ∙ ap (sum_by g) (kept_of_kind (fits kind) q inner r)) view
+        (λ g. same_filter (ops_of kind) (filter (fits kind) r) (λ h. same_reverse h (filter (fits kind) r)) q g ∙ ap (sum_by g) (kept_of_kind (fits kind) q inner r)) view
 
     -- and sorted, they are those in order
     pub read_sorted : (cmp : V → V → Ordering) → IsTotalOrder cmp → (P : V → Type 0) → ((a b : V) → P a → P b → cmp a b ≡ Equal → a ≡ b) → ((xs : List Operation) → AllByRecursion (λ o. IsMember o r) xs → AllByRecursion P (map view (filter q xs)))

@@ -1,8 +1,11 @@
 use Rattle.std.proofs.Common.{List, ◌+◌, map, drop, sym, ap, ◌∙◌, subst}
 use Rattle.mt_op.proofs.TagLists.{drop_here}
-use Rattle.mt_items.proofs.Fresh.{IsPassing, next_follows, next_noted, next_held}
+use Rattle.mt_items.proofs.Fresh.{IsPassing, passes_all, next_follows, next_noted, next_held}
 use Rattle.mt_items.proofs.ready.pass.Goals as goal
 use Rattle.mt_items.proofs.ready.pass.Goals.{then-are_needs_met+in_ok-items-2, else-are_needs_met}
+
+pub loop-op-init : goal.loop-op-init
+loop-op-init g c = passes_all (map (λ o. o.now) c.args.ops.now) c.in_ok-items.items c.requires.rising c.in_ok-items.ensures.ok
 
 pub note-requires : goal.note-requires
 note-requires g c =

@@ -1,4 +1,4 @@
-use Rattle.std.proofs.Common.{◌≡◌, ◌++◌, []}
+use Rattle.std.proofs.Common.{◌≡◌, ◌++◌, drop, []}
 use Rattle.std.specs.Prelude.{unwrap_or}
 use Rattle.std.specs.BTreeMap.{get}
 use Rattle.std.specs.List.{AllByRecursion, filter_map}
@@ -11,6 +11,6 @@ use Rattle.mt_sessionview.proofs.clip.clips_by_track.Given as goal
 
 abbrev pub invariant-loop-clip : goal.invariant-loop-clip
 invariant-loop-clip g l = record {
-  found : (track : Moment) → unwrap_or (get stamp_cmp l.table track) [] ++ filter_map (clip_on l.items track) (keys_of l.clip-iterator) ≡ filter_map (clip_on l.items track) (items_of Clip l.items);
-  each : AllByRecursion (λ e. HoldsClip e.0 l.items e.1) l.clip-iterator;
+  found : (track : Moment) → unwrap_or (get stamp_cmp l.table track) [] ++ filter_map (clip_on l.items track) (keys_of (drop l.clip-index l.clip-items)) ≡ filter_map (clip_on l.items track) (items_of Clip l.items);
+  each : AllByRecursion (λ e. HoldsClip e.0 l.items e.1) (drop l.clip-index l.clip-items);
 }

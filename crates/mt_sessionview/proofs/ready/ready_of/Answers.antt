@@ -1,12 +1,17 @@
-use Rattle.std.proofs.Common.{List, ◌+◌, map, drop, sym, ap, ◌∙◌, subst, Bor}
+use Rattle.std.proofs.Common.{List, [], ◌+◌, map, drop, refl, sym, ap, ◌∙◌, subst, Bor}
 use Rattle.std.proofs.lemmas.List.{drop_all}
 use Rattle.mt_op.specs.declared.op.Op.{Op}
 use Rattle.mt_op.specs.Operation.{Operation}
 use Rattle.mt_op.proofs.TagLists.{drop_here}
-use Rattle.mt_items.proofs.Fresh.{next_follows, next_held}
+use Rattle.mt_items.proofs.Fresh.{passes_all, next_follows, next_held}
 use Rattle.mt_sessionview.proofs.Passing.{IsCollecting, one_collected, all_collected}
 use Rattle.mt_sessionview.proofs.ready.ready_of.Goals as goal
 use Rattle.mt_sessionview.proofs.ready.ready_of.Goals.{then-are_needs_met+in_ok-items-2+in_ok-push, else-are_needs_met}
+
+pub loop-op-init : goal.loop-op-init
+loop-op-init g c =
+    let now : Bor (Op g.row.A.Denot) → Operation = λ o. o.now in
+    rw (c.in_ok-items.ensures.ok, c.new-ready.ensures.items) (record { passing = passes_all (map now c.args.ops.now) [] c.requires.rising refl; noted = tt; ready = refl })
 
 pub note-requires : goal.note-requires
 note-requires g c =

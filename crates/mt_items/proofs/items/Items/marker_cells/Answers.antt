@@ -1,4 +1,5 @@
-use Rattle.std.proofs.Common.{List, subst}
+use Rattle.std.proofs.Common.{List, subst, sym}
+use Rattle.std.specs.List.{AllByRecursion}
 use Rattle.mt_stamp.specs.Moment.{Moment}
 use Rattle.mt_op.specs.Operation.{Operation}
 use Rattle.mt_items.specs.Cells.{HoldsMarker}
@@ -8,5 +9,6 @@ use Rattle.mt_items.proofs.items.Items.marker_cells.Goals as goal
 
 pub returns-clause-each : goal.returns-clause-each
 returns-clause-each g c =
-    all_entries (λ (e : Moment × MarkerCells g.row.A.Denot). HoldsMarker e.0 c.args.self.now e.1) c.self.inside.markers.entries c.len-count.ensures.ordered
-    (λ item cells found. subst (λ (ops : List Operation). HoldsMarker item ops cells) c.self.view_is (c.self.invariant.markers.each item cells found))
+    let Q : Moment × MarkerCells g.row.A.Denot → Type 0 = λ e. HoldsMarker e.0 c.args.self.now e.1 in
+    subst (AllByRecursion Q) (sym c.entries.ensures.items)
+    (all_entries Q c.self.inside.markers c.entries.ensures.differ (λ item cells found. subst (λ (ops : List Operation). HoldsMarker item ops cells) c.self.view_is (c.self.invariant.markers.each item cells found)))

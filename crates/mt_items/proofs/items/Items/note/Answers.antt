@@ -1,7 +1,9 @@
 use Rattle.std.proofs.Common.{List, subst, sym}
+use Rattle.mt_op.specs.declared.need.Role.TheVariants.{Track, Place, Clip, Marker}
 use Rattle.mt_op.specs.Operation.{Operation}
 use Rattle.mt_items.specs.All.{HoldsAll}
 use Rattle.mt_items.specs.Noting.{MayFollow}
+use Rattle.mt_items.proofs.Each.{new_item}
 use Rattle.mt_items.proofs.items.Items.note.Goals as goal
 
 pub invariant_of-result : goal.invariant_of-result
@@ -17,3 +19,15 @@ invariant_of-result g c =
       markers = c.in_ok-note-3.ensures.ok ops follows held.noted held.markers;
       places = c.in_ok-note-4.ensures.ok ops held.places;
     })
+
+pub note-requires : goal.note-requires
+note-requires g c = record { new = new_item Track c.args.op.now c.self.inside.noted.items c.self.inside.tracks (subst (λ (l : List Operation). MayFollow l c.args.op.now) (sym c.self.view_is) c.requires.follows) c.self.invariant.tracks.only }
+
+pub note-requires-2 : goal.note-requires-2
+note-requires-2 g c = record { new = new_item Clip c.args.op.now c.self.inside.noted.items c.self.inside.clips (subst (λ (l : List Operation). MayFollow l c.args.op.now) (sym c.self.view_is) c.requires.follows) c.self.invariant.clips.only }
+
+pub note-requires-3 : goal.note-requires-3
+note-requires-3 g c = record { new = new_item Marker c.args.op.now c.self.inside.noted.items c.self.inside.markers (subst (λ (l : List Operation). MayFollow l c.args.op.now) (sym c.self.view_is) c.requires.follows) c.self.invariant.markers.only }
+
+pub note-requires-4 : goal.note-requires-4
+note-requires-4 g c = record { new = new_item Place c.args.op.now c.self.inside.noted.items c.self.inside.places (subst (λ (l : List Operation). MayFollow l c.args.op.now) (sym c.self.view_is) c.requires.follows) c.self.invariant.places }

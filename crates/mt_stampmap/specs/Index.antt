@@ -1,0 +1,38 @@
+-- Where the entries of a map stand. Working definitions.
+use Rattle.std.specs.Prelude.{◌≡◌, ℕ, Bool, false, List, Option, Some, None, Vec, slice_get, if◌then◌else◌}
+use Rattle.std.specs.Option.{option_and_then}
+use Rattle.std.specs.BTreeMap.{BTreeMap, get}
+use Rattle.std.specs.Ordering.{nat_cmp}
+use Rattle.mt_stamp.specs.Moment.{Moment, stamp_cmp, stamp_eq}
+use Rattle.mt_stampmap.specs.declared.index.Index.{Index}
+
+-- the index at a stamp's number in the run of its replica
+abbrev pub in_run : {A : Type 0} → BTreeMap ℕ (Vec ℕ A) → Moment → Option ℕ
+in_run runs stamp = option_and_then (λ run. slice_get run.items stamp.seq) (get nat_cmp runs stamp.replica.0)
+
+-- what the runs say of a stamp, they say of it still
+abbrev pub StaysInRun : {A : Type 0} → BTreeMap ℕ (Vec ℕ A) → BTreeMap ℕ (Vec ℕ A) → Moment → Type 0
+StaysInRun old new stamp = (i : ℕ) → in_run old stamp ≡ Some i → in_run new stamp ≡ Some i
+
+-- whether a key is a stamp
+abbrev pub is_key : Option Moment → Moment → Bool
+is_key None stamp = false
+is_key (Some key) stamp = stamp_eq stamp key
+
+abbrev pub or_else : Option ℕ → Option ℕ → Option ℕ
+or_else None other = other
+or_else (Some i) other = Some i
+
+module _ (ks : List Moment) where
+  -- an index at which the keys have the stamp
+  abbrev pub checked : Option ℕ → Moment → Option ℕ
+  checked None stamp = None
+  checked (Some i) stamp = if is_key (slice_get ks i) stamp then Some i else None
+
+  -- the index that is found of a stamp
+  abbrev pub index_in : {A : Type 0} → Index A → Moment → Option ℕ
+  index_in index stamp = or_else (checked (in_run index.runs stamp) stamp) (checked (get stamp_cmp index.others stamp) stamp)
+
+  -- each key is found at its index
+  abbrev pub Finds : {A : Type 0} → Index A → Type 0
+  Finds index = (k : ℕ) (stamp : Moment) → slice_get ks k ≡ Some stamp → index_in index stamp ≡ Some k

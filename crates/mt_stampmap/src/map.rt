@@ -1,0 +1,150 @@
+//! The map.
+
+ghost use Rattle.std.specs.Prelude.{◌≡◌, ◌++◌, ◌∷◌, ◌<◌, [], ℕ, Some, None, false, true, length, slice_get, option_copied, is_some, IfOk, OnOk, OnErr, MatchOption};
+ghost use Rattle.std.specs.Option.{option_copied_mut};
+ghost use Rattle.std.specs.Borrow.{sem};
+ghost use Rattle.std.specs.Map.{lookup, keys_of};
+ghost use Rattle.std.specs.List.{IsDistinct};
+ghost use Rattle.mt_stamp.specs.Moment.{stamp_eq};
+ghost use Rattle.mt_stampmap.specs.Index.{is_key, checked};
+
+use crate::index::Index;
+use mt_stamp::Stamp;
+use std::alloc::{AllocError, Allocator, Global};
+use std::marker::Model;
+
+/// A map from stamps to values. It is seen as the list of its entries in the order in which they were put in.
+#[derive(Drop)]
+pub struct StampMap<V: Drop, A: Allocator = Global> {
+    entries: Vec<(Stamp, V), A>,
+    // in a block of its own, so that little moves where a map does
+    index: Box<Index<A>, A>,
+}
+
+impl<V: Drop, A: Allocator> Model for StampMap<V, A> {
+    ghost use Rattle.std.specs.Prelude.{List};
+    ghost use Rattle.std.specs.Coded.{coded_list, coded×};
+    ghost use Rattle.mt_stamp.specs.Moment.{Moment};
+    ghost use Rattle.mt_stamp.specs.Codes.{moment_code};
+    ghost use Rattle.std.specs.Map.{keys_of};
+    ghost use Rattle.mt_stampmap.specs.Index.{Finds};
+
+    ghost Value = { List (Moment × V) };
+
+    ghost view = { λ m. m.entries.items };
+
+    ghost invariant = { λ m. Finds (keys_of m.entries.items) m.index.value };
+}
+
+impl<V: Drop, A: Allocator> StampMap<V, A> {
+    ghost use Rattle.mt_stampmap.specs.Lends.{LendsValue, LendsValueIf};
+
+    /// The empty map. Refused only where the allocator could not be cloned.
+    pub fn new(alloc: A) -> Result<Self, AllocError>
+    where
+        A: Clone,
+        ensures { IfOk result (λ map. map ≡ []) }
+    {
+        let index = Index::new(alloc.clone()?)?;
+        Ok(StampMap {
+            entries: Vec::new(alloc.clone()?),
+            index: Box::new(alloc, index)?,
+        })
+    }
+
+    // Whether the entry at an index has a stamp.
+    fn stands_at(&self, index: usize, stamp: Stamp) -> bool
+        ensures { result ≡ is_key (slice_get (keys_of self.now) index) stamp }
+    {
+        match self.entries.get(index) {
+            Some(entry) => stamp == entry.0,
+            None => false,
+        }
+    }
+
+    // An index, where a stamp stands there.
+    fn checked(&self, index: Option<usize>, stamp: Stamp) -> Option<usize>
+        ensures { result ≡ checked (keys_of self.now) index stamp }
+    {
+        let Some(index) = index else {
+            return None;
+        };
+        if !self.stands_at(index, stamp) {
+            return None;
+        }
+        Some(index)
+    }
+
+    // The index at which a stamp stands.
+    fn index_of(&self, stamp: Stamp) -> Option<usize>
+        ensures { MatchOption result (lookup (stamp_eq stamp) self.now ≡ None) (λ i. is_key (slice_get (keys_of self.now) i) stamp ≡ true) }
+    {
+        if self.entries.is_empty() {
+            return None;
+        }
+        if let Some(index) = self.checked(self.index.in_run(stamp), stamp) {
+            return Some(index);
+        }
+        self.checked(self.index.elsewhere(stamp), stamp)
+    }
+
+    /// The value of a stamp.
+    pub fn get(&self, stamp: Stamp) -> Option<&V>
+        ensures value { option_copied result ≡ lookup (stamp_eq stamp) self.now }
+    {
+        match self.index_of(stamp) {
+            Some(index) => Some(&self.entries[index].1),
+            None => None,
+        }
+    }
+
+    // The value of the stamp that stands at an index.
+    fn value_mut(&mut self, index: usize, stamp: Stamp) -> &mut V
+        requires { is_key (slice_get (keys_of self.old) index) stamp ≡ true }
+        ensures* writes_back { sem 𝓛 (LendsValue V.row A.row A.Allocator self.entry stamp result) }
+        ensures value { lookup (stamp_eq stamp) self.old ≡ Some result.now }
+    {
+        let entry = &mut self.entries[index];
+        &mut entry.1
+    }
+
+    /// The value of a stamp, to change in place.
+    pub fn get_mut(&mut self, stamp: Stamp) -> Option<&mut V>
+        ensures* writes_back { sem 𝓛 (LendsValueIf V.row A.row A.Allocator self.entry stamp result) }
+        ensures value { option_copied_mut result ≡ lookup (stamp_eq stamp) self.old }
+    {
+        match self.index_of(stamp) {
+            Some(index) => Some(self.value_mut(index, stamp)),
+            None => None,
+        }
+    }
+
+    /// Whether a stamp has a value.
+    pub fn contains(&self, stamp: Stamp) -> bool
+        ensures found { result ≡ is_some (lookup (stamp_eq stamp) self.now) }
+    {
+        self.get(stamp).is_some()
+    }
+
+    /// The entries, in the order in which they were put in.
+    pub fn entries(&self) -> &[(Stamp, V)]
+        ensures items { result.now ≡ self.now }
+        ensures differ { IsDistinct stamp_eq (keys_of self.now) }
+    {
+        &self.entries
+    }
+
+    /// Puts a value in, last, under a stamp that has none.
+    pub fn insert(&mut self, stamp: Stamp, value: V) -> Result<(), AllocError>
+    where
+        A: Clone,
+        requires { lookup (stamp_eq stamp) self.old ≡ None }
+        ensures ok { OnOk result (self.new ≡ self.old ++ (stamp, value) ∷ []) }
+        ensures err { OnErr result (self.new ≡ self.old) }
+    {
+        let index = self.entries.as_slice().len();
+        self.index.point(stamp, index)?;
+        self.entries.push((stamp, value))?;
+        Ok(())
+    }
+}
