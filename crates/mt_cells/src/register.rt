@@ -47,6 +47,13 @@ impl<T: Ord> Register<T> {
         &self.value
     }
 
+    /// The value alone.
+    pub fn into_value(self) -> T
+        ensures { result ≡ self.value }
+    {
+        self.value
+    }
+
     // By stamp, and then by value.
     fn compare(&self, other: &Self) -> Ordering
         ensures { result ≡ written_cmp T.cmp self.now other.now }

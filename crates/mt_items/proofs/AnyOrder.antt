@@ -1,5 +1,5 @@
 -- The answers to questions do not depend on the order in which operations were noted.
-use Rattle.std.proofs.Common.{◌≡◌, ℕ, zero, suc, Bool, List, [], ◌∷◌, ◌||◌, Some, map, refl, sym, ap, ◌∙◌, true, true≢false, arith}
+use Rattle.std.proofs.Common.{◌≡◌, ℕ, zero, suc, Bool, List, [], ◌∷◌, ◌||◌, Some, refl, sym, ap, ◌∙◌, true, true≢false, arith}
 use Rattle.std.specs.Prelude.{slice_get, reverse}
 use Rattle.std.specs.List.{filter, list_any, sum_by, All, AllByRecursion}
 use Rattle.std.proofs.lemmas.List.{reverse-append}
@@ -10,7 +10,6 @@ use Rattle.std.proofs.lemmas.List.Elements.{recursion_from_All}
 use Rattle.std.proofs.lemmas.List.Sorted.{All-permutation, sum_by-IsPermutation}
 use Rattle.mt_stamp.specs.Moment.{Moment, stamp_cmp, stamp_eq}
 use Rattle.mt_stamp.proofs.Order.{stamp_cmp_total, stamp_cmp-IsAntisymmetric, stamp_eq-itself}
-use Rattle.mt_stamp.proofs.Differing.{all_kept}
 use Rattle.mt_stamp.proofs.SameItems.{SameItems, same_filter, same_map, same_flat_map, same_any}
 use Rattle.mt_stamp.proofs.Sorting.{sort_same}
 use Rattle.mt_op.specs.declared.need.Role.{Role}

@@ -84,7 +84,7 @@ impl<A: Allocator> Items<A> {
 
     /// Notes an operation of a new stamp whose needs are met by noted ones. `are_needs_met` tells the latter;
     /// `laws::new_stamps` says of which facts that a caller has a stamp is known to be new. In whatever order
-    /// operations are noted, each takes the logarithm of the number of items. Refused only as `Memory` (0), where a
+    /// operations are noted, each takes at worst the logarithm of the number of items. Refused only as `Memory` (0), where a
     /// growth was refused; what was noted is then dropped.
     pub fn note(self, op: &Op<A>) -> Result<Self, ItemsFault>
     where
@@ -386,6 +386,15 @@ impl<A: Allocator> Items<A> {
     {
         let _ = &self.noted;
         self.markers.entries()
+    }
+
+    /// The markers with their cells by value, present or not, in the order in which they were noted. All else is let go.
+    pub fn into_marker_cells(self) -> Vec<(Stamp, MarkerCells<A>), A>
+        ensures markers { keys_of result.items ≡ items_of Marker self }
+        ensures each { AllByRecursion (λ e. HoldsMarker e.0 self e.1) result.items }
+    {
+        let Items { markers, .. } = self;
+        markers.into_entries()
     }
 
     /// The stamps of the tracks, present or not, from the least to the greatest. Refused only as `Memory` (0), where

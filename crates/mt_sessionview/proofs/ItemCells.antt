@@ -1,8 +1,9 @@
 -- What is read of the cells of an item.
-use Rattle.std.proofs.Common.{◌≡◌, ◌∙◌, ◌++◌, Bool, true, false, cond, List, [], ◌∷◌, Option, Some, None, refl, sym, ap, subst}
+use Rattle.std.proofs.Common.{◌≡◌, ◌∙◌, ◌++◌, Bool, true, false, cond, List, [], ◌∷◌, Option, Some, None, length, refl, sym, ap, subst, arith}
 use Rattle.std.specs.Prelude.{option_map, unwrap_or}
 use Rattle.std.specs.List.{AllByRecursion, filter_map, cons_option}
 use Rattle.std.specs.Map.{keys_of}
+use Rattle.std.proofs.lemmas.List.{append-nil}
 use Rattle.mt_stamp.specs.Moment.{Moment, stamp_eq}
 use Rattle.mt_op.specs.Gain.{unchanged}
 use Rattle.mt_op.specs.Operation.{Operation}
@@ -63,6 +64,11 @@ module _ {C V : Type 0} (f : Moment → Option V) where
   -- what is read of entries, the first of which is read to this
   pub read_first : (es rest : List (Moment × C)) (k : Moment) (c : C) (found : Option V) → es ≡ (k, c) ∷ rest → found ≡ f k → filter_map f (keys_of es) ≡ cons_option found (filter_map f (keys_of rest))
   read_first es rest k c found step is = ap (λ (l : List (Moment × C)). filter_map f (keys_of l)) step ∙ ap (λ (o : Option V). cons_option o (filter_map f (keys_of rest))) (sym is)
+
+  -- where no entry is left, all is made
+  pub none_left : (rest : List (Moment × C)) (made all : List V) → length rest ≡ 0 → made ++ filter_map f (keys_of rest) ≡ all → made ≡ all
+  none_left [] made all none read = sym (append-nil made) ∙ read
+  none_left (e ∷ rest) made all none read = absurd (omega (arith, none))
 
 -- of a clip that is on a track, or on another
 pub read_on : {C : Type 0} (ops : List Operation) (track : Moment) (es rest : List (Moment × C)) (k : Moment) (c : C) (found : OnTrack) → es ≡ (k, c) ∷ rest → Some found ≡ clip_read ops k

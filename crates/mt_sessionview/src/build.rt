@@ -14,9 +14,9 @@ ghost use Rattle.mt_sessionview.specs.Session.{session_of};
 use crate::by_stamp::sorted_ops;
 use crate::clip::clips_by_track;
 use crate::fault::SessionFault;
-use crate::marker::{markers, sort_markers};
+use crate::marker::{markers, sort_markers, taken_markers};
 use crate::placed::placed_ops;
-use crate::ready::ready_of;
+use crate::ready::{Ready, ready_of};
 use crate::session::{MarkerView, Session, TrackView};
 use crate::track::tracks;
 use mt_items::Items;
@@ -38,6 +38,25 @@ fn tracks_of<A: Allocator + Clone>(
 {
     let clips = clips_by_track(alloc, items)?;
     tracks(alloc, items, &clips, placed)
+}
+
+// The tracks that ready operations show, in the order of their places; beside them the operations that gave these, in order.
+fn placed_tracks<'a, A: Allocator + Clone>(
+    alloc: &A,
+    ready: &[&'a Op<A>],
+    items: &Items<A>,
+) -> Result<(Vec<TrackView<A>, A>, Vec<&'a Op<A>, A>), SessionFault>
+    requires noted { AreNoted items.now }
+    requires same { (f : Operation → ℕ) → sum_by f items.now ≡ sum_by f (map (λ o. o.now) ready.now) }
+    requires rising { RisesStrictly op_cmp (map (λ o. o.now) ready.now) }
+    requires tree { IsTree (places_in (map (λ o. o.now) ready.now)) }
+    ensures tracks { IfOk result (λ both. both.0.items ≡ tracks_in items.now) }
+    ensures placed { IfOk result (λ both. map (λ o. o.now) both.1.items ≡ placed_in items.now) }
+    ensures err { IfErr result (λ fault. fault ≡ SessionFault.Memory) }
+{
+    let placed = placed_ops(alloc, ready)?;
+    let tracks = tracks_of(alloc, items, &placed)?;
+    Ok((tracks, placed))
 }
 
 // The markers that noted operations leave, by position, then by stamp.
@@ -71,8 +90,7 @@ pub fn session_of_ready<'a, A: Allocator + Clone>(
     ensures placed { IfOk result (λ both. map (λ o. o.now) both.1.items ≡ placed_in items.now) }
     ensures err { IfErr result (λ fault. fault ≡ SessionFault.Memory) }
 {
-    let placed = placed_ops(&alloc, ready)?;
-    let tracks = tracks_of(&alloc, items, &placed)?;
+    let (tracks, placed) = placed_tracks(&alloc, ready, items)?;
     let markers = markers_of(&alloc, items)?;
     let session = Session {
         tracks: List::new(tracks),
@@ -80,6 +98,30 @@ pub fn session_of_ready<'a, A: Allocator + Clone>(
         held,
     };
     Ok((session, placed))
+}
+
+// The same session alone, of items that are let go.
+fn session_of_items<A: Allocator + Clone>(
+    alloc: A,
+    ready: &[&Op<A>],
+    items: Items<A>,
+    held: u64,
+) -> Result<Session<A>, SessionFault>
+    requires noted { AreNoted items }
+    requires same { (f : Operation → ℕ) → sum_by f items ≡ sum_by f (map (λ o. o.now) ready.now) }
+    requires rising { RisesStrictly op_cmp (map (λ o. o.now) ready.now) }
+    requires tree { IsTree (places_in (map (λ o. o.now) ready.now)) }
+    ensures session { IfOk result (λ session. session ≡ record { tracks = tracks_in items; markers = markers_in items; held = held }) }
+    ensures err { IfErr result (λ fault. fault ≡ SessionFault.Memory) }
+{
+    let (tracks, _placed) = placed_tracks(&alloc, ready, &items)?;
+    let mut markers = taken_markers(alloc, items)?;
+    sort_markers(&mut markers)?;
+    Ok(Session {
+        tracks: List::new(tracks),
+        markers: List::new(markers),
+        held,
+    })
 }
 
 // How many of the operations are not among the ready ones.
@@ -105,6 +147,7 @@ pub(crate) fn session_of_log<A: Allocator + Clone>(
     let ready = ready_of(&alloc, &sorted)?;
     let held = count_held(&sorted, &ready.ops);
     drop(sorted);
-    let (session, _placed) = session_of_ready(alloc, &ready.ops, &ready.items, held)?;
+    let Ready { ops, items } = ready;
+    let session = session_of_items(alloc, &ops, items, held)?;
     Ok(session)
 }

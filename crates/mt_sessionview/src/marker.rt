@@ -36,7 +36,7 @@ fn marker_at<A: Allocator + Clone>(
     }))
 }
 
-// The markers that are present, by rising stamp.
+// The markers that are present, in the order in which they were noted, with copies of their titles.
 pub(crate) fn markers<A: Allocator + Clone>(
     alloc: A,
     items: &Items<A>,
@@ -47,6 +47,42 @@ pub(crate) fn markers<A: Allocator + Clone>(
     let mut markers = Vec::new(alloc);
     for (marker, cells) in items.marker_cells() {
         if let Some(view) = marker_at(*marker, cells)? {
+            markers.push(view)?;
+        }
+    }
+    Ok(markers)
+}
+
+// A marker, from its cells by value, where it is present.
+fn marker_from<A: Allocator>(marker: Stamp, cells: MarkerCells<A>) -> Option<MarkerView<A>>
+    ensures { (ops : List Operation) → HoldsMarker marker ops cells → result ≡ marker_read ops marker }
+{
+    let MarkerCells {
+        position,
+        title,
+        presence,
+    } = cells;
+    if !presence.is_present() {
+        return None;
+    }
+    Some(MarkerView {
+        marker,
+        at: *position.get(),
+        title: title.into_value(),
+    })
+}
+
+// The markers that are present, in the order in which they were noted, with the titles that their cells held.
+pub(crate) fn taken_markers<A: Allocator + Clone>(
+    alloc: A,
+    items: Items<A>,
+) -> Result<Vec<MarkerView<A>, A>, SessionFault>
+    ensures ok { IfOk result (λ markers. markers.items ≡ filter_map (marker_read items) (items_of Marker items)) }
+    ensures err { IfErr result (λ fault. fault ≡ SessionFault.Memory) }
+{
+    let mut markers = Vec::new(alloc);
+    for (marker, cells) in items.into_marker_cells() {
+        if let Some(view) = marker_from(marker, cells) {
             markers.push(view)?;
         }
     }

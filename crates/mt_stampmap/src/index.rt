@@ -17,16 +17,16 @@ const EMPTY_FOR_EACH: usize = 8;
 #[derive(Drop)]
 pub(crate) struct Index<A: Allocator> {
     alloc: A,
-    runs: BTreeMap<u128, Vec<usize, A>, A>,
+    runs: BTreeMap<u128, Vec<u32, A>, A>,
     others: BTreeMap<Stamp, usize, A>,
     spare: usize,
 }
 
 // Puts an index into a run at a number, where that is behind its end and no more than `spare` places stay empty between.
 fn put_behind<A: Allocator>(
-    run: &mut Vec<usize, A>,
+    run: &mut Vec<u32, A>,
     number: usize,
-    index: usize,
+    index: u32,
     spare: &mut usize,
 ) -> Result<bool, AllocError>
     ensures stays { (k i : ℕ) → slice_get run.old.items k ≡ Some i → slice_get run.new.items k ≡ Some i }
@@ -44,9 +44,9 @@ fn put_behind<A: Allocator>(
 // Puts an index into the run of a stamp's replica, where it has a place there.
 fn put_in_run<A: Allocator + Clone>(
     alloc: &A,
-    runs: &mut BTreeMap<u128, Vec<usize, A>, A>,
+    runs: &mut BTreeMap<u128, Vec<u32, A>, A>,
     stamp: Stamp,
-    index: usize,
+    index: u32,
     spare: &mut usize,
 ) -> Result<bool, AllocError>
     ensures stays { (s : Moment) → StaysInRun runs.old runs.new s }
@@ -84,7 +84,10 @@ impl<A: Allocator> Index<A> {
         ensures { result ≡ in_run self.now.runs stamp }
     {
         match self.runs.get(&stamp.replica().0) {
-            Some(run) => run.get(stamp.seq() as usize).copied(),
+            Some(run) => match run.get(stamp.seq() as usize) {
+                Some(index) => Some(*index as usize),
+                None => None,
+            },
             None => None,
         }
     }
@@ -105,8 +108,10 @@ impl<A: Allocator> Index<A> {
         ensures points { OnOk result ((in_run self.new.runs stamp ≡ Some index) ⊎ (get stamp_cmp self.new.others stamp ≡ Some index)) }
     {
         self.spare = self.spare.saturating_add(EMPTY_FOR_EACH);
-        if put_in_run(&self.alloc, &mut self.runs, stamp, index, &mut self.spare)? {
-            return Ok(());
+        if let Ok(short) = u32::try_from(index) {
+            if put_in_run(&self.alloc, &mut self.runs, stamp, short, &mut self.spare)? {
+                return Ok(());
+            }
         }
         self.others.insert(stamp, index)?;
         Ok(())

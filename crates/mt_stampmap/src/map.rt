@@ -13,7 +13,7 @@ use mt_stamp::Stamp;
 use std::alloc::{AllocError, Allocator, Global};
 use std::marker::Model;
 
-/// A map from stamps to values. It is seen as the list of its entries in the order in which they were put in.
+/// A map from stamps to values. Contracts see it as the list of its entries in the order in which they were put in; no two have the same stamp.
 #[derive(Drop)]
 pub struct StampMap<V: Drop, A: Allocator = Global> {
     entries: Vec<(Stamp, V), A>,
@@ -39,7 +39,7 @@ impl<V: Drop, A: Allocator> Model for StampMap<V, A> {
 impl<V: Drop, A: Allocator> StampMap<V, A> {
     ghost use Rattle.mt_stampmap.specs.Lends.{LendsValue, LendsValueIf};
 
-    /// The empty map. Refused only where the allocator could not be cloned.
+    /// The empty map. Refused only where memory was, or the allocator could not be cloned.
     pub fn new(alloc: A) -> Result<Self, AllocError>
     where
         A: Clone,
@@ -88,7 +88,7 @@ impl<V: Drop, A: Allocator> StampMap<V, A> {
         self.checked(self.index.elsewhere(stamp), stamp)
     }
 
-    /// The value of a stamp.
+    /// The value of a stamp, and `None` where it has none.
     pub fn get(&self, stamp: Stamp) -> Option<&V>
         ensures value { option_copied result ≡ lookup (stamp_eq stamp) self.now }
     {
@@ -108,7 +108,7 @@ impl<V: Drop, A: Allocator> StampMap<V, A> {
         &mut entry.1
     }
 
-    /// The value of a stamp, to change in place.
+    /// The value of a stamp, to change in place, and `None` where it has none.
     pub fn get_mut(&mut self, stamp: Stamp) -> Option<&mut V>
         ensures* writes_back { sem 𝓛 (LendsValueIf V.row A.row A.Allocator self.entry stamp result) }
         ensures value { option_copied_mut result ≡ lookup (stamp_eq stamp) self.old }
@@ -134,7 +134,16 @@ impl<V: Drop, A: Allocator> StampMap<V, A> {
         &self.entries
     }
 
-    /// Puts a value in, last, under a stamp that has none.
+    /// The entries by value, in the order in which they were put in.
+    pub fn into_entries(self) -> Vec<(Stamp, V), A>
+        ensures items { result.items ≡ self }
+        ensures differ { IsDistinct stamp_eq (keys_of self) }
+    {
+        let StampMap { entries, .. } = self;
+        entries
+    }
+
+    /// Puts a value in, last, under a stamp that has none. Refused only where a growth was; the map is then as it was.
     pub fn insert(&mut self, stamp: Stamp, value: V) -> Result<(), AllocError>
     where
         A: Clone,

@@ -1,6 +1,5 @@
-use Rattle.std.proofs.Common.{◌≡◌, ap, sym, ◌∙◌}
-use Rattle.std.specs.Map.{keys_of}
-use Rattle.mt_stamp.specs.Moment.{Moment, stamp_cmp}
+use Rattle.std.proofs.Common.{ap, ◌∙◌}
+use Rattle.mt_stamp.specs.Moment.{stamp_cmp}
 use Rattle.mt_stamp.specs.Sorting.{sort_by}
 use Rattle.mt_stamp.proofs.Order.{stamp_cmp_total, stamp_cmp-IsAntisymmetric}
 use Rattle.mt_stamp.proofs.Sorting.{sorted_is_sort_by}

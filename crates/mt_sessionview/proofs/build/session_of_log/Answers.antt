@@ -34,21 +34,21 @@ count_held-held-requires g c =
     let rest = fewer (operations c.args.log.now) c.runs.ensures.logged (length c.deref-2.result.now) (length c.deref-3.result.now) all some in
     omega (arith, rest.1)
 
-pub session_of_ready-requires-clause-rising : goal.session_of_ready-requires-clause-rising
-session_of_ready-requires-clause-rising g c =
+pub session_of_items-requires-clause-rising : goal.session_of_items-requires-clause-rising
+session_of_items-requires-clause-rising g c =
     let now : List (Bor (Op g.row.A.Denot)) → List Operation = λ l. map (λ (o : Bor (Op g.row.A.Denot)). o.now) l in
     let s = sort_by op_cmp (operations c.args.log.now) in
     let sorted : now c.deref.result.now ≡ s = ap now c.deref.ensures.value ∙ c.in_ok-sorted.ensures in
     subst (RisesStrictly op_cmp) (sym (ap now c.deref-4.ensures.value ∙ c.in_ok-ready.ensures.ops ∙ ap ready_ops sorted)) (rises_kept op_cmp (is_ready clock_of needs meets s) s (rising_ops (operations c.args.log.now) (every_stamp (operations c.args.log.now) c.runs.ensures.logged.rise)))
 
-pub session_of_ready-requires-clause-tree : goal.session_of_ready-requires-clause-tree
-session_of_ready-requires-clause-tree g c =
+pub session_of_items-requires-clause-tree : goal.session_of_items-requires-clause-tree
+session_of_items-requires-clause-tree g c =
     let now : List (Bor (Op g.row.A.Denot)) → List Operation = λ l. map (λ (o : Bor (Op g.row.A.Denot)). o.now) l in
     let sorted : now c.deref.result.now ≡ sort_by op_cmp (operations c.args.log.now) = ap now c.deref.ensures.value ∙ c.in_ok-sorted.ensures in
     subst (λ (l : List Operation). IsTree (places_in l)) (sym (ap now c.deref-4.ensures.value ∙ c.in_ok-ready.ensures.ops ∙ ap ready_ops sorted)) (tree (operations c.args.log.now) c.runs.ensures.logged)
 
-pub session_of_ready-requires-clause-same : goal.session_of_ready-requires-clause-same
-session_of_ready-requires-clause-same g c = λ f.
+pub session_of_items-requires-clause-same : goal.session_of_items-requires-clause-same
+session_of_items-requires-clause-same g c = λ f.
     let now : List (Bor (Op g.row.A.Denot)) → List Operation = λ l. map (λ (o : Bor (Op g.row.A.Denot)). o.now) l in
     let ready = ready_ops (now c.deref.result.now) in
     ap (sum_by f) c.in_ok-ready.ensures.items ∙ sum_by-IsPermutation f ready (reverse ready) (IsPermutation-reverse ready) ∙ ap (sum_by f) (sym c.in_ok-ready.ensures.ops ∙ sym (ap now c.deref-4.ensures.value))
@@ -62,5 +62,4 @@ returns-clause-ok g c =
     let all : length c.deref-2.result.now ≡ length s = sym (length-map c.deref-2.result.now (λ (o : Ref). o.now)) ∙ ap length (ap now c.deref-2.ensures.value ∙ c.in_ok-sorted.ensures) in
     let some : length c.deref-3.result.now ≡ length (ready_ops s) = sym (length-map c.deref-3.result.now (λ (o : Ref). o.now)) ∙ ap length (ap now c.deref-3.ensures.value ∙ c.in_ok-ready.ensures.ops ∙ ap ready_ops sorted) in
     let items : c.in_ok-ready.ready.items ≡ reverse (ready_ops s) = c.in_ok-ready.ensures.items ∙ ap (λ (l : List Operation). reverse (ready_ops l)) sorted in
-    let session = c.in_ok-session.ensures.session in
-    session ∙ whole (operations c.args.log.now) c.runs.ensures.logged c.in_ok-ready.ready.items (tracks_in c.in_ok-ready.ready.items) (markers_in c.in_ok-ready.ready.items) (length c.deref-2.result.now) (length c.deref-3.result.now) c.count_held-held.result items refl refl all some c.count_held-held.ensures
+    c.in_ok-session.ensures.session ∙ whole (operations c.args.log.now) c.runs.ensures.logged c.in_ok-ready.ready.items (tracks_in c.in_ok-ready.ready.items) (markers_in c.in_ok-ready.ready.items) (length c.deref-2.result.now) (length c.deref-3.result.now) c.count_held-held.result items refl refl all some c.count_held-held.ensures

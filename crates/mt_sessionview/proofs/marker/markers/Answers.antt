@@ -1,12 +1,11 @@
-use Rattle.std.proofs.Common.{◌≡◌, ◌∙◌, ◌+◌, ◌++◌, List, [], ◌∷◌, Some, None, drop, sym, ap}
-use Rattle.std.specs.List.{AllByRecursion, filter_map}
+use Rattle.std.proofs.Common.{◌∙◌, ◌+◌, ◌++◌, [], ◌∷◌, Some, None, drop, sym}
+use Rattle.std.specs.List.{filter_map}
 use Rattle.std.specs.Map.{keys_of}
 use Rattle.mt_stamp.specs.Moment.{Moment}
 use Rattle.mt_op.specs.declared.need.Role.TheVariants.{Marker as MarkerRole}
 use Rattle.mt_op.proofs.TagLists.{drop_here}
 use Rattle.mt_items.specs.Cells.{HoldsMarker, items_of}
 use Rattle.mt_items.specs.declared.cells.MarkerCells.{MarkerCells}
-use Rattle.mt_sessionview.specs.Content.{Marker}
 use Rattle.mt_sessionview.specs.Read.{marker_read}
 use Rattle.mt_sessionview.proofs.ItemCells.{first_of, read_first}
 use Rattle.mt_sessionview.proofs.Lists.{more_made}
