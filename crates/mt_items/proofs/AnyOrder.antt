@@ -1,13 +1,11 @@
 -- The answers to questions do not depend on the order in which operations were noted.
-use Rattle.std.proofs.Common.{◌≡◌, ℕ, zero, suc, Bool, List, [], ◌∷◌, ◌||◌, Some, refl, sym, ap, ◌∙◌, true, true≢false, arith}
+use Rattle.std.proofs.Common.{◌≡◌, ℕ, zero, suc, Bool, List, [], ◌∷◌, ◌||◌, Some, sym, ap, ◌∙◌, true, true≢false}
 use Rattle.std.specs.Prelude.{slice_get, reverse}
 use Rattle.std.specs.List.{filter, list_any, sum_by, All, AllByRecursion}
-use Rattle.std.proofs.lemmas.List.{reverse-append}
-use Rattle.std.proofs.lemmas.List.Sums.{sum_by-cons, sum_by-append}
 use Rattle.std.specs.List.Sorted.{IsPermutation}
 use Rattle.std.proofs.lemmas.Option.{same_Some, none-some, slice_get-get_or}
 use Rattle.std.proofs.lemmas.List.Elements.{recursion_from_All}
-use Rattle.std.proofs.lemmas.List.Sorted.{All-permutation, sum_by-IsPermutation}
+use Rattle.std.proofs.lemmas.List.Sorted.{All-permutation, sum_by-IsPermutation, IsPermutation-reverse}
 use Rattle.mt_stamp.specs.Moment.{Moment, stamp_cmp, stamp_eq}
 use Rattle.mt_stamp.proofs.Order.{stamp_cmp_total, stamp_cmp-IsAntisymmetric, stamp_eq-itself}
 use Rattle.mt_stamp.proofs.SameItems.{SameItems, same_filter, same_map, same_flat_map, same_any}
@@ -55,8 +53,7 @@ live_same r u same item tag =
 -- ---- the same operations
 
 pub same_reverse : {X : Type 0} (f : X → ℕ) (xs : List X) → sum_by f (reverse xs) ≡ sum_by f xs
-same_reverse f [] = refl
-same_reverse f (x ∷ xs) = ap (sum_by f) (reverse-append (x ∷ []) xs) ∙ sum_by-append f (reverse xs) (x ∷ []) ∙ omega (arith, same_reverse f xs, sum_by-cons f x xs, sum_by-cons f x [])
+same_reverse f xs = sum_by-IsPermutation f xs (reverse xs) (IsPermutation-reverse xs)
 
 -- of two lists in which operations of one stamp are one
 module _ (P : Operation → Type 0) (one : (a b : Operation) → P a → P b → a.stamp ≡ b.stamp → a ≡ b) (r u : List Operation) (all_r : AllByRecursion P r) (all_u : AllByRecursion P u) (same : SameItems r u) where

@@ -5,7 +5,7 @@ use Rattle.std.specs.List.{AllByRecursion, IsDistinct}
 use Rattle.std.specs.Map.{lookup, keys_of}
 use Rattle.std.proofs.lemmas.Map.Entries.{lookup_from_place}
 use Rattle.mt_stamp.specs.Moment.{Moment, stamp_eq}
-use Rattle.mt_stampmap.proofs.Entries.{stamp_eq_equiv}
+use Rattle.mt_stampmap.proofs.Finding.{stamp_eq_equiv}
 
 module _ {C : Type 0} where
   all_at : (P : Moment × C → Type 0) (es : List (Moment × C)) → ((i : ℕ) (e : Moment × C) → slice_get es i ≡ Some e → P e) → AllByRecursion P es

@@ -1,5 +1,6 @@
 -- When a stamp is new, and what one pass keeps.
 use Rattle.std.proofs.Common.{◌≡◌, Ordering, ℕ, zero, suc, ◌+◌, ◌≤◌, length, drop, map, arith, Bool, true, false, List, [], ◌∷◌, ◌||◌, refl, sym, ap, ◌∙◌, cond, true≢false}
+use Rattle.std.proofs.lemmas.Bool.{false_from_ne_true}
 use Rattle.std.specs.Prelude.{IsTrue, IfOk, Ok, Err}
 use Rattle.std.specs.declared.result.Result.{Result}
 use Rattle.std.specs.List.{AllByRecursion}
@@ -15,7 +16,6 @@ use Rattle.mt_op.specs.Needs.{names_are_older}
 use Rattle.mt_items.specs.Noting.{is_noted, are_needs_met, one_pass, MayFollow}
 use Rattle.std.specs.Cmp.{eq_by_cmp_equiv}
 use Rattle.mt_items.proofs.Marking.{tests_alike}
-use Rattle.mt_items.proofs.Noting.{unmet}
 
 at_is : (k item : Moment) → is_eq (stamp_cmp k item) ≡ stamp_eq item k
 at_is k item = (eq_by_cmp_equiv stamp_cmp_total).symm k item ∙ tests_alike item k
@@ -32,7 +32,7 @@ pub fresh_after : (ops : List Operation) (o : Operation) → AllByRecursion (λ 
 fresh_after [] o below = refl
 fresh_after (x ∷ ops) o below =
     neither (stamp_eq o.stamp x.stamp) (is_noted ops o.stamp)
-    (unmet (stamp_eq o.stamp x.stamp) (λ same. less_is_not_equal (sym below.0 ∙ ap (λ (s : Moment). stamp_cmp s o.stamp) (sym (stamp_eq-true o.stamp x.stamp same)) ∙ tied_itself stamp_cmp_total o.stamp)))
+    (false_from_ne_true (stamp_eq o.stamp x.stamp) (λ same. less_is_not_equal (sym below.0 ∙ ap (λ (s : Moment). stamp_cmp s o.stamp) (sym (stamp_eq-true o.stamp x.stamp same)) ∙ tied_itself stamp_cmp_total o.stamp)))
     (fresh_after ops o below.1)
 
 -- so is one that is not in a set that has each noted one
@@ -40,7 +40,7 @@ pub fresh_outside : (ops s : List Operation) (stamp : Moment) → AllByRecursion
 fresh_outside [] s stamp inside none = refl
 fresh_outside (x ∷ ops) s stamp inside none =
     neither (stamp_eq stamp x.stamp) (is_noted ops stamp)
-    (unmet (stamp_eq stamp x.stamp) (λ same. true≢false (sym inside.0 ∙ ap (is_noted s) (sym (stamp_eq-true stamp x.stamp same)) ∙ none)))
+    (false_from_ne_true (stamp_eq stamp x.stamp) (λ same. true≢false (sym inside.0 ∙ ap (is_noted s) (sym (stamp_eq-true stamp x.stamp same)) ∙ none)))
     (fresh_outside ops s stamp inside.1 none)
 
 -- ---- one pass over operations that rise strictly

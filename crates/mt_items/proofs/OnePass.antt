@@ -1,5 +1,6 @@
 -- One pass by rising stamp notes the ready operations.
 use Rattle.std.proofs.Common.{◌≡◌, Bool, true, false, cond, List, [], ◌∷◌, ◌++◌, ◌&&◌, ◌||◌, refl, sym, ap, ◌∙◌, true≢false}
+use Rattle.std.proofs.lemmas.Bool.{false_from_ne_true}
 use Rattle.std.specs.Prelude.{IsTrue, nat_lt, ◌==◌, reverse}
 use Rattle.std.specs.List.{AllByRecursion, list_any, list_all, filter}
 use Rattle.std.specs.Ordering.{is_lt, ordering_then, nat_cmp}
@@ -19,7 +20,6 @@ use Rattle.mt_op.specs.Ready as rule
 use Rattle.mt_op.specs.Ready.{is_ready, is_met}
 use Rattle.mt_op.proofs.Needs.{and_first, and_second, ready_is_defined}
 use Rattle.mt_items.specs.Noting.{is_need_met, one_pass}
-use Rattle.mt_items.proofs.Noting.{unmet}
 
 -- these operations, noted one after another after others
 abbrev onto : List Operation → List Operation → List Operation
@@ -56,7 +56,7 @@ both_false false b h k = k
 
 -- an operation that is not smaller does not meet an older need
 not_older : (need : Need) (o x : Operation) → nat_lt need.stamp.clock o.stamp.clock ≡ true → is_lt (op_cmp x o) ≡ false → meets need x ≡ false
-not_older need o x older after = unmet (meets need x) (λ m.
+not_older need o x older after = false_from_ne_true (meets need x) (λ m.
     let same : need.stamp ≡ x.stamp = stamp_eq-true need.stamp x.stamp (and_first _ _ m) in
     let less : nat_lt x.stamp.clock o.stamp.clock ≡ true = ap (λ (z : Moment). nat_lt z.clock o.stamp.clock) (sym same) ∙ older in
     true≢false (sym (ap (λ (b : Bool). is_lt (ordering_then (cond b Less (cond (x.stamp.clock == o.stamp.clock) Equal Greater)) (ordering_then (nat_cmp x.stamp.replica.0 o.stamp.replica.0) (nat_cmp x.stamp.seq o.stamp.seq)))) less) ∙ after))

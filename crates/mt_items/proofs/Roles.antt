@@ -1,21 +1,23 @@
 -- Which stamps meet which needs, and what is written and marked of those that do not.
-use Rattle.std.proofs.Common.{◌≡◌, Bool, true, false, cond, List, [], ◌∷◌, ◌&&◌, ◌||◌, map, Option, Some, None, refl, sym, ap, ◌∙◌, true≢false}
-use Rattle.std.specs.List.{list_all, filter}
+use Rattle.std.proofs.Common.{◌≡◌, Bool, true, false, cond, List, [], ◌∷◌, ◌&&◌, ◌||◌, Option, Some, None, refl, sym, ap, ◌∙◌, true≢false}
+use Rattle.std.proofs.lemmas.Bool.{false_from_ne_true}
+use Rattle.std.specs.List.{list_all}
 use Rattle.mt_stamp.specs.Moment.{Moment, stamp_eq}
-use Rattle.mt_stamp.proofs.Order.{stamp_eq-true, stamp_eq-itself}
+use Rattle.mt_stamp.proofs.Order.{stamp_eq-true}
+use Rattle.mt_stampmap.proofs.Finding.{stamp_eq_equiv}
 use Rattle.mt_op.specs.declared.need.Role.{Role}
-use Rattle.mt_op.specs.declared.need.Role.TheVariants.{Track, Clip, Marker, Mixable, Titled, Item, TagOf}
+use Rattle.mt_op.specs.declared.need.Role.TheVariants.{Track, Clip, Marker, Mixable, Titled, Item}
 use Rattle.mt_op.specs.declared.value.Placement.{Placement}
 use Rattle.mt_op.specs.declared.value.TrimRange.{TrimRange}
 use Rattle.mt_op.specs.Operation.{Act, AddTrack, MoveTrack, AddClip, MoveClip, TrimClip, SetGain, SetMute, Remove, Restore, AddMarker, MoveMarker, Retitle, Operation}
 use Rattle.mt_op.specs.Needs.{need_of, needs_of, act_fits, fits, is_tag_of}
-use Rattle.mt_op.specs.Presence.{is_listed, tags, tags_removed}
+use Rattle.mt_op.specs.Presence.{tags_removed}
 use Rattle.mt_op.specs.Writes.{Write, kept, last_write, title_written, gain_written, mute_written, track_place_written, clip_place_written, trim_written, source_written, position_written}
 use Rattle.mt_op.proofs.Needs.{and_first}
 use Rattle.mt_cells.specs.Marks.{unmarked}
 use Rattle.mt_items.specs.Noting.{is_need_met, AreNoted}
 use Rattle.mt_items.specs.Tags.{HoldsTags}
-use Rattle.mt_items.proofs.Noting.{unmet, first_false, rest_false, last_same}
+use Rattle.mt_items.proofs.Noting.{first_false, rest_false, last_same}
 use Rattle.mt_items.proofs.Marking.{same_tags, no_tags}
 
 -- ---- roles that several kinds of item fill
@@ -72,28 +74,7 @@ either_first whole first second answer tells holds is = holds ∙ sym (is ∙ ap
 pub either_second : (whole first second answer other : Bool) → answer ≡ first → answer ≡ false → other ≡ second → whole ≡ (first || second) → other ≡ whole
 either_second whole first second answer other tells fails also is = also ∙ sym (is ∙ ap (λ (b : Bool). b || second) (sym tells ∙ fails))
 
--- a need of a tag of an item is met by one of its tags
-pub tag_is : (item stamp : Moment) (ops : List Operation) → is_need_met ops (need_of (TagOf item) stamp) ≡ is_listed (tags item ops) stamp
-tag_is item stamp [] = refl
-tag_is item stamp (o ∷ ops) = by (is_tag_of item o.stamp o.act) (stamp_eq stamp o.stamp) (tag_is item stamp ops)
-  where
-    by : (b s : Bool) → is_need_met ops (need_of (TagOf item) stamp) ≡ is_listed (tags item ops) stamp
-        → ((stamp_eq stamp o.stamp && b) || is_need_met ops (need_of (TagOf item) stamp)) ≡ is_listed (map (λ (x : Operation). x.stamp) (cond b (o ∷ filter (λ x. is_tag_of item x.stamp x.act) ops) (filter (λ x. is_tag_of item x.stamp x.act) ops))) stamp
-    by true s rest = λ i. and_true (stamp_eq stamp o.stamp) i || rest i
-      where
-        and_true : (a : Bool) → (a && true) ≡ a
-        and_true true = refl
-        and_true false = refl
-    by false s rest = ap (λ (a : Bool). a || is_need_met ops (need_of (TagOf item) stamp)) (and_false (stamp_eq stamp o.stamp)) ∙ rest
-      where
-        and_false : (a : Bool) → (a && false) ≡ false
-        and_false true = refl
-        and_false false = refl
-
 -- ---- what is no item of a kind
-
-turned : (a b : Moment) → stamp_eq a b ≡ false → stamp_eq b a ≡ false
-turned a b e = unmet (stamp_eq b a) (λ same. true≢false (sym (ap (stamp_eq a) (stamp_eq-true b a same) ∙ stamp_eq-itself a) ∙ e))
 
 and_true_false : (a : Bool) → (a && true) ≡ false → a ≡ false
 and_true_false true e = e
@@ -102,7 +83,7 @@ and_true_false false e = refl
 -- what an operation needs as an item of a kind is none that is not there
 not_needed : (kind : Role) (ops : List Operation) (item i : Moment) (rest : Bool) → is_need_met ops (need_of kind item) ≡ false → (is_need_met ops (need_of kind i) && rest) ≡ true → stamp_eq i item ≡ false
 not_needed kind ops item i rest none met =
-    unmet (stamp_eq i item) (λ same. true≢false (sym (and_first _ _ met) ∙ ap (λ (z : Moment). is_need_met ops (need_of kind z)) (stamp_eq-true i item same) ∙ none))
+    false_from_ne_true (stamp_eq i item) (λ same. true≢false (sym (and_first _ _ met) ∙ ap (λ (z : Moment). is_need_met ops (need_of kind z)) (stamp_eq-true i item same) ∙ none))
 
 -- what is no item has no tag
 pub nothing_marked : (ops : List Operation) (item : Moment) → AreNoted ops → is_need_met ops (need_of Item item) ≡ false → HoldsTags item ops unmarked
@@ -113,9 +94,9 @@ nothing_marked (o ∷ ops) item noted none =
     same_tags item o ops unmarked untouched.0 untouched.1 (nothing_marked ops item noted.1 before)
   where
     by : is_need_met ops (need_of Item item) ≡ false → (act : Act) → list_all (is_need_met ops) (needs_of act) ≡ true → (stamp_eq item o.stamp && act_fits Item o.stamp act) ≡ false → (is_tag_of item o.stamp act ≡ false) × (tags_removed item act ≡ [])
-    by before (AddTrack after title) met here = (turned item o.stamp (and_true_false _ here), refl)
-    by before (AddClip source track at offset len) met here = (turned item o.stamp (and_true_false _ here), refl)
-    by before (AddMarker at title) met here = (turned item o.stamp (and_true_false _ here), refl)
+    by before (AddTrack after title) met here = (stamp_eq_equiv.symm o.stamp item ∙ and_true_false _ here, refl)
+    by before (AddClip source track at offset len) met here = (stamp_eq_equiv.symm o.stamp item ∙ and_true_false _ here, refl)
+    by before (AddMarker at title) met here = (stamp_eq_equiv.symm o.stamp item ∙ and_true_false _ here, refl)
     by before (Restore i) met here = (not_needed Item ops item i _ before met, refl)
     by before (Remove i listed) met here = (refl, ap (λ (b : Bool). cond b listed []) (not_needed Item ops item i _ before met))
     by before _ met here = (refl, refl)
@@ -138,7 +119,7 @@ other_item : {X : Type 0} (item i own : Moment) (value : X) (field : Moment → 
 other_item item i own value field e = ap (λ (b : Bool). cond b (Some (record { writer = own; value = value })) None) e
 
 own_item : {X : Type 0} (item own : Moment) (value : X) (field : Moment → Act → Option (Write X)) → (stamp_eq item own && true) ≡ false → kept field item own (Some (record { item = own; value = value })) ≡ None
-own_item item own value field e = other_item item own own value field (turned item own (and_true_false _ e))
+own_item item own value field e = other_item item own own value field (stamp_eq_equiv.symm own item ∙ and_true_false _ e)
 
 pub positions : OfKind Marker position_written
 positions ops item own (AddMarker at title) met here before = own_item item own at position_written here

@@ -25,6 +25,7 @@ use crate::listing::stamps_of;
 use crate::marker::note as note_marker;
 use crate::marks::ItemMarks;
 use crate::place::note as note_place;
+use crate::room::{Room, room_for};
 use crate::track::note as note_track;
 use mt_cells::Register;
 use mt_op::{Digest, Gain, Need, Op, Placement, Role, Title, TrimRange};
@@ -65,21 +66,42 @@ impl<A: Allocator> Model for Items<A> {
 }
 
 impl<A: Allocator> Items<A> {
-    /// Nothing noted. Refused only as `Memory` (0), where the allocator could not be cloned.
-    pub fn new(alloc: A) -> Result<Self, ItemsFault>
+    // Nothing noted, with memory for so many items.
+    fn with_room(alloc: A, room: Room) -> Result<Self, ItemsFault>
     where
         A: Clone,
         ensures ok { IfOk result (λ items. items ≡ []) }
         ensures err { IfErr result (λ fault. fault ≡ ItemsFault.Memory) }
     {
         Ok(Items {
-            tracks: StampMap::new(alloc.clone()?)?,
-            clips: StampMap::new(alloc.clone()?)?,
-            markers: StampMap::new(alloc.clone()?)?,
-            places: StampMap::new(alloc.clone()?)?,
+            tracks: StampMap::with_capacity(alloc.clone()?, room.tracks)?,
+            clips: StampMap::with_capacity(alloc.clone()?, room.clips)?,
+            markers: StampMap::with_capacity(alloc.clone()?, room.markers)?,
+            places: StampMap::with_capacity(alloc.clone()?, room.places)?,
             alloc,
             noted: History::new(),
         })
+    }
+
+    /// Nothing noted. Refused only as `Memory` (0), where a growth was refused.
+    pub fn new(alloc: A) -> Result<Self, ItemsFault>
+    where
+        A: Clone,
+        ensures ok { IfOk result (λ items. items ≡ []) }
+        ensures err { IfErr result (λ fault. fault ≡ ItemsFault.Memory) }
+    {
+        Items::with_room(alloc, Room::NONE)
+    }
+
+    /// Nothing noted, with memory for the items that these operations add: while they are noted, no item moves. That memory is less
+    /// than 350 bytes for each of them, and what is not used of it is not touched. Refused only as `Memory` (0), where a growth was refused.
+    pub fn with_room_for(alloc: A, ops: &[&Op<A>]) -> Result<Self, ItemsFault>
+    where
+        A: Clone,
+        ensures ok { IfOk result (λ items. items ≡ []) }
+        ensures err { IfErr result (λ fault. fault ≡ ItemsFault.Memory) }
+    {
+        Items::with_room(alloc, room_for(ops))
     }
 
     /// Notes an operation of a new stamp whose needs are met by noted ones. `are_needs_met` tells the latter;

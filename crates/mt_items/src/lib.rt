@@ -51,6 +51,7 @@ mod marker;
 mod marks;
 mod place;
 mod ready;
+mod room;
 mod track;
 
 pub use cells::{ClipCells, MarkerCells, TrackCells};

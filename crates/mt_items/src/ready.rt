@@ -20,7 +20,7 @@ fn pass<A: Allocator + Clone>(alloc: A, ops: &[&Op<A>]) -> Result<Items<A>, Item
     ensures older { IfOk result (λ items. AllByRecursion (λ o. IsTrue (names_are_older o)) (map (λ o. o.now) ops.now)) }
     ensures err { IfErr result (λ fault. fault ≡ ItemsFault.Memory) }
 {
-    let mut items = Items::new(alloc)?;
+    let mut items = Items::with_room_for(alloc, ops)?;
     for op in ops {
         let _ = op.stamp();
         if items.are_needs_met(op) {

@@ -6,7 +6,7 @@ use Rattle.std.specs.Ordering.{match_ordering}
 use Rattle.std.specs.declared.cmp.Ordering.{Ordering}
 use Rattle.std.specs.declared.cmp.Ordering.TheVariants.{Less, Equal, Greater}
 use Rattle.std.proofs.lemmas.Grind.{common_steps}
-use Rattle.std.proofs.lemmas.Bool.{eqb-true, false≢true}
+use Rattle.std.proofs.lemmas.Bool.{eqb-true, false≢true, false_from_ne_true}
 use Rattle.std.proofs.lemmas.Option.{same_Some, none-some}
 use Rattle.mt_stamp.specs.Moment.{Moment, stamp_eq}
 use Rattle.mt_stamp.specs.Sorting.{DifferBy, insert_by}
@@ -18,7 +18,6 @@ use Rattle.mt_op.specs.Needs.{need_of, adds_track}
 use Rattle.mt_op.specs.Operation.{Operation}
 use Rattle.mt_op.proofs.Needs.{and_first, and_second}
 use Rattle.mt_items.specs.Noting.{AreNoted, is_need_met}
-use Rattle.mt_items.proofs.Noting.{unmet}
 use Rattle.mt_sessionview.specs.Content.{Clip, Track, clip_cmp}
 use Rattle.mt_sessionview.specs.Noted.{is_shown_in, clips_in, track_in, tracks_in}
 use Rattle.mt_sessionview.specs.Read.{if_on, clip_read, clip_on}
@@ -69,7 +68,7 @@ module _ {X : Type 0} (key : X → Moment) (f : X → X) (stamp : Moment) where
 
   none_changed : (xs : List X) → AllByRecursion (λ x. stamp ≢ key x) xs → map changed xs ≡ xs
   none_changed [] all = refl
-  none_changed (x ∷ xs) all = λ i. cond (unmet (stamp_eq stamp (key x)) (λ same. all.0 (stamp_eq-true stamp (key x) same)) i) (f x) x ∷ none_changed xs all.1 i
+  none_changed (x ∷ xs) all = λ i. cond (false_from_ne_true (stamp_eq stamp (key x)) (λ same. all.0 (stamp_eq-true stamp (key x) same)) i) (f x) x ∷ none_changed xs all.1 i
 
   -- where no two have one stamp, all that pass are the first
   pub changed_there : (xs : List X) → DifferBy key xs → changed_at (position_or_len (λ x. stamp_eq stamp (key x)) xs) f xs ≡ map changed xs
@@ -112,7 +111,7 @@ inserted_apart cmp key x (y ∷ ys) differ = by (cmp x y) differ (inserted_apart
 
 none_placed : (place : Moment) (cs : List Clip) → AllByRecursion (λ (c : Clip). place ≢ c.place) cs → list_any (is_placed_by place) cs ≡ false
 none_placed place [] all = refl
-none_placed place (c ∷ cs) all = λ i. unmet (stamp_eq place c.place) (λ same. all.0 (stamp_eq-true place c.place same)) i || none_placed place cs all.1 i
+none_placed place (c ∷ cs) all = λ i. false_from_ne_true (stamp_eq place c.place) (λ same. all.0 (stamp_eq-true place c.place same)) i || none_placed place cs all.1 i
 
 -- ---- tracks, one by one
 

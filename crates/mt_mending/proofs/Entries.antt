@@ -1,5 +1,6 @@
 -- An entry is what operations give of its stamp.
 use Rattle.std.proofs.Common.{◌≡◌, Bool, true, false, cond, not, List, [], ◌∷◌, Option, Some, None, map, refl, sym, ap, ◌∙◌, subst, true≢false}
+use Rattle.std.proofs.lemmas.Bool.{false_from_ne_true}
 use Rattle.std.specs.Prelude.{◌↔◌}
 use Rattle.std.specs.List.{AllByRecursion, filter}
 use Rattle.std.proofs.lemmas.Option.{same_Some, none-some}
@@ -12,7 +13,6 @@ use Rattle.mt_op.specs.Operation.{Operation}
 use Rattle.mt_op.specs.Needs.{need_of, meets}
 use Rattle.mt_op.proofs.Needs.{and_first}
 use Rattle.mt_items.specs.Noting.{is_need_met}
-use Rattle.mt_items.proofs.Noting.{unmet}
 use Rattle.mt_sessionview.specs.Changing.{without}
 use Rattle.mt_sessionview.proofs.Items.{stamp_eq_same}
 use Rattle.mt_sessionview.proofs.Lists.{any_member, all_members, all_also, member_all}
@@ -78,11 +78,11 @@ module _ {Y : Type 0} {r : List Operation} {key : Y → Moment} {entry : Moment 
             where
               by : (b : Bool) → at x ≡ b → stamp_eq item (key x) ≡ b
               by true passes = stamp_eq_same item (key x) (sym (only x of_x passes))
-              by false fails = unmet (stamp_eq item (key x)) (λ same.
+              by false fails = false_from_ne_true (stamp_eq item (key x)) (λ same.
                   let one : c ≡ x = same_Some c x (sym entry_is ∙ ap entry (stamp_eq-true item (key x) same) ∙ tells x of_x) in
                   true≢false (sym here ∙ ap at one ∙ fails))
 
       pub missing : entry item ≡ None → without key item xs ≡ xs
       missing no_entry =
           filter_all (λ x. not (stamp_eq item (key x))) xs
-          (all_also Is (λ x. not (stamp_eq item (key x)) ≡ true) (λ x of_x. ap not (unmet (stamp_eq item (key x)) (λ same. none-some x (sym no_entry ∙ ap entry (stamp_eq-true item (key x) same) ∙ tells x of_x)))) xs all)
+          (all_also Is (λ x. not (stamp_eq item (key x)) ≡ true) (λ x of_x. ap not (false_from_ne_true (stamp_eq item (key x)) (λ same. none-some x (sym no_entry ∙ ap entry (stamp_eq-true item (key x) same) ∙ tells x of_x)))) xs all)

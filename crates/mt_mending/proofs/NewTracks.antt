@@ -1,5 +1,6 @@
 -- What was not added has no clips.
 use Rattle.std.proofs.Common.{◌≡◌, Bool, true, false, cond, List, [], ◌∷◌, map, Some, sym, ap, ◌∙◌, subst, inl, inr, true≢false}
+use Rattle.std.proofs.lemmas.Bool.{false_from_ne_true}
 use Rattle.std.specs.Prelude.{unwrap_or, Option}
 use Rattle.std.specs.List.{AllByRecursion, filter}
 use Rattle.std.proofs.lemmas.Option.{same_Some, none-some}
@@ -17,7 +18,7 @@ use Rattle.mt_op.specs.Writes.{Write, clip_place_written}
 use Rattle.mt_op.proofs.Needs.{and_first, and_second}
 use Rattle.mt_op.proofs.WriteOf.{is_write_of}
 use Rattle.mt_items.specs.Noting.{AreNoted, is_need_met}
-use Rattle.mt_items.proofs.Noting.{unmet, either_true, first_false}
+use Rattle.mt_items.proofs.Noting.{either_true, first_false}
 use Rattle.mt_items.proofs.Roles.{mixable_is, item_apart}
 use Rattle.mt_sessionview.specs.Content.{clip_cmp}
 use Rattle.mt_sessionview.specs.Noted.{is_shown_in, clip_place_in, clip_in, is_clip_on_in, clips_in}
@@ -63,4 +64,4 @@ module _ (r : List Operation) (noted : AreNoted r) (track : Moment) where
       let no_mixable = first_false (is_need_met r (need_of MixableRole track)) (is_need_met r (need_of MarkerRole track)) (sym (item_apart r track) ∙ none) in
       let no_track = first_false (is_need_met r (need_of TrackRole track)) (is_need_met r (need_of ClipRole track)) (sym (mixable_is r track) ∙ no_mixable) in
       ap (λ (l : List Operation). sort_by clip_cmp (map (clip_in r) l))
-      (none_stay (is_clip_on_in r track) r (all_members (λ o. is_clip_on_in r track o ≡ false) r (λ o m. unmet (is_clip_on_in r track o) (λ on. true≢false (sym (added o m on) ∙ no_track)))))
+      (none_stay (is_clip_on_in r track) r (all_members (λ o. is_clip_on_in r track o ≡ false) r (λ o m. false_from_ne_true (is_clip_on_in r track o) (λ on. true≢false (sym (added o m on) ∙ no_track)))))

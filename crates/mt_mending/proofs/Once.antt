@@ -1,5 +1,6 @@
 -- Entries of which no two have one stamp, taken out by their index.
 use Rattle.std.proofs.Common.{◌≡◌, ◌≢◌, ℕ, zero, suc, Bool, true, cond, not, List, [], ◌∷◌, Some, map, sym, ap, ◌∙◌}
+use Rattle.std.proofs.lemmas.Bool.{false_from_ne_true}
 use Rattle.std.specs.Prelude.{slice_get}
 use Rattle.std.specs.List.{filter, remove}
 use Rattle.std.proofs.lemmas.Option.{same_Some, none-some}
@@ -12,7 +13,6 @@ use Rattle.mt_op.specs.ByStamp.{stamp_of}
 use Rattle.mt_op.specs.Operation.{Operation}
 use Rattle.mt_op.specs.Needs.{adds_marker}
 use Rattle.mt_items.specs.Noting.{AreNoted}
-use Rattle.mt_items.proofs.Noting.{unmet}
 use Rattle.mt_sessionview.specs.Content.{Clip, Track, Marker, clip_cmp, marker_cmp}
 use Rattle.mt_sessionview.specs.Noted.{is_shown_in, shown_in, marker_in, markers_in, clip_in, is_clip_on_in, clips_in, tracks_in}
 use Rattle.mt_sessionview.specs.Changing.{without}
@@ -30,10 +30,10 @@ taken_out {X} key (y ∷ xs) differ zero x at =
     let same : y ≡ x = same_Some y x at in
     ap (λ (b : Bool). cond (not b) (y ∷ without key (key x) xs) (without key (key x) xs)) (stamp_eq_same (key x) (key y) (ap key (sym same)))
     ∙ filter_all (λ z. not (stamp_eq (key x) (key z))) xs
-    (all_also (λ z. key y ≢ key z) (λ z. not (stamp_eq (key x) (key z)) ≡ true) (λ z other. ap not (unmet (stamp_eq (key x) (key z)) (λ one. other (ap key same ∙ stamp_eq-true (key x) (key z) one)))) xs differ.0)
+    (all_also (λ z. key y ≢ key z) (λ z. not (stamp_eq (key x) (key z)) ≡ true) (λ z other. ap not (false_from_ne_true (stamp_eq (key x) (key z)) (λ one. other (ap key same ∙ stamp_eq-true (key x) (key z) one)))) xs differ.0)
 taken_out {X} key (y ∷ xs) differ (suc k) x at =
     ap (λ (b : Bool). cond (not b) (y ∷ without key (key x) xs) (without key (key x) xs))
-    (unmet (stamp_eq (key x) (key y)) (λ one. member_all (λ z. key y ≢ key z) xs x differ.0 (member_at xs k x at) (sym (stamp_eq-true (key x) (key y) one))))
+    (false_from_ne_true (stamp_eq (key x) (key y)) (λ one. member_all (λ z. key y ≢ key z) xs x differ.0 (member_at xs k x at) (sym (stamp_eq-true (key x) (key y) one))))
     ∙ ap (λ (l : List X). y ∷ l) (taken_out key xs differ.1 k x at)
 
 module _ (ops : List Operation) (noted : AreNoted ops) where

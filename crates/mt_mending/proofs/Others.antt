@@ -1,5 +1,6 @@
 -- What an operation leaves of the items that it is not about, and which operation its own item is.
 use Rattle.std.proofs.Common.{◌≡◌, Bool, true, false, cond, ◌&&◌, ◌||◌, List, [], ◌∷◌, ◌++◌, Option, ◌⊎◌, map, refl, sym, ap, ◌∙◌, inl, inr, true≢false}
+use Rattle.std.proofs.lemmas.Bool.{false_from_ne_true}
 use Rattle.std.specs.Prelude.{option_map, unwrap_or}
 use Rattle.std.specs.List.{filter, list_any}
 use Rattle.mt_stamp.specs.Moment.{Moment, stamp_eq}
@@ -16,7 +17,7 @@ use Rattle.mt_op.specs.Presence.{is_listed, is_any, tags, removed_tags, is_prese
 use Rattle.mt_op.specs.Writes.{Write, title_in, gain_in, mute_in, track_place_in as track_place_value, clip_place_in as clip_place_value, trim_in, source_in, position_in, title_written, gain_written, mute_written, track_place_written, clip_place_written, trim_written, source_written, position_written, last_write}
 use Rattle.mt_op.proofs.Needs.{and_first, and_second}
 use Rattle.mt_items.specs.Noting.{AreNoted, is_noted, is_need_met, subject}
-use Rattle.mt_items.proofs.Noting.{unmet, either_true, subject_noted, AtSubject, at_subject, last_same, other_write}
+use Rattle.mt_items.proofs.Noting.{either_true, subject_noted, AtSubject, at_subject, last_same, other_write}
 use Rattle.mt_items.proofs.Marking.{other_tag}
 use Rattle.mt_sessionview.specs.Noted.{value_in, is_shown_in, marker_in, clip_place_in, clip_in, is_clip_on_in, track_place_in}
 use Rattle.mt_sessionview.proofs.Items.{stamp_eq_same}
@@ -34,7 +35,7 @@ met_is ops noted kind x m = by (fits kind x) refl
   where
     by : (b : Bool) → fits kind x ≡ b → is_need_met ops (need_of kind x.stamp) ≡ b
     by true is = any_of (meets (need_of kind x.stamp)) ops x m ((λ i. stamp_eq_same x.stamp x.stamp refl i && fits kind x) ∙ is)
-    by false is = unmet (is_need_met ops (need_of kind x.stamp)) (λ met.
+    by false is = false_from_ne_true (is_need_met ops (need_of kind x.stamp)) (λ met.
         let found = any_member (meets (need_of kind x.stamp)) ops met in
         let one : found.item ≡ x = one_op ops noted found.item x found.member m (sym (stamp_eq-true x.stamp found.item.stamp (and_first _ _ found.passes))) in
         true≢false (sym (and_second (stamp_eq x.stamp found.item.stamp) (fits kind found.item) found.passes) ∙ ap (fits kind) one ∙ is))
@@ -56,7 +57,7 @@ module _ (o : Operation) (r : List Operation) (noted : AreNoted (o ∷ r)) where
 
   -- what adds an item is about it: any other operation adds none
   pub adds_none : (adds : Act → Bool) → ((own : Moment) (act : Act) → adds act ≡ true → subject own act ≡ own) → stamp_eq item o.stamp ≡ false → adds o.act ≡ false
-  adds_none adds own other = unmet (adds o.act) (λ is. not_item o.stamp other (own o.stamp o.act is))
+  adds_none adds own other = false_from_ne_true (adds o.act) (λ is. not_item o.stamp other (own o.stamp o.act is))
 
   module _ (x : Moment) (other : stamp_eq item x ≡ false) where
     pub write_same : {X : Type 0} (field : Moment → Act → Option (Write X)) → AtSubject field → last_write field x (o ∷ r) ≡ last_write field x r

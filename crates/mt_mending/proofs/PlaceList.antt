@@ -6,7 +6,7 @@ use Rattle.std.specs.List.Sorted.{IsStrictlySortedBy}
 use Rattle.std.specs.Cmp.{IsTotalOrder}
 use Rattle.std.specs.declared.cmp.Ordering.{Ordering}
 use Rattle.std.specs.declared.cmp.Ordering.TheVariants.{Less}
-use Rattle.std.proofs.lemmas.Bool.{ltb-true}
+use Rattle.std.proofs.lemmas.Bool.{ltb-true, false_from_ne_true}
 use Rattle.std.proofs.lemmas.List.Sums.{sum_by-cons}
 use Rattle.mt_stamp.specs.Moment.{Moment, stamp_cmp, stamp_eq}
 use Rattle.mt_stamp.specs.Sorting.{RisesStrictly}
@@ -24,7 +24,6 @@ use Rattle.mt_op.specs.Operation.{Operation}
 use Rattle.mt_op.specs.Needs.{needs}
 use Rattle.mt_op.specs.Valid.{IsOperation}
 use Rattle.mt_items.specs.Noting.{AreNoted}
-use Rattle.mt_items.proofs.Noting.{unmet}
 use Rattle.mt_sessionview.specs.Session.{place_added}
 use Rattle.mt_sessionview.specs.Noted.{places_in}
 use Rattle.mt_sessionview.proofs.Items.{stamp_eq_same}
@@ -57,7 +56,7 @@ module _ (list : List Placed) (ops : List Operation) (has : ArePlacesOf list ops
   has_there p there = same_places p ∙ any_of (has_stamp p) (places_in ops) there.0 there.1 (stamp_eq_same there.0.place p there.2)
 
   pub has_none : (p : Moment) → (IsThere (places_in ops) p → ⊥) → has_place list p ≡ false
-  has_none p none = unmet (has_place list p) (λ is.
+  has_none p none = false_from_ne_true (has_place list p) (λ is.
       let found = any_member (has_stamp p) (places_in ops) (sym (same_places p) ∙ is) in
       none (found.item, found.member, stamp_eq-true found.item.place p found.passes))
 

@@ -1,5 +1,6 @@
 -- A new place leaves the order of the others.
 use Rattle.std.proofs.Common.{◌≡◌, ℕ, zero, suc, ◌≤◌, Bool, true, false, cond, List, [], ◌∷◌, ◌++◌, length, Option, Some, None, refl, sym, ap, ◌∙◌, inr, true≢false, arith}
+use Rattle.std.proofs.lemmas.Bool.{false_from_ne_true}
 use Rattle.std.specs.List.{cons_option}
 use Rattle.std.proofs.lemmas.Option.{none-some}
 use Rattle.mt_stamp.specs.Moment.{Moment, stamp_eq}
@@ -12,7 +13,6 @@ use Rattle.mt_op.specs.Operation.{Operation}
 use Rattle.mt_op.specs.Needs.{need_of, needs, meets, fits}
 use Rattle.mt_op.proofs.Needs.{and_first, and_second}
 use Rattle.mt_items.specs.Noting.{AreNoted, is_noted, is_need_met}
-use Rattle.mt_items.proofs.Noting.{unmet}
 use Rattle.mt_sessionview.specs.Session.{place_added}
 use Rattle.mt_sessionview.specs.Noted.{places_in}
 use Rattle.mt_sessionview.specs.Read.{tree_place}
@@ -45,7 +45,7 @@ after_there (t ∷ places) grew p q is = by (stamp_eq t.place p) is (after_there
 module _ (t : TreePlace) (places : List TreePlace) (grew : Grew (t ∷ places)) where
   -- what is there is another place
   not_new : (q : Moment) → IsThere places q → stamp_eq t.place q ≡ false
-  not_new q there = unmet (stamp_eq t.place q) (λ same. grew.0 (there.0, there.1, there.2 ∙ sym (stamp_eq-true t.place q same)))
+  not_new q there = false_from_ne_true (stamp_eq t.place q) (λ same. grew.0 (there.0, there.1, there.2 ∙ sym (stamp_eq-true t.place q same)))
 
   after_same : (p : Moment) → stamp_eq t.place p ≡ false → after_of (t ∷ places) p ≡ after_of places p
   after_same p other = ap (λ (b : Bool). cond b t.after (after_of places p)) other
@@ -118,7 +118,7 @@ order_same o r noted a b a_noted b_noted = by (place_added o) refl (grew_in (o �
   where
     other : (t : TreePlace) → place_added o ≡ Some t → (p : Moment) → is_noted r p ≡ true → stamp_eq t.place p ≡ false
     other t is p there =
-        unmet (stamp_eq t.place p) (λ same.
+        false_from_ne_true (stamp_eq t.place p) (λ same.
         true≢false (sym there ∙ ap (is_noted r) (sym (stamp_eq-true t.place p same) ∙ ap (λ (u : TreePlace). u.place) (gives o t is).1) ∙ noted.0.fresh))
 
     by : (e : Option TreePlace) → place_added o ≡ e → Grew (cons_option e (places_in r)) → tree_cmp (cons_option e (places_in r)) a b ≡ tree_cmp (places_in r) a b

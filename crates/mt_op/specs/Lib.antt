@@ -1,4 +1,5 @@
 pub mod Title
+pub mod TitleText
 pub mod Gain
 pub mod Operation
 pub mod Bodies

@@ -35,6 +35,7 @@ mod need;
 mod op;
 mod tags;
 mod title;
+mod title_text;
 mod value;
 
 pub use body::Body;

@@ -94,7 +94,9 @@ fn is_title_of<M: Allocator + Copy>(
 }
 
 /// What the titles of a character so many times are answered as.
-const LENGTHS: [(char, usize, Result<bool, OpFault>); 3] = [
+const LENGTHS: [(char, usize, Result<bool, OpFault>); 5] = [
+    ('a', 16, Ok(true)),
+    ('a', 17, Ok(true)),
     ('a', 255, Ok(true)),
     ('a', 256, Err(OpFault::BadTitle)),
     ('é', 128, Err(OpFault::BadTitle)),
@@ -110,6 +112,22 @@ fn makes_titles_of_at_most_255_bytes(rt: HostRuntime) {
             "{count}"
         );
     }
+}
+
+// Whether a text is a title, and a copy of it is the same, where each growth is refused.
+fn is_title_without_memory(alloc: Global, text: &str) -> Result<bool, OpFault> {
+    let memory = Refusing::new(alloc, 0);
+    is_title(&memory, text)
+}
+
+#[test]
+fn makes_titles_of_at_most_16_bytes_without_memory(rt: HostRuntime) {
+    assert_eq!(rt;
+        is_title_without_memory(rt.alloc(), "Nachrichten, neu"),
+        Ok(true)
+    );
+    let longer = is_title_without_memory(rt.alloc(), "Nachrichten, neun");
+    assert_eq!(rt; longer, Err(OpFault::Memory));
 }
 
 // Whether the first title is less than the second, and no other relation is told.
@@ -133,7 +151,9 @@ fn rise<M: Allocator + Copy>(memory: M, low: &str, high: &str) -> Result<bool, O
 }
 
 /// Titles that are less than others.
-const RISING: [(&str, &str); 5] = [
+const RISING: [(&str, &str); 7] = [
+    ("News at nine", "News at nine o'clock"),
+    ("Music at nine o'clock", "News"),
     ("", "a"),
     ("News", "news"),
     ("b", "ba"),
@@ -338,7 +358,7 @@ fn clones_a_marker<M: Allocator + Clone>(
 // What that is answered as where the growth number `at` is refused.
 fn cloned_marker(alloc: Global, at: u64, stamp: Stamp) -> Result<bool, OpFault> {
     let memory = Refusing::new(alloc, at);
-    clones_a_marker(&memory, stamp, "News at nine")
+    clones_a_marker(&memory, stamp, "News at nine o'clock")
 }
 
 #[test]

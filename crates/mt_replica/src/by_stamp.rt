@@ -58,7 +58,7 @@ fn all_taken<A: Allocator + Clone>(
     ensures err { IfErr result (λ fault. fault ≡ EditorFault.Memory) }
 {
     let mut waiting = HoldBack::new(alloc.clone()?);
-    let Ok(mut items) = Items::new(alloc.clone()?) else {
+    let Ok(mut items) = Items::with_room_for(alloc.clone()?, ops) else {
         return Err(EditorFault::Memory);
     };
     for op in ops {

@@ -1,9 +1,10 @@
 -- Members of lists, and what lists give.
-use Rattle.std.proofs.Common.{◌≡◌, ◌≢◌, ℕ, zero, suc, ◌≤◌, Bool, true, false, cond, List, [], ◌∷◌, ◌++◌, ◌||◌, length, drop, Option, Some, None, map, refl, sym, ap, ◌∙◌, subst, arith, inl, inr, true≢false}
+use Rattle.std.proofs.Common.{◌≡◌, ◌≢◌, ℕ, zero, suc, ◌+◌, ◌<◌, ◌≤◌, Bool, true, false, cond, List, [], ◌∷◌, ◌++◌, ◌||◌, length, get_or, take, drop, Option, Some, None, map, refl, sym, ap, ◌∙◌, subst, arith, inl, inr, true≢false}
 use Rattle.std.specs.List.{AllByRecursion, filter, filter_map, cons_option, list_any, list_all}
 use Rattle.std.specs.declared.cmp.Ordering.{Ordering}
 use Rattle.std.specs.declared.cmp.Ordering.TheVariants.{Less}
-use Rattle.std.proofs.lemmas.List.{append_assoc, append-nil}
+use Rattle.std.proofs.lemmas.List.{append_assoc, append-nil, map-append, take_more}
+use Rattle.std.proofs.lemmas.List.Elements.{All-from_recursion, filter_map-append}
 use Rattle.mt_stamp.specs.Sorting.{DifferBy, RisesStrictly}
 use Rattle.mt_stamp.proofs.Differing.{all_kept}
 use Rattle.mt_stamp.proofs.Members.{IsMember}
@@ -139,30 +140,23 @@ rises_unmapped {X} cmp f (x ∷ xs) rises = (each xs rises.0, rises_unmapped cmp
     each [] all = tt
     each (y ∷ ys) all = (all.0, each ys all.1)
 
--- a step of a loop that makes a list: what is made, and what is left to make, are the whole
-pub more_made : {Y : Type 0} (made grown new before rest whole : List Y) → made ++ before ≡ whole → before ≡ new ++ rest → grown ≡ made ++ new → grown ++ rest ≡ whole
-more_made {Y} made grown new before rest whole so_far split is =
-    ap (λ (l : List Y). l ++ rest) is ∙ append_assoc made new rest ∙ ap (λ (l : List Y). made ++ l) (sym split) ∙ so_far
+pub item_of : {X : Type 0} (P : X → Type 0) (xs : List X) (i : ℕ) (x : X) → i < length xs → x ≡ get_or xs i x → AllByRecursion P xs → P x
+item_of P xs i x inside is all = subst P (sym is) (All-from_recursion P xs all i x inside)
 
--- the same of a loop that keeps what passes, at an element that does
-pub one_kept : {Y : Type 0} (p : Y → Bool) (made grown before rest whole : List Y) (y : Y) → made ++ filter p before ≡ whole → before ≡ y ∷ rest → p y ≡ true → grown ≡ made ++ y ∷ [] → grown ++ filter p rest ≡ whole
-one_kept {Y} p made grown before rest whole y so_far split passes =
-    more_made made grown (y ∷ []) (filter p before) (filter p rest) whole so_far (ap (filter p) split ∙ ap (λ (b : Bool). cond b (y ∷ filter p rest) (filter p rest)) passes)
+-- a step of a loop that reads items: what is read of one more, where it gives something, and where it gives nothing
+module _ {X Y Z : Type 0} (f : Y → Option Z) (v : X → Y) (xs : List X) (i : ℕ) (x : X) (made : List Z) (inside : i < length xs) (is : x ≡ get_or xs i x) (so_far : made ≡ filter_map f (map v (take i xs))) where
+  more_read : filter_map f (map v (take (i + 1) xs)) ≡ made ++ cons_option (f (v x)) []
+  more_read = rw (take_more xs i x inside, ← is, map-append, filter_map-append, ← so_far) refl
 
--- and at one that does not
-pub none_kept : {Y : Type 0} (p : Y → Bool) (made before rest whole : List Y) (y : Y) → made ++ filter p before ≡ whole → before ≡ y ∷ rest → p y ≡ false → made ++ filter p rest ≡ whole
-none_kept {Y} p made before rest whole y so_far split fails =
-    ap (λ (l : List Y). made ++ l) (sym (ap (filter p) split ∙ ap (λ (b : Bool). cond b (y ∷ filter p rest) (filter p rest)) fails)) ∙ so_far
+  pub one_read : (found : Z) (grown : List Z) → f (v x) ≡ Some found → grown ≡ made ++ found ∷ [] → grown ≡ filter_map f (map v (take (i + 1) xs))
+  one_read found grown gives grown_is = grown_is ∙ sym (more_read ∙ ap (λ (o : Option Z). made ++ cons_option o []) gives)
 
--- nothing is left
-pub all_made : {X Y : Type 0} (F : List X → List Y) (xs : List X) (n : ℕ) (made whole : List Y) → F [] ≡ [] → length xs ≤ n → made ++ F (drop n xs) ≡ whole → made ≡ whole
-all_made {X} {Y} F xs n made whole none past so_far = sym (append-nil made) ∙ ap (λ (l : List Y). made ++ l) (sym (ap F (drop_all xs n past) ∙ none)) ∙ so_far
-  where
-    drop_all : (ys : List X) (k : ℕ) → length ys ≤ k → drop k ys ≡ []
-    drop_all [] zero le = refl
-    drop_all [] (suc k) le = refl
-    drop_all (y ∷ ys) zero le = absurd (omega (arith, le))
-    drop_all (y ∷ ys) (suc k) le = drop_all ys k (omega (arith, le))
+  pub if_read : (b : Bool) (found : Z) (grown : List Z) → f (v x) ≡ cond b (Some found) None → grown ≡ made ++ cond b (found ∷ []) [] → grown ≡ filter_map f (map v (take (i + 1) xs))
+  if_read true found grown gives grown_is = one_read found grown gives grown_is
+  if_read false found grown gives grown_is = grown_is ∙ sym (more_read ∙ ap (λ (o : Option Z). made ++ cons_option o []) gives)
+
+  pub none_read : (grown : List Z) → f (v x) ≡ None → grown ≡ made → grown ≡ filter_map f (map v (take (i + 1) xs))
+  none_read grown gives grown_is = grown_is ∙ sym (more_read ∙ ap (λ (o : Option Z). made ++ cons_option o []) gives ∙ append-nil made)
 
 pub rises_kept : {X : Type 0} (cmp : X → X → Ordering) (p : X → Bool) (xs : List X) → RisesStrictly cmp xs → RisesStrictly cmp (filter p xs)
 rises_kept cmp p [] rises = tt

@@ -14,7 +14,7 @@ use Rattle.mt_stamp.specs.Moment.{Moment, stamp_cmp}
 use Rattle.mt_stamp.specs.Sorting.{sort_by, RisesStrictly, DifferBy}
 use Rattle.mt_stamp.specs.Tree.{TreePlace, IsTree, stamps_of, tree_cmp}
 use Rattle.mt_stamp.proofs.Order.{stamp_cmp_total}
-use Rattle.mt_stamp.proofs.Differing.{differ_kept}
+use Rattle.mt_stamp.proofs.Differing.{differ_kept, differ_sorted}
 use Rattle.mt_stamp.proofs.Members.{IsMember, member_at, member_stands, member_of_kept, one_list, sort_strict, member_sorted, member_unsorted}
 use Rattle.mt_stamp.proofs.SameItems.{SameItems, same_filter}
 use Rattle.mt_stamp.proofs.Sorting.{sort_same}
@@ -34,6 +34,10 @@ use Rattle.mt_sessionview.proofs.PlaceTree.{given_places}
 use Rattle.mt_sessionview.proofs.SameSession.{tree_same}
 
 -- ---- operations at places
+
+pub ops_at_is : (ops : List Operation) (order : List ℕ) → ops_at ops order ≡ map (op_at ops) order
+ops_at_is ops [] = refl
+ops_at_is ops (p ∷ order) = ap (λ (l : List Operation). op_at ops p ∷ l) (ops_at_is ops order)
 
 named_at : (ops : List Operation) (k : ℕ) → stamp_at (map tree_place ops) k ≡ (op_at ops k).stamp
 named_at [] k = refl
@@ -70,6 +74,10 @@ pub placed_rise : (r : List Operation) → DifferBy stamp_of r → RisesStrictly
 placed_rise r differ =
     sort_strict (by_place r) (by_place_total r) (filter (fits Place) r)
     (apart_by (by_place r) (by_place_total r) stamp_of (λ a b tied. (trees_are_ordered (places_in r)).apart a.stamp b.stamp tied) (filter (fits Place) r) (differ_kept stamp_of (fits Place) r differ))
+
+-- and have stamps of their own
+pub placed_differ : (r : List Operation) → DifferBy stamp_of r → DifferBy stamp_of (placed_in r)
+placed_differ r differ = differ_sorted stamp_of (by_place r) (filter (fits Place) r) (differ_kept stamp_of (fits Place) r differ)
 
 -- there are the same of the same operations
 pub placed_same : (r u : List Operation) → SameItems r u → AllByRecursion (λ o. IsMember o r) u → ((a b : Operation) → IsMember a r → IsMember b r → a.stamp ≡ b.stamp → a ≡ b) → placed_in r ≡ placed_in u

@@ -1,6 +1,7 @@
 -- The tracks that stand where operations put them, in the order of those places, are the tracks of a session.
 use Rattle.std.proofs.Common.{◌≡◌, ◌≢◌, ℕ, Bool, true, false, cond, ◌&&◌, List, [], ◌∷◌, Option, Some, None, map, refl, sym, ap, ◌∙◌, subst, inl, inr, true≢false}
-use Rattle.std.specs.Prelude.{option_map, unwrap_or}
+use Rattle.std.specs.Prelude.{option_map, unwrap_or, IfSome}
+use Rattle.std.specs.BTreeMap.{BTreeMap, get}
 use Rattle.std.specs.Cmp.{IsTotalOrder}
 use Rattle.std.specs.List.{AllByRecursion, filter, filter_map, cons_option}
 use Rattle.std.specs.List.Sorted.{IsPermutation}
@@ -10,7 +11,7 @@ use Rattle.std.proofs.lemmas.Cmp.{on_total}
 use Rattle.std.proofs.lemmas.Option.{same_Some, none-some}
 use Rattle.std.proofs.lemmas.List.Elements.{All-from_recursion, recursion_from_All}
 use Rattle.std.proofs.lemmas.List.Sorted.{All-permutation}
-use Rattle.mt_stamp.specs.Moment.{Moment}
+use Rattle.mt_stamp.specs.Moment.{Moment, stamp_cmp}
 use Rattle.mt_stamp.specs.Sorting.{sort_by, RisesStrictly, DifferBy}
 use Rattle.mt_stamp.specs.Tree.{tree_cmp}
 use Rattle.mt_stamp.proofs.Order.{stamp_eq-true}
@@ -30,7 +31,8 @@ use Rattle.mt_items.specs.Noting.{AreNoted, is_need_met}
 use Rattle.mt_items.proofs.Roles.{none_written, track_places}
 use Rattle.mt_sessionview.specs.Noted.{is_shown_in, clips_in, places_in, by_place, placed_in, track_place_in, track_cmp_in, track_in, tracks_in}
 use Rattle.mt_sessionview.proofs.PlacedOps.{by_place_total, placed_rise}
-use Rattle.mt_sessionview.specs.Read.{placed_track, is_writer, stands_at, if_standing, standing, track_from, track_where, track_read}
+use Rattle.mt_sessionview.specs.Read.{placed_track, is_writer, stands_at, if_standing, standing, track_from, track_where, track_read, HasClips, AreTheClips}
+use Rattle.mt_sessionview.specs.Content.{Clip}
 use Rattle.mt_sessionview.proofs.InOrder.{noted_differ, one_op}
 use Rattle.mt_sessionview.proofs.Items.{stamp_eq_same}
 use Rattle.mt_sessionview.proofs.Lists.{all_members, member_all, any_member, given_by, member_given, member_map, member_of_map, rises_given, rises_mapped}
@@ -84,6 +86,35 @@ places_given : (own : Moment) (act : Act) (w : Write (Option Moment)) → track_
 places_given own (AddTrack after title) w is = (refl, ap (λ (v : Write (Option Moment)). Some v.item) (same_Some _ w is))
 places_given own (MoveTrack track after) w is = (refl, ap (λ (v : Write (Option Moment)). Some v.item) (same_Some _ w is))
 places_given own _ w is = absurd cc
+
+-- a track that an operation puts where it stands has its place by that operation
+place_is : (r : List Operation) (o : Operation) (track : Moment) → standing r o ≡ Some track → track_place_in r track ≡ o.stamp
+place_is r o track is =
+    let s = stands r o.stamp (placed_track o.stamp o.act) track is in
+    ap (λ (l : Option (Written (Option Moment))). unwrap_or (option_map (λ (w : Written (Option Moment)). w.writer) l) track) s.is ∙ s.here
+
+-- ---- the clips of the tracks that operations put where they stand
+
+-- a map has the clips of each track that one of these operations puts where it stands, and no two of them are one
+pub record HasTheirs (r : List Operation) (table : BTreeMap Moment (List Clip)) (os : List Operation) : Type 0 where
+  pub each : AllByRecursion (λ o. IfSome (standing r o) (HasClips r table)) os
+  pub differ : DifferBy stamp_of os
+
+pub has_all : (r : List Operation) (table : BTreeMap Moment (List Clip)) (os : List Operation) → AreTheClips r table → DifferBy stamp_of os → HasTheirs r table os
+has_all r table os clips differ = record { each = all_members (λ o. IfSome (standing r o) (HasClips r table)) os (λ o m. by (standing r o)); differ = differ }
+  where
+    by : (named : Option Moment) → IfSome named (HasClips r table)
+    by None = tt
+    by (Some track) = clips track
+
+-- it has them still where the first operation's track has lost its clips
+pub has_others : (r : List Operation) (before after : BTreeMap Moment (List Clip)) (x : Operation) (os : List Operation) → HasTheirs r before (x ∷ os) → ((track : Moment) → standing r x ≢ Some track → get stamp_cmp after track ≡ get stamp_cmp before track) → HasTheirs r after os
+has_others r before after x os has kept = record { each = all_members (λ o. IfSome (standing r o) (HasClips r after)) os (λ o m. by o m (standing r o) refl (member_all (λ y. IfSome (standing r y) (HasClips r before)) os o has.each.1 m)); differ = has.differ.1 }
+  where
+    by : (o : Operation) → IsMember o os → (named : Option Moment) → standing r o ≡ named → IfSome named (HasClips r before) → IfSome named (HasClips r after)
+    by o m None is clips = tt
+    by o m (Some track) is clips =
+        ap (λ (l : Option (List Clip)). unwrap_or l []) (kept track (λ too. member_all (λ y. x.stamp ≢ y.stamp) os o has.differ.0 m (sym (place_is r x track too) ∙ place_is r o track is))) ∙ clips
 
 module _ (r : List Operation) (noted : AreNoted r) where
   one : (a b : Operation) → IsMember a r → IsMember b r → a.stamp ≡ b.stamp → a ≡ b
@@ -180,7 +211,7 @@ module _ (r : List Operation) (noted : AreNoted r) where
   standing_rise : RisesStrictly track_order (filter_map (standing r) those)
   standing_rise =
       rises_given (tree_cmp (places_in r)) (standing r) stamp_of (track_place_in r)
-      (λ o t is. let s = stands r o.stamp (placed_track o.stamp o.act) t is in ap (λ (l : Option (Written (Option Moment))). unwrap_or (option_map (λ (w : Written (Option Moment)). w.writer) l) t) s.is ∙ s.here) those (placed_rise r (noted_differ r noted))
+      (λ o t is. place_is r o t is) those (placed_rise r (noted_differ r noted))
 
   -- the tracks of a session, read in the order of places
   pub tracks_read : filter_map (track_read r) (placed_in r) ≡ tracks_in r

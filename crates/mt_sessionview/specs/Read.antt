@@ -95,9 +95,13 @@ abbrev pub tree_place : Operation → TreePlace
 tree_place o = record { place = o.stamp; after = place_after o.act }
 
 module _ (noted : List Operation) where
-  -- the clips of each track, by their rising stamps
+  -- the clips of a track, by their rising stamps
+  abbrev pub HasClips : BTreeMap Moment (List Clip) → Moment → Type 0
+  HasClips table track = unwrap_or (get stamp_cmp table track) [] ≡ filter_map (clip_on noted track) (items_of ClipRole noted)
+
+  -- the clips of each track
   abbrev pub AreTheClips : BTreeMap Moment (List Clip) → Type 0
-  AreTheClips table = (track : Moment) → unwrap_or (get stamp_cmp table track) [] ≡ filter_map (clip_on noted track) (items_of ClipRole noted)
+  AreTheClips table = (track : Moment) → HasClips table track
 
   abbrev pub track_where : Option Moment → Option Track
   track_where None = None

@@ -37,7 +37,7 @@ fn tracks_of<A: Allocator + Clone>(
     ensures err { IfErr result (λ fault. fault ≡ SessionFault.Memory) }
 {
     let clips = clips_by_track(alloc, items)?;
-    tracks(alloc, items, &clips, placed)
+    tracks(alloc, items, clips, placed)
 }
 
 // The tracks that ready operations show, in the order of their places; beside them the operations that gave these, in order.

@@ -1,6 +1,6 @@
 //! Clips.
 
-ghost use Rattle.std.specs.Prelude.{◌≡◌, ◌≤◌, ◌++◌, List as ListOf, [], ◌∷◌, unwrap_or, option_map, if◌then◌else◌, IfOk, IfErr, OnOk};
+ghost use Rattle.std.specs.Prelude.{◌≡◌, ◌≤◌, ◌++◌, List as ListOf, [], ◌∷◌, unwrap_or, if◌then◌else◌, IfOk, IfErr, OnOk};
 ghost use Rattle.std.specs.BTreeMap.{get};
 ghost use Rattle.std.specs.List.Sorted.{IsPermutation, IsSorted};
 ghost use Rattle.mt_stamp.specs.Moment.{Moment, stamp_cmp, stamp_eq};
@@ -48,20 +48,6 @@ fn clip_at<A: Allocator>(clip: Stamp, cells: &ClipCells<A>) -> Option<OnTrack>
     })
 }
 
-// The clips that are noted, none where nothing is.
-fn clips_from<A: Allocator + Clone>(
-    alloc: &A,
-    noted: Option<List<ClipView, A>>,
-) -> Result<Vec<ClipView, A>, SessionFault>
-    ensures ok { IfOk result (λ clips. clips.items ≡ unwrap_or noted []) }
-    ensures err { IfErr result (λ fault. fault ≡ SessionFault.Memory) }
-{
-    match noted {
-        Some(clips) => Ok(clips.into_vec()),
-        None => Ok(Vec::new(alloc.clone()?)),
-    }
-}
-
 // Puts a clip with those of its track.
 fn note_clip<A: Allocator + Clone>(
     alloc: &A,
@@ -71,7 +57,11 @@ fn note_clip<A: Allocator + Clone>(
     ensures ok { OnOk result ((track : Moment) → unwrap_or (get stamp_cmp table.new track) [] ≡ unwrap_or (get stamp_cmp table.old track) [] ++ (if stamp_eq found.track track then found.clip ∷ [] else [])) }
     ensures err { IfErr result (λ fault. fault ≡ SessionFault.Memory) }
 {
-    let mut clips = clips_from(alloc, table.remove(&found.track))?;
+    if let Some(clips) = table.get_mut(&found.track) {
+        clips.insert(clips.items().len(), found.clip)?;
+        return Ok(());
+    }
+    let mut clips = Vec::with_capacity(alloc.clone()?, 1)?;
     clips.push(found.clip)?;
     table.insert(found.track, List::new(clips))?;
     Ok(())
@@ -94,19 +84,19 @@ pub(crate) fn clips_by_track<A: Allocator + Clone>(
     Ok(table)
 }
 
-// The clips of a track in order: by position, then by the stamp that gave their place.
+// The clips of a track in order: by position, then by the stamp that gave their place; none where none are noted.
 pub(crate) fn sorted_clips<A: Allocator + Clone>(
     alloc: &A,
-    clips: Option<&List<ClipView, A>>,
+    clips: Option<List<ClipView, A>>,
 ) -> Result<Vec<ClipView, A>, SessionFault>
-    ensures moved { IfOk result (λ sorted. IsPermutation (unwrap_or (option_map (λ c. c.now) clips.entry) []) sorted.items) }
+    ensures moved { IfOk result (λ sorted. IsPermutation (unwrap_or clips []) sorted.items) }
     ensures sorted { IfOk result (λ sorted. IsSorted clip_cmp sorted.items) }
     ensures err { IfErr result (λ fault. fault ≡ SessionFault.Memory) }
 {
     let Some(clips) = clips else {
         return Ok(Vec::new(alloc.clone()?));
     };
-    let mut sorted = Vec::from_slice(alloc.clone()?, clips.items())?;
+    let mut sorted = clips.into_vec();
     sorted.sort_by_key(|view| (view.at, view.place))?;
     Ok(sorted)
 }

@@ -44,8 +44,9 @@ pub(crate) fn markers<A: Allocator + Clone>(
     ensures ok { IfOk result (λ markers. markers.items ≡ filter_map (marker_read items.now) (items_of Marker items.now)) }
     ensures err { IfErr result (λ fault. fault ≡ SessionFault.Memory) }
 {
-    let mut markers = Vec::new(alloc);
-    for (marker, cells) in items.marker_cells() {
+    let cells = items.marker_cells();
+    let mut markers = Vec::with_capacity(alloc, cells.len())?;
+    for (marker, cells) in cells {
         if let Some(view) = marker_at(*marker, cells)? {
             markers.push(view)?;
         }
@@ -80,8 +81,9 @@ pub(crate) fn taken_markers<A: Allocator + Clone>(
     ensures ok { IfOk result (λ markers. markers.items ≡ filter_map (marker_read items) (items_of Marker items)) }
     ensures err { IfErr result (λ fault. fault ≡ SessionFault.Memory) }
 {
-    let mut markers = Vec::new(alloc);
-    for (marker, cells) in items.into_marker_cells() {
+    let cells = items.into_marker_cells();
+    let mut markers = Vec::with_capacity(alloc, cells.len())?;
+    for (marker, cells) in cells {
         if let Some(view) = marker_from(marker, cells) {
             markers.push(view)?;
         }

@@ -21,7 +21,7 @@ pub(crate) fn place_ops<'a, A: Allocator + Clone>(
     ensures ok { IfOk result (λ places. map (λ o. o.now) places.items ≡ filter (fits Place) (map (λ o. o.now) ops.now)) }
     ensures err { IfErr result (λ fault. fault ≡ SessionFault.Memory) }
 {
-    let mut places = Vec::new(alloc.clone()?);
+    let mut places = Vec::with_capacity(alloc.clone()?, ops.len())?;
     for op in ops {
         if op.fits(&Role::Place) {
             places.push(*op)?;

@@ -30,8 +30,8 @@ pub(crate) fn ready_of<'a, A: Allocator + Clone>(
     ensures noted { IfOk result (λ ready. AreNoted ready.items) }
     ensures err { IfErr result (λ fault. fault ≡ SessionFault.Memory) }
 {
-    let mut ready = Vec::new(alloc.clone()?);
-    let mut items = Items::new(alloc.clone()?)?;
+    let mut ready = Vec::with_capacity(alloc.clone()?, ops.len())?;
+    let mut items = Items::with_room_for(alloc.clone()?, ops)?;
     for op in ops {
         let _ = op.stamp();
         if items.are_needs_met(op) {

@@ -10,7 +10,7 @@ ghost use Rattle.mt_sessionview.specs.SessionText.{session_text};
 use crate::build::session_of_log;
 use crate::fault::SessionFault;
 use crate::session::Session;
-use crate::text::append_session_text;
+use crate::text::{append_session_text, room_for};
 use mt_opcodec::{Latch, Log};
 use std::alloc::Allocator;
 use std::io::Write;
@@ -45,7 +45,7 @@ pub fn write_text<A: Allocator, B: Allocator, W: Write>(
     ensures stays_failed { output.old.failed ≡ true → output.new ≡ output.old }
     ensures memory { IfErr result (λ fault. fault ≡ SessionFault.Memory → output.new ≡ output.old) }
 {
-    let mut text = String::new(&alloc);
+    let mut text = String::with_capacity(&alloc, room_for(session))?;
     append_session_text(&alloc, &mut text, session)?;
     match output.put(text.as_bytes()) {
         Ok(()) => Ok(()),

@@ -1,13 +1,17 @@
 //! Tracks.
 
-ghost use Rattle.std.specs.Prelude.{◌≡◌, List as ListOf, Some, None, map, IfOk, IfErr, IfSome, IfNone};
+ghost use Rattle.std.specs.Prelude.{◌≡◌, ◌≢◌, List as ListOf, Some, None, map, IfOk, IfErr, OnOk, IfSome, IfNone};
+ghost use Rattle.std.specs.BTreeMap.{get};
 ghost use Rattle.std.specs.List.{filter_map};
+ghost use Rattle.mt_stamp.specs.Moment.{Moment, stamp_cmp};
+ghost use Rattle.mt_stamp.specs.Sorting.{DifferBy};
+ghost use Rattle.mt_op.specs.ByStamp.{stamp_of};
 ghost use Rattle.mt_op.specs.Operation.{Operation};
 ghost use Rattle.mt_op.specs.Writes.{title_written, last_write};
 ghost use Rattle.mt_items.specs.Cells.{HoldsTrack};
 ghost use Rattle.mt_items.specs.Noting.{AreNoted};
 ghost use Rattle.mt_sessionview.specs.Content.{AreClips};
-ghost use Rattle.mt_sessionview.specs.Read.{placed_track, stands_at, standing, track_from, AreTheClips, track_read};
+ghost use Rattle.mt_sessionview.specs.Read.{placed_track, stands_at, standing, track_from, HasClips, AreTheClips, track_read};
 
 use crate::clip::sorted_clips;
 use crate::fault::SessionFault;
@@ -79,22 +83,23 @@ fn standing<'a, A: Allocator>(items: &'a Items<A>, op: &Op<A>) -> Option<TrackHe
     Some(TrackHere { track, cells })
 }
 
-// The present track that stands where an operation put it, with its clips.
+// The present track that stands where an operation put it, with its clips, which are taken out of those of all tracks.
 fn track_at<A: Allocator + Clone>(
     alloc: &A,
     items: &Items<A>,
-    clips: &BTreeMap<Stamp, List<ClipView, A>, A>,
+    clips: &mut BTreeMap<Stamp, List<ClipView, A>, A>,
     op: &Op<A>,
 ) -> Result<Option<TrackView<A>>, SessionFault>
     requires noted { AreNoted items.now }
-    requires clips { AreTheClips items.now clips.now }
+    requires clips { IfSome (standing items.now op.now) (HasClips items.now clips.old) }
     ensures ok { IfOk result (λ view. view ≡ track_read items.now op.now) }
+    ensures others { OnOk result ((track : Moment) → standing items.now op.now ≢ Some track → get stamp_cmp clips.new track ≡ get stamp_cmp clips.old track) }
     ensures err { IfErr result (λ fault. fault ≡ SessionFault.Memory) }
 {
     let Some(here) = standing(items, op) else {
         return Ok(None);
     };
-    let sorted = sorted_clips(alloc, clips.get(&here.track))?;
+    let sorted = sorted_clips(alloc, clips.remove(&here.track))?;
     Ok(Some(track_from(here.track, here.cells, sorted)?))
 }
 
@@ -102,17 +107,19 @@ fn track_at<A: Allocator + Clone>(
 pub(crate) fn tracks<A: Allocator + Clone>(
     alloc: &A,
     items: &Items<A>,
-    clips: &BTreeMap<Stamp, List<ClipView, A>, A>,
+    clips: BTreeMap<Stamp, List<ClipView, A>, A>,
     ops: &[&Op<A>],
 ) -> Result<Vec<TrackView<A>, A>, SessionFault>
     requires noted { AreNoted items.now }
-    requires clips { AreTheClips items.now clips.now }
+    requires clips { AreTheClips items.now clips }
+    requires differ { DifferBy stamp_of (map (λ o. o.now) ops.now) }
     ensures ok { IfOk result (λ tracks. tracks.items ≡ filter_map (track_read items.now) (map (λ o. o.now) ops.now)) }
     ensures err { IfErr result (λ fault. fault ≡ SessionFault.Memory) }
 {
-    let mut tracks = Vec::new(alloc.clone()?);
+    let mut clips = clips;
+    let mut tracks = Vec::with_capacity(alloc.clone()?, ops.len())?;
     for op in ops {
-        if let Some(view) = track_at(alloc, items, clips, op)? {
+        if let Some(view) = track_at(alloc, items, &mut clips, op)? {
             tracks.push(view)?;
         }
     }

@@ -1,29 +1,18 @@
 -- Entries by their keys.
 use Rattle.std.proofs.Common.{◌≡◌, ℕ, zero, suc, Bool, true, false, cond, List, [], ◌∷◌, ◌++◌, Option, Some, None, get_or, refl, sym, ap, ◌∙◌, subst, true≢false}
+use Rattle.std.proofs.lemmas.Bool.{false_from_ne_true}
 use Rattle.std.specs.Prelude.{slice_get, slice_set, MatchOption, is_some, IsSome}
 use Rattle.std.specs.BTreeMap.{get}
-use Rattle.std.specs.Cmp.{IsEquivalence}
 use Rattle.std.specs.List.{AllByRecursion, IsDistinct}
 use Rattle.std.specs.Map.{lookup, keys_of, set_value}
 use Rattle.std.proofs.lemmas.Map.{none_passes_from_lookup, NonePasses, lookup-set_value}
 use Rattle.std.proofs.lemmas.Map.Entries.{lookup_from_place}
 use Rattle.std.proofs.lemmas.Option.{same_Some, none-some, get_or_from_slice_get}
 use Rattle.mt_stamp.specs.Moment.{Moment, stamp_cmp, stamp_eq}
-use Rattle.mt_stamp.proofs.Order.{stamp_eq-true, stamp_eq-itself}
+use Rattle.mt_stamp.proofs.Order.{stamp_eq-true}
 use Rattle.mt_stampmap.specs.declared.index.Index.{Index}
 use Rattle.mt_stampmap.specs.Index.{in_run, is_key, or_else, checked, Finds}
-use Rattle.mt_stampmap.proofs.Finding.{IsNew, unmet, checked_is, is_key_at}
-
-pub stamp_eq_equiv : IsEquivalence stamp_eq
-stamp_eq_equiv = record {
-  refl = stamp_eq-itself;
-  symm = λ a b. by a b (stamp_eq a b) refl;
-  congr = λ a b c same. ap (λ (m : Moment). stamp_eq m c) (stamp_eq-true a b same);
-}
-  where
-    by : (a b : Moment) (t : Bool) → stamp_eq a b ≡ t → stamp_eq a b ≡ stamp_eq b a
-    by a b true is = is ∙ sym (ap (λ (m : Moment). stamp_eq m a) (sym (stamp_eq-true a b is)) ∙ stamp_eq-itself a)
-    by a b false is = is ∙ sym (unmet (stamp_eq b a) (λ same. true≢false (sym (ap (stamp_eq a) (stamp_eq-true b a same) ∙ stamp_eq-itself a) ∙ is)))
+use Rattle.mt_stampmap.proofs.Finding.{stamp_eq_equiv, IsNew, checked_is, is_key_at}
 
 module _ {V : Type 0} where
   pub new_key : (es : List (Moment × V)) (stamp : Moment) → lookup (stamp_eq stamp) es ≡ None → IsNew (keys_of es) stamp
@@ -37,7 +26,7 @@ module _ {V : Type 0} where
   pub no_key : (es : List (Moment × V)) (stamp : Moment) → ((k : ℕ) → slice_get (keys_of es) k ≡ Some stamp → ⊥) → lookup (stamp_eq stamp) es ≡ None
   no_key [] stamp none = refl
   no_key (e ∷ es) stamp none =
-      ap (λ (b : Bool). cond b (Some e.1) (lookup (stamp_eq stamp) es)) (unmet (stamp_eq stamp e.0) (λ same. none 0 (ap Some (sym (stamp_eq-true stamp e.0 same)))))
+      ap (λ (b : Bool). cond b (Some e.1) (lookup (stamp_eq stamp) es)) (false_from_ne_true (stamp_eq stamp e.0) (λ same. none 0 (ap Some (sym (stamp_eq-true stamp e.0 same)))))
       ∙ no_key es stamp (λ k at. none (suc k) at)
 
   -- a value that is written leaves the keys
@@ -63,7 +52,7 @@ module _ {V : Type 0} where
       ap (λ (y : Moment × V). (y.0, w) ∷ es) (sym first) ∙ ap (λ (b : Bool). cond b ((x.0, w) ∷ es) (x ∷ set_value (stamp_eq stamp) es w)) (sym (ap (λ (y : Moment × V). stamp_eq stamp y.0) first ∙ same))
   written_at (x ∷ es) stamp (suc i) e w differ at same =
       ap (λ (l : List (Moment × V)). x ∷ l) (written_at es stamp i e w differ.1 at same)
-      ∙ ap (λ (b : Bool). cond b ((x.0, w) ∷ es) (x ∷ set_value (stamp_eq stamp) es w)) (sym (unmet (stamp_eq stamp x.0) (λ this. true≢false (sym same ∙ ap (λ (m : Moment). stamp_eq m e.0) (stamp_eq-true stamp x.0 this) ∙ behind es i differ.0 at))))
+      ∙ ap (λ (b : Bool). cond b ((x.0, w) ∷ es) (x ∷ set_value (stamp_eq stamp) es w)) (sym (false_from_ne_true (stamp_eq stamp x.0) (λ this. true≢false (sym same ∙ ap (λ (m : Moment). stamp_eq m e.0) (stamp_eq-true stamp x.0 this) ∙ behind es i differ.0 at))))
     where
       behind : (es : List (Moment × V)) (i : ℕ) → AllByRecursion (λ y. stamp_eq x.0 y ≡ false) (keys_of es) → slice_get es i ≡ Some e → stamp_eq x.0 e.0 ≡ false
       behind [] i apart at = absurd (none-some e at)
@@ -88,10 +77,6 @@ module _ {V : Type 0} where
       let e = entry_at es stamp i h in
       let same : x ≡ e.0 = read ∙ get_or_from_slice_get es i e.0 x e.1.0 in
       (e.1.0 ∙ ap Some (sym same), ap (λ (y : Moment × V). stamp_eq stamp y.0) same ∙ e.1.1)
-
-  pub None_is_new : (o : Option V) → is_some o ≡ false → o ≡ None
-  None_is_new None e = refl
-  None_is_new (Some v) e = cc
 
   -- what is found after a value is put in
   pub lookup_pushed : (es : List (Moment × V)) (stamp : Moment) (v : V) → lookup (stamp_eq stamp) es ≡ None → (q : Moment) → lookup (stamp_eq q) (es ++ (stamp, v) ∷ []) ≡ cond (stamp_eq q stamp) (Some v) (lookup (stamp_eq q) es)

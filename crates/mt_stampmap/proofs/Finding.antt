@@ -1,7 +1,9 @@
 -- Each key is found at its index.
 use Rattle.std.proofs.Common.{◌≡◌, ℕ, zero, suc, Bool, true, false, cond, List, [], ◌∷◌, ◌++◌, length, Option, Some, None, ◌⊎◌, inl, inr, refl, sym, ap, ◌∙◌, true≢false}
+use Rattle.std.proofs.lemmas.Bool.{false_from_ne_true}
 use Rattle.std.specs.Prelude.{slice_get}
 use Rattle.std.specs.BTreeMap.{get}
+use Rattle.std.specs.Cmp.{IsEquivalence}
 use Rattle.std.specs.List.{AllByRecursion, IsDistinct}
 use Rattle.std.proofs.lemmas.Option.{same_Some, none-some}
 use Rattle.mt_stamp.specs.Moment.{Moment, stamp_cmp, stamp_eq}
@@ -9,9 +11,16 @@ use Rattle.mt_stamp.proofs.Order.{stamp_eq-true, stamp_eq-itself}
 use Rattle.mt_stampmap.specs.Index.{in_run, StaysInRun, is_key, or_else, checked, index_in, Finds}
 use Rattle.mt_stampmap.specs.declared.index.Index.{Index}
 
-pub unmet : (b : Bool) → (b ≡ true → ⊥) → b ≡ false
-unmet true h = absurd (h refl)
-unmet false h = refl
+pub stamp_eq_equiv : IsEquivalence stamp_eq
+stamp_eq_equiv = record {
+  refl = stamp_eq-itself;
+  symm = λ a b. by a b (stamp_eq a b) refl;
+  congr = λ a b c same. ap (λ (m : Moment). stamp_eq m c) (stamp_eq-true a b same);
+}
+  where
+    by : (a b : Moment) (t : Bool) → stamp_eq a b ≡ t → stamp_eq a b ≡ stamp_eq b a
+    by a b true is = is ∙ sym (ap (λ (m : Moment). stamp_eq m a) (sym (stamp_eq-true a b is)) ∙ stamp_eq-itself a)
+    by a b false is = is ∙ sym (false_from_ne_true (stamp_eq b a) (λ same. true≢false (sym (ap (stamp_eq a) (stamp_eq-true b a same) ∙ stamp_eq-itself a) ∙ is)))
 
 -- no key is the stamp
 abbrev pub IsNew : List Moment → Moment → Type 0
@@ -33,13 +42,6 @@ checked_is ks (Some i) stamp j h = by (slice_get ks i) refl h
 -- where the key is the stamp, the index is checked
 pub checked_at : (ks : List Moment) (stamp : Moment) (i : ℕ) → slice_get ks i ≡ Some stamp → checked ks (Some i) stamp ≡ Some i
 checked_at ks stamp i at = (λ x. cond (is_key (at x) stamp) (Some i) None) ∙ ap (λ (b : Bool). cond b (Some i) None) (stamp_eq-itself stamp)
-
-pub found_is : {A : Type 0} (ks : List Moment) (index : Index A) (stamp : Moment) (j : ℕ) → index_in ks index stamp ≡ Some j → slice_get ks j ≡ Some stamp
-found_is ks index stamp j = by (checked ks (in_run index.runs stamp) stamp) refl
-  where
-    by : (first : Option ℕ) → checked ks (in_run index.runs stamp) stamp ≡ first → or_else first (checked ks (get stamp_cmp index.others stamp) stamp) ≡ Some j → slice_get ks j ≡ Some stamp
-    by None is h = checked_is ks (get stamp_cmp index.others stamp) stamp j h
-    by (Some i) is h = checked_is ks (in_run index.runs stamp) stamp j (is ∙ h)
 
 module _ {A : Type 0} (ks : List Moment) (index : Index A) (finds : Finds ks index) where
   -- so a stamp stands at one index
@@ -69,7 +71,7 @@ distinct (k ∷ ks) one = (apart ks (λ j at. cc (one 0 (suc j) k refl at)), dis
   where
     apart : (ks : List Moment) → ((j : ℕ) → slice_get ks j ≡ Some k → ⊥) → AllByRecursion (λ y. stamp_eq k y ≡ false) ks
     apart [] none = tt
-    apart (y ∷ ks) none = (unmet (stamp_eq k y) (λ same. none 0 (ap Some (sym (stamp_eq-true k y same)))), apart ks (λ j at. none (suc j) at))
+    apart (y ∷ ks) none = (false_from_ne_true (stamp_eq k y) (λ same. none 0 (ap Some (sym (stamp_eq-true k y same)))), apart ks (λ j at. none (suc j) at))
 
 -- ---- a new key
 
@@ -101,9 +103,6 @@ split (y ∷ ks) stamp (suc k) key at = by (split ks stamp k key at)
 at_last : (ks : List Moment) (stamp : Moment) → slice_get (ks ++ stamp ∷ []) (length ks) ≡ Some stamp
 at_last [] stamp = refl
 at_last (k ∷ ks) stamp = at_last ks stamp
-
-swapped : (a b : Moment) → stamp_eq a b ≡ false → stamp_eq b a ≡ false
-swapped a b e = unmet (stamp_eq b a) (λ same. true≢false (sym (ap (stamp_eq a) (stamp_eq-true b a same) ∙ stamp_eq-itself a) ∙ e))
 
 -- an index that says where the new key will stand finds all keys, as before
 pub pointed_before : {A : Type 0} (ks : List Moment) (index after : Index A) (stamp : Moment) → IsNew ks stamp → ((s : Moment) → StaysInRun index.runs after.runs s)
@@ -140,7 +139,7 @@ pointed ks index after stamp new stays others points finds k key at = by (split 
 
     by : (slice_get ks k ≡ Some key) ⊎ ((k ≡ length ks) × (key ≡ stamp)) → index_in all after key ≡ Some k
     by (inl before) =
-        let differ = swapped stamp key (new_at ks stamp new k key before) in
+        let differ = stamp_eq_equiv.symm key stamp ∙ new_at ks stamp new k key before in
         (λ x. or_else (checked_before ks stamp key differ (in_run after.runs key) x) (checked_before ks stamp key differ (get stamp_cmp after.others key) x))
         ∙ pointed_before ks index after stamp new stays others finds k key before
     by (inr is) = ap (index_in all after) is.1 ∙ newest points ∙ ap Some (sym is.0)

@@ -69,7 +69,6 @@ impl<A: Allocator> Index<A> {
     pub(crate) fn new(alloc: A) -> Result<Self, AllocError>
     where
         A: Clone,
-        ensures { IfOk result (λ index. index.spare ≡ 0) }
     {
         Ok(Index {
             runs: BTreeMap::new(alloc.clone()?),

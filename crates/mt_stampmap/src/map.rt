@@ -45,9 +45,19 @@ impl<V: Drop, A: Allocator> StampMap<V, A> {
         A: Clone,
         ensures { IfOk result (λ map. map ≡ []) }
     {
+        StampMap::with_capacity(alloc, 0)
+    }
+
+    /// The empty map, with memory for so many entries: none of them moves while no more are put in. Refused only where memory was, or
+    /// the allocator could not be cloned.
+    pub fn with_capacity(alloc: A, capacity: usize) -> Result<Self, AllocError>
+    where
+        A: Clone,
+        ensures { IfOk result (λ map. map ≡ []) }
+    {
         let index = Index::new(alloc.clone()?)?;
         Ok(StampMap {
-            entries: Vec::new(alloc.clone()?),
+            entries: Vec::with_capacity(alloc.clone()?, capacity)?,
             index: Box::new(alloc, index)?,
         })
     }

@@ -64,7 +64,7 @@ impl<A: Allocator> Chain<A> {
     pub(crate) fn to_vec<B: Allocator>(&self, alloc: B) -> Result<Vec<usize, B>, AllocError>
         ensures { IfOk result (λ places. places.items ≡ self.now.items) }
     {
-        let mut places = Vec::new(alloc);
+        let mut places = Vec::with_capacity(alloc, self.next.len())?;
         let mut at = self.first;
         for _ in 0..self.next.len() {
             let Some(place) = at else {

@@ -21,6 +21,33 @@ pub struct PlaceAfter {
     pub after: Option<Stamp>,
 }
 
+// Whether the place at an index has a stamp.
+fn is_at(places: &[PlaceAfter], index: usize, stamp: Stamp) -> bool
+    requires rising { RisesStrictly stamp_cmp (stamps_of (given_tree places.now)) }
+    requires tree { IsTree (given_tree places.now) }
+    ensures { result ≡ true → (there : IsPlaceOf (given_tree places.now) stamp) → index ≡ there.index }
+{
+    match places.get(index) {
+        Some(placed) => placed.place == stamp,
+        None => false,
+    }
+}
+
+// The index of the place of a stamp: mostly the one before a given index, and else it is searched for.
+fn index_of(places: &[PlaceAfter], stamp: Stamp, index: usize) -> Option<usize>
+    requires rising { RisesStrictly stamp_cmp (stamps_of (given_tree places.now)) }
+    requires tree { IsTree (given_tree places.now) }
+    ensures { (there : IsPlaceOf (given_tree places.now) stamp) → result ≡ Some there.index }
+{
+    if index > 0 && is_at(places, index - 1, stamp) {
+        return Some(index - 1);
+    }
+    match places.binary_search_by_key(&stamp, |placed| placed.place) {
+        Ok(found) => Some(found),
+        Err(_) => None,
+    }
+}
+
 // Puts an index into the chain right after that of the place of a stamp, or in front.
 fn link_place<A: Allocator>(
     chain: &mut Chain<A>,
@@ -40,14 +67,14 @@ fn link_place<A: Allocator>(
         chain.insert_first(index);
         return;
     };
-    if let Ok(before) = places.binary_search_by_key(&after, |placed| placed.place) {
+    if let Some(before) = index_of(places, after, index) {
         chain.insert_after(before, index);
     }
 }
 
 /// The indexes of places that are given by rising stamp, in the order of their tree: each is put right after what it was put
 /// after, or in front, and so before all older ones that were put there. n places cost n log n, since what each was put after is
-/// searched for. Refused only where a growth was.
+/// searched for where that is not the one before it. Refused only where a growth was.
 pub fn order_of<A: Allocator + Clone>(
     alloc: &A,
     places: &[PlaceAfter],

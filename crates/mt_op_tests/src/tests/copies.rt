@@ -118,7 +118,7 @@ fn copies_operations(rt: HostRuntime) -> Result<(), Fail> {
 }
 
 fn track_op<M: Allocator>(memory: M, stamp: Stamp) -> Result<Op<M>, OpFault> {
-    Op::new(stamp, add_track(memory, None, "News")?)
+    Op::new(stamp, add_track(memory, None, "News at nine o'clock")?)
 }
 
 // Whether two operations have equal bodies, and are not equal.

@@ -46,10 +46,10 @@ fn written_op_len<M: Allocator + Copy>(memory: M, text: &[u8]) -> Result<usize, 
     }
 }
 
-/// A marker with this number. `Trailing` stands for what no marker here is refused as.
+/// A marker with this number, whose title is too long to take no memory. `Trailing` stands for what no marker here is refused as.
 fn numbered<M: Allocator>(memory: M, seq: u64) -> Result<Op<M>, LogFault> {
     let stamp = Stamp::new(1, A, seq).map_err(|_| LogFault::Trailing)?;
-    match marker(memory, stamp, "News") {
+    match marker(memory, stamp, "News at nine o'clock") {
         Ok(op) => Ok(op),
         Err(OpFault::Memory) => Err(LogFault::Memory),
         Err(_) => Err(LogFault::Trailing),
@@ -179,17 +179,31 @@ fn refusals(alloc: Global, work: Work, text: &[u8], size: usize) -> Option<u64> 
     Some(granted.allocations())
 }
 
+// The text of such a marker.
+fn text_of_numbered(alloc: Global, seq: u64) -> Result<Vec<u8>, LogFault> {
+    let mut out = Vec::new(alloc);
+    write_op(&numbered(alloc, seq)?, &mut out)?;
+    Ok(out)
+}
+
 // Of titles and tags, and of the bytes that are written.
 #[test]
-fn of_operations(rt: HostRuntime) {
-    let track = refusals(rt.alloc(), Work::ReadOp, &ADD_TRACK, 71);
-    assert!(rt; track >= Some(1));
-    let track = refusals(rt.alloc(), Work::WriteOp, &ADD_TRACK, 71);
-    assert!(rt; track >= Some(3));
-    let marker = refusals(rt.alloc(), Work::ReadOp, &NEWS, 42);
+fn of_operations(rt: HostRuntime) -> Result<(), Fail> {
+    let text = text_of_numbered(rt.alloc(), 1)?;
+    let marker = refusals(rt.alloc(), Work::ReadOp, &text, 58);
     assert!(rt; marker >= Some(1));
-    let marker = refusals(rt.alloc(), Work::WriteOp, &NEWS, 42);
+    let marker = refusals(rt.alloc(), Work::WriteOp, &text, 58);
     assert!(rt; marker >= Some(3));
+    Ok(())
+}
+
+// A title of up to 16 bytes takes no memory.
+#[test]
+fn of_operations_with_short_titles(rt: HostRuntime) {
+    let track = refusals(rt.alloc(), Work::ReadOp, &ADD_TRACK, 71);
+    assert_eq!(rt; track, Some(0));
+    let track = refusals(rt.alloc(), Work::WriteOp, &ADD_TRACK, 71);
+    assert!(rt; track >= Some(2));
 }
 
 #[test]
@@ -211,7 +225,7 @@ fn refusals_of_many(alloc: Global, work: Work, size: usize) -> Option<u64> {
 
 /// What each comes to, and how often it asks for memory at the least: for titles, for the logs and for their texts.
 const OF_LOGS: [(Work, usize, u64); 4] = [
-    (Work::Write, 465, 14),
+    (Work::Write, 625, 14),
     (Work::Merge, 11, 26),
     (Work::Copy, 10, 24),
     (Work::Read, 10, 12),
@@ -232,12 +246,11 @@ fn refused_read(alloc: Global, text: &[u8]) -> (Option<LogFault>, u64) {
     (fault, memory.allocations())
 }
 
-/// A count that no log can have is no reason to ask for memory: it is asked for one title, one operation in its run, and one
-/// run in the log.
+/// A count that no log can have is no reason to ask for memory: it is asked for one operation in its run, and one run in the log.
 #[test]
 fn of_a_log_with_too_great_a_count(rt: HostRuntime) -> Result<(), Fail> {
     let text = text_of(rt.alloc(), u64::MAX, &[&NEWS])?;
     let truncated = LogFault::BadRecord(1, ReadFault::Truncated);
-    assert_eq!(rt; refused_read(rt.alloc(), &text), (Some(truncated), 3));
+    assert_eq!(rt; refused_read(rt.alloc(), &text), (Some(truncated), 2));
     Ok(())
 }

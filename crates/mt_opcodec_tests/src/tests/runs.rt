@@ -16,7 +16,7 @@ fn op_at<M: Allocator>(
     seq: u64,
 ) -> Result<Op<M>, LogFault> {
     let stamp = Stamp::new(clock, replica, seq).map_err(|_| LogFault::Trailing)?;
-    match marker(memory, stamp, "News") {
+    match marker(memory, stamp, "News at nine o'clock") {
         Ok(op) => Ok(op),
         Err(OpFault::Memory) => Err(LogFault::Memory),
         Err(_) => Err(LogFault::Trailing),

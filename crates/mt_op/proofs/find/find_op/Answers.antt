@@ -35,3 +35,10 @@ loop-low-preserved g c =
     let at : slice_get c.args.ops.now probe ≡ Some there = slice_get_read c.args.ops.now (length c.args.ops.now) probe there refl inside c.index-ops-probe.is in
     let greater : dot_cmp (op_dot there) c.args.dot ≡ Greater = ap (λ (d : Dot). dot_cmp d c.args.dot) (sym c.dot-met.ensures.value) ∙ sym c.cmp.ensures ∙ c.in-Greater.is in
     Narrows-down c.args.ops.now c.args.dot c.loop-low.low c.loop-low.high probe there c.requires c.loop-low.invariant c.next_probe-probe.ensures.from c.next_probe-probe.ensures.to at greater
+
+pub returns-clause-absent : goal.returns-clause-absent
+returns-clause-absent g c = record {
+  in_range = omega (arith, c.loop-low.invariant.in_range, c.loop-low-test.false);
+  smaller_before = c.loop-low.invariant.smaller_before;
+  greater_after = λ k o from at. c.loop-low.invariant.greater_after k o (omega (arith, c.loop-low-test.false, from)) at;
+}

@@ -1,8 +1,12 @@
-use Rattle.std.proofs.Common.{◌≡◌, ◌∙◌, List, ap, subst}
+use Rattle.std.proofs.Common.{◌≡◌, ◌∙◌, List, sym, ap, subst}
 use Rattle.std.specs.Prelude.{IfOk}
 use Rattle.std.specs.List.{filter_map}
 use Rattle.mt_sessionview.specs.Content.{Track}
 use Rattle.mt_sessionview.specs.Read.{track_read}
+use Rattle.mt_stamp.specs.Sorting.{DifferBy}
+use Rattle.mt_op.specs.ByStamp.{stamp_of}
+use Rattle.mt_sessionview.proofs.InOrder.{noted_differ}
+use Rattle.mt_sessionview.proofs.PlacedOps.{placed_differ}
 use Rattle.mt_sessionview.proofs.Standing.{tracks_read}
 use Rattle.mt_sessionview.proofs.build.tracks_of.Goals as goal
 
@@ -10,3 +14,6 @@ pub returns-clause-ok : goal.returns-clause-ok
 returns-clause-ok g c =
     let r = c.args.items.now in
     subst (λ (t : List Track). IfOk c.tracks.result (λ tracks. tracks.items ≡ t)) (ap (filter_map (track_read r)) c.requires.placed ∙ tracks_read r c.requires.noted) c.tracks.ensures.ok
+
+pub tracks-requires-clause-differ : goal.tracks-requires-clause-differ
+tracks-requires-clause-differ g c = subst (DifferBy stamp_of) (sym c.requires.placed) (placed_differ c.args.items.now (noted_differ c.args.items.now c.requires.noted))

@@ -1,16 +1,11 @@
-use Rattle.std.proofs.Common.{◌≡◌, ◌++◌, drop, []}
+use Rattle.std.proofs.Common.{◌≡◌, take, []}
 use Rattle.std.specs.Prelude.{unwrap_or}
 use Rattle.std.specs.BTreeMap.{get}
-use Rattle.std.specs.List.{AllByRecursion, filter_map}
+use Rattle.std.specs.List.{filter_map}
 use Rattle.std.specs.Map.{keys_of}
 use Rattle.mt_stamp.specs.Moment.{Moment, stamp_cmp}
-use Rattle.mt_op.specs.declared.need.Role.TheVariants.{Clip}
-use Rattle.mt_items.specs.Cells.{HoldsClip, items_of}
 use Rattle.mt_sessionview.specs.Read.{clip_on}
 use Rattle.mt_sessionview.proofs.clip.clips_by_track.Given as goal
 
 abbrev pub invariant-loop-clip : goal.invariant-loop-clip
-invariant-loop-clip g l = record {
-  found : (track : Moment) → unwrap_or (get stamp_cmp l.table track) [] ++ filter_map (clip_on l.items track) (keys_of (drop l.clip-index l.clip-items)) ≡ filter_map (clip_on l.items track) (items_of Clip l.items);
-  each : AllByRecursion (λ e. HoldsClip e.0 l.items e.1) (drop l.clip-index l.clip-items);
-}
+invariant-loop-clip g l = (track : Moment) → unwrap_or (get stamp_cmp l.table track) [] ≡ filter_map (clip_on l.items track) (keys_of (take l.clip-index l.clip-items))

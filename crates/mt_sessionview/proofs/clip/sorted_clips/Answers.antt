@@ -1,10 +1,6 @@
-use Rattle.std.proofs.Common.{ℕ, rules}
+use Rattle.std.proofs.Common.{rules}
 use Rattle.std.proofs.lemmas.List.Sorted.{answers_always}
-use Rattle.mt_stamp.specs.Moment.{Moment}
-use Rattle.mt_sessionview.specs.Content.{Clip}
 use Rattle.mt_sessionview.proofs.clip.sorted_clips.Goals as goal
 
 pub returns-clause-sorted : goal.returns-clause-sorted
-returns-clause-sorted g c =
-    let key : Clip → ℕ × Moment = λ m. (m.at, m.place) in
-    c.in_ok-sort_by_key.ensures.sorted key (answers_always _ _ _ (λ f a r g h. search rules))
+returns-clause-sorted g c = c.in_ok-sort_by_key.ensures.sorted (λ m. (m.at, m.place)) (answers_always _ _ _ (λ f a r g h. search rules))

@@ -1,18 +1,12 @@
-use Rattle.std.proofs.Common.{Bool, true, false, cond, Some, None, ap, ◌∙◌}
-use Rattle.mt_op.specs.Writes.{title_written, last_write}
+use Rattle.std.proofs.Common.{◌∙◌, true, false, Some}
 use Rattle.mt_items.proofs.Marking.{present_is}
-use Rattle.mt_sessionview.specs.Read.{marker_from}
-use Rattle.mt_sessionview.proofs.ItemCells.{marker_made}
+use Rattle.mt_sessionview.proofs.ItemCells.{marker_is}
 use Rattle.mt_sessionview.proofs.marker.marker_at.Goals as goal
 
 pub returns-then-not-is_present-clause-ok : goal.returns-then-not-is_present-clause-ok
-returns-then-not-is_present-clause-ok g c = λ ops held.
-    let marker = c.args.marker in
-    ap (λ (b : Bool). cond b (marker_from ops marker (last_write title_written marker ops)) None) (present_is marker ops c.args.cells.now.presence false held.presence c.if-not-is_present.ensures)
+returns-then-not-is_present-clause-ok g c = λ ops held. cc (marker_is ops c.args.marker c.args.cells.now false held (present_is c.args.marker ops c.args.cells.now.presence false held.presence c.if-not-is_present.ensures))
 
 pub returns-clause-ok : goal.returns-clause-ok
 returns-clause-ok g c = λ ops held.
-    let marker = c.args.marker in
-    (λ i. Some (record { marker = marker; at = c.get-2.ensures i; title = (c.in-Ok.ensures.ok ∙ c.get.ensures) i }))
-    ∙ marker_made ops marker c.args.cells.now held
-    ∙ ap (λ (b : Bool). cond b (marker_from ops marker (last_write title_written marker ops)) None) (present_is marker ops c.args.cells.now.presence true held.presence c.if-not-is_present.ensures)
+    (λ i. Some (record { marker = c.args.marker; at = c.get-2.ensures i; title = (c.in-Ok.ensures.ok ∙ c.get.ensures) i }))
+    ∙ marker_is ops c.args.marker c.args.cells.now true held (present_is c.args.marker ops c.args.cells.now.presence true held.presence c.if-not-is_present.ensures)

@@ -11,7 +11,7 @@ use Rattle.mt_sessionview.proofs.ready.ready_of.Goals.{then-are_needs_met+in_ok-
 pub loop-op-init : goal.loop-op-init
 loop-op-init g c =
     let now : Bor (Op g.row.A.Denot) → Operation = λ o. o.now in
-    rw (c.in_ok-items.ensures.ok, c.new-ready.ensures.items) (record { passing = passes_all (map now c.args.ops.now) [] c.requires.rising refl; noted = tt; ready = refl })
+    rw (c.in_ok-items.ensures.ok, c.in_ok-ready.ensures.items) (record { passing = passes_all (map now c.args.ops.now) [] c.requires.rising refl; noted = tt; ready = refl })
 
 pub note-requires : goal.note-requires
 note-requires g c =

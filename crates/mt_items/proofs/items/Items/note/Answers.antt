@@ -21,13 +21,13 @@ invariant_of-result g c =
     })
 
 pub note-requires : goal.note-requires
-note-requires g c = record { new = new_item Track c.args.op.now c.self.inside.noted.items c.self.inside.tracks (subst (λ (l : List Operation). MayFollow l c.args.op.now) (sym c.self.view_is) c.requires.follows) c.self.invariant.tracks.only }
+note-requires g c = record { new = new_item Track c.args.op.now c.self.inside.noted.items c.self.inside.tracks (subst (λ (l : List Operation). MayFollow l c.args.op.now) (sym c.self.view_is) c.requires.follows) c.self.invariant.tracks.keys }
 
 pub note-requires-2 : goal.note-requires-2
-note-requires-2 g c = record { new = new_item Clip c.args.op.now c.self.inside.noted.items c.self.inside.clips (subst (λ (l : List Operation). MayFollow l c.args.op.now) (sym c.self.view_is) c.requires.follows) c.self.invariant.clips.only }
+note-requires-2 g c = record { new = new_item Clip c.args.op.now c.self.inside.noted.items c.self.inside.clips (subst (λ (l : List Operation). MayFollow l c.args.op.now) (sym c.self.view_is) c.requires.follows) c.self.invariant.clips.keys }
 
 pub note-requires-3 : goal.note-requires-3
-note-requires-3 g c = record { new = new_item Marker c.args.op.now c.self.inside.noted.items c.self.inside.markers (subst (λ (l : List Operation). MayFollow l c.args.op.now) (sym c.self.view_is) c.requires.follows) c.self.invariant.markers.only }
+note-requires-3 g c = record { new = new_item Marker c.args.op.now c.self.inside.noted.items c.self.inside.markers (subst (λ (l : List Operation). MayFollow l c.args.op.now) (sym c.self.view_is) c.requires.follows) c.self.invariant.markers.keys }
 
 pub note-requires-4 : goal.note-requires-4
-note-requires-4 g c = record { new = new_item Place c.args.op.now c.self.inside.noted.items c.self.inside.places (subst (λ (l : List Operation). MayFollow l c.args.op.now) (sym c.self.view_is) c.requires.follows) c.self.invariant.places }
+note-requires-4 g c = record { new = new_item Place c.args.op.now c.self.inside.noted.items c.self.inside.places (subst (λ (l : List Operation). MayFollow l c.args.op.now) (sym c.self.view_is) c.requires.follows) c.self.invariant.places.keys }

@@ -1,4 +1,5 @@
-use Rattle.std.proofs.Common.{Some, ◌∙◌, ap, sym, subst, List, true≢false}
+use Rattle.std.proofs.Common.{Some, ◌∙◌, ap, sym, subst, List, true≢false, arith}
+use Rattle.std.proofs.lemmas.Option.{slice_get_within}
 use Rattle.std.proofs.lemmas.Result.{err_from_is_err_and}
 use Rattle.std.specs.FinMap as fin
 use Rattle.mt_stamp.specs.declared.name.Dot.{Dot}
@@ -57,3 +58,8 @@ returns-clause-is_run g c =
     let gap : IsGapFor c.self.inside.ops.items (op_dot c.args.op) c.in-Err.place = subst (λ (l : List Operation). IsGapFor l (op_dot c.args.op) c.in-Err.place) c.deref.ensures.value (subst (λ (d : Dot). IsGapFor c.deref.result.now d c.in-Err.place) c.dot.ensures.value c.in-Err.ensures.absent) in
     subst (λ (l : List Operation). IsRun (record { replica = c.self.inside.replica; ops = l })) (sym c.in_ok-put_at-in-Err.ensures.items)
     (IsRun-insert c.self.inside.replica c.self.inside.ops.items c.args.op c.in-Err.place c.self.invariant c.dot.ensures.valid (c.requires ∙ ap (λ (r : RunOf). r.replica) (sym c.self.view_is)) gap)
+
+pub index-requires : goal.index-requires
+index-requires g c =
+    let within = slice_get_within c.deref.result.now c.in-Ok.place c.in-Ok.ensures.found.0 c.in-Ok.ensures.found.1 in
+    omega (arith, within, c.deref.ensures.len)
