@@ -1,5 +1,5 @@
 -- What `==` tells of tracks and sessions.
-use Rattle.std.proofs.Common.{◌≡◌, Bool, List, true, refl, arith}
+use Rattle.std.proofs.Common.{◌≡◌, Bool, List, refl, arith}
 use Rattle.std.specs.Prelude.{IsTrue, ◌↔◌}
 use Rattle.std.specs.Bool.{Decides}
 use Rattle.std.specs.Cmp.Lexicographic.{pointwise}

@@ -1,7 +1,8 @@
 -- An operation that is held changes nothing but the number held.
-use Rattle.std.proofs.Common.{◌≡◌, ◌+◌, Bool, true, false, not, cond, List, [], ◌∷◌, ◌||◌, length, refl, sym, ap, ◌∙◌, arith}
+use Rattle.std.proofs.Common.{◌≡◌, ◌+◌, Bool, true, false, not, cond, List, [], ◌∷◌, ◌||◌, length, refl, ap, ◌∙◌, arith}
 use Rattle.std.specs.Prelude.{IsTrue}
 use Rattle.std.specs.List.{AllByRecursion, filter, list_any, list_all}
+use Rattle.std.proofs.lemmas.Grind.{common_steps}
 use Rattle.mt_op.specs.Operation.{Operation}
 use Rattle.mt_op.specs.Needs.{needs, meets, clock_of, names_are_older}
 use Rattle.mt_op.specs.Ready.{is_met, is_ready}
@@ -9,7 +10,7 @@ use Rattle.mt_op.proofs.Needs.{ready_is_defined}
 use Rattle.mt_sessionview.specs.Session.{ready_ops, held_ops}
 use Rattle.mt_sessionview.specs.SessionLaws.{HeldIsCounted}
 use Rattle.mt_sessionview.specs.Noted.{tracks_in, markers_in}
-use Rattle.mt_sessionview.proofs.FromReady.{tracks_are, markers_are}
+use Rattle.mt_sessionview.proofs.Lists.{all_also}
 
 -- what does not pass is not found
 unfound : {D : Type 0} (r : D → Bool) (o : D) (xs : List D) (b : Bool) → r o ≡ false → list_any r (cond b (o ∷ xs) xs) ≡ list_any r xs
@@ -24,29 +25,16 @@ met_without r o s fails x = each (needs x)
     each [] = refl
     each (n ∷ ns) = cc (unfound r o (filter (meets n) s) (meets n o) fails, each ns)
 
--- a test that satisfies the rule with it satisfies the rule without it
-rule_without : (r : Operation → Bool) (o : Operation) (s : List Operation) → r o ≡ false → (xs : List Operation) → AllByRecursion (λ x. r x ≡ is_met clock_of needs meets (o ∷ s) r x) xs
-    → AllByRecursion (λ x. r x ≡ is_met clock_of needs meets s r x) xs
-rule_without r o s fails [] rule = tt
-rule_without r o s fails (x ∷ xs) rule = (rule.0 ∙ met_without r o s fails x, rule_without r o s fails xs rule.1)
-
 kept_same : (p q : Operation → Bool) (xs : List Operation) → AllByRecursion (λ x. p x ≡ q x) xs → filter p xs ≡ filter q xs
 kept_same p q [] same = refl
-kept_same p q (x ∷ xs) same = by (p x) (q x) same.0 (kept_same p q xs same.1)
-  where
-    by : (a b : Bool) → a ≡ b → filter p xs ≡ filter q xs → cond a (x ∷ filter p xs) (filter p xs) ≡ cond b (x ∷ filter q xs) (filter q xs)
-    by a b e rest = λ i. cond (e i) (x ∷ rest i) (rest i)
-
-turned_same : (p q : Operation → Bool) (xs : List Operation) → AllByRecursion (λ x. p x ≡ q x) xs → AllByRecursion (λ x. not (p x) ≡ not (q x)) xs
-turned_same p q [] same = tt
-turned_same p q (x ∷ xs) same = (ap not same.0, turned_same p q xs same.1)
+kept_same p q (x ∷ xs) same = let here = same.0 in let rest = kept_same p q xs same.1 in grind (arith, common_steps)
 
 module _ (s : List Operation) (o : Operation) (older : AllByRecursion (λ x. IsTrue (names_are_older x)) (o ∷ s)) (waits : is_ready clock_of needs meets (o ∷ s) o ≡ false) where
   -- ready with it is ready without it
   ready_without : AllByRecursion (λ x. is_ready clock_of needs meets (o ∷ s) x ≡ is_ready clock_of needs meets s x) s
   ready_without =
       let r : Operation → Bool = is_ready clock_of needs meets (o ∷ s) in
-      (ready_is_defined s older.1).only r (rule_without r o s waits s (ready_is_defined (o ∷ s) older).satisfies.1)
+      (ready_is_defined s older.1).only r (all_also (λ x. r x ≡ is_met clock_of needs meets (o ∷ s) r x) (λ x. r x ≡ is_met clock_of needs meets s r x) (λ x rule. rule ∙ met_without r o s waits x) s (ready_is_defined (o ∷ s) older).satisfies.1)
 
   pub ready_ops_without : ready_ops (o ∷ s) ≡ ready_ops s
   ready_ops_without =
@@ -58,12 +46,12 @@ module _ (s : List Operation) (o : Operation) (older : AllByRecursion (λ x. IsT
       let r : Operation → Bool = is_ready clock_of needs meets (o ∷ s) in
       let h : Operation → Bool = λ x. not (r x) in
       ap (λ (b : Bool). length (cond (not b) (o ∷ filter h s) (filter h s))) waits
-      ∙ (let rest = ap length (kept_same h (λ x. not (is_ready clock_of needs meets s x)) s (turned_same r (is_ready clock_of needs meets s) s ready_without)) in omega (arith, rest))
+      ∙ (let rest = ap length (kept_same h (λ x. not (is_ready clock_of needs meets s x)) s (all_also (λ x. r x ≡ is_ready clock_of needs meets s x) (λ x. h x ≡ not (is_ready clock_of needs meets s x)) (λ x. ap not) s ready_without)) in omega (arith, rest))
 
 pub held_is_counted : HeldIsCounted
 held_is_counted s o older waits =
     let ready = ready_ops_without s o older waits in
-    let tracks = tracks_are (o ∷ s) ∙ ap tracks_in ready ∙ sym (tracks_are s) in
-    let markers = markers_are (o ∷ s) ∙ ap markers_in ready ∙ sym (markers_are s) in
+    let tracks = ap tracks_in ready in
+    let markers = ap markers_in ready in
     let count = held_with s o older waits in
     λ i. record { tracks = tracks i; markers = markers i; held = count i }

@@ -1,14 +1,11 @@
 -- What holds of the tracks, clips and markers of operations that stand once.
-use Rattle.std.proofs.Common.{◌≡◌, ◌≢◌, true, false, List, [], ◌∷◌, map, sym, ◌∙◌}
+use Rattle.std.proofs.Common.{◌≡◌, ◌≢◌, true, List, [], ◌∷◌, map, refl, sym, ◌∙◌, inl, inr}
 use Rattle.std.specs.List.{AllByRecursion, filter}
 use Rattle.std.specs.Cmp.{IsTotalOrder}
-use Rattle.std.specs.Ordering.{nat_cmp}
 use Rattle.std.specs.declared.cmp.Ordering.{Ordering}
 use Rattle.std.specs.declared.cmp.Ordering.TheVariants.{Equal}
-use Rattle.std.proofs.lemmas.Bool.{true≢false}
-use Rattle.mt_stamp.specs.Moment.{Moment, stamp_cmp, stamp_eq}
+use Rattle.mt_stamp.specs.Moment.{Moment}
 use Rattle.mt_stamp.specs.Sorting.{sort_by, RisesStrictly, DifferBy}
-use Rattle.mt_stamp.proofs.Order.{stamp_cmp-IsAntisymmetric}
 use Rattle.mt_stamp.proofs.Differing.{differ_kept, differ_mapped, differ_also, differ_sorted}
 use Rattle.mt_stamp.proofs.Members.{IsMember, AreApart, sort_strict}
 use Rattle.mt_stamp.proofs.SameItems.{all_passing}
@@ -18,35 +15,28 @@ use Rattle.mt_op.specs.Needs.{adds_track, adds_clip, adds_marker}
 use Rattle.mt_op.specs.Writes.{clip_place_written}
 use Rattle.mt_op.proofs.Needs.{and_first}
 use Rattle.mt_op.proofs.SameWrites.{one_write}
-use Rattle.mt_items.specs.Noting.{AreNoted, is_noted}
-use Rattle.mt_items.proofs.Noting.{first_false, rest_false}
+use Rattle.mt_items.specs.Noting.{AreNoted}
 use Rattle.mt_sessionview.specs.Content.{Clip, Track, Marker, clip_cmp, marker_cmp, AreClips}
 use Rattle.mt_sessionview.specs.Noted.{is_shown_in, marker_in, markers_in, clip_place_in, clip_in, is_clip_on_in, clips_in, track_cmp_in, track_in, tracks_in}
-use Rattle.mt_sessionview.proofs.Items.{stamp_eq_same}
-use Rattle.mt_sessionview.proofs.Lists.{all_members, all_also, one_of}
-use Rattle.mt_sessionview.proofs.Orders.{tied_second, marker_cmp_total, clip_cmp_total}
+use Rattle.mt_sessionview.proofs.Lists.{all_members, member_all, all_also, one_of}
+use Rattle.mt_sessionview.proofs.Orders.{marker_key, clip_key, tied_stamps, marker_cmp_total, clip_cmp_total, stamps_differ}
 use Rattle.mt_sessionview.proofs.Shown.{Among, clip_given, placed_by}
 
 -- noted operations have stamps of their own
 pub noted_differ : (ops : List Operation) → AreNoted ops → DifferBy stamp_of ops
 noted_differ [] noted = tt
-noted_differ (o ∷ ops) noted = (each ops noted.0.fresh, noted_differ ops noted.1)
-  where
-    each : (xs : List Operation) → is_noted xs o.stamp ≡ false → AllByRecursion (λ x. stamp_of o ≢ stamp_of x) xs
-    each [] fresh = tt
-    each (x ∷ xs) fresh = ((λ same. true≢false (sym (stamp_eq_same o.stamp x.stamp same) ∙ first_false (stamp_eq o.stamp x.stamp) (is_noted xs o.stamp) fresh)), each xs (rest_false (stamp_eq o.stamp x.stamp) (is_noted xs o.stamp) fresh))
+noted_differ (o ∷ ops) noted = (stamps_differ stamp_of o.stamp ops noted.0.fresh, noted_differ ops noted.1)
 
 pub one_op : (r : List Operation) → AreNoted r → (a b : Operation) → IsMember a r → IsMember b r → a.stamp ≡ b.stamp → a ≡ b
 one_op r noted a b in_a in_b same = one_of stamp_of r a b (noted_differ r noted) in_a in_b same
 
 -- items that differ by a key that ties agree on do not tie
-pub apart_by : {X Y : Type 0} (cmp : X → X → Ordering) (order : IsTotalOrder cmp) (key : X → Y) → ((a b : X) → cmp a b ≡ Equal → key a ≡ key b) → (xs : List X) → DifferBy key xs → AreApart cmp order xs
-apart_by cmp order key agree [] d = tt
-apart_by {X} cmp order key agree (x ∷ xs) d = (each xs d.0, apart_by cmp order key agree xs d.1)
-  where
-    each : (ys : List X) → AllByRecursion (λ y. key x ≢ key y) ys → AllByRecursion (λ y. cmp x y ≢ Equal) ys
-    each [] apart = tt
-    each (y ∷ ys) apart = (λ tied. apart.0 (agree x y tied), each ys apart.1)
+pub apart_by : {X Y : Type 0} (cmp : X → X → Ordering) (order : IsTotalOrder cmp) (key : X → Y) (xs : List X) → ((a b : X) → IsMember a xs → IsMember b xs → cmp a b ≡ Equal → key a ≡ key b) → DifferBy key xs → AreApart cmp order xs
+apart_by cmp order key [] agree d = tt
+apart_by cmp order key (x ∷ xs) agree d = (
+  all_members (λ y. cmp x y ≢ Equal) xs (λ y m tied. member_all (λ z. key x ≢ key z) xs y d.0 m (agree x y (inl refl) (inr m) tied)),
+  apart_by cmp order key xs (λ a b m n. agree a b (inr m) (inr n)) d.1,
+)
 
 module _ (r : List Operation) (noted : AreNoted r) where
   differ : DifferBy stamp_of r
@@ -56,7 +46,7 @@ module _ (r : List Operation) (noted : AreNoted r) where
   markers_rise =
       let shown = filter (is_shown_in r adds_marker) r in
       sort_strict marker_cmp marker_cmp_total (map (marker_in r) shown)
-      (apart_by marker_cmp marker_cmp_total (λ (m : Marker). m.marker) (λ a b tied. stamp_cmp-IsAntisymmetric a.marker b.marker (tied_second (nat_cmp a.at b.at) (stamp_cmp a.marker b.marker) tied)) (map (marker_in r) shown)
+      (apart_by marker_cmp marker_cmp_total (λ (m : Marker). m.marker) (map (marker_in r) shown) (λ a b m n tied. tied_stamps (marker_key a) (marker_key b) tied)
       (differ_mapped (marker_in r) (λ (m : Marker). m.marker) shown (differ_kept stamp_of (is_shown_in r adds_marker) r differ)))
 
   abbrev IsAdded : Operation → Type 0
@@ -80,7 +70,7 @@ module _ (r : List Operation) (noted : AreNoted r) where
       let places : DifferBy (λ (c : Clip). c.place) (map (clip_in r) mine) = differ_mapped (clip_in r) (λ (c : Clip). c.place) mine writers in
       record {
         rise = sort_strict clip_cmp clip_cmp_total (map (clip_in r) mine)
-            (apart_by clip_cmp clip_cmp_total (λ (c : Clip). c.place) (λ a b tied. stamp_cmp-IsAntisymmetric a.place b.place (tied_second (nat_cmp a.at b.at) (stamp_cmp a.place b.place) tied)) (map (clip_in r) mine) places);
+            (apart_by clip_cmp clip_cmp_total (λ (c : Clip). c.place) (map (clip_in r) mine) (λ a b m n tied. tied_stamps (clip_key a) (clip_key b) tied) places);
         apart = differ_sorted (λ (c : Clip). c.place) clip_cmp (map (clip_in r) mine) places;
       }
 

@@ -1,18 +1,15 @@
 -- What is read of the cells of an item.
-use Rattle.std.proofs.Common.{◌≡◌, ◌∙◌, ◌++◌, Bool, true, false, cond, List, [], ◌∷◌, Option, Some, None, length, refl, sym, ap, subst, arith}
-use Rattle.std.specs.Prelude.{option_map, unwrap_or}
+use Rattle.std.proofs.Common.{◌≡◌, ◌∙◌, ◌++◌, Bool, cond, List, [], ◌∷◌, Option, Some, None, length, refl, sym, subst, arith}
 use Rattle.std.specs.List.{AllByRecursion, filter_map, cons_option}
 use Rattle.std.specs.Map.{keys_of}
 use Rattle.std.proofs.lemmas.List.{append-nil, append_assoc}
-use Rattle.mt_stamp.specs.Moment.{Moment, stamp_eq}
-use Rattle.mt_op.specs.Gain.{unchanged}
+use Rattle.mt_stamp.specs.Moment.{Moment}
 use Rattle.mt_op.specs.Operation.{Operation}
-use Rattle.mt_op.specs.Writes.{title_written, clip_place_written, trim_written, source_written, last_write}
 use Rattle.mt_items.specs.Cells.{HoldsClip, HoldsMarker}
 use Rattle.mt_op.specs.Presence.{is_present}
 use Rattle.mt_items.specs.declared.cells.ClipCells.{ClipCells}
 use Rattle.mt_items.specs.declared.cells.MarkerCells.{MarkerCells}
-use Rattle.mt_sessionview.specs.Read.{clip_from, clip_on, clip_read, if_on, marker_read}
+use Rattle.mt_sessionview.specs.Read.{clip_read, marker_read}
 use Rattle.mt_sessionview.specs.declared.clip.OnTrack.{OnTrack}
 
 abbrev pub found_in : {A : Type 0} → Moment → ClipCells A → OnTrack

@@ -1,13 +1,18 @@
 -- Members of lists, and what lists give.
-use Rattle.std.proofs.Common.{◌≡◌, ◌≢◌, ℕ, zero, suc, ◌+◌, ◌<◌, ◌≤◌, Bool, true, false, cond, List, [], ◌∷◌, ◌++◌, ◌||◌, length, get_or, take, drop, Option, Some, None, map, refl, sym, ap, ◌∙◌, subst, arith, inl, inr, true≢false}
+use Rattle.std.proofs.Common.{◌≡◌, ◌≢◌, ℕ, ◌+◌, ◌<◌, Bool, true, false, cond, List, [], ◌∷◌, ◌++◌, ◌||◌, length, get_or, take, Option, Some, None, map, refl, sym, ap, ◌∙◌, subst, inl, inr, true≢false}
 use Rattle.std.specs.List.{AllByRecursion, filter, filter_map, cons_option, list_any, list_all}
 use Rattle.std.specs.declared.cmp.Ordering.{Ordering}
 use Rattle.std.specs.declared.cmp.Ordering.TheVariants.{Less}
-use Rattle.std.proofs.lemmas.List.{append_assoc, append-nil, map-append, take_more}
-use Rattle.std.proofs.lemmas.List.Elements.{All-from_recursion, filter_map-append}
+use Rattle.std.proofs.lemmas.Bool.{false_from_ne_true}
+use Rattle.std.proofs.lemmas.List.{append-nil, map-append, take_more}
+use Rattle.std.proofs.lemmas.List.Elements.{All-from_recursion, recursion_from_All, filter_map-append}
+use Rattle.std.specs.List.Sorted.{IsPermutation}
+use Rattle.std.proofs.lemmas.List.Sorted.{All-permutation}
 use Rattle.mt_stamp.specs.Sorting.{DifferBy, RisesStrictly}
 use Rattle.mt_stamp.proofs.Differing.{all_kept}
 use Rattle.mt_stamp.proofs.Members.{IsMember}
+use Rattle.mt_stamp.proofs.SameItems.{all_map}
+use Rattle.std.proofs.Math.Bool.{or-true}
 use Rattle.mt_op.proofs.Needs.{and_first, and_second}
 
 pub all_members : {X : Type 0} (P : X → Type 0) (xs : List X) → ((x : X) → IsMember x xs → P x) → AllByRecursion P xs
@@ -23,6 +28,10 @@ pub all_also : {X : Type 0} (P Q : X → Type 0) → ((x : X) → P x → Q x) �
 all_also P Q also [] all = tt
 all_also P Q also (x ∷ xs) all = (also x all.0, all_also P Q also xs all.1)
 
+pub members_moved : {X : Type 0} (xs ys : List X) → IsPermutation xs ys → (v : X) → IsMember v ys → IsMember v xs
+members_moved {X} xs ys moved v m =
+    member_all (λ w. IsMember w xs) ys v (recursion_from_All (λ w. IsMember w xs) ys (All-permutation (λ w. IsMember w xs) xs ys moved (All-from_recursion (λ w. IsMember w xs) xs (all_members (λ w. IsMember w xs) xs (λ w n. n))))) m
+
 pub all_true : {X : Type 0} (f : X → Bool) (xs : List X) → list_all f xs ≡ true → AllByRecursion (λ x. f x ≡ true) xs
 all_true f [] all = tt
 all_true f (x ∷ xs) all = (and_first _ _ all, all_true f xs (and_second _ _ all))
@@ -31,11 +40,10 @@ all_true f (x ∷ xs) all = (and_first _ _ all, all_true f xs (and_second _ _ al
 pub any_of : {X : Type 0} (p : X → Bool) (xs : List X) (x : X) → IsMember x xs → p x ≡ true → list_any p xs ≡ true
 any_of p [] x m passes = absurd m
 any_of p (y ∷ xs) x (inl same) passes = ap (λ (b : Bool). b || list_any p xs) (ap p same ∙ passes)
-any_of p (y ∷ xs) x (inr later) passes = by (p y) (any_of p xs x later passes)
-  where
-    by : (b : Bool) → list_any p xs ≡ true → (b || list_any p xs) ≡ true
-    by true rest = refl
-    by false rest = rest
+any_of p (y ∷ xs) x (inr later) passes = rw (any_of p xs x later passes) (or-true (p y))
+
+pub none_passes : {X : Type 0} (p : X → Bool) (xs : List X) → list_any p xs ≡ false → AllByRecursion (λ x. p x ≡ false) xs
+none_passes p xs none = all_members (λ x. p x ≡ false) xs (λ x m. false_from_ne_true (p x) (λ passes. true≢false (sym (any_of p xs x m passes) ∙ none)))
 
 -- a member that passes
 pub record IsFound {X : Type 0} (p : X → Bool) (xs : List X) : Type 0 where
@@ -96,20 +104,6 @@ one_of key (x ∷ xs) a b differ (inl here) (inr later) same = absurd (member_al
 one_of key (x ∷ xs) a b differ (inr later) (inl here) same = absurd (member_all (λ y. key x ≢ key y) xs a differ.0 later (ap key here ∙ sym same))
 one_of key (x ∷ xs) a b differ (inr in_a) (inr in_b) same = one_of key xs a b differ.1 in_a in_b same
 
--- what differs gives what differs, where a key tells who gave it
-pub differ_given : {X Y Z : Type 0} (h : X → Option Y) (key : X → Z) (name : Y → Z) → ((x : X) (y : Y) → h x ≡ Some y → name y ≡ key x) → (xs : List X) → DifferBy key xs → DifferBy name (filter_map h xs)
-differ_given h key name tells [] d = tt
-differ_given {X} {Y} {Z} h key name tells (x ∷ xs) d = by (h x) refl (differ_given h key name tells xs d.1)
-  where
-    by : (o : Option Y) → h x ≡ o → DifferBy name (filter_map h xs) → DifferBy name (cons_option o (filter_map h xs))
-    by None is rest = rest
-    by (Some y) is rest = (
-      all_members (λ z. name y ≢ name z) (filter_map h xs) (λ z m same.
-          let g = given_by h xs z m in
-          member_all (λ w. key x ≢ key w) xs g.item d.0 g.member (sym (tells x y is) ∙ same ∙ tells g.item z g.gives)),
-      rest,
-    )
-
 -- what rises gives what rises, where a key tells who gave it
 pub rises_given : {X Y Z : Type 0} (cmp : Z → Z → Ordering) (h : X → Option Y) (key : X → Z) (name : Y → Z) → ((x : X) (y : Y) → h x ≡ Some y → name y ≡ key x) → (xs : List X) → RisesStrictly (λ a b. cmp (key a) (key b)) xs → RisesStrictly (λ a b. cmp (name a) (name b)) (filter_map h xs)
 rises_given cmp h key name tells [] rises = tt
@@ -126,19 +120,11 @@ rises_given {X} {Y} {Z} cmp h key name tells (x ∷ xs) rises = by (h x) refl (r
 
 pub rises_mapped : {X Y : Type 0} (cmp : Y → Y → Ordering) (f : X → Y) (xs : List X) → RisesStrictly (λ a b. cmp (f a) (f b)) xs → RisesStrictly cmp (map f xs)
 rises_mapped cmp f [] rises = tt
-rises_mapped {X} cmp f (x ∷ xs) rises = (each xs rises.0, rises_mapped cmp f xs rises.1)
-  where
-    each : (ys : List X) → AllByRecursion (λ y. cmp (f x) (f y) ≡ Less) ys → AllByRecursion (λ y. cmp (f x) y ≡ Less) (map f ys)
-    each [] all = tt
-    each (y ∷ ys) all = (all.0, each ys all.1)
+rises_mapped cmp f (x ∷ xs) rises = (all_map (λ y. cmp (f x) (f y) ≡ Less) (λ z. cmp (f x) z ≡ Less) f (λ y less. less) xs rises.0, rises_mapped cmp f xs rises.1)
 
 pub rises_unmapped : {X Y : Type 0} (cmp : Y → Y → Ordering) (f : X → Y) (xs : List X) → RisesStrictly cmp (map f xs) → RisesStrictly (λ a b. cmp (f a) (f b)) xs
 rises_unmapped cmp f [] rises = tt
-rises_unmapped {X} cmp f (x ∷ xs) rises = (each xs rises.0, rises_unmapped cmp f xs rises.1)
-  where
-    each : (ys : List X) → AllByRecursion (λ y. cmp (f x) y ≡ Less) (map f ys) → AllByRecursion (λ y. cmp (f x) (f y) ≡ Less) ys
-    each [] all = tt
-    each (y ∷ ys) all = (all.0, each ys all.1)
+rises_unmapped cmp f (x ∷ xs) rises = (all_members (λ y. cmp (f x) (f y) ≡ Less) xs (λ y m. member_all (λ z. cmp (f x) z ≡ Less) (map f xs) (f y) rises.0 (member_map f xs y m)), rises_unmapped cmp f xs rises.1)
 
 pub item_of : {X : Type 0} (P : X → Type 0) (xs : List X) (i : ℕ) (x : X) → i < length xs → x ≡ get_or xs i x → AllByRecursion P xs → P x
 item_of P xs i x inside is all = subst P (sym is) (All-from_recursion P xs all i x inside)

@@ -1,14 +1,15 @@
 -- One pass over operations by rising stamp collects the ready ones.
-use Rattle.std.proofs.Common.{◌≡◌, true, List, [], ◌∷◌, ◌++◌, map, reverse, sym, ap, ◌∙◌, subst}
+use Rattle.std.proofs.Common.{◌≡◌, ℕ, ◌+◌, ◌<◌, ◌≤◌, true, false, List, [], ◌∷◌, ◌++◌, length, get_or, map, drop, reverse, sym, ap, ◌∙◌, subst}
 use Rattle.std.specs.Prelude.{IsTrue}
-use Rattle.std.proofs.lemmas.List.{reverse-reverse, map-append}
+use Rattle.std.proofs.lemmas.List.{reverse-reverse, map-append, drop_all}
 use mathlib.Core.List.{reverse-cons}
 use Rattle.mt_stamp.specs.Sorting.{RisesStrictly}
 use Rattle.mt_op.specs.Operation.{Operation}
 use Rattle.mt_op.specs.ByStamp.{op_cmp}
 use Rattle.mt_op.specs.Needs.{names_are_older}
-use Rattle.mt_items.specs.Noting.{AreNoted, are_needs_met}
-use Rattle.mt_items.proofs.Fresh.{IsPassing, next_follows, next_noted, strictly_rises}
+use Rattle.mt_op.proofs.TagLists.{drop_here}
+use Rattle.mt_items.specs.Noting.{AreNoted, MayFollow, are_needs_met}
+use Rattle.mt_items.proofs.Fresh.{IsPassing, next_follows, next_noted, next_held, strictly_rises}
 use Rattle.mt_items.proofs.OnePass.{one_pass_is}
 use Rattle.mt_sessionview.specs.Session.{ready_ops}
 
@@ -18,16 +19,31 @@ pub record IsCollecting (all before rest collected : List Operation) : Type 0 wh
   pub noted : AreNoted before
   pub ready : collected ≡ reverse before
 
-pub one_collected : {X : Type 0} (f : X → Operation) (all before after rest : List Operation) (x : X) (ready grown : List X) → IsCollecting all before (f x ∷ rest) (map f ready) → are_needs_met before (f x) ≡ true → IsTrue (names_are_older (f x)) → after ≡ f x ∷ before → grown ≡ ready ++ x ∷ []
-    → IsCollecting all after rest (map f grown)
-one_collected f all before after rest x ready grown so_far met older is grown_is = record {
-  passing = next_noted all before rest after (f x) so_far.passing met older is;
-  noted = subst AreNoted (sym is) (next_follows all before rest (f x) so_far.passing met, so_far.noted);
-  ready = ap (map f) grown_is ∙ map-append f ready (x ∷ []) ∙ ap (λ (l : List Operation). l ++ f x ∷ []) so_far.ready ∙ sym (reverse-cons (f x) before) ∙ ap reverse (sym is);
-}
+module _ {X : Type 0} (f : X → Operation) (ops : List X) (i : ℕ) (before : List Operation) (ready : List X) (so_far : IsCollecting (map f ops) before (map f (drop i ops)) (map f ready)) where
+  module _ (x : X) (inside : i < length ops) (is : x ≡ get_or ops i x) where
+    here : IsPassing (map f ops) before (f x ∷ map f (drop (i + 1) ops))
+    here = subst (λ (l : List X). IsPassing (map f ops) before (map f l)) (drop_here ops i x inside is) so_far.passing
 
-pub all_collected : (all noted rest ready : List Operation) → rest ≡ [] → RisesStrictly op_cmp all → IsCollecting all noted rest ready → (noted ≡ reverse (ready_ops all)) × (ready ≡ ready_ops all)
-all_collected all noted rest ready none rises so_far =
-    let done = subst (IsPassing all noted) none so_far.passing in
-    let is : noted ≡ reverse (ready_ops all) = done.passed ∙ one_pass_is all (done.older tt) (strictly_rises all rises) in
-    (is, so_far.ready ∙ ap reverse is ∙ reverse-reverse (ready_ops all))
+    -- the next may be noted where its needs are met, and is then collected
+    pub may_follow : are_needs_met before (f x) ≡ true → MayFollow before (f x)
+    may_follow met = next_follows (map f ops) before (map f (drop (i + 1) ops)) (f x) here met
+
+    pub one_collected : (after : List Operation) (grown : List X) → are_needs_met before (f x) ≡ true → IsTrue (names_are_older (f x)) → after ≡ f x ∷ before → grown ≡ ready ++ x ∷ [] → IsCollecting (map f ops) after (map f (drop (i + 1) ops)) (map f grown)
+    one_collected after grown met older after_is grown_is = record {
+      passing = next_noted (map f ops) before (map f (drop (i + 1) ops)) after (f x) here met older after_is;
+      noted = subst AreNoted (sym after_is) (may_follow met, so_far.noted);
+      ready = ap (map f) grown_is ∙ map-append f ready (x ∷ []) ∙ ap (λ (l : List Operation). l ++ f x ∷ []) so_far.ready ∙ sym (reverse-cons (f x) before) ∙ ap reverse (sym after_is);
+    }
+
+    -- and else it is held
+    pub one_held : (after : List Operation) (grown : List X) → are_needs_met before (f x) ≡ false → IsTrue (names_are_older (f x)) → after ≡ before → grown ≡ ready → IsCollecting (map f ops) after (map f (drop (i + 1) ops)) (map f grown)
+    one_held after grown unmet older after_is grown_is =
+        let held = next_held (map f ops) before (map f (drop (i + 1) ops)) (f x) here unmet older in
+        rw (after_is, grown_is) (record { passing = held; noted = so_far.noted; ready = so_far.ready })
+
+  -- where none is left, all that are ready were collected
+  pub all_collected : length ops ≤ i → RisesStrictly op_cmp (map f ops) → (before ≡ reverse (ready_ops (map f ops))) × (map f ready ≡ ready_ops (map f ops))
+  all_collected past rises =
+      let done = subst (λ (l : List X). IsPassing (map f ops) before (map f l)) (drop_all i ops past) so_far.passing in
+      let all : before ≡ reverse (ready_ops (map f ops)) = done.passed ∙ one_pass_is (map f ops) (done.older tt) (strictly_rises (map f ops) rises) in
+      (all, so_far.ready ∙ ap reverse all ∙ reverse-reverse (ready_ops (map f ops)))

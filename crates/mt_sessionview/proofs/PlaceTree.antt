@@ -1,16 +1,17 @@
 -- The places that ready operations give are a tree.
-use Rattle.std.proofs.Common.{◌≡◌, ◌<◌, Bool, true, false, cond, List, [], ◌∷◌, Option, Some, None, map, refl, sym, ap, ◌∙◌, subst, lt-ltb, ltb}
+use Rattle.std.proofs.Common.{◌≡◌, ◌<◌, Bool, true, cond, List, [], ◌∷◌, Option, Some, None, map, refl, sym, ap, ◌∙◌, subst, lt-ltb, ltb, arith}
 use Rattle.std.specs.Prelude.{option_map, IsTrue}
-use Rattle.std.specs.List.{AllByRecursion, filter, filter_map, cons_option, list_any}
+use Rattle.std.specs.List.{AllByRecursion, filter, filter_map, list_any}
 use Rattle.std.specs.declared.cmp.Ordering.TheVariants.{Less}
 use Rattle.std.proofs.lemmas.Bool.{ltb-true}
+use Rattle.std.proofs.lemmas.Grind.{common_steps}
 use Rattle.std.proofs.lemmas.Option.{same_Some, none-some}
 use Rattle.mt_stamp.specs.Moment.{Moment, stamp_cmp}
 use Rattle.mt_stamp.specs.Sorting.{DifferBy}
 use Rattle.mt_stamp.specs.Tree.{TreePlace, IsTree}
 use Rattle.mt_stamp.proofs.Order.{stamp_eq-true}
 use Rattle.mt_stamp.proofs.Members.{member_at, member_stands, member_kept, member_of_kept}
-use Rattle.mt_stamp.proofs.Differing.{differ_kept}
+use Rattle.mt_stamp.proofs.Differing.{differ_kept, differ_mapped}
 use Rattle.mt_op.specs.declared.need.Need.{Need}
 use Rattle.mt_op.specs.declared.need.Role.TheVariants.{Place}
 use Rattle.mt_op.specs.ByStamp.{stamp_of}
@@ -22,7 +23,7 @@ use Rattle.mt_op.specs.Valid.{IsOperation}
 use Rattle.mt_op.proofs.Needs.{and_first, and_second, ready_is_defined}
 use Rattle.mt_sessionview.specs.Session.{place_added, places, ready_ops}
 use Rattle.mt_sessionview.specs.Read.{place_after, tree_place}
-use Rattle.mt_sessionview.proofs.Lists.{all_also, all_true, any_member, member_all, given_by, member_given, differ_given}
+use Rattle.mt_sessionview.proofs.Lists.{all_also, all_true, any_member, member_all, given_by, member_given}
 use Rattle.mt_sessionview.proofs.TrackSorting.{one_place}
 
 -- what an operation adds to the places
@@ -36,19 +37,10 @@ added_is o = by o.stamp o.act
 
 pub given_places : (xs : List Operation) → filter_map place_added xs ≡ map tree_place (filter (fits Place) xs)
 given_places [] = refl
-given_places (x ∷ xs) = ap (λ (o : Option TreePlace). cons_option o (filter_map place_added xs)) (added_is x) ∙ by (fits Place x) (given_places xs)
-  where
-    by : (b : Bool) → filter_map place_added xs ≡ map tree_place (filter (fits Place) xs)
-        → cons_option (cond b (Some (tree_place x)) None) (filter_map place_added xs) ≡ map tree_place (cond b (x ∷ filter (fits Place) xs) (filter (fits Place) xs))
-    by true rest = ap (λ (l : List TreePlace). tree_place x ∷ l) rest
-    by false rest = rest
+given_places (x ∷ xs) = let here = added_is x in let rest = given_places xs in grind (arith, common_steps)
 
 pub gives : (o : Operation) (t : TreePlace) → place_added o ≡ Some t → (fits Place o ≡ true) × (t ≡ tree_place o)
-gives o t is = by (fits Place o) refl (sym (added_is o) ∙ is)
-  where
-    by : (b : Bool) → fits Place o ≡ b → cond b (Some (tree_place o)) None ≡ Some t → (fits Place o ≡ true) × (t ≡ tree_place o)
-    by true adds e = (adds, sym (same_Some (tree_place o) t e))
-    by false adds e = absurd (none-some t e)
+gives o t is = let added = sym (added_is o) ∙ is in (grind (arith, common_steps), grind (arith, common_steps))
 
 -- the place that an operation is put after is one of its needs
 need_within : (P : Need → Type 0) (p : Moment) (after : Option Moment) → after ≡ Some p → AllByRecursion P (place_needs after) → P (need_of Place p)
@@ -75,7 +67,7 @@ module _ (s : List Operation) (differ : DifferBy stamp_of s) (valid : AllByRecur
 
   pub places_are_a_tree : IsTree (places s)
   places_are_a_tree = record {
-    apart = one_place (λ (t : TreePlace). t.place) (places s) (differ_given place_added stamp_of (λ (t : TreePlace). t.place) (λ o t is. ap (λ (u : TreePlace). u.place) (gives o t is).1) (ready_ops s) (differ_kept stamp_of ready s differ));
+    apart = one_place (λ (t : TreePlace). t.place) (places s) (subst (DifferBy (λ (t : TreePlace). t.place)) (sym (given_places (ready_ops s))) (differ_mapped tree_place (λ (t : TreePlace). t.place) (filter (fits Place) (ready_ops s)) (differ_kept stamp_of (fits Place) (ready_ops s) (differ_kept stamp_of ready s differ))));
     after_older = λ i t p at after.
         let from = given_by place_added (ready_ops s) t (member_at (places s) i t at) in
         let o = from.item in

@@ -1,5 +1,5 @@
 -- The operations that give tracks their places, in the order of these.
-use Rattle.std.proofs.Common.{◌≡◌, ◌≢◌, ℕ, zero, suc, ◌<◌, Bool, true, false, ◌||◌, eqb, List, [], ◌∷◌, Some, length, map, refl, sym, ap, ◌∙◌, subst, arith, inl, inr, true≢false}
+use Rattle.std.proofs.Common.{◌≡◌, ◌≢◌, ℕ, zero, suc, ◌<◌, true, eqb, List, [], ◌∷◌, Some, length, map, refl, sym, ap, ◌∙◌, subst, arith, inl, inr}
 use Rattle.std.specs.Prelude.{slice_get}
 use Rattle.std.specs.Cmp.{IsTotalOrder, tied_itself}
 use Rattle.std.specs.List.{AllByRecursion, filter}
@@ -29,7 +29,7 @@ use Rattle.mt_tracklist.specs.Rising.{given_tree, stamp_at}
 use Rattle.mt_sessionview.specs.Noted.{places_in, by_place, placed_in}
 use Rattle.mt_sessionview.specs.Read.{op_at, ops_at, tree_place}
 use Rattle.mt_sessionview.proofs.InOrder.{apart_by}
-use Rattle.mt_sessionview.proofs.Lists.{all_also, all_members, member_all, rises_kept, rises_mapped, rises_unmapped}
+use Rattle.mt_sessionview.proofs.Lists.{all_also, all_members, any_member, member_all, member_map, rises_kept, rises_mapped, rises_unmapped}
 use Rattle.mt_sessionview.proofs.PlaceTree.{given_places}
 use Rattle.mt_sessionview.proofs.SameSession.{tree_same}
 
@@ -54,12 +54,9 @@ member_ops_at ops (p ∷ order) below v (inl same) = subst (λ (o : Operation). 
 member_ops_at ops (p ∷ order) below v (inr later) = member_ops_at ops order (λ k q at. below (suc k) q at) v later
 
 at_ops_had : (ops : List Operation) (order : List ℕ) (p : ℕ) → has order p ≡ true → IsMember (op_at ops p) (ops_at ops order)
-at_ops_had ops [] p had = absurd (true≢false (sym had))
-at_ops_had ops (q ∷ order) p had = by (eqb p q) refl had (at_ops_had ops order p)
-  where
-    by : (b : Bool) → eqb p q ≡ b → (b || has order p) ≡ true → (has order p ≡ true → IsMember (op_at ops p) (ops_at ops order)) → IsMember (op_at ops p) (ops_at ops (q ∷ order))
-    by true same h rest = inl (ap (op_at ops) (sym (eqb-true p q same)))
-    by false other h rest = inr (rest h)
+at_ops_had ops order p had =
+    let found = any_member (eqb p) order had in
+    subst (IsMember (op_at ops p)) (sym (ops_at_is ops order)) (member_map (op_at ops) order p (subst (λ (q : ℕ). IsMember q order) (sym (eqb-true p found.item found.passes)) found.member))
 
 strictly : (cmp : Moment → Moment → Ordering) (xs : List Moment) → IsStrictlySortedBy cmp xs → RisesStrictly cmp xs
 unfolding IsStrictlySortedBy
@@ -73,7 +70,7 @@ by_place_total r = on_total stamp_of (trees_are_ordered (places_in r)).total
 pub placed_rise : (r : List Operation) → DifferBy stamp_of r → RisesStrictly (by_place r) (placed_in r)
 placed_rise r differ =
     sort_strict (by_place r) (by_place_total r) (filter (fits Place) r)
-    (apart_by (by_place r) (by_place_total r) stamp_of (λ a b tied. (trees_are_ordered (places_in r)).apart a.stamp b.stamp tied) (filter (fits Place) r) (differ_kept stamp_of (fits Place) r differ))
+    (apart_by (by_place r) (by_place_total r) stamp_of (filter (fits Place) r) (λ a b m n tied. (trees_are_ordered (places_in r)).apart a.stamp b.stamp tied) (differ_kept stamp_of (fits Place) r differ))
 
 -- and have stamps of their own
 pub placed_differ : (r : List Operation) → DifferBy stamp_of r → DifferBy stamp_of (placed_in r)

@@ -1,35 +1,35 @@
--- Where an entry of a list in order stands, or would go.
-use Rattle.std.proofs.Common.{◌≡◌, ◌≢◌, ℕ, zero, suc, ◌<◌, ◌≤◌, Bool, true, false, not, cond, ◌||◌, List, [], ◌∷◌, length, get_or, Some, None, refl, sym, ap, ◌∙◌, subst, arith, true≢false}
+-- Where an entry of a list in order stands, or would go: entries that rise by position and stamp.
+use Rattle.std.proofs.Common.{◌≡◌, ◌≢◌, ℕ, zero, suc, ◌<◌, ◌≤◌, Bool, true, false, not, cond, ◌&&◌, ◌==◌, List, [], ◌∷◌, length, get_or, Some, None, refl, sym, ap, ◌∙◌, subst, arith, eq-eqb, true≢false}
 use Rattle.std.specs.Prelude.{slice_get, slice_set, filter, find, insert, remove}
 use Rattle.std.specs.List.{AllByRecursion, list_any}
 use Rattle.std.specs.List.Sorted.{IsPartitionedBy}
-use Rattle.std.specs.Cmp.{IsTotalOrder}
+use Rattle.std.specs.Cmp.{on_total, tied_itself}
 use Rattle.std.specs.Ordering.{is_lt, match_ordering, ordering_reverse}
 use Rattle.std.specs.declared.cmp.Ordering.{Ordering}
 use Rattle.std.specs.declared.cmp.Ordering.TheVariants.{Less, Equal, Greater}
+use Rattle.std.proofs.lemmas.Bool.{eqb-true, false_from_ne_true, not-true}
+use Rattle.std.proofs.lemmas.Grind.{common_steps}
+use Rattle.std.proofs.lemmas.List.Elements.{All-from_recursion}
+use Rattle.std.proofs.lemmas.Option.{same_Some, none-some, slice_get_past, slice_get_read}
+use Rattle.mt_stamp.specs.Moment.{Moment, stamp_eq}
 use Rattle.mt_stamp.specs.Sorting.{insert_by, RisesStrictly, DifferBy}
-use Rattle.std.proofs.lemmas.Option.{same_Some}
-use Rattle.mt_stamp.proofs.Members.{member_at, strict_insert}
+use Rattle.mt_stamp.proofs.Order.{stamp_eq-true, stamp_eq-itself}
+use Rattle.mt_stamp.proofs.Members.{IsMember, member_at, member_of_kept, strict_insert}
+use Rattle.mt_items.proofs.Fresh.{is_less}
+use Rattle.mt_op.proofs.Needs.{and_first, and_second}
 use Rattle.mt_sessionview.specs.Changing.{IsPlace, StandsAt, IsNowhere, changed_at}
-use Rattle.mt_sessionview.proofs.Lists.{member_all, rises_kept}
-
-less_from : (o : Ordering) → is_lt o ≡ true → o ≡ Less
-less_from Less e = refl
-less_from Equal e = absurd (true≢false (sym e))
-less_from Greater e = absurd (true≢false (sym e))
+use Rattle.mt_sessionview.proofs.Lists.{all_members, all_also, any_member, member_all, rises_kept}
+use Rattle.mt_sessionview.proofs.Orders.{key_cmp, key_total, tied_keys}
 
 greater_from : (o : Ordering) → is_lt o ≡ false → o ≢ Equal → o ≡ Greater
 greater_from Less e n = absurd (true≢false e)
 greater_from Equal e n = absurd (n refl)
 greater_from Greater e n = refl
 
-pub none_passes : {X : Type 0} (p : X → Bool) (xs : List X) → list_any p xs ≡ false → AllByRecursion (λ x. p x ≡ false) xs
-none_passes p [] e = tt
-none_passes {X} p (x ∷ xs) e = by (p x) refl e (none_passes p xs)
-  where
-    by : (b : Bool) → p x ≡ b → (b || list_any p xs) ≡ false → (list_any p xs ≡ false → AllByRecursion (λ y. p y ≡ false) xs) → (p x ≡ false) × AllByRecursion (λ y. p y ≡ false) xs
-    by true is h rest = absurd (true≢false h)
-    by false is h rest = (is, rest h)
+-- ---- entries that pass a test, or not
+
+none_left : {X : Type 0} (p : X → Bool) (xs : List X) → AllByRecursion (λ x. p x ≡ false) (filter (λ x. not (p x)) xs)
+none_left p xs = all_members (λ x. p x ≡ false) (filter (λ x. not (p x)) xs) (λ x m. not-true (p x) (member_of_kept (λ y. not (p y)) xs x m).1)
 
 nothing_taken : {X : Type 0} (p : X → Bool) (xs : List X) → AllByRecursion (λ x. p x ≡ false) xs → filter (λ x. not (p x)) xs ≡ xs
 nothing_taken p [] all = refl
@@ -39,184 +39,171 @@ nothing_found : {X : Type 0} (p : X → Bool) (xs : List X) → AllByRecursion (
 nothing_found p [] all = refl
 nothing_found p (x ∷ xs) all = ap (λ b. cond b (Some x) (find p xs)) all.0 ∙ nothing_found p xs all.1
 
-pub nowhere : {X : Type 0} (p : X → Bool) (xs : List X) → AllByRecursion (λ x. p x ≡ false) xs → IsNowhere p xs
-nowhere p xs all = record { none = nothing_found p xs all; same = nothing_taken p xs all }
+found_passes : {X : Type 0} (p : X → Bool) (xs : List X) (y : X) → find p xs ≡ Some y → p y ≡ true
+found_passes p [] y is = absurd cc
+found_passes p (x ∷ xs) y is = let rest = found_passes p xs y in grind (arith, common_steps)
 
--- A test of entries that are in order, and how they compare with what passes it: what passes ties, and the smaller come before.
-pub record Tells {X : Type 0} (cmp : X → X → Ordering) (beside : X → Ordering) (p : X → Bool) : Type 0 where
-  pub tied : (y : X) → p y ≡ true → beside y ≡ Equal
-  pub passes : (y : X) → beside y ≡ Equal → p y ≡ true
-  pub down : (y z : X) → cmp y z ≡ Less → is_lt (beside z) ≡ true → is_lt (beside y) ≡ true
-  pub before : (y z : X) → cmp y z ≡ Less → beside z ≡ Equal → is_lt (beside y) ≡ true
+-- one that passes is found
+pub is_somewhere : {X : Type 0} (p : X → Bool) (xs items : List X) → list_any p xs ≡ true → items ≡ xs → IsNowhere p items → ⊥
+is_somewhere p xs items any same nowhere =
+    let found = any_member p xs any in
+    let fails = (member_of_kept (λ x. not (p x)) items found.item (subst (IsMember found.item) (sym (nowhere.same ∙ same)) found.member)).1 in
+    true≢false (sym fails ∙ ap not found.passes)
 
-module _ {X : Type 0} (cmp : X → X → Ordering) (beside : X → Ordering) (p : X → Bool) (tells : Tells cmp beside p) where
-  all_at : (P : X → Type 0) (xs : List X) → AllByRecursion P xs → (k : ℕ) (d : X) → k < length xs → P (get_or xs k d)
-  all_at P [] all k d inside = absurd (omega (arith, inside))
-  all_at P (x ∷ xs) all zero d inside = all.0
-  all_at P (x ∷ xs) all (suc k) d inside = all_at P xs all.1 k d (omega (arith, inside))
+-- the one that stands there passes
+pub stands_there : {X : Type 0} (p : X → Bool) (xs items : List X) (place : ℕ) (old : X) → items ≡ xs → StandsAt p items place → slice_get xs place ≡ Some old → p old ≡ true
+stands_there {X} p xs items place old is stands at = found_passes p xs old (ap (find p) (sym is) ∙ stands.there ∙ ap (λ (l : List X). slice_get l place) is ∙ at)
+
+-- ---- beside a position and a stamp
+
+module _ {X : Type 0} (key : X → ℕ × Moment) (k : ℕ × Moment) where
+  abbrev cmp : X → X → Ordering
+  cmp x y = key_cmp (key x) (key y)
+
+  abbrev beside : X → Ordering
+  beside x = key_cmp (key x) k
+
+  -- whether an entry has them
+  abbrev p : X → Bool
+  p x = ((key x).0 == k.0) && stamp_eq k.1 (key x).1
+
+  pub here : (x : X) → p x ≡ true → key x ≡ k
+  here x passes =
+      let at : (key x).0 ≡ k.0 = eqb-true (key x).0 k.0 (and_first _ _ passes) in
+      let stamp : (key x).1 ≡ k.1 = sym (stamp_eq-true k.1 (key x).1 (and_second _ _ passes)) in
+      λ i. (at i, stamp i)
+
+  fails : (x : X) → key x ≢ k → p x ≡ false
+  fails x apart = false_from_ne_true (p x) (λ passes. apart (here x passes))
+
+  not_less : (x : X) → key x ≡ k → is_lt (beside x) ≡ false
+  not_less x same = ap is_lt (ap (λ (q : ℕ × Moment). key_cmp q k) same ∙ tied_itself key_total k)
+
+  fails_before : (x : X) → is_lt (beside x) ≡ true → p x ≡ false
+  fails_before x less = fails x (λ same. true≢false (sym less ∙ not_less x same))
 
   -- what comes before has none after what does not
   pub parted : (xs : List X) → RisesStrictly cmp xs → IsPartitionedBy (λ y. is_lt (beside y)) xs
   parted [] rise i j d le lt h = absurd (omega (arith, lt))
   parted (x ∷ xs) rise zero zero d le lt h = h
-  parted (x ∷ xs) rise zero (suc j) d le lt h = tells.down x (get_or xs j d) (all_at (λ y. cmp x y ≡ Less) xs rise.0 j d (omega (arith, lt))) h
+  parted (x ∷ xs) rise zero (suc j) d le lt h =
+      ap is_lt (key_total.trans (key x) (key (get_or xs j d)) k (All-from_recursion (λ y. cmp x y ≡ Less) xs rise.0 j d (omega (arith, lt))) (is_less (beside (get_or xs j d)) h))
   parted (x ∷ xs) rise (suc i) zero d le lt h = absurd (omega (arith, le))
   parted (x ∷ xs) rise (suc i) (suc j) d le lt h = parted xs rise.1 i j d (omega (arith, le)) (omega (arith, lt)) h
 
-  fails_before : (y : X) → is_lt (beside y) ≡ true → p y ≡ false
-  fails_before y less = by (p y) refl
-    where
-      by : (b : Bool) → p y ≡ b → p y ≡ false
-      by true is = absurd (true≢false (sym less ∙ ap is_lt (tells.tied y is)))
-      by false is = is
-
   -- only one passes
   fails_later : (y : X) (zs : List X) → is_lt (beside y) ≡ false → AllByRecursion (λ z. cmp y z ≡ Less) zs → AllByRecursion (λ z. p z ≡ false) zs
-  fails_later y [] none all = tt
-  fails_later y (z ∷ zs) none all = (by (p z) refl, fails_later y zs none all.1)
-    where
-      by : (b : Bool) → p z ≡ b → p z ≡ false
-      by true is = absurd (true≢false (sym (tells.before y z all.0 (tells.tied z is)) ∙ none))
-      by false is = is
-
-  not_less : (y : X) → p y ≡ true → is_lt (beside y) ≡ false
-  not_less y is = ap is_lt (tells.tied y is)
+  fails_later y zs none all = all_also (λ z. cmp y z ≡ Less) (λ z. p z ≡ false) (λ z less. fails z (λ same. true≢false (sym (ap is_lt (ap (key_cmp (key y)) (sym same) ∙ less)) ∙ none))) zs all
 
   -- one that passes is the only one
-  pub stands : (xs : List X) (place : ℕ) (x : X) → RisesStrictly cmp xs → slice_get xs place ≡ Some x → p x ≡ true → StandsAt p xs place
+  stands : (xs : List X) (place : ℕ) (x : X) → RisesStrictly cmp xs → slice_get xs place ≡ Some x → p x ≡ true → StandsAt p xs place
   stands [] place x rise at is = absurd cc
-  stands (y ∷ xs) zero x rise at is = by (p y) (ap p (same_Some y x at) ∙ is)
-    where
-      by : (b : Bool) → p y ≡ true → StandsAt p (y ∷ xs) zero
-      by b here = record {
+  stands (y ∷ xs) zero x rise at is =
+      let passes : p y ≡ true = ap p (same_Some y x at) ∙ is in
+      record {
         inside = omega arith;
-        there = ap (λ c. cond c (Some y) (find p xs)) here;
-        rest = ap (λ c. cond (not c) (y ∷ filter (λ z. not (p z)) xs) (filter (λ z. not (p z)) xs)) here ∙ nothing_taken p xs (fails_later y xs (not_less y here) rise.0);
+        there = ap (λ c. cond c (Some y) (find p xs)) passes;
+        rest = ap (λ c. cond (not c) (y ∷ filter (λ z. not (p z)) xs) (filter (λ z. not (p z)) xs)) passes ∙ nothing_taken p xs (fails_later y xs (not_less y (here y passes)) rise.0);
       }
   stands (y ∷ xs) (suc place) x rise at is =
       let s = stands xs place x rise.1 at is in
       let less : cmp y x ≡ Less = member_all (λ z. cmp y z ≡ Less) xs x rise.0 (member_at xs place x at) in
-      let fails : p y ≡ false = fails_before y (tells.before y x less (tells.tied x is)) in
+      let fails : p y ≡ false = fails_before y (ap is_lt (ap (key_cmp (key y)) (sym (here x is)) ∙ less)) in
       record {
         inside = omega (arith, s.inside);
         there = ap (λ c. cond c (Some y) (find p xs)) fails ∙ s.there;
         rest = ap (λ c. cond (not c) (y ∷ filter (λ z. not (p z)) xs) (filter (λ z. not (p z)) xs)) fails ∙ ap (λ l. y ∷ l) s.rest;
       }
 
-  -- what does not pass at the place where it would be is nowhere
-  pub fails_all : (xs : List X) (place : ℕ) → RisesStrictly cmp xs → IsPlace beside xs place → ((x : X) → slice_get xs place ≡ Some x → p x ≡ false) → AllByRecursion (λ x. p x ≡ false) xs
+  later : (y : X) (xs : List X) (place : ℕ) → IsPlace beside (y ∷ xs) (suc place) → IsPlace beside xs place
+  later y xs place at = record {
+    inside = omega (arith, at.inside);
+    before = λ n d low high. at.before (suc n) d (omega arith) (omega (arith, high));
+    after = λ n d low high. at.after (suc n) d (omega (arith, low)) (omega (arith, high));
+  }
+
+  fails_all : (xs : List X) (place : ℕ) → RisesStrictly cmp xs → IsPlace beside xs place → ((x : X) → slice_get xs place ≡ Some x → p x ≡ false) → AllByRecursion (λ x. p x ≡ false) xs
   fails_all [] place rise at fails = tt
   fails_all (y ∷ xs) zero rise at fails = (fails y refl, fails_later y xs (at.after 0 y (omega arith) (omega arith)) rise.0)
-  fails_all (y ∷ xs) (suc place) rise at fails = (
-    fails_before y (at.before 0 y (omega arith) (omega arith)),
-    fails_all xs place rise.1 (later y xs place at) fails,
-  )
-    where
-      later : (y : X) (xs : List X) (place : ℕ) → IsPlace beside (y ∷ xs) (suc place) → IsPlace beside xs place
-      later y xs place at = record {
-        inside = omega (arith, at.inside);
-        before = λ k d low high. at.before (suc k) d (omega arith) (omega (arith, high));
-        after = λ k d low high. at.after (suc k) d (omega (arith, low)) (omega (arith, high));
-      }
+  fails_all (y ∷ xs) (suc place) rise at fails = (fails_before y (at.before 0 y (omega arith) (omega arith)), fails_all xs place rise.1 (later y xs place at) fails)
 
-  nothing_past : (xs : List X) (k : ℕ) (x : X) → length xs ≤ k → slice_get xs k ≡ Some x → ⊥
-  nothing_past [] k x past at = cc
-  nothing_past (y ∷ xs) zero x past at = omega (arith, past)
-  nothing_past (y ∷ xs) (suc k) x past at = nothing_past xs k x (omega (arith, past)) at
+  -- what does not pass at the place where it would be is nowhere
+  is_nowhere : (xs : List X) (place : ℕ) → RisesStrictly cmp xs → IsPlace beside xs place → ((x : X) → slice_get xs place ≡ Some x → p x ≡ false) → IsNowhere p xs
+  is_nowhere xs place rise at fails = let all = fails_all xs place rise at fails in record { none = nothing_found p xs all; same = nothing_taken p xs all }
 
   -- nothing stands at the place
   pub is_past : (xs : List X) (place : ℕ) → RisesStrictly cmp xs → IsPlace beside xs place → length xs ≤ place → IsNowhere p xs
-  is_past xs place rise at past = nowhere p xs (fails_all xs place rise at (λ x is. absurd (nothing_past xs place x past is)))
+  is_past xs place rise at past = is_nowhere xs place rise at (λ x there. absurd (none-some x (sym (slice_get_past xs place past) ∙ there)))
 
-  -- what stands at the place does not pass
-  pub is_another : (xs : List X) (place : ℕ) (x : X) → RisesStrictly cmp xs → IsPlace beside xs place → slice_get xs place ≡ Some x → p x ≡ false → IsNowhere p xs
-  is_another xs place x rise at is fails = nowhere p xs (fails_all xs place rise at (λ y there. ap p (same_Some y x (sym there ∙ is)) ∙ fails))
+  -- what stands there passes, or not
+  pub is_found : (xs : List X) (place : ℕ) (x : X) → RisesStrictly cmp xs → place < length xs → x ≡ get_or xs place x → p x ≡ true → StandsAt p xs place
+  is_found xs place x rise inside is passes = stands xs place x rise (slice_get_read xs (length xs) place x refl inside is) passes
 
-  -- an entry that ties with none of them goes in at its place
-  pub goes_in : IsTotalOrder cmp → (x : X) → ((y : X) → cmp y x ≡ beside y) → (xs : List X) (place : ℕ) → AllByRecursion (λ y. p y ≡ false) xs → IsPlace beside xs place → insert xs place x ≡ insert_by cmp x xs
-  goes_in order x same [] zero none at = refl
-  goes_in order x same [] (suc place) none at = absurd (omega (arith, at.inside))
-  goes_in order x same (y ∷ xs) zero none at =
-      let apart : beside y ≢ Equal = λ e. true≢false (sym (tells.passes y e) ∙ none.0) in
-      let greater : cmp y x ≡ Greater = same y ∙ greater_from (beside y) (at.after 0 y (omega arith) (omega arith)) apart in
-      let less : cmp x y ≡ Less = order.antisymm x y ∙ ap ordering_reverse greater in
-      sym (ap (λ o. match_ordering o (x ∷ y ∷ xs) (x ∷ y ∷ xs) (y ∷ insert_by cmp x xs)) less)
-  goes_in order x same (y ∷ xs) (suc place) none at =
-      let less : cmp y x ≡ Less = same y ∙ less_from (beside y) (at.before 0 y (omega arith) (omega arith)) in
-      let greater : cmp x y ≡ Greater = order.antisymm x y ∙ ap ordering_reverse less in
-      let rest : IsPlace beside xs place = record {
-        inside = omega (arith, at.inside);
-        before = λ k d low high. at.before (suc k) d (omega arith) (omega (arith, high));
-        after = λ k d low high. at.after (suc k) d (omega (arith, low)) (omega (arith, high));
-      } in
-      ap (λ l. y ∷ l) (goes_in order x same xs place none.1 rest)
-      ∙ sym (ap (λ o. match_ordering o (x ∷ y ∷ xs) (x ∷ y ∷ xs) (y ∷ insert_by cmp x xs)) greater)
+  pub is_another : (xs : List X) (place : ℕ) (x : X) → RisesStrictly cmp xs → IsPlace beside xs place → place < length xs → x ≡ get_or xs place x → p x ≡ false → IsNowhere p xs
+  is_another xs place x rise at inside is fails = is_nowhere xs place rise at (λ y there. ap p (same_Some y x (sym there ∙ slice_get_read xs (length xs) place x refl inside is)) ∙ fails)
 
-  -- and ties with none
-  pub ties_with_none : IsTotalOrder cmp → (x : X) → ((y : X) → cmp y x ≡ beside y) → (xs : List X) → AllByRecursion (λ y. p y ≡ false) xs → AllByRecursion (λ y. cmp x y ≢ Equal) xs
-  ties_with_none order x same [] none = tt
-  ties_with_none order x same (y ∷ xs) none = (
-    λ e. true≢false (sym (tells.passes y (sym (same y) ∙ order.antisymm y x ∙ ap ordering_reverse e)) ∙ none.0),
-    ties_with_none order x same xs none.1,
-  )
+-- ---- an entry that is put in, or in the place of one that has its position and stamp
 
-  -- an entry that ties with one goes in its place
-  pub set_is : IsTotalOrder cmp → (x old : X) (xs : List X) (place : ℕ) → RisesStrictly cmp xs → slice_get xs place ≡ Some old → cmp old x ≡ Equal → slice_set xs place x ≡ insert_by cmp x (remove xs place)
-  set_is order x old [] place rise at tied = absurd cc
-  set_is order x old (y ∷ xs) zero rise at tied = first xs rise.0
+module _ {X : Type 0} (key : X → ℕ × Moment) (x : X) where
+  abbrev order : X → X → Ordering
+  order y z = key_cmp (key y) (key z)
+
+  abbrev alike : X → Bool
+  alike y = ((key y).0 == (key x).0) && stamp_eq (key x).1 (key y).1
+
+  unlike : (y : X) → alike y ≡ false → order y x ≢ Equal
+  unlike y none tied = true≢false (sym (ap (λ (q : ℕ × Moment). (q.0 == (key x).0) && stamp_eq (key x).1 q.1) (tied_keys (key y) (key x) tied) ∙ both) ∙ none)
     where
-      first : (zs : List X) → AllByRecursion (λ z. cmp y z ≡ Less) zs → x ∷ zs ≡ insert_by cmp x zs
+      both : ((key x).0 == (key x).0) && stamp_eq (key x).1 (key x).1 ≡ true
+      both = rw (eq-eqb (key x).0 (key x).0 refl) (stamp_eq-itself (key x).1)
+
+  apart : (xs : List X) → AllByRecursion (λ y. alike y ≡ false) xs → AllByRecursion (λ y. order x y ≢ Equal) xs
+  apart xs none = all_also (λ y. alike y ≡ false) (λ y. order x y ≢ Equal) (λ y fails tied. unlike y fails (key_total.antisymm (key y) (key x) ∙ ap ordering_reverse tied)) xs none
+
+  -- one that ties with none goes in at its place
+  pub goes_in : (xs items : List X) (place : ℕ) → AllByRecursion (λ y. alike y ≡ false) xs → items ≡ xs → IsPlace (λ y. order y x) items place → insert xs place x ≡ insert_by order x xs
+  goes_in xs items place none same at = at_place xs place none (subst (λ (l : List X). IsPlace (λ y. order y x) l place) same at)
+    where
+      at_place : (xs : List X) (place : ℕ) → AllByRecursion (λ y. alike y ≡ false) xs → IsPlace (λ y. order y x) xs place → insert xs place x ≡ insert_by order x xs
+      at_place [] zero none at = refl
+      at_place [] (suc place) none at = absurd (omega (arith, at.inside))
+      at_place (y ∷ xs) zero none at =
+          let greater : order y x ≡ Greater = greater_from (order y x) (at.after 0 y (omega arith) (omega arith)) (unlike y none.0) in
+          let less : order x y ≡ Less = key_total.antisymm (key x) (key y) ∙ ap ordering_reverse greater in
+          sym (ap (λ o. match_ordering o (x ∷ y ∷ xs) (x ∷ y ∷ xs) (y ∷ insert_by order x xs)) less)
+      at_place (y ∷ xs) (suc place) none at =
+          let less : order y x ≡ Less = is_less (order y x) (at.before 0 y (omega arith) (omega arith)) in
+          let greater : order x y ≡ Greater = key_total.antisymm (key x) (key y) ∙ ap ordering_reverse less in
+          ap (λ l. y ∷ l) (at_place xs place none.1 (later key (key x) y xs place at))
+          ∙ sym (ap (λ o. match_ordering o (x ∷ y ∷ xs) (x ∷ y ∷ xs) (y ∷ insert_by order x xs)) greater)
+
+  -- and the entries still rise
+  pub rises_with : (xs : List X) → AllByRecursion (λ y. alike y ≡ false) xs → RisesStrictly order xs → RisesStrictly order (insert_by order x xs)
+  rises_with xs none rise = strict_insert order (on_total key key_total) x xs (apart xs none) rise
+
+  set_is : (old : X) (xs : List X) (place : ℕ) → RisesStrictly order xs → slice_get xs place ≡ Some old → key old ≡ key x → slice_set xs place x ≡ insert_by order x (remove xs place)
+  set_is old [] place rise at same = absurd cc
+  set_is old (y ∷ xs) zero rise at same = first xs rise.0
+    where
+      first : (zs : List X) → AllByRecursion (λ z. order y z ≡ Less) zs → x ∷ zs ≡ insert_by order x zs
       first [] all = refl
       first (z ∷ zs) all =
-          let less : cmp x z ≡ Less = sym (order.congr old x z tied) ∙ ap (λ w. cmp w z) (sym (same_Some y old at)) ∙ all.0 in
-          sym (ap (λ o. match_ordering o (x ∷ z ∷ zs) (x ∷ z ∷ zs) (z ∷ insert_by cmp x zs)) less)
-  set_is order x old (y ∷ xs) (suc place) rise at tied =
-      let less : cmp y old ≡ Less = member_all (λ z. cmp y z ≡ Less) xs old rise.0 (member_at xs place old at) in
-      let turned : cmp x y ≡ cmp old y = sym (order.congr old x y tied) in
-      let greater : cmp x y ≡ Greater = turned ∙ order.antisymm old y ∙ ap ordering_reverse less in
-      ap (λ l. y ∷ l) (set_is order x old xs place rise.1 at tied)
-      ∙ sym (ap (λ o. match_ordering o (x ∷ y ∷ remove xs place) (x ∷ y ∷ remove xs place) (y ∷ insert_by cmp x (remove xs place))) greater)
+          let less : order x z ≡ Less = ap (λ (q : ℕ × Moment). key_cmp q (key z)) (sym same ∙ ap key (sym (same_Some y old at))) ∙ all.0 in
+          sym (ap (λ o. match_ordering o (x ∷ z ∷ zs) (x ∷ z ∷ zs) (z ∷ insert_by order x zs)) less)
+  set_is old (y ∷ xs) (suc place) rise at same =
+      let less : order y x ≡ Less = ap (key_cmp (key y)) (sym same) ∙ member_all (λ z. order y z ≡ Less) xs old rise.0 (member_at xs place old at) in
+      let greater : order x y ≡ Greater = key_total.antisymm (key x) (key y) ∙ ap ordering_reverse less in
+      ap (λ l. y ∷ l) (set_is old xs place rise.1 at same)
+      ∙ sym (ap (λ o. match_ordering o (x ∷ y ∷ remove xs place) (x ∷ y ∷ remove xs place) (y ∷ insert_by order x (remove xs place))) greater)
 
-none_left : {X : Type 0} (p : X → Bool) (xs : List X) → AllByRecursion (λ x. p x ≡ false) (filter (λ x. not (p x)) xs)
-none_left p [] = tt
-none_left {X} p (x ∷ xs) = by (p x) refl (none_left p xs)
-  where
-    by : (b : Bool) → p x ≡ b → AllByRecursion (λ y. p y ≡ false) (filter (λ y. not (p y)) xs) → AllByRecursion (λ y. p y ≡ false) (cond (not b) (x ∷ filter (λ y. not (p y)) xs) (filter (λ y. not (p y)) xs))
-    by true is rest = rest
-    by false is rest = (is, rest)
-
-pub found_passes : {X : Type 0} (p : X → Bool) (xs : List X) (y : X) → find p xs ≡ Some y → p y ≡ true
-found_passes p [] y is = absurd cc
-found_passes {X} p (x ∷ xs) y is = by (p x) refl is (found_passes p xs y)
-  where
-    by : (b : Bool) → p x ≡ b → cond b (Some x) (find p xs) ≡ Some y → (find p xs ≡ Some y → p y ≡ true) → p y ≡ true
-    by true here found rest = ap p (sym (same_Some x y found)) ∙ here
-    by false here found rest = rest found
-
--- one that passes is found
-pub is_somewhere : {X : Type 0} (p : X → Bool) (xs items : List X) → list_any p xs ≡ true → items ≡ xs → IsNowhere p items → ⊥
-is_somewhere {X} p xs items any same nowhere = none xs any (ap (find p) (sym same) ∙ nowhere.none)
-  where
-    none : (ys : List X) → list_any p ys ≡ true → find p ys ≡ None → ⊥
-    none [] any found = true≢false (sym any)
-    none (y ∷ ys) any found = by (p y) any found (none ys)
-      where
-        by : (b : Bool) → (b || list_any p ys) ≡ true → cond b (Some y) (find p ys) ≡ None → (list_any p ys ≡ true → find p ys ≡ None → ⊥) → ⊥
-        by true h e rest = cc
-        by false h e rest = rest h e
-
--- an entry in the place of the one that passes is put where that was
-module _ {X : Type 0} (cmp : X → X → Ordering) (order : IsTotalOrder cmp) (beside : X → Ordering) (p : X → Bool) (tells : Tells cmp beside p) (x : X) (same : (y : X) → cmp y x ≡ beside y) where
-  pub rewritten : (xs items : List X) (place : ℕ) (old : X) → RisesStrictly cmp xs → items ≡ xs → StandsAt p items place → slice_get xs place ≡ Some old → slice_set xs place x ≡ insert_by cmp x (filter (λ y. not (p y)) xs)
+  -- an entry in the place of the one that passes is put where that was
+  pub rewritten : (xs items : List X) (place : ℕ) (old : X) → RisesStrictly order xs → items ≡ xs → StandsAt alike items place → slice_get xs place ≡ Some old → slice_set xs place x ≡ insert_by order x (filter (λ y. not (alike y)) xs)
   rewritten xs items place old rise is stands at =
-      let found : find p xs ≡ Some old = ap (find p) (sym is) ∙ stands.there ∙ ap (λ (l : List X). slice_get l place) is ∙ at in
-      let tied : cmp old x ≡ Equal = same old ∙ tells.tied old (found_passes p xs old found) in
-      let rest : remove xs place ≡ filter (λ y. not (p y)) xs = ap (λ (l : List X). remove l place) (sym is) ∙ sym stands.rest ∙ ap (filter (λ y. not (p y))) is in
-      set_is cmp beside p tells order x old xs place rise at tied ∙ ap (insert_by cmp x) rest
+      let rest : remove xs place ≡ filter (λ y. not (alike y)) xs = ap (λ (l : List X). remove l place) (sym is) ∙ sym stands.rest ∙ ap (filter (λ y. not (alike y))) is in
+      set_is old xs place rise at (here key (key x) old (stands_there alike xs items place old is stands at)) ∙ ap (insert_by order x) rest
 
-  pub rises_rewritten : (xs : List X) → RisesStrictly cmp xs → RisesStrictly cmp (insert_by cmp x (filter (λ y. not (p y)) xs))
-  rises_rewritten xs rise =
-      strict_insert cmp order x (filter (λ y. not (p y)) xs) (ties_with_none cmp beside p tells order x same (filter (λ y. not (p y)) xs) (none_left p xs)) (rises_kept cmp (λ y. not (p y)) xs rise)
+  pub rises_rewritten : (xs : List X) → RisesStrictly order xs → RisesStrictly order (insert_by order x (filter (λ y. not (alike y)) xs))
+  rises_rewritten xs rise = rises_with (filter (λ y. not (alike y)) xs) (none_left alike xs) (rises_kept order (λ y. not (alike y)) xs rise)
 
 -- what is left where one is taken out still rises
 pub rises_without : {X : Type 0} (cmp : X → X → Ordering) (p : X → Bool) (xs items left : List X) (place : ℕ) → RisesStrictly cmp xs → items ≡ xs → StandsAt p items place → left ≡ remove xs place → RisesStrictly cmp left

@@ -1,71 +1,51 @@
 -- What is read of the items of operations is what a session shows of them.
-use Rattle.std.proofs.Common.{◌≡◌, ℕ, Bool, true, false, cond, ◌&&◌, List, [], ◌∷◌, ◌++◌, Option, Some, None, map, refl, sym, ap, ◌∙◌, subst}
-use Rattle.std.specs.Prelude.{option_map, unwrap_or, reverse}
+use Rattle.std.proofs.Common.{◌≡◌, Bool, true, false, cond, ◌&&◌, List, [], ◌∷◌, Option, Some, None, map, refl, sym, ap, ◌∙◌, subst, arith}
+use Rattle.std.specs.Prelude.{reverse}
 use Rattle.std.specs.Cmp.{IsTotalOrder}
-use Rattle.std.specs.List.{AllByRecursion, filter, filter_map, cons_option, sum_by}
+use Rattle.std.specs.List.{AllByRecursion, filter, filter_map, sum_by}
 use Rattle.std.specs.List.Sorted.{IsPermutation, IsSorted}
 use Rattle.std.specs.declared.cmp.Ordering.{Ordering}
 use Rattle.std.specs.declared.cmp.Ordering.TheVariants.{Equal}
-use Rattle.std.proofs.lemmas.List.{reverse-append}
+use Rattle.std.proofs.lemmas.List.Sorted.{IsPermutation-reverse}
+use Rattle.std.proofs.lemmas.Grind.{common_steps}
 use Rattle.std.proofs.lemmas.List.Elements.{All-from_recursion}
 use Rattle.mt_stamp.specs.Moment.{Moment, stamp_eq}
 use Rattle.mt_stamp.specs.Sorting.{sort_by}
-use Rattle.mt_stamp.proofs.Members.{IsMember}
-use Rattle.mt_stamp.proofs.SameItems.{SameItems, same_filter, same_map, all_passing}
+use Rattle.mt_stamp.proofs.Members.{IsMember, member_of_kept}
+use Rattle.mt_stamp.proofs.SameItems.{SameItems, same_filter, same_map}
 use Rattle.mt_stamp.proofs.Sorting.{sorted_is_sort_by, sort_same}
 use Rattle.mt_op.specs.declared.need.Role.{Role}
-use Rattle.mt_stamp.specs.Written.{Written}
 use Rattle.mt_op.specs.declared.need.Role.TheVariants.{Clip as ClipRole, Marker as MarkerRole}
-use Rattle.mt_op.specs.declared.digest.Digest.{Digest}
-use Rattle.mt_op.specs.declared.value.Placement.{Placement}
-use Rattle.mt_op.specs.declared.value.TrimRange.{TrimRange}
 use Rattle.mt_op.specs.ByStamp.{stamp_of}
-use Rattle.mt_op.specs.Gain.{unchanged}
-use Rattle.mt_op.specs.Operation.{Act, AddClip, AddMarker, Operation}
+use Rattle.mt_op.specs.Operation.{Act, Operation}
 use Rattle.mt_op.specs.Needs.{fits, adds_clip, adds_marker}
 use Rattle.mt_op.specs.Presence.{is_present}
-use Rattle.mt_op.specs.Writes.{title_written, gain_written, mute_written, clip_place_written, trim_written, source_written, position_written, last_write}
+use Rattle.mt_op.specs.Writes.{title_written, clip_place_written, trim_written, source_written, last_write}
 use Rattle.mt_items.specs.Cells.{items_of}
 use Rattle.mt_items.proofs.AnyOrder.{same_reverse}
 use Rattle.mt_sessionview.specs.Content.{Clip, Marker, clip_cmp, marker_cmp}
-use Rattle.mt_sessionview.specs.Noted.{value_in, is_shown_in, marker_in, markers_in, clip_place_in, clip_in, is_clip_on_in, clips_in}
+use Rattle.mt_sessionview.specs.Noted.{is_shown_in, marker_in, markers_in, clip_place_in, clip_in, is_clip_on_in, clips_in}
 use Rattle.mt_sessionview.specs.Read.{marker_from, marker_read, clip_from, if_on, clip_on}
 use Rattle.mt_sessionview.specs.declared.clip.OnTrack.{OnTrack}
-use Rattle.mt_sessionview.proofs.Lists.{all_members, all_also}
+use Rattle.mt_sessionview.proofs.Lists.{all_members, all_also, members_moved}
 use Rattle.mt_sessionview.proofs.Orders.{marker_cmp_total, clip_cmp_total}
-use Rattle.mt_sessionview.proofs.Shown.{IsGiven, given_last, clip_given, IsMarkerIn, one_marker, all_markers, IsClipIn, one_clip, all_clips}
+use Rattle.mt_sessionview.proofs.Shown.{IsGiven, given_first, title_of_marker, trim_of_clip, source_of_clip, clip_given, IsMarkerIn, one_marker, all_markers, IsClipIn, one_clip, all_clips}
 
 -- what is read of stamps is what is shown of the operations
 read_shown : {V : Type 0} (f : Moment → Option V) (q : Operation → Bool) (view : Operation → V) (xs : List Operation) → AllByRecursion (λ o. f o.stamp ≡ cond (q o) (Some (view o)) None) xs → filter_map f (map stamp_of xs) ≡ map view (filter q xs)
 read_shown f q view [] all = refl
-read_shown {V} f q view (x ∷ xs) all = ap (λ (o : Option V). cons_option o (filter_map f (map stamp_of xs))) all.0 ∙ by (q x) (read_shown f q view xs all.1)
-  where
-    by : (b : Bool) → filter_map f (map stamp_of xs) ≡ map view (filter q xs) → cons_option (cond b (Some (view x)) None) (filter_map f (map stamp_of xs)) ≡ map view (cond b (x ∷ filter q xs) (filter q xs))
-    by true rest = ap (λ (l : List V). view x ∷ l) rest
-    by false rest = rest
+read_shown f q view (x ∷ xs) all = let rest = read_shown f q view xs all.1 in let here = all.0 in grind (arith, common_steps)
 
 kept_of_kind : (p q : Operation → Bool) → ((o : Operation) → p o ≡ false → q o ≡ false) → (xs : List Operation) → filter q (filter p xs) ≡ filter q xs
 kept_of_kind p q inner [] = refl
-kept_of_kind p q inner (x ∷ xs) = by (p x) refl (kept_of_kind p q inner xs)
-  where
-    by : (b : Bool) → p x ≡ b → filter q (filter p xs) ≡ filter q xs → filter q (cond b (x ∷ filter p xs) (filter p xs)) ≡ cond (q x) (x ∷ filter q xs) (filter q xs)
-    by true is rest = λ i. cond (q x) (x ∷ rest i) (rest i)
-    by false is rest = rest ∙ ap (λ (b : Bool). cond b (x ∷ filter q xs) (filter q xs)) (sym (inner x is))
-
-all_ended : (P : Operation → Type 0) (xs : List Operation) (x : Operation) → AllByRecursion P xs → P x → AllByRecursion P (xs ++ x ∷ [])
-all_ended P [] x all here = (here, tt)
-all_ended P (y ∷ xs) x all here = (all.0, all_ended P xs x all.1 here)
-
-all_reversed : (P : Operation → Type 0) (xs : List Operation) → AllByRecursion P xs → AllByRecursion P (reverse xs)
-all_reversed P [] all = tt
-all_reversed P (x ∷ xs) all = subst (AllByRecursion P) (sym (reverse-append (x ∷ []) xs)) (all_ended P (reverse xs) x (all_reversed P xs all.1) all.0)
+kept_of_kind p q inner (x ∷ xs) = let rest = kept_of_kind p q inner xs in let out = inner x in grind (arith, common_steps)
 
 module _ (r : List Operation) where
   abbrev ops_of : Role → List Operation
   ops_of kind = reverse (filter (fits kind) r)
 
   ops_in : (kind : Role) → AllByRecursion (λ o. IsMember o r × (fits kind o ≡ true)) (ops_of kind)
-  ops_in kind = all_reversed (λ o. IsMember o r × (fits kind o ≡ true)) (filter (fits kind) r) (all_passing (λ o. IsMember o r) (fits kind) r (all_members (λ o. IsMember o r) r (λ o m. m)))
+  ops_in kind = all_members (λ o. IsMember o r × (fits kind o ≡ true)) (ops_of kind) (λ o m. member_of_kept (fits kind) r o (members_moved (filter (fits kind) r) (ops_of kind) (IsPermutation-reverse (filter (fits kind) r)) o m))
 
   module _ {V : Type 0} (kind : Role) (f : Moment → Option V) (q : Operation → Bool) (view : Operation → V) (inner : (o : Operation) → fits kind o ≡ false → q o ≡ false)
       (reads : (o : Operation) → IsMember o r → fits kind o ≡ true → f o.stamp ≡ cond (q o) (Some (view o)) None) where
@@ -90,19 +70,10 @@ module _ (r : List Operation) where
 module _ (r : List Operation) (one : (a b : Operation) → IsMember a r → IsMember b r → a.stamp ≡ b.stamp → a ≡ b) where
   -- ---- markers
 
-  marker_title : (o : Operation) → IsMember o r → adds_marker o.act ≡ true → IsGiven r one title_written o.stamp
-  marker_title o m adds = by o.act refl adds
-    where
-      by : (act : Act) → o.act ≡ act → adds_marker act ≡ true → IsGiven r one title_written o.stamp
-      by (AddMarker at title) is added = given_last r one title_written o title m (ap (title_written o.stamp) is)
-      by _ is added = cc added
-
   pub marker_reads : (o : Operation) → IsMember o r → fits MarkerRole o ≡ true → marker_read r o.stamp ≡ cond (is_shown_in r adds_marker o) (Some (marker_in r o)) None
   marker_reads o m adds =
-      let title = marker_title o m adds in
-      let is : marker_from r o.stamp (last_write title_written o.stamp r) ≡ Some (marker_in r o) =
-      ap (marker_from r o.stamp) title.is
-      ∙ (λ i. Some (record { marker = o.stamp; at = unwrap_or (value_in r position_written o.stamp) 0; title = unwrap_or (option_map (λ (w : Written (List ℕ)). w.value) (sym title.is i)) [] })) in
+      let title = given_first r one title_written adds_marker title_of_marker o m adds in
+      let is : marker_from r o.stamp (last_write title_written o.stamp r) ≡ Some (marker_in r o) = rw title.is refl in
       ap (λ (v : Option Marker). cond (is_present r o.stamp) v None) is ∙ ap (λ (b : Bool). cond (b && is_present r o.stamp) (Some (marker_in r o)) None) (sym adds)
 
   pub unshown : (adds : Act → Bool) (o : Operation) → adds o.act ≡ false → is_shown_in r adds o ≡ false
@@ -112,29 +83,6 @@ module _ (r : List Operation) (one : (a b : Operation) → IsMember a r → IsMe
   markers_sorted = read_sorted r MarkerRole (marker_read r) (is_shown_in r adds_marker) (marker_in r) (unshown adds_marker) marker_reads marker_cmp marker_cmp_total (IsMarkerIn r one) (one_marker r one) (all_markers r one)
 
   -- ---- clips
-
-  clip_trim : (o : Operation) → IsMember o r → adds_clip o.act ≡ true → IsGiven r one trim_written o.stamp
-  clip_trim o m adds = by o.act refl adds
-    where
-      by : (act : Act) → o.act ≡ act → adds_clip act ≡ true → IsGiven r one trim_written o.stamp
-      by (AddClip source track at offset len) is added = given_last r one {X = TrimRange} trim_written o (record { offset = offset; len = len }) m (ap (trim_written o.stamp) is)
-      by _ is added = cc added
-
-  clip_recording : (o : Operation) → IsMember o r → adds_clip o.act ≡ true → IsGiven r one source_written o.stamp
-  clip_recording o m adds = by o.act refl adds
-    where
-      by : (act : Act) → o.act ≡ act → adds_clip act ≡ true → IsGiven r one source_written o.stamp
-      by (AddClip source track at offset len) is added = given_last r one source_written o source m (ap (source_written o.stamp) is)
-      by _ is added = cc added
-
-  abbrev no_place : Moment → Written Placement
-  no_place clip = record { writer = clip; value = record { track = clip; at = 0 } }
-
-  abbrev no_trim : TrimRange
-  no_trim = record { offset = 0; len = 0 }
-
-  abbrev no_source : Digest
-  no_source = record { 0 = [] }
 
   abbrev found_in : List Operation → Operation → OnTrack
   found_in ops o = record { track = (clip_place_in ops o.stamp).value.track; clip = clip_in ops o }
@@ -148,27 +96,13 @@ module _ (r : List Operation) (one : (a b : Operation) → IsMember a r → IsMe
       place = clip_given r one o m adds
 
       trim : IsGiven r one trim_written o.stamp
-      trim = clip_trim o m adds
+      trim = given_first r one trim_written adds_clip trim_of_clip o m adds
 
       source : IsGiven r one source_written o.stamp
-      source = clip_recording o m adds
+      source = given_first r one source_written adds_clip source_of_clip o m adds
 
       is : clip_from r o.stamp (last_write clip_place_written o.stamp r) (last_write trim_written o.stamp r) (last_write source_written o.stamp r) ≡ Some (found_in r o)
-      is =
-          (λ i. clip_from r o.stamp (place.is i) (trim.is i) (source.is i))
-          ∙ (λ i. Some (record {
-            track = (unwrap_or (sym place.is i) (no_place o.stamp)).value.track;
-            clip = record {
-              clip = o.stamp;
-              place = (unwrap_or (sym place.is i) (no_place o.stamp)).writer;
-              at = (unwrap_or (sym place.is i) (no_place o.stamp)).value.at;
-              offset = (unwrap_or (option_map (λ (w : Written TrimRange). w.value) (sym trim.is i)) no_trim).offset;
-              len = (unwrap_or (option_map (λ (w : Written TrimRange). w.value) (sym trim.is i)) no_trim).len;
-              gain = unwrap_or (value_in r gain_written o.stamp) unchanged;
-              mute = unwrap_or (value_in r mute_written o.stamp) false;
-              source = unwrap_or (option_map (λ (w : Written Digest). w.value) (sym source.is i)) no_source;
-            };
-          }))
+      is = rw (place.is, trim.is, source.is) refl
 
       by : (b : Bool) → if_on r track (cond b (Some (found_in r o)) None) ≡ cond ((true && b) && stamp_eq (clip_place_in r o.stamp).value.track track) (Some (clip_in r o)) None
       by true = refl

@@ -7,7 +7,7 @@ use Rattle.mt_stamp.specs.Sorting.{DifferBy}
 use Rattle.mt_stamp.proofs.Members.{member_at}
 use Rattle.mt_sessionview.specs.Content.{Content, IsContent, Track}
 use Rattle.mt_sessionview.specs.Changing.{changed_at}
-use Rattle.mt_sessionview.proofs.Lists.{member_all}
+use Rattle.mt_sessionview.proofs.Lists.{all_also, member_all}
 use Rattle.mt_sessionview.proofs.Placing.{changed_is, differ_with, differ_without}
 
 -- a list with what stands at an index put there again
@@ -24,11 +24,7 @@ all_set P (z ∷ xs) (suc index) y here all = (all.0, all_set P xs index y here 
 -- entries differ where one has another of its key in its place
 pub differ_set : {X Y : Type 0} (key : X → Y) (xs : List X) (index : ℕ) (x y : X) → slice_get xs index ≡ Some x → key y ≡ key x → DifferBy key xs → DifferBy key (slice_set xs index y)
 differ_set key [] index x y at same d = tt
-differ_set {X} key (z ∷ xs) zero x y at same d = (each xs d.0, d.1)
-  where
-    each : (ys : List X) → AllByRecursion (λ w. key z ≢ key w) ys → AllByRecursion (λ w. key y ≢ key w) ys
-    each [] apart = tt
-    each (w ∷ ys) apart = (λ e. apart.0 (ap key (same_Some z x at) ∙ sym same ∙ e), each ys apart.1)
+differ_set key (z ∷ xs) zero x y at same d = (all_also (λ w. key z ≢ key w) (λ w. key y ≢ key w) (λ w apart e. apart (ap key (same_Some z x at) ∙ sym same ∙ e)) xs d.0, d.1)
 differ_set key (z ∷ xs) (suc index) x y at same d = (
   all_set (λ w. key z ≢ key w) xs index y (λ e. member_all (λ w. key z ≢ key w) xs x d.0 (member_at xs index x at) (e ∙ same)) d.0,
   differ_set key xs index x y at same d.1,
@@ -57,23 +53,14 @@ stamp_kept (Err e) t u f same ok err = ap (λ (w : Track). w.track) err
 
 -- ---- a track that is moved
 
--- what stands at an index
-pub record IsAt {X : Type 0} (xs : List X) (index : ℕ) : Type 0 where
-  pub item : X
-  pub at : slice_get xs index ≡ Some item
-
-is_at : {X : Type 0} (xs : List X) (index : ℕ) → index < length xs → IsAt xs index
+is_at : {X : Type 0} (xs : List X) (index : ℕ) → index < length xs → (x : X) × (slice_get xs index ≡ Some x)
 is_at [] index inside = absurd (omega (arith, inside))
-is_at (x ∷ xs) zero inside = record { item = x; at = refl }
-is_at (x ∷ xs) (suc index) inside = let i = is_at xs index (omega (arith, inside)) in record { item = i.item; at = i.at }
+is_at (x ∷ xs) zero inside = (x, refl)
+is_at (x ∷ xs) (suc index) inside = is_at xs index (omega (arith, inside))
 
 apart_rest : {X Y : Type 0} (key : X → Y) (xs : List X) (index : ℕ) (x : X) → slice_get xs index ≡ Some x → DifferBy key xs → AllByRecursion (λ y. key x ≢ key y) (remove xs index)
 apart_rest key [] index x at d = absurd cc
-apart_rest {X} key (z ∷ xs) zero x at d = each xs d.0
-  where
-    each : (ys : List X) → AllByRecursion (λ y. key z ≢ key y) ys → AllByRecursion (λ y. key x ≢ key y) ys
-    each [] apart = tt
-    each (y ∷ ys) apart = (λ e. apart.0 (ap key (same_Some z x at) ∙ e), each ys apart.1)
+apart_rest key (z ∷ xs) zero x at d = all_also (λ y. key z ≢ key y) (λ y. key x ≢ key y) (λ y apart e. apart (ap key (same_Some z x at) ∙ e)) xs d.0
 apart_rest key (z ∷ xs) (suc index) x at d = (
   λ e. member_all (λ y. key z ≢ key y) xs x d.0 (member_at xs index x at) (sym e),
   apart_rest key xs index x at d.1,
@@ -82,4 +69,4 @@ apart_rest key (z ∷ xs) (suc index) x at d = (
 pub differ_moved : {X Y : Type 0} (key : X → Y) (xs moved : List X) (from to : ℕ) → from < length xs → ((x : X) → slice_get xs from ≡ Some x → moved ≡ insert (remove xs from) to x) → DifferBy key xs → DifferBy key moved
 differ_moved key xs moved from to inside is d =
     let i = is_at xs from inside in
-    subst (DifferBy key) (sym (is i.item i.at)) (differ_with key (remove xs from) to i.item (apart_rest key xs from i.item i.at d) (differ_without key xs from d))
+    subst (DifferBy key) (sym (is i.0 i.1)) (differ_with key (remove xs from) to i.0 (apart_rest key xs from i.0 i.1 d) (differ_without key xs from d))

@@ -1,6 +1,7 @@
 -- The order of places does not depend on how they are listed.
-use Rattle.std.proofs.Common.{◌≡◌, ℕ, zero, suc, Bool, true, false, cond, ◌||◌, List, [], ◌∷◌, ◌++◌, None, length, refl, sym, ap, ◌∙◌}
+use Rattle.std.proofs.Common.{◌≡◌, ℕ, zero, suc, Bool, true, false, cond, ◌||◌, List, [], ◌∷◌, ◌++◌, None, length, refl, sym, ap, ◌∙◌, arith}
 use Rattle.std.specs.List.{AllByRecursion, list_any}
+use Rattle.std.proofs.lemmas.Grind.{common_steps}
 use Rattle.mt_stamp.specs.Moment.{Moment, stamp_eq}
 use Rattle.mt_stamp.specs.Tree.{TreePlace, after_of, path_to, path_within, path, path_cmp, tree_cmp}
 use Rattle.mt_stamp.proofs.Order.{stamp_eq-true}
@@ -27,11 +28,7 @@ module _ (Q : TreePlace → Type 0) where
 
   unlisted : (places : List TreePlace) (p : Moment) → is_listed places p ≡ false → after_of places p ≡ None
   unlisted [] p none = refl
-  unlisted (t ∷ places) p none = by (stamp_eq t.place p) none (unlisted places p)
-    where
-      by : (b : Bool) → (b || is_listed places p) ≡ false → (is_listed places p ≡ false → after_of places p ≡ None) → cond b t.after (after_of places p) ≡ None
-      by true none rest = absurd cc
-      by false none rest = rest none
+  unlisted (t ∷ places) p none = let rest = unlisted places p in grind (arith, common_steps)
 
   -- places of one stamp are one
   module _ (apart : (s t : TreePlace) → Q s → Q t → s.place ≡ t.place → s ≡ t) (ps qs : List TreePlace) (same : SameItems ps qs) (all_p : AllByRecursion Q ps) (all_q : AllByRecursion Q qs) where

@@ -1,26 +1,19 @@
 -- The session does not depend on how operations are put in order.
-use Rattle.std.proofs.Common.{◌≡◌, Bool, false, ◌&&◌, List, [], Option, map, sym, ap, ◌∙◌}
-use Rattle.std.specs.Prelude.{option_map, unwrap_or}
+use Rattle.std.proofs.Common.{◌≡◌, Bool, ◌&&◌, List, Option, map, refl, sym, ap, ◌∙◌}
 use Rattle.std.specs.List.{AllByRecursion, filter}
 use Rattle.std.proofs.lemmas.List.Sorted.{sum_by-IsPermutation, All-permutation}
 use Rattle.std.proofs.lemmas.List.Elements.{recursion_from_All, All-from_recursion}
-use Rattle.mt_stamp.specs.Moment.{Moment, stamp_eq}
-use Rattle.mt_stamp.specs.Written.{Written}
+use Rattle.mt_stamp.specs.Moment.{Moment}
 use Rattle.mt_stamp.specs.Tree.{tree_cmp}
-use Rattle.mt_op.specs.Gain.{unchanged}
-use Rattle.mt_op.specs.declared.digest.Digest.{Digest}
-use Rattle.mt_op.specs.declared.value.Placement.{Placement}
-use Rattle.mt_op.specs.declared.value.TrimRange.{TrimRange}
 use Rattle.mt_op.specs.Operation.{Act, Operation}
-use Rattle.mt_op.specs.Needs.{needs, meets, clock_of, adds_track, adds_clip, adds_marker}
+use Rattle.mt_op.specs.Needs.{needs, meets, clock_of, adds_track, adds_marker}
 use Rattle.mt_op.specs.Ready.{is_ready}
 use Rattle.mt_op.specs.Writes.{Write, title_written, gain_written, mute_written, track_place_written, clip_place_written, trim_written, source_written, position_written, last_write}
 use Rattle.mt_sessionview.specs.Content.{clip_cmp, marker_cmp}
 use Rattle.mt_sessionview.specs.Session.{ready_ops, place_added, session_of}
 use Rattle.mt_stamp.specs.Sorting.{sort_by}
 use Rattle.mt_sessionview.specs.SessionLaws.{AnyListing}
-use Rattle.mt_sessionview.specs.Noted.{value_in, is_shown_in, marker_in, markers_in, clip_place_in, clip_trim_in, clip_source_in, clip_in, is_clip_on_in, clips_in, places_in, track_place_in, track_cmp_in, track_in, tracks_in}
-use Rattle.mt_sessionview.proofs.FromReady.{markers_are, tracks_are}
+use Rattle.mt_sessionview.specs.Noted.{is_shown_in, marker_in, markers_in, clip_in, is_clip_on_in, clips_in, places_in, track_place_in, track_cmp_in, track_in, tracks_in}
 use Rattle.mt_sessionview.proofs.Orders.{marker_cmp_total, clip_cmp_total, track_cmp_total}
 use Rattle.mt_stamp.proofs.Members.{IsMember, member_stands, member_kept, member_of_kept}
 use Rattle.mt_stamp.proofs.SameItems.{SameItems, GivenBy, same_filter, same_map, same_filter_map, all_passing, all_filter_map}
@@ -42,20 +35,13 @@ module _ (r u : List Operation) (same : SameItems r u) (all_u : AllByRecursion (
   write_same : {X : Type 0} (field : Moment → Act → Option (Write X)) (item : Moment) → last_write field item r ≡ last_write field item u
   write_same field item = last_write_same Among one r u same all_r all_u field item
 
-  value_same : {X : Type 0} (field : Moment → Act → Option (Write X)) (item : Moment) → value_in r field item ≡ value_in u field item
-  value_same {X} field item = ap (option_map (λ (w : Written X). w.value)) (write_same field item)
-
   shown_same : (adds : Act → Bool) (o : Operation) → is_shown_in r adds o ≡ is_shown_in u adds o
   shown_same adds o = ap (λ (b : Bool). adds o.act && b) (present_same r u same o.stamp)
 
   -- ---- markers
 
   marker_same : (o : Operation) → marker_in r o ≡ marker_in u o
-  marker_same o = λ i. record {
-    marker = o.stamp;
-    at = unwrap_or (value_same position_written o.stamp i) 0;
-    title = unwrap_or (value_same title_written o.stamp i) [];
-  }
+  marker_same o = rw (write_same position_written o.stamp, write_same title_written o.stamp) refl
 
   pub markers_same : markers_in r ≡ markers_in u
   markers_same =
@@ -65,29 +51,11 @@ module _ (r u : List Operation) (same : SameItems r u) (all_u : AllByRecursion (
 
   -- ---- clips
 
-  clip_place_same : (clip : Moment) → clip_place_in r clip ≡ clip_place_in u clip
-  clip_place_same clip = ap (λ (w : Option (Written Placement)). unwrap_or w (record { writer = clip; value = record { track = clip; at = 0 } })) (write_same clip_place_written clip)
-
-  clip_trim_same : (clip : Moment) → clip_trim_in r clip ≡ clip_trim_in u clip
-  clip_trim_same clip = ap (λ (v : Option TrimRange). unwrap_or v (record { offset = 0; len = 0 })) (value_same trim_written clip)
-
-  clip_source_same : (clip : Moment) → clip_source_in r clip ≡ clip_source_in u clip
-  clip_source_same clip = ap (λ (v : Option Digest). unwrap_or v (record { 0 = [] })) (value_same source_written clip)
-
   clip_same : (o : Operation) → clip_in r o ≡ clip_in u o
-  clip_same o = λ i. record {
-    clip = o.stamp;
-    place = (clip_place_same o.stamp i).writer;
-    at = (clip_place_same o.stamp i).value.at;
-    offset = (clip_trim_same o.stamp i).offset;
-    len = (clip_trim_same o.stamp i).len;
-    gain = unwrap_or (value_same gain_written o.stamp i) unchanged;
-    mute = unwrap_or (value_same mute_written o.stamp i) false;
-    source = clip_source_same o.stamp i;
-  }
+  clip_same o = rw (write_same clip_place_written o.stamp, write_same trim_written o.stamp, write_same source_written o.stamp, write_same gain_written o.stamp, write_same mute_written o.stamp) refl
 
   on_same : (track : Moment) (o : Operation) → is_clip_on_in r track o ≡ is_clip_on_in u track o
-  on_same track o = λ i. shown_same adds_clip o i && stamp_eq (clip_place_same o.stamp i).value.track track
+  on_same track o = rw (write_same clip_place_written o.stamp, present_same r u same o.stamp) refl
 
   clips_same : (track : Moment) → clips_in r track ≡ clips_in u track
   clips_same track =
@@ -101,16 +69,10 @@ module _ (r u : List Operation) (same : SameItems r u) (all_u : AllByRecursion (
   tree_same = tree_cmp_same (GivenBy Among place_added) (one_place r one) (places_in r) (places_in u) (same_filter_map r u same place_added) (all_filter_map Among place_added r all_r) (all_filter_map Among place_added u all_u)
 
   track_place_same : (track : Moment) → track_place_in r track ≡ track_place_in u track
-  track_place_same track = ap (λ (l : Option (Written (Option Moment))). unwrap_or (option_map (λ (w : Written (Option Moment)). w.writer) l) track) (write_same track_place_written track)
+  track_place_same track = rw (write_same track_place_written track) refl
 
   track_same : (o : Operation) → track_in r o ≡ track_in u o
-  track_same o = λ i. record {
-    track = o.stamp;
-    title = unwrap_or (value_same title_written o.stamp i) [];
-    gain = unwrap_or (value_same gain_written o.stamp i) unchanged;
-    mute = unwrap_or (value_same mute_written o.stamp i) false;
-    clips = clips_same o.stamp i;
-  }
+  track_same o = rw (write_same title_written o.stamp, write_same gain_written o.stamp, write_same mute_written o.stamp, clips_same o.stamp) refl
 
   pub tracks_same : tracks_in r ≡ tracks_in u
   tracks_same =
@@ -129,8 +91,8 @@ listing_same s t one same there =
     member_kept (is_ready clock_of needs meets s) s o (member_all (λ x. IsMember x s) t o there kept.0) (ap (λ (p : Operation → Bool). p o) ready ∙ kept.1))) in
     let one_ready : (a b : Operation) → IsMember a (ready_ops s) → IsMember b (ready_ops s) → a.stamp ≡ b.stamp → a ≡ b =
     λ a b in_a in_b stamps. one a b (member_of_kept (is_ready clock_of needs meets s) s a in_a).0 (member_of_kept (is_ready clock_of needs meets s) s b in_b).0 stamps in
-    let tracks = tracks_are s ∙ tracks_same (ready_ops s) (ready_ops t) ready_items listed one_ready ∙ sym (tracks_are t) in
-    let markers = markers_are s ∙ markers_same (ready_ops s) (ready_ops t) ready_items listed one_ready ∙ sym (markers_are t) in
+    let tracks = tracks_same (ready_ops s) (ready_ops t) ready_items listed one_ready in
+    let markers = markers_same (ready_ops s) (ready_ops t) ready_items listed one_ready in
     let count = held_same clock_of needs meets s t same in
     λ i. record { tracks = tracks i; markers = markers i; held = count i }
 

@@ -1,30 +1,56 @@
 -- Items of operations, no two of which have one stamp.
-use Rattle.std.proofs.Common.{◌≡◌, true, List, Option, Some, None, map, refl, sym, ap, ◌∙◌}
+use Rattle.std.proofs.Common.{◌≡◌, Bool, true, List, Option, Some, None, map, refl, sym, ap, ◌∙◌}
 use Rattle.std.specs.Prelude.{option_map, unwrap_or}
 use Rattle.std.specs.List.{AllByRecursion, filter, filter_map}
-use Rattle.std.specs.Ordering.{nat_cmp}
 use Rattle.std.specs.declared.cmp.Ordering.TheVariants.{Equal}
 use Rattle.std.proofs.lemmas.Option.{same_Some, none-some}
-use Rattle.mt_stamp.specs.Moment.{Moment, stamp_cmp}
+use Rattle.mt_stamp.specs.Moment.{Moment}
 use Rattle.mt_stamp.specs.Tree.{TreePlace}
-use Rattle.mt_stamp.proofs.Order.{stamp_cmp-IsAntisymmetric}
 use Rattle.mt_stamp.proofs.Tree.{trees_are_ordered}
 use Rattle.mt_stamp.specs.Written.{Written}
 use Rattle.mt_op.specs.declared.value.Placement.{Placement}
-use Rattle.mt_op.specs.Operation.{Act, AddTrack, AddClip, Operation}
+use Rattle.mt_op.specs.Operation.{Act, AddTrack, AddClip, AddMarker, Operation}
 use Rattle.mt_op.specs.Needs.{adds_track, adds_clip, adds_marker}
-use Rattle.mt_op.specs.Writes.{Write, track_place_written, clip_place_written, written_by, last_write}
+use Rattle.mt_op.specs.Writes.{Write, title_written, track_place_written, clip_place_written, trim_written, source_written, written_by, last_write}
 use Rattle.mt_op.proofs.LastWrite.{latest_is_greatest}
 use Rattle.mt_op.proofs.Needs.{and_first}
 use Rattle.mt_sessionview.specs.Content.{Clip, Marker, clip_cmp, marker_cmp}
 use Rattle.mt_sessionview.specs.Session.{place_added}
 use Rattle.mt_sessionview.specs.Noted.{is_shown_in, marker_in, clip_in, is_clip_on_in, places_in, track_place_in, track_cmp_in}
-use Rattle.mt_sessionview.proofs.Items.{stamp_eq_same}
-use Rattle.mt_sessionview.proofs.Orders.{tied_second}
+use Rattle.mt_sessionview.proofs.Orders.{stamp_eq_same}
+use Rattle.mt_sessionview.proofs.Orders.{marker_key, clip_key, tied_stamps}
 use Rattle.mt_stamp.proofs.Members.{IsMember}
 use Rattle.mt_stamp.proofs.SameItems.{GivenBy, all_passing, all_map, all_filter_map, all_here, member_gives}
 use Rattle.mt_sessionview.proofs.Lists.{all_members}
 use Rattle.mt_op.proofs.SameWrites.{one_write}
+
+-- what the operation that adds an item writes first into a field of it
+abbrev pub Gives : {X : Type 0} → (Moment → Act → Option (Write X)) → (Act → Bool) → Type 0
+Gives {X} field adds = (own : Moment) (act : Act) → adds act ≡ true → (value : X) × (field own act ≡ Some (record { item = own; value = value }))
+
+pub title_of_track : Gives title_written adds_track
+title_of_track own (AddTrack after title) added = (title, refl)
+title_of_track own _ added = absurd cc
+
+place_of_track : Gives track_place_written adds_track
+place_of_track own (AddTrack after title) added = (after, refl)
+place_of_track own _ added = absurd cc
+
+pub title_of_marker : Gives title_written adds_marker
+title_of_marker own (AddMarker at title) added = (title, refl)
+title_of_marker own _ added = absurd cc
+
+place_of_clip : Gives clip_place_written adds_clip
+place_of_clip own (AddClip source track at offset len) added = (record { track = track; at = at }, refl)
+place_of_clip own _ added = absurd cc
+
+pub trim_of_clip : Gives trim_written adds_clip
+trim_of_clip own (AddClip source track at offset len) added = (record { offset = offset; len = len }, refl)
+trim_of_clip own _ added = absurd cc
+
+pub source_of_clip : Gives source_written adds_clip
+source_of_clip own (AddClip source track at offset len) added = (source, refl)
+source_of_clip own _ added = absurd cc
 
 module _ (r : List Operation) (one : (a b : Operation) → IsMember a r → IsMember b r → a.stamp ≡ b.stamp → a ≡ b) where
   abbrev pub Among : Operation → Type 0
@@ -40,14 +66,14 @@ module _ (r : List Operation) (one : (a b : Operation) → IsMember a r → IsMe
     pub is : last_write field item r ≡ Some write
     pub given : GivenBy Among (written_by field item) write
 
-  pub given_last : {X : Type 0} (field : Moment → Act → Option (Write X)) (o : Operation) (value : X) → IsMember o r → field o.stamp o.act ≡ Some (record { item = o.stamp; value = value }) → IsGiven field o.stamp
-  given_last {X} field o value m is = by (last_write field o.stamp r) refl
+  pub given_first : {X : Type 0} (field : Moment → Act → Option (Write X)) (adds : Act → Bool) → Gives field adds → (o : Operation) → IsMember o r → adds o.act ≡ true → IsGiven field o.stamp
+  given_first {X} field adds gives o m added = by (last_write field o.stamp r) refl
     where
       own : Written X
-      own = record { writer = o.stamp; value = value }
+      own = record { writer = o.stamp; value = (gives o.stamp o.act added).0 }
 
       writes : written_by field o.stamp o ≡ Some own
-      writes = rw (is, stamp_eq_same o.stamp o.stamp refl) refl
+      writes = rw ((gives o.stamp o.act added).1, stamp_eq_same o.stamp o.stamp refl) refl
 
       by : (l : Option (Written X)) → last_write field o.stamp r ≡ l → IsGiven field o.stamp
       by None none = absurd (member_gives (written_by field o.stamp) r o own m writes ((latest_is_greatest X).1 (filter_map (written_by field o.stamp) r) none))
@@ -62,7 +88,7 @@ module _ (r : List Operation) (one : (a b : Operation) → IsMember a r → IsMe
 
   pub one_marker : (a b : Marker) → IsMarkerIn a → IsMarkerIn b → marker_cmp a b ≡ Equal → a ≡ b
   one_marker a b of_a of_b tied =
-      let stamps : a.marker ≡ b.marker = stamp_cmp-IsAntisymmetric a.marker b.marker (tied_second (nat_cmp a.at b.at) (stamp_cmp a.marker b.marker) tied) in
+      let stamps : a.marker ≡ b.marker = tied_stamps (marker_key a) (marker_key b) tied in
       let op = one of_a.0 of_b.0 of_a.1 of_b.1 (sym (ap (λ (m : Marker). m.marker) of_a.2) ∙ stamps ∙ ap (λ (m : Marker). m.marker) of_b.2) in
       of_a.2 ∙ ap (marker_in r) op ∙ sym of_b.2
 
@@ -73,11 +99,7 @@ module _ (r : List Operation) (one : (a b : Operation) → IsMember a r → IsMe
   -- ---- clips
 
   pub clip_given : (o : Operation) → IsMember o r → adds_clip o.act ≡ true → IsGiven clip_place_written o.stamp
-  clip_given o m adds = by o.act refl adds
-    where
-      by : (act : Act) → o.act ≡ act → adds_clip act ≡ true → IsGiven clip_place_written o.stamp
-      by (AddClip source track at offset len) is added = given_last {X = Placement} clip_place_written o (record { track = track; at = at }) m (ap (clip_place_written o.stamp) is)
-      by _ is added = cc added
+  clip_given = given_first clip_place_written adds_clip place_of_clip
 
   abbrev pub IsClipIn : Clip → Type 0
   IsClipIn c = (o : Operation) × IsMember o r × (adds_clip o.act ≡ true) × (c ≡ clip_in r o)
@@ -87,7 +109,7 @@ module _ (r : List Operation) (one : (a b : Operation) → IsMember a r → IsMe
 
   pub one_clip : (a b : Clip) → IsClipIn a → IsClipIn b → clip_cmp a b ≡ Equal → a ≡ b
   one_clip a b of_a of_b tied =
-      let places : a.place ≡ b.place = stamp_cmp-IsAntisymmetric a.place b.place (tied_second (nat_cmp a.at b.at) (stamp_cmp a.place b.place) tied) in
+      let places : a.place ≡ b.place = tied_stamps (clip_key a) (clip_key b) tied in
       let given_a = clip_given of_a.0 of_a.1 of_a.2 in
       let given_b = clip_given of_b.0 of_b.1 of_b.2 in
       let writers : given_a.write.writer ≡ given_b.write.writer =
@@ -113,11 +135,7 @@ module _ (r : List Operation) (one : (a b : Operation) → IsMember a r → IsMe
       same_Some s t (sym of_s.2 ∙ ap place_added op ∙ of_t.2)
 
   pub track_given : (o : Operation) → IsMember o r → adds_track o.act ≡ true → IsGiven track_place_written o.stamp
-  track_given o m adds = by o.act refl adds
-    where
-      by : (act : Act) → o.act ≡ act → adds_track act ≡ true → IsGiven track_place_written o.stamp
-      by (AddTrack after title) is added = given_last track_place_written o after m (ap (track_place_written o.stamp) is)
-      by _ is added = cc added
+  track_given = given_first track_place_written adds_track place_of_track
 
   pub stands_by : (o : Operation) (g : IsGiven track_place_written o.stamp) → track_place_in r o.stamp ≡ g.write.writer
   stands_by o g = ap (λ (l : Option (Written (Option Moment))). unwrap_or (option_map (λ (w : Written (Option Moment)). w.writer) l) o.stamp) g.is

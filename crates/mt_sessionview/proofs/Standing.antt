@@ -1,23 +1,21 @@
 -- The tracks that stand where operations put them, in the order of those places, are the tracks of a session.
-use Rattle.std.proofs.Common.{◌≡◌, ◌≢◌, ℕ, Bool, true, false, cond, ◌&&◌, List, [], ◌∷◌, Option, Some, None, map, refl, sym, ap, ◌∙◌, subst, inl, inr, true≢false}
+use Rattle.std.proofs.Common.{◌≡◌, ◌≢◌, Bool, true, false, cond, ◌&&◌, List, [], ◌∷◌, Option, Some, None, map, refl, sym, ap, ◌∙◌, subst, true≢false, arith}
 use Rattle.std.specs.Prelude.{option_map, unwrap_or, IfSome}
 use Rattle.std.specs.BTreeMap.{BTreeMap, get}
 use Rattle.std.specs.Cmp.{IsTotalOrder}
 use Rattle.std.specs.List.{AllByRecursion, filter, filter_map, cons_option}
-use Rattle.std.specs.List.Sorted.{IsPermutation}
+use Rattle.std.specs.List.Sorted.{IsPermutation, IsSorted}
 use Rattle.std.specs.declared.cmp.Ordering.{Ordering}
-use Rattle.std.specs.declared.cmp.Ordering.TheVariants.{Equal}
 use Rattle.std.proofs.lemmas.Cmp.{on_total}
+use Rattle.std.proofs.lemmas.Grind.{common_steps}
 use Rattle.std.proofs.lemmas.Option.{same_Some, none-some}
-use Rattle.std.proofs.lemmas.List.Elements.{All-from_recursion, recursion_from_All}
-use Rattle.std.proofs.lemmas.List.Sorted.{All-permutation}
 use Rattle.mt_stamp.specs.Moment.{Moment, stamp_cmp}
 use Rattle.mt_stamp.specs.Sorting.{sort_by, RisesStrictly, DifferBy}
 use Rattle.mt_stamp.specs.Tree.{tree_cmp}
 use Rattle.mt_stamp.proofs.Order.{stamp_eq-true}
 use Rattle.mt_stamp.proofs.Tree.{trees_are_ordered}
 use Rattle.mt_stamp.proofs.Differing.{differ_kept}
-use Rattle.mt_stamp.proofs.Members.{IsMember, AreApart, member_kept, member_of_kept, one_list, sort_strict, member_sorted, member_unsorted}
+use Rattle.mt_stamp.proofs.Members.{IsMember, member_kept, member_of_kept, one_list, sort_strict, member_sorted, member_unsorted}
 use Rattle.mt_stamp.specs.Written.{Written}
 use Rattle.mt_op.specs.declared.need.Role.TheVariants.{Track as TrackRole, Place}
 use Rattle.mt_op.specs.ByStamp.{stamp_of}
@@ -31,31 +29,24 @@ use Rattle.mt_items.specs.Noting.{AreNoted, is_need_met}
 use Rattle.mt_items.proofs.Roles.{none_written, track_places}
 use Rattle.mt_sessionview.specs.Noted.{is_shown_in, clips_in, places_in, by_place, placed_in, track_place_in, track_cmp_in, track_in, tracks_in}
 use Rattle.mt_sessionview.proofs.PlacedOps.{by_place_total, placed_rise}
-use Rattle.mt_sessionview.specs.Read.{placed_track, is_writer, stands_at, if_standing, standing, track_from, track_where, track_read, HasClips, AreTheClips}
-use Rattle.mt_sessionview.specs.Content.{Clip}
-use Rattle.mt_sessionview.proofs.InOrder.{noted_differ, one_op}
-use Rattle.mt_sessionview.proofs.Items.{stamp_eq_same}
+use Rattle.mt_sessionview.specs.Read.{placed_track, is_writer, stands_at, if_standing, standing, track_where, track_read, HasClips, AreTheClips}
+use Rattle.mt_sessionview.specs.Content.{Clip, clip_cmp}
+use Rattle.mt_sessionview.proofs.Reading.{clips_sorted}
+use Rattle.mt_sessionview.proofs.InOrder.{noted_differ, one_op, apart_by}
+use Rattle.mt_sessionview.proofs.Orders.{stamp_eq_same}
 use Rattle.mt_sessionview.proofs.Lists.{all_members, member_all, any_member, given_by, member_given, member_map, member_of_map, rises_given, rises_mapped}
 use Rattle.mt_sessionview.proofs.Orders.{track_cmp_total}
-use Rattle.mt_sessionview.proofs.Shown.{IsGiven, given_last, track_given, IsTrackIn, one_track}
+use Rattle.mt_sessionview.proofs.Shown.{given_first, title_of_track, track_given, IsTrackIn, one_track}
 
 -- ---- what is read in the order of places
 
 read_where : {X Y Z : Type 0} (h : X → Option Y) (w : Option Y → Option Z) → w None ≡ None → (xs : List X) → filter_map (λ x. w (h x)) xs ≡ filter_map (λ y. w (Some y)) (filter_map h xs)
 read_where h w none [] = refl
-read_where {X} {Y} {Z} h w none (x ∷ xs) = by (h x) (read_where h w none xs)
-  where
-    by : (o : Option Y) → filter_map (λ z. w (h z)) xs ≡ filter_map (λ y. w (Some y)) (filter_map h xs) → cons_option (w o) (filter_map (λ z. w (h z)) xs) ≡ filter_map (λ y. w (Some y)) (cons_option o (filter_map h xs))
-    by None rest = ap (λ (v : Option Z). cons_option v (filter_map (λ z. w (h z)) xs)) none ∙ rest
-    by (Some y) rest = ap (cons_option (w (Some y))) rest
+read_where h w none (x ∷ xs) = let rest = read_where h w none xs in grind (arith, common_steps)
 
 all_given : {V : Type 0} (f : Moment → Option V) (view : Operation → V) (xs : List Operation) → AllByRecursion (λ o. f o.stamp ≡ Some (view o)) xs → filter_map f (map stamp_of xs) ≡ map view xs
 all_given f view [] all = refl
 all_given {V} f view (x ∷ xs) all = (λ i. cons_option (all.0 i) (all_given f view xs all.1 i))
-
-pub members_moved : {X : Type 0} (xs ys : List X) → IsPermutation xs ys → (v : X) → IsMember v ys → IsMember v xs
-members_moved {X} xs ys moved v m =
-    member_all (λ w. IsMember w xs) ys v (recursion_from_All (λ w. IsMember w xs) ys (All-permutation (λ w. IsMember w xs) xs ys moved (All-from_recursion (λ w. IsMember w xs) xs (all_members (λ w. IsMember w xs) xs (λ w n. n))))) m
 
 -- ---- who stands where
 
@@ -116,6 +107,11 @@ has_others r before after x os has kept = record { each = all_members (λ o. IfS
     by o m (Some track) is clips =
         ap (λ (l : Option (List Clip)). unwrap_or l []) (kept track (λ too. member_all (λ y. x.stamp ≢ y.stamp) os o has.differ.0 m (sym (place_is r x track too) ∙ place_is r o track is))) ∙ clips
 
+-- those that are taken out, in order, are the track's
+pub clips_taken : (r : List Operation) → AreNoted r → (table : BTreeMap Moment (List Clip)) (track : Moment) (taken : Option (List Clip)) (sorted : List Clip) → HasClips r table track → taken ≡ get stamp_cmp table track → IsPermutation (unwrap_or taken []) sorted → IsSorted clip_cmp sorted
+    → sorted ≡ clips_in r track
+clips_taken r noted table track taken sorted has is = clips_sorted r (one_op r noted) track (unwrap_or taken []) sorted (ap (λ (l : Option (List Clip)). unwrap_or l []) is ∙ has)
+
 module _ (r : List Operation) (noted : AreNoted r) where
   one : (a b : Operation) → IsMember a r → IsMember b r → a.stamp ≡ b.stamp → a ≡ b
   one = one_op r noted
@@ -133,21 +129,13 @@ module _ (r : List Operation) (noted : AreNoted r) where
   is_track : (o : Operation) → IsMember o shown → IsTrackIn r one o
   is_track o m = member_of_kept (is_shown_in r adds_track) r o m
 
-  apart_tracks : (xs : List Operation) → ((o : Operation) → IsMember o xs → IsTrackIn r one o) → DifferBy stamp_of xs → AreApart (track_cmp_in r) (track_cmp_total r) xs
-  apart_tracks [] tracks d = tt
-  apart_tracks (x ∷ xs) tracks d = (
-    all_members (λ y. track_cmp_in r x y ≢ Equal) xs (λ y m tied.
-        member_all (λ z. x.stamp ≢ z.stamp) xs y d.0 m (ap (λ (o : Operation). o.stamp) (one_track r one x y (tracks x (inl refl)) (tracks y (inr m)) tied))),
-    apart_tracks xs (λ y m. tracks y (inr m)) d.1,
-  )
-
   abbrev in_order : List Operation
   in_order = sort_by (track_cmp_in r) shown
 
   order_rises : RisesStrictly track_order (map stamp_of in_order)
   order_rises =
       rises_mapped track_order stamp_of in_order
-      (sort_strict (track_cmp_in r) (track_cmp_total r) shown (apart_tracks shown is_track (differ_kept stamp_of (is_shown_in r adds_track) r (noted_differ r noted))))
+      (sort_strict (track_cmp_in r) (track_cmp_total r) shown (apart_by (track_cmp_in r) (track_cmp_total r) stamp_of shown (λ a b m n tied. ap stamp_of (one_track r one a b (is_track a m) (is_track b n) tied)) (differ_kept stamp_of (is_shown_in r adds_track) r (noted_differ r noted))))
 
   -- a track that stands somewhere is shown
   shown_where : (place t : Moment) → IsStanding r place t → (a : Operation) × (IsMember a in_order) × (a.stamp ≡ t)
@@ -164,25 +152,11 @@ module _ (r : List Operation) (noted : AreNoted r) where
       by false unmet = absurd (none-some s.write (sym (none_written TrackRole track_place_written track_places r t noted unmet) ∙ s.is))
 
   -- a track with its clips
-  title_of : (o : Operation) → IsMember o r → adds_track o.act ≡ true → IsGiven r one title_written o.stamp
-  title_of o m adds = by o.act refl adds
-    where
-      by : (act : Act) → o.act ≡ act → adds_track act ≡ true → IsGiven r one title_written o.stamp
-      by (AddTrack after title) is added = given_last r one title_written o title m (ap (title_written o.stamp) is)
-      by _ is added = cc added
-
   pub track_is : (o : Operation) → IsMember o in_order → track_where r (Some o.stamp) ≡ Some (track_in r o)
   track_is o m =
       let track = is_track o (member_unsorted (track_cmp_in r) (track_cmp_total r) o shown m) in
-      let title = title_of o track.0 (and_first _ _ track.1) in
-      ap (track_from r o.stamp (clips_in r o.stamp)) title.is
-      ∙ (λ i. Some (record {
-        track = o.stamp;
-        title = unwrap_or (option_map (λ (w : Written (List ℕ)). w.value) (sym title.is i)) [];
-        gain = (track_in r o).gain;
-        mute = (track_in r o).mute;
-        clips = clips_in r o.stamp;
-      }))
+      let title = given_first r one title_written adds_track title_of_track o track.0 (and_first _ _ track.1) in
+      rw title.is refl
 
   abbrev those : List Operation
   those = placed_in r

@@ -17,8 +17,11 @@ use std::alloc::{AllocError, Allocator};
 
 // How many bytes the lines of a track, a clip and a marker take at a guess, and that of the number held.
 const ROOM_FOR_TRACK: usize = 112;
+
 const ROOM_FOR_CLIP: usize = 256;
+
 const ROOM_FOR_MARKER: usize = 96;
+
 const ROOM_FOR_HELD: usize = 32;
 
 // Writes a label and a stamp.
@@ -224,7 +227,11 @@ fn append_markers<A: Allocator, B: Allocator>(
 
 // A guess of the bytes that a session's text takes: a text that is longer grows.
 pub(crate) fn room_for<A: Allocator>(session: &Session<A>) -> usize {
-    let markers = session.markers.items().len().saturating_mul(ROOM_FOR_MARKER);
+    let markers = session
+        .markers
+        .items()
+        .len()
+        .saturating_mul(ROOM_FOR_MARKER);
     let mut room = markers.saturating_add(ROOM_FOR_HELD);
     for view in session.tracks.items() {
         let clips = view.clips.items().len().saturating_mul(ROOM_FOR_CLIP);

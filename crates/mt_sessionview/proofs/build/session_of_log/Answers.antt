@@ -1,5 +1,4 @@
-use Rattle.std.proofs.lemmas.List.{length-map}
-use Rattle.std.proofs.Common.{◌≡◌, ◌∙◌, List, length, map, reverse, refl, sym, ap, subst, arith, Bor}
+use Rattle.std.proofs.Common.{◌≡◌, ◌∙◌, List, map, reverse, sym, ap, subst, Bor}
 use Rattle.std.specs.List.{sum_by}
 use Rattle.std.proofs.lemmas.List.Sorted.{sum_by-IsPermutation, IsPermutation-reverse}
 use Rattle.mt_stamp.specs.Sorting.{sort_by, RisesStrictly}
@@ -10,7 +9,7 @@ use Rattle.mt_op.specs.Needs.{needs, meets, clock_of}
 use Rattle.mt_op.specs.Ready.{is_ready}
 use Rattle.mt_op.specs.Operation.{Operation}
 use Rattle.mt_opcodec.specs.LogValue.{operations}
-use Rattle.mt_sessionview.specs.Noted.{places_in, tracks_in, markers_in}
+use Rattle.mt_sessionview.specs.Noted.{places_in}
 use Rattle.mt_sessionview.specs.Session.{ready_ops}
 use Rattle.mt_sessionview.proofs.Lists.{rises_kept}
 use Rattle.mt_sessionview.proofs.Refs.{rising_ops}
@@ -25,14 +24,9 @@ ready_of-requires g c =
 
 pub count_held-held-requires : goal.count_held-held-requires
 count_held-held-requires g c =
-    let Ref = Bor (Op g.row.A.Denot) in
-    let now : List Ref → List Operation = λ l. map (λ (o : Ref). o.now) l in
-    let s = sort_by op_cmp (operations c.args.log.now) in
-    let sorted : now c.deref.result.now ≡ s = ap now c.deref.ensures.value ∙ c.in_ok-sorted.ensures in
-    let all : length c.deref-2.result.now ≡ length s = sym (length-map c.deref-2.result.now (λ (o : Ref). o.now)) ∙ ap length (ap now c.deref-2.ensures.value ∙ c.in_ok-sorted.ensures) in
-    let some : length c.deref-3.result.now ≡ length (ready_ops s) = sym (length-map c.deref-3.result.now (λ (o : Ref). o.now)) ∙ ap length (ap now c.deref-3.ensures.value ∙ c.in_ok-ready.ensures.ops ∙ ap ready_ops sorted) in
-    let rest = fewer (operations c.args.log.now) c.runs.ensures.logged (length c.deref-2.result.now) (length c.deref-3.result.now) all some in
-    omega (arith, rest.1)
+    let now : List (Bor (Op g.row.A.Denot)) → List Operation = λ l. map (λ (o : Bor (Op g.row.A.Denot)). o.now) l in
+    fewer (operations c.args.log.now) c.runs.ensures.logged (λ (o : Bor (Op g.row.A.Denot)). o.now) c.deref-2.result.now c.deref-3.result.now (ap now c.deref-2.ensures.value ∙ c.in_ok-sorted.ensures)
+    (ap now c.deref-3.ensures.value ∙ c.in_ok-ready.ensures.ops ∙ ap ready_ops (ap now c.deref.ensures.value ∙ c.in_ok-sorted.ensures))
 
 pub session_of_items-requires-clause-rising : goal.session_of_items-requires-clause-rising
 session_of_items-requires-clause-rising g c =
@@ -55,11 +49,8 @@ session_of_items-requires-clause-same g c = λ f.
 
 pub returns-clause-ok : goal.returns-clause-ok
 returns-clause-ok g c =
-    let Ref = Bor (Op g.row.A.Denot) in
-    let now : List Ref → List Operation = λ l. map (λ (o : Ref). o.now) l in
-    let s = sort_by op_cmp (operations c.args.log.now) in
-    let sorted : now c.deref.result.now ≡ s = ap now c.deref.ensures.value ∙ c.in_ok-sorted.ensures in
-    let all : length c.deref-2.result.now ≡ length s = sym (length-map c.deref-2.result.now (λ (o : Ref). o.now)) ∙ ap length (ap now c.deref-2.ensures.value ∙ c.in_ok-sorted.ensures) in
-    let some : length c.deref-3.result.now ≡ length (ready_ops s) = sym (length-map c.deref-3.result.now (λ (o : Ref). o.now)) ∙ ap length (ap now c.deref-3.ensures.value ∙ c.in_ok-ready.ensures.ops ∙ ap ready_ops sorted) in
-    let items : c.in_ok-ready.ready.items ≡ reverse (ready_ops s) = c.in_ok-ready.ensures.items ∙ ap (λ (l : List Operation). reverse (ready_ops l)) sorted in
-    c.in_ok-session.ensures.session ∙ whole (operations c.args.log.now) c.runs.ensures.logged c.in_ok-ready.ready.items (tracks_in c.in_ok-ready.ready.items) (markers_in c.in_ok-ready.ready.items) (length c.deref-2.result.now) (length c.deref-3.result.now) c.count_held-held.result items refl refl all some c.count_held-held.ensures
+    let now : List (Bor (Op g.row.A.Denot)) → List Operation = λ l. map (λ (o : Bor (Op g.row.A.Denot)). o.now) l in
+    let sorted : now c.deref.result.now ≡ sort_by op_cmp (operations c.args.log.now) = ap now c.deref.ensures.value ∙ c.in_ok-sorted.ensures in
+    c.in_ok-session.ensures.session
+    ∙ whole (operations c.args.log.now) c.runs.ensures.logged (λ (o : Bor (Op g.row.A.Denot)). o.now) c.in_ok-ready.ready.items c.deref-2.result.now c.deref-3.result.now c.count_held-held.result
+    (c.in_ok-ready.ensures.items ∙ ap (λ (l : List Operation). reverse (ready_ops l)) sorted) (ap now c.deref-2.ensures.value ∙ c.in_ok-sorted.ensures) (ap now c.deref-3.ensures.value ∙ c.in_ok-ready.ensures.ops ∙ ap ready_ops sorted) c.count_held-held.ensures

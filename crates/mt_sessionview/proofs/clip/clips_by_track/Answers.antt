@@ -1,7 +1,7 @@
 use Rattle.std.proofs.Common.{◌∙◌, [], sym, ap}
 use Rattle.std.specs.Prelude.{unwrap_or}
 use Rattle.std.specs.BTreeMap.{get}
-use Rattle.mt_stamp.specs.Moment.{Moment, stamp_cmp, stamp_eq}
+use Rattle.mt_stamp.specs.Moment.{stamp_cmp, stamp_eq}
 use Rattle.mt_items.specs.Cells.{HoldsClip}
 use Rattle.mt_sessionview.specs.Read.{clip_on, if_on}
 use Rattle.mt_sessionview.proofs.Lists.{item_of, if_read, none_read}

@@ -1,4 +1,4 @@
-use Rattle.std.proofs.Common.{List, map, arith, Bor}
+use Rattle.std.proofs.Common.{map, arith, Bor}
 use Rattle.std.proofs.lemmas.Grind.{common_steps}
 use Rattle.std.proofs.lemmas.Option.{slice_get-get_or}
 use Rattle.mt_op.specs.declared.op.Op.{Op}

@@ -1,17 +1,11 @@
 use Rattle.std.proofs.Common.{ap}
-use Rattle.mt_sessionview.specs.Content.{Content, Track}
+use Rattle.mt_sessionview.specs.Content.{Track}
 use Rattle.mt_sessionview.specs.Changing.{without_clip}
 use Rattle.mt_sessionview.proofs.Retold.{IsContent-set, content_changed}
 use Rattle.mt_sessionview.proofs.session.Session.take_clip.Goals as goal
 
 pub invariant_of-self : goal.invariant_of-self
-invariant_of-self g c =
-    let s = c.self.inside in
-    let content : Content = record { tracks = s.tracks; markers = s.markers; held = s.held } in
-    IsContent-set content c.args.index c.item_mut-track.result.now c.take_clip.new.self c.self.invariant c.item_mut-track.ensures.value (ap (λ (t : Track). t.track) c.take_clip.ensures.rest)
+invariant_of-self g c = IsContent-set _ _ _ _ c.self.invariant c.item_mut-track.ensures.value (ap (λ (t : Track). t.track) c.take_clip.ensures.rest)
 
 pub returns-clause-rest : goal.returns-clause-rest
-returns-clause-rest g c =
-    let s = c.self.inside in
-    let content : Content = record { tracks = s.tracks; markers = s.markers; held = s.held } in
-    content_changed (without_clip c.args.at c.args.place) content c.args.self.now c.args.index c.item_mut-track.result.now c.take_clip.new.self c.self.view_is c.item_mut-track.ensures.value c.take_clip.ensures.rest
+returns-clause-rest g c = content_changed (without_clip c.args.at c.args.place) _ _ _ _ _ c.self.view_is c.item_mut-track.ensures.value c.take_clip.ensures.rest
