@@ -80,15 +80,15 @@ fn on_marker<M: Allocator>(memory: M, name: char, marker: Stamp) -> Result<Body<
     match name {
         'm' => Ok(Body::AddMarker {
             at: 480,
-            title: Title::new(memory, "News")?,
+            title: Title::new(memory, "News at nine o'clock")?,
         }),
         'x' => Ok(Body::Retitle {
             item: marker,
-            title: Title::new(memory, "Early")?,
+            title: Title::new(memory, "Early in the morning")?,
         }),
         'y' => Ok(Body::Retitle {
             item: marker,
-            title: Title::new(memory, "Late")?,
+            title: Title::new(memory, "Late in the evening")?,
         }),
         'p' => Ok(Body::MoveMarker { marker, at: 960 }),
         'r' => removal(memory, marker),
@@ -106,11 +106,11 @@ fn on_track<M: Allocator>(
     match name {
         't' => Ok(Body::AddTrack {
             after: None,
-            title: Title::new(memory, "Voice")?,
+            title: Title::new(memory, "Voice of the speaker")?,
         }),
         'u' => Ok(Body::AddTrack {
             after: None,
-            title: Title::new(memory, "Music")?,
+            title: Title::new(memory, "Music of the evening")?,
         }),
         _ => Ok(Body::MoveTrack {
             track,

@@ -7,9 +7,8 @@ use Rattle.mt_stamp.proofs.SameItems.{SameItems}
 use Rattle.mt_sessionview.specs.Session.{ready_ops, held_ops}
 use Rattle.mt_sessionview.proofs.FromReady.{markers_are, tracks_are}
 use Rattle.mt_sessionview.proofs.InOrder.{one_op}
-use Rattle.mt_sessionview.proofs.Lists.{all_members}
+use Rattle.mt_sessionview.proofs.Lists.{all_members, members_moved}
 use Rattle.mt_sessionview.proofs.SameSession.{markers_same, tracks_same}
-use Rattle.mt_sessionview.proofs.Standing.{members_moved}
 use Rattle.mt_mending.specs.Mending.{NotedAreTheSession}
 
 pub noted_are_the_session : NotedAreTheSession

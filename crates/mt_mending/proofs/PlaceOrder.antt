@@ -74,7 +74,7 @@ places_rise ops noted =
     let cmp = tree_cmp (places_in ops) in
     let total = (trees_are_ordered (places_in ops)).total in
     let differ = differ_mapped (λ (t : TreePlace). t.place) (λ (p : Moment). p) (places_in ops) (differ_grew (places_in ops) (grew_in ops noted)) in
-    sort_strict cmp total (stamps_of (places_in ops)) (apart_by cmp total (λ (p : Moment). p) (trees_are_ordered (places_in ops)).apart (stamps_of (places_in ops)) differ)
+    sort_strict cmp total (stamps_of (places_in ops)) (apart_by cmp total (λ (p : Moment). p) (stamps_of (places_in ops)) (λ p q m n tied. (trees_are_ordered (places_in ops)).apart p q tied) differ)
 
 pub indexes_tell_the_order : IndexesTellTheOrder
 indexes_tell_the_order ops a b i j noted at_i at_j =

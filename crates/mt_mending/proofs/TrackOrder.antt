@@ -30,7 +30,6 @@ use Rattle.mt_sessionview.specs.Changing.{IsPlace, put}
 use Rattle.mt_sessionview.proofs.InOrder.{one_op, noted_differ}
 use Rattle.mt_sessionview.proofs.Lists.{all_members, all_also, member_given, rises_mapped}
 use Rattle.mt_sessionview.proofs.Orders.{track_cmp_total}
-use Rattle.mt_sessionview.proofs.Placing.{Tells, goes_in}
 use Rattle.mt_sessionview.proofs.Shown.{one_track, track_given, stands_by}
 use Rattle.mt_mending.specs.Before.{ArePlacesOf, place_index, index_order}
 use Rattle.mt_mending.specs.Mending.{track_order}
@@ -86,37 +85,6 @@ module _ {X : Type 0} (cmp : X → X → Ordering) (order : IsTotalOrder cmp) wh
   pub rises_put : (e : Option X) (ys : List X) → RisesStrictly cmp (put cmp e ys) → RisesStrictly cmp ys × IfSome e (λ x. TiesWithNone cmp x ys)
   rises_put None ys rise = (rise, tt)
   rises_put (Some x) ys rise = rises_inserted x ys rise
-
-  is_tied : (c : Ordering) → is_eq c ≡ true → c ≡ Equal
-  is_tied Less e = absurd (true≢false (sym e))
-  is_tied Equal e = refl
-  is_tied Greater e = absurd (true≢false (sym e))
-
-  is_less : (c : Ordering) → is_lt c ≡ true → c ≡ Less
-  is_less Less e = refl
-  is_less Equal e = absurd (true≢false (sym e))
-  is_less Greater e = absurd (true≢false (sym e))
-
-  apart_all : (x : X) (ys : List X) → TiesWithNone cmp x ys → AllByRecursion (λ y. is_eq (cmp y x) ≡ false) ys
-  apart_all x ys apart = all_also (λ y. cmp y x ≢ Equal) (λ y. is_eq (cmp y x) ≡ false) (λ y other. by (cmp y x) refl other) ys apart
-    where
-      by : {d : Ordering} (c : Ordering) → d ≡ c → d ≢ Equal → is_eq c ≡ false
-      by Less e other = refl
-      by Equal e other = absurd (other e)
-      by Greater e other = refl
-
-  -- how items compare with one of them tells where it goes
-  pub tells_by : (x : X) → Tells cmp (λ y. cmp y x) (λ y. is_eq (cmp y x))
-  tells_by x = record {
-    tied = λ y e. is_tied (cmp y x) e;
-    passes = λ y e. ap is_eq e;
-    down = λ y z less below. ap is_lt (order.trans y z x less (is_less (cmp z x) below));
-    before = λ y z less tied. ap is_lt (order.antisymm y x ∙ ap ordering_reverse (sym (order.congr z x y tied) ∙ order.antisymm z y ∙ ap ordering_reverse less));
-  }
-
-  -- one that ties with none goes in behind those that are smaller
-  pub goes_behind : (x : X) (ys : List X) (place : ℕ) → TiesWithNone cmp x ys → IsPlace (λ y. cmp y x) ys place → insert ys place x ≡ insert_by cmp x ys
-  goes_behind x ys place apart at = goes_in cmp (λ y. cmp y x) (λ y. is_eq (cmp y x)) (tells_by x) order x (λ y. refl) ys place (apart_all x ys apart) at
 
 -- orders that agree on the items of a list
 module _ {X : Type 0} (cmp other : X → X → Ordering) (P : X → Type 0) (agree : (a b : X) → P a → P b → cmp a b ≡ other a b) where

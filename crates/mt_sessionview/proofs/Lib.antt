@@ -1,8 +1,10 @@
+pub mod Items
 pub mod TrackSorting
 pub mod Lists
 pub mod Orders
 pub mod PlaceTree
 pub mod SessionText
+pub mod FromReady
 pub mod HeldOps
 pub mod SameReady
 pub mod SamePlaces

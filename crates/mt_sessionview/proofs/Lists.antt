@@ -1,10 +1,10 @@
 -- Members of lists, and what lists give.
-use Rattle.std.proofs.Common.{◌≡◌, ◌≢◌, ℕ, ◌+◌, ◌<◌, Bool, true, false, cond, List, [], ◌∷◌, ◌++◌, ◌||◌, length, get_or, take, Option, Some, None, map, refl, sym, ap, ◌∙◌, subst, inl, inr, true≢false}
+use Rattle.std.proofs.Common.{◌≡◌, ◌≢◌, ℕ, ◌+◌, ◌<◌, ◌≤◌, Bool, true, false, cond, List, [], ◌∷◌, ◌++◌, ◌||◌, length, get_or, take, drop, append_assoc, Option, Some, None, map, refl, sym, ap, ◌∙◌, subst, inl, inr, true≢false}
 use Rattle.std.specs.List.{AllByRecursion, filter, filter_map, cons_option, list_any, list_all}
 use Rattle.std.specs.declared.cmp.Ordering.{Ordering}
 use Rattle.std.specs.declared.cmp.Ordering.TheVariants.{Less}
 use Rattle.std.proofs.lemmas.Bool.{false_from_ne_true}
-use Rattle.std.proofs.lemmas.List.{append-nil, map-append, take_more}
+use Rattle.std.proofs.lemmas.List.{append-nil, drop_all, map-append, take_more}
 use Rattle.std.proofs.lemmas.List.Elements.{All-from_recursion, recursion_from_All, filter_map-append}
 use Rattle.std.specs.List.Sorted.{IsPermutation}
 use Rattle.std.proofs.lemmas.List.Sorted.{All-permutation}
@@ -151,3 +151,26 @@ rises_kept {X} cmp p (x ∷ xs) rises = by (p x) (rises_kept cmp p xs rises.1)
     by : (b : Bool) → RisesStrictly cmp (filter p xs) → RisesStrictly cmp (cond b (x ∷ filter p xs) (filter p xs))
     by true rest = (all_kept (λ y. cmp x y ≡ Less) p xs rises.0, rest)
     by false rest = rest
+
+-- what differs by a key gives what differs by it
+pub differ_given : {X Y Z : Type 0} (h : X → Option Y) (key : X → Z) (name : Y → Z) → ((x : X) (y : Y) → h x ≡ Some y → name y ≡ key x) → (xs : List X) → DifferBy key xs → DifferBy name (filter_map h xs)
+differ_given h key name tells [] d = tt
+differ_given {X} {Y} {Z} h key name tells (x ∷ xs) d = by (h x) refl (differ_given h key name tells xs d.1)
+  where
+    by : (o : Option Y) → h x ≡ o → DifferBy name (filter_map h xs) → DifferBy name (cons_option o (filter_map h xs))
+    by None is rest = rest
+    by (Some y) is rest = (
+      all_members (λ z. name y ≢ name z) (filter_map h xs) (λ z m same.
+          let g = given_by h xs z m in
+          member_all (λ w. key x ≢ key w) xs g.item d.0 g.member (sym (tells x y is) ∙ same ∙ tells g.item z g.gives)),
+      rest,
+    )
+
+-- ---- loops that put what they make behind what they have made: at a step, and at the end
+
+pub more_made : {Y : Type 0} (made grown new before rest whole : List Y) → made ++ before ≡ whole → before ≡ new ++ rest → grown ≡ made ++ new → grown ++ rest ≡ whole
+more_made {Y} made grown new before rest whole so_far split is =
+    ap (λ (l : List Y). l ++ rest) is ∙ append_assoc made new rest ∙ ap (λ (l : List Y). made ++ l) (sym split) ∙ so_far
+
+pub all_made : {X Y : Type 0} (F : List X → List Y) (xs : List X) (n : ℕ) (made whole : List Y) → F [] ≡ [] → length xs ≤ n → made ++ F (drop n xs) ≡ whole → made ≡ whole
+all_made {X} {Y} F xs n made whole none past so_far = sym (append-nil made) ∙ ap (λ (l : List Y). made ++ l) (sym (ap F (drop_all n xs past) ∙ none)) ∙ so_far

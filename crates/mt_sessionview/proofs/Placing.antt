@@ -3,7 +3,7 @@ use Rattle.std.proofs.Common.{◌≡◌, ◌≢◌, ℕ, zero, suc, ◌<◌, ◌
 use Rattle.std.specs.Prelude.{slice_get, slice_set, filter, find, insert, remove}
 use Rattle.std.specs.List.{AllByRecursion, list_any}
 use Rattle.std.specs.List.Sorted.{IsPartitionedBy}
-use Rattle.std.specs.Cmp.{on_total, tied_itself}
+use Rattle.std.specs.Cmp.{IsTotalOrder, on_total, tied_itself}
 use Rattle.std.specs.Ordering.{is_lt, match_ordering, ordering_reverse}
 use Rattle.std.specs.declared.cmp.Ordering.{Ordering}
 use Rattle.std.specs.declared.cmp.Ordering.TheVariants.{Less, Equal, Greater}
@@ -39,7 +39,7 @@ nothing_found : {X : Type 0} (p : X → Bool) (xs : List X) → AllByRecursion (
 nothing_found p [] all = refl
 nothing_found p (x ∷ xs) all = ap (λ b. cond b (Some x) (find p xs)) all.0 ∙ nothing_found p xs all.1
 
-found_passes : {X : Type 0} (p : X → Bool) (xs : List X) (y : X) → find p xs ≡ Some y → p y ≡ true
+pub found_passes : {X : Type 0} (p : X → Bool) (xs : List X) (y : X) → find p xs ≡ Some y → p y ≡ true
 found_passes p [] y is = absurd cc
 found_passes p (x ∷ xs) y is = let rest = found_passes p xs y in grind (arith, common_steps)
 
@@ -53,6 +53,37 @@ is_somewhere p xs items any same nowhere =
 -- the one that stands there passes
 pub stands_there : {X : Type 0} (p : X → Bool) (xs items : List X) (place : ℕ) (old : X) → items ≡ xs → StandsAt p items place → slice_get xs place ≡ Some old → p old ≡ true
 stands_there {X} p xs items place old is stands at = found_passes p xs old (ap (find p) (sym is) ∙ stands.there ∙ ap (λ (l : List X). slice_get l place) is ∙ at)
+
+-- ---- where an entry would go
+
+later : {X : Type 0} (beside : X → Ordering) (y : X) (xs : List X) (place : ℕ) → IsPlace beside (y ∷ xs) (suc place) → IsPlace beside xs place
+later beside y xs place at = record {
+  inside = omega (arith, at.inside);
+  before = λ n d low high. at.before (suc n) d (omega arith) (omega (arith, high));
+  after = λ n d low high. at.after (suc n) d (omega (arith, low)) (omega (arith, high));
+}
+
+-- those that are smaller come first
+pub parted_by : {X : Type 0} (cmp : X → X → Ordering) (beside : X → Ordering) → ((y z : X) → cmp y z ≡ Less → is_lt (beside z) ≡ true → is_lt (beside y) ≡ true) → (xs : List X) → RisesStrictly cmp xs → IsPartitionedBy (λ y. is_lt (beside y)) xs
+parted_by cmp beside down [] rise i j d le lt h = absurd (omega (arith, lt))
+parted_by cmp beside down (x ∷ xs) rise zero zero d le lt h = h
+parted_by cmp beside down (x ∷ xs) rise zero (suc j) d le lt h = down x (get_or xs j d) (All-from_recursion (λ y. cmp x y ≡ Less) xs rise.0 j d (omega (arith, lt))) h
+parted_by cmp beside down (x ∷ xs) rise (suc i) zero d le lt h = absurd (omega (arith, le))
+parted_by cmp beside down (x ∷ xs) rise (suc i) (suc j) d le lt h = parted_by cmp beside down xs rise.1 i j d (omega (arith, le)) (omega (arith, lt)) h
+
+-- one that ties with none goes in behind those that are smaller
+pub goes_behind : {X : Type 0} (cmp : X → X → Ordering) (order : IsTotalOrder cmp) (x : X) (xs : List X) (place : ℕ) → AllByRecursion (λ y. cmp y x ≢ Equal) xs → IsPlace (λ y. cmp y x) xs place → insert xs place x ≡ insert_by cmp x xs
+goes_behind cmp order x [] zero apart at = refl
+goes_behind cmp order x [] (suc place) apart at = absurd (omega (arith, at.inside))
+goes_behind cmp order x (y ∷ xs) zero apart at =
+    let greater : cmp y x ≡ Greater = greater_from (cmp y x) (at.after 0 y (omega arith) (omega arith)) apart.0 in
+    let less : cmp x y ≡ Less = order.antisymm x y ∙ ap ordering_reverse greater in
+    sym (ap (λ o. match_ordering o (x ∷ y ∷ xs) (x ∷ y ∷ xs) (y ∷ insert_by cmp x xs)) less)
+goes_behind cmp order x (y ∷ xs) (suc place) apart at =
+    let less : cmp y x ≡ Less = is_less (cmp y x) (at.before 0 y (omega arith) (omega arith)) in
+    let greater : cmp x y ≡ Greater = order.antisymm x y ∙ ap ordering_reverse less in
+    ap (λ l. y ∷ l) (goes_behind cmp order x xs place apart.1 (later (λ z. cmp z x) y xs place at))
+    ∙ sym (ap (λ o. match_ordering o (x ∷ y ∷ xs) (x ∷ y ∷ xs) (y ∷ insert_by cmp x xs)) greater)
 
 -- ---- beside a position and a stamp
 
@@ -84,12 +115,7 @@ module _ {X : Type 0} (key : X → ℕ × Moment) (k : ℕ × Moment) where
 
   -- what comes before has none after what does not
   pub parted : (xs : List X) → RisesStrictly cmp xs → IsPartitionedBy (λ y. is_lt (beside y)) xs
-  parted [] rise i j d le lt h = absurd (omega (arith, lt))
-  parted (x ∷ xs) rise zero zero d le lt h = h
-  parted (x ∷ xs) rise zero (suc j) d le lt h =
-      ap is_lt (key_total.trans (key x) (key (get_or xs j d)) k (All-from_recursion (λ y. cmp x y ≡ Less) xs rise.0 j d (omega (arith, lt))) (is_less (beside (get_or xs j d)) h))
-  parted (x ∷ xs) rise (suc i) zero d le lt h = absurd (omega (arith, le))
-  parted (x ∷ xs) rise (suc i) (suc j) d le lt h = parted xs rise.1 i j d (omega (arith, le)) (omega (arith, lt)) h
+  parted = parted_by cmp beside (λ y z less h. ap is_lt (key_total.trans (key y) (key z) k less (is_less (beside z) h)))
 
   -- only one passes
   fails_later : (y : X) (zs : List X) → is_lt (beside y) ≡ false → AllByRecursion (λ z. cmp y z ≡ Less) zs → AllByRecursion (λ z. p z ≡ false) zs
@@ -115,17 +141,10 @@ module _ {X : Type 0} (key : X → ℕ × Moment) (k : ℕ × Moment) where
         rest = ap (λ c. cond (not c) (y ∷ filter (λ z. not (p z)) xs) (filter (λ z. not (p z)) xs)) fails ∙ ap (λ l. y ∷ l) s.rest;
       }
 
-  later : (y : X) (xs : List X) (place : ℕ) → IsPlace beside (y ∷ xs) (suc place) → IsPlace beside xs place
-  later y xs place at = record {
-    inside = omega (arith, at.inside);
-    before = λ n d low high. at.before (suc n) d (omega arith) (omega (arith, high));
-    after = λ n d low high. at.after (suc n) d (omega (arith, low)) (omega (arith, high));
-  }
-
   fails_all : (xs : List X) (place : ℕ) → RisesStrictly cmp xs → IsPlace beside xs place → ((x : X) → slice_get xs place ≡ Some x → p x ≡ false) → AllByRecursion (λ x. p x ≡ false) xs
   fails_all [] place rise at fails = tt
   fails_all (y ∷ xs) zero rise at fails = (fails y refl, fails_later y xs (at.after 0 y (omega arith) (omega arith)) rise.0)
-  fails_all (y ∷ xs) (suc place) rise at fails = (fails_before y (at.before 0 y (omega arith) (omega arith)), fails_all xs place rise.1 (later y xs place at) fails)
+  fails_all (y ∷ xs) (suc place) rise at fails = (fails_before y (at.before 0 y (omega arith) (omega arith)), fails_all xs place rise.1 (later beside y xs place at) fails)
 
   -- what does not pass at the place where it would be is nowhere
   is_nowhere : (xs : List X) (place : ℕ) → RisesStrictly cmp xs → IsPlace beside xs place → ((x : X) → slice_get xs place ≡ Some x → p x ≡ false) → IsNowhere p xs
@@ -162,20 +181,7 @@ module _ {X : Type 0} (key : X → ℕ × Moment) (x : X) where
 
   -- one that ties with none goes in at its place
   pub goes_in : (xs items : List X) (place : ℕ) → AllByRecursion (λ y. alike y ≡ false) xs → items ≡ xs → IsPlace (λ y. order y x) items place → insert xs place x ≡ insert_by order x xs
-  goes_in xs items place none same at = at_place xs place none (subst (λ (l : List X). IsPlace (λ y. order y x) l place) same at)
-    where
-      at_place : (xs : List X) (place : ℕ) → AllByRecursion (λ y. alike y ≡ false) xs → IsPlace (λ y. order y x) xs place → insert xs place x ≡ insert_by order x xs
-      at_place [] zero none at = refl
-      at_place [] (suc place) none at = absurd (omega (arith, at.inside))
-      at_place (y ∷ xs) zero none at =
-          let greater : order y x ≡ Greater = greater_from (order y x) (at.after 0 y (omega arith) (omega arith)) (unlike y none.0) in
-          let less : order x y ≡ Less = key_total.antisymm (key x) (key y) ∙ ap ordering_reverse greater in
-          sym (ap (λ o. match_ordering o (x ∷ y ∷ xs) (x ∷ y ∷ xs) (y ∷ insert_by order x xs)) less)
-      at_place (y ∷ xs) (suc place) none at =
-          let less : order y x ≡ Less = is_less (order y x) (at.before 0 y (omega arith) (omega arith)) in
-          let greater : order x y ≡ Greater = key_total.antisymm (key x) (key y) ∙ ap ordering_reverse less in
-          ap (λ l. y ∷ l) (at_place xs place none.1 (later key (key x) y xs place at))
-          ∙ sym (ap (λ o. match_ordering o (x ∷ y ∷ xs) (x ∷ y ∷ xs) (y ∷ insert_by order x xs)) greater)
+  goes_in xs items place none same at = goes_behind order (on_total key key_total) x xs place (all_also (λ y. alike y ≡ false) (λ y. order y x ≢ Equal) unlike xs none) (subst (λ (l : List X). IsPlace (λ y. order y x) l place) same at)
 
   -- and the entries still rise
   pub rises_with : (xs : List X) → AllByRecursion (λ y. alike y ≡ false) xs → RisesStrictly order xs → RisesStrictly order (insert_by order x xs)

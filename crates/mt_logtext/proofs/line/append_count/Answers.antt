@@ -1,10 +1,12 @@
-use Rattle.std.proofs.Common.{List, ℕ, [], ◌∷◌, ◌++◌, ap, ◌∙◌}
+use Rattle.std.proofs.Common.{◌≡◌, List, ℕ, [], ◌∷◌, ◌++◌, ap, append_assoc, ◌∙◌}
 use Rattle.std.specs.Prelude.{codes}
 use Rattle.std.specs.Fmt.{decimal}
 use Rattle.std.specs.String.{string_bytes}
 use Rattle.mt_sessionview.specs.SessionText.{newline}
-use Rattle.mt_sessionview.proofs.SessionText.{three_pieces}
 use Rattle.mt_logtext.proofs.line.append_count.Goals as goal
+
+three_pieces : (old t1 t2 new a b c : List ℕ) → t1 ≡ old ++ a → t2 ≡ t1 ++ b → new ≡ t2 ++ c → new ≡ old ++ (a ++ (b ++ c))
+three_pieces old t1 t2 new a b c e1 e2 e = rw (e, e2, e1) (simp append_assoc)
 
 pub returns : goal.returns
 returns g c =

@@ -4,7 +4,8 @@ use Rattle.std.proofs.lemmas.Result.{on_ok_weaker}
 use Rattle.mt_sessionview.specs.Content.{Content, Track}
 use Rattle.mt_sessionview.specs.Changing.{IsPlace, put}
 use Rattle.mt_mending.specs.Before.{index_order}
-use Rattle.mt_mending.proofs.TrackOrder.{TiesWithNone, index_order_total, goes_behind}
+use Rattle.mt_sessionview.proofs.Placing.{goes_behind}
+use Rattle.mt_mending.proofs.TrackOrder.{TiesWithNone, index_order_total}
 use Rattle.mt_mending.proofs.mend_track.put_shown.Goals as goal
 
 pub returns-in-Some-clause-ok : goal.returns-in-Some-clause-ok

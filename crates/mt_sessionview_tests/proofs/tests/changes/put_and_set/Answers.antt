@@ -1,10 +1,14 @@
-use Rattle.std.proofs.Common.{◌≡◌, ◌∙◌, ◌||◌, [], ◌∷◌, ap, false}
+use Rattle.std.proofs.Common.{◌≡◌, ◌∙◌, ◌&&◌, ◌==◌, ◌||◌, ℕ, [], ◌∷◌, ap, eq-eqb, true, false}
 use Rattle.std.specs.List.{list_any}
 use Rattle.mt_stamp.specs.Sorting.{insert_by}
 use Rattle.mt_sessionview.specs.Content.{Content, marker_cmp}
 use Rattle.mt_sessionview.specs.Changing.{is_marker_at}
-use Rattle.mt_sessionview.proofs.Beside.{same_both}
+use Rattle.mt_stamp.specs.Moment.{Moment, stamp_eq}
+use Rattle.mt_stamp.proofs.Order.{stamp_eq-itself}
 use Rattle.mt_sessionview_tests.proofs.tests.changes.put_and_set.Goals as goal
+
+same_both : (a at : ℕ) (s stamp : Moment) → a ≡ at → s ≡ stamp → ((a == at) && stamp_eq stamp s) ≡ true
+same_both a at s stamp e f = ap (λ b. b && stamp_eq stamp s) (eq-eqb a at e) ∙ ap (stamp_eq stamp) f ∙ stamp_eq-itself stamp
 
 -- the only marker is the one that was put in
 pub set_marker-requires : goal.set_marker-requires
