@@ -90,8 +90,8 @@ path_same t places grew p other = within_same t places grew (suc (length places)
 pub there_noted : (r : List Operation) (p : Moment) → IsThere (places_in r) p → is_noted r p ≡ true
 there_noted r p there =
     let from = given_by place_added r there.0 there.1 in
-    let made = (gives from.item there.0 from.gives).1 in
-    any_of (λ (x : Operation). stamp_eq p x.stamp) r from.item from.member (stamp_eq_same p from.item.stamp (sym there.2 ∙ ap (λ (t : TreePlace). t.place) made))
+    let made = (gives from.0 there.0 from.2).1 in
+    any_of (λ (x : Operation). stamp_eq p x.stamp) r from.0 from.1 (stamp_eq_same p from.0.stamp (sym there.2 ∙ ap (λ (t : TreePlace). t.place) made))
 
 pub grew_in : (r : List Operation) → AreNoted r → Grew (places_in r)
 grew_in [] noted = tt

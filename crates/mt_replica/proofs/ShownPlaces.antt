@@ -55,7 +55,7 @@ given_differ : (r : List Operation) → DifferBy stamp_of r → DifferBy (λ (t 
 given_differ r differ = differ_given place_added stamp_of (λ (t : TreePlace). t.place) (λ o t is. ap (λ (u : TreePlace). u.place) (gives o t is).1) r differ
 
 given_member : (r u : List Operation) → ((o : Operation) → IsMember o r → IsMember o u) → (t : TreePlace) → IsMember t (places_in r) → IsMember t (places_in u)
-given_member r u moved t m = let from = given_by place_added r t m in member_given place_added u from.item t (moved from.item from.member) from.gives
+given_member r u moved t m = let from = given_by place_added r t m in member_given place_added u from.0 t (moved from.0 from.1) from.2
 
 -- the places that the same operations give
 pub tree_of_same : (r u : List Operation) → SameItems r u → DifferBy stamp_of u → IsTree (places_in r) → IsTree (places_in u)

@@ -11,7 +11,7 @@ use Rattle.std.proofs.lemmas.List.Sorted.{All-permutation}
 use Rattle.mt_stamp.specs.Sorting.{DifferBy, RisesStrictly}
 use Rattle.mt_stamp.proofs.Differing.{all_kept}
 use Rattle.mt_stamp.proofs.Members.{IsMember}
-use Rattle.mt_stamp.proofs.SameItems.{all_map}
+use Rattle.mt_stamp.proofs.SameItems.{GivenBy, all_map, all_filter_map}
 use Rattle.std.proofs.Math.Bool.{or-true}
 use Rattle.mt_op.proofs.Needs.{and_first, and_second}
 
@@ -60,22 +60,8 @@ any_member {X} p (x ∷ xs) any = by (p x) refl any (any_member p xs)
     by false is h rest = let f = rest h in record { item = f.item; member = inr f.member; passes = f.passes }
 
 -- a member that gives something
-pub record IsGivenBy {X Y : Type 0} (h : X → Option Y) (xs : List X) (y : Y) : Type 0 where
-  pub item : X
-  pub member : IsMember item xs
-  pub gives : h item ≡ Some y
-
-pub given_by : {X Y : Type 0} (h : X → Option Y) (xs : List X) (y : Y) → IsMember y (filter_map h xs) → IsGivenBy h xs y
-given_by h [] y m = absurd m
-given_by {X} {Y} h (x ∷ xs) y m = by (h x) refl m (given_by h xs y)
-  where
-    later : IsGivenBy h xs y → IsGivenBy h (x ∷ xs) y
-    later g = record { item = g.item; member = inr g.member; gives = g.gives }
-
-    by : (o : Option Y) → h x ≡ o → IsMember y (cons_option o (filter_map h xs)) → (IsMember y (filter_map h xs) → IsGivenBy h xs y) → IsGivenBy h (x ∷ xs) y
-    by None is n rest = later (rest n)
-    by (Some z) is (inl same) rest = record { item = x; member = inl refl; gives = is ∙ ap Some same }
-    by (Some z) is (inr n) rest = later (rest n)
+pub given_by : {X Y : Type 0} (h : X → Option Y) (xs : List X) (y : Y) → IsMember y (filter_map h xs) → GivenBy (λ x. IsMember x xs) h y
+given_by h xs y m = member_all (GivenBy (λ x. IsMember x xs) h) (filter_map h xs) y (all_filter_map (λ x. IsMember x xs) h xs (all_members (λ x. IsMember x xs) xs (λ x n. n))) m
 
 pub member_given : {X Y : Type 0} (h : X → Option Y) (xs : List X) (x : X) (y : Y) → IsMember x xs → h x ≡ Some y → IsMember y (filter_map h xs)
 member_given h [] x y m is = absurd m
@@ -114,7 +100,7 @@ rises_given {X} {Y} {Z} cmp h key name tells (x ∷ xs) rises = by (h x) refl (r
     by (Some y) is rest = (
       all_members (λ z. cmp (name y) (name z) ≡ Less) (filter_map h xs) (λ z m.
           let g = given_by h xs z m in
-          (λ i. cmp (tells x y is i) (tells g.item z g.gives i)) ∙ member_all (λ w. cmp (key x) (key w) ≡ Less) xs g.item rises.0 g.member),
+          (λ i. cmp (tells x y is i) (tells g.0 z g.2 i)) ∙ member_all (λ w. cmp (key x) (key w) ≡ Less) xs g.0 rises.0 g.1),
       rest,
     )
 
@@ -162,7 +148,7 @@ differ_given {X} {Y} {Z} h key name tells (x ∷ xs) d = by (h x) refl (differ_g
     by (Some y) is rest = (
       all_members (λ z. name y ≢ name z) (filter_map h xs) (λ z m same.
           let g = given_by h xs z m in
-          member_all (λ w. key x ≢ key w) xs g.item d.0 g.member (sym (tells x y is) ∙ same ∙ tells g.item z g.gives)),
+          member_all (λ w. key x ≢ key w) xs g.0 d.0 g.1 (sym (tells x y is) ∙ same ∙ tells g.0 z g.2)),
       rest,
     )
 

@@ -3,20 +3,25 @@ use Rattle.std.proofs.Common.{◌≡◌, ◌≢◌, ℕ, true, false, true≢fal
 use Rattle.std.specs.Cmp.{IsTotalOrder}
 use Rattle.std.specs.List.{AllByRecursion, list_any}
 use Rattle.std.specs.FinMap.{nat_cmp-IsAntisymmetric}
-use Rattle.std.specs.Ordering.{nat_cmp, ordering_then}
+use Rattle.std.specs.Ordering.{nat_cmp, ordering_then, is_eq}
 use Rattle.std.specs.declared.cmp.Ordering.{Ordering}
 use Rattle.std.specs.declared.cmp.Ordering.TheVariants.{Less, Equal, Greater}
+use Rattle.std.proofs.lemmas.Bool.{false_from_ne_true}
 use Rattle.std.proofs.lemmas.Cmp.{then_total, on_total, nat_cmp_total}
 use Rattle.mt_stamp.specs.Moment.{Moment, stamp_cmp, stamp_eq}
-use Rattle.mt_stamp.proofs.Order.{stamp_cmp_total, stamp_cmp-IsAntisymmetric, stamp_eq-itself}
+use Rattle.mt_stamp.proofs.Order.{stamp_cmp_total, stamp_cmp-IsAntisymmetric, stamp_eq-itself, stamp_eq-true}
 use Rattle.mt_stamp.proofs.Tree.{trees_are_ordered}
 use Rattle.mt_op.specs.Operation.{Operation}
+use Rattle.mt_items.proofs.Marking.{tests_alike}
 use Rattle.mt_sessionview.specs.Content.{Clip, Marker, clip_cmp, marker_cmp}
 use Rattle.mt_sessionview.proofs.Lists.{all_also, none_passes}
 use Rattle.mt_sessionview.specs.Noted.{places_in, track_place_in, track_cmp_in}
 
 pub stamp_eq_same : (a b : Moment) → a ≡ b → stamp_eq a b ≡ true
 stamp_eq_same a b e = ap (stamp_eq a) (sym e) ∙ stamp_eq-itself a
+
+pub is_elsewhere : (a b : Moment) → a ≢ b → is_eq (stamp_cmp a b) ≡ false
+is_elsewhere a b apart = tests_alike a b ∙ false_from_ne_true (stamp_eq a b) (λ same. apart (stamp_eq-true a b same))
 
 -- what has not this stamp differs from what has
 pub stamps_differ : {X : Type 0} (stamp_of : X → Moment) (stamp : Moment) (xs : List X) → list_any (λ x. stamp_eq stamp (stamp_of x)) xs ≡ false → AllByRecursion (λ x. stamp ≢ stamp_of x) xs

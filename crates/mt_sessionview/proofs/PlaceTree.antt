@@ -70,9 +70,9 @@ module _ (s : List Operation) (differ : DifferBy stamp_of s) (valid : AllByRecur
     apart = one_place (λ (t : TreePlace). t.place) (places s) (subst (DifferBy (λ (t : TreePlace). t.place)) (sym (given_places (ready_ops s))) (differ_mapped tree_place (λ (t : TreePlace). t.place) (filter (fits Place) (ready_ops s)) (differ_kept stamp_of (fits Place) (ready_ops s) (differ_kept stamp_of ready s differ))));
     after_older = λ i t p at after.
         let from = given_by place_added (ready_ops s) t (member_at (places s) i t at) in
-        let o = from.item in
-        let kept = member_of_kept ready s o from.member in
-        let made = (gives o t from.gives).1 in
+        let o = from.0 in
+        let kept = member_of_kept ready s o from.1 in
+        let made = (gives o t from.2).1 in
         let is : place_after o.act ≡ Some p = ap (λ (u : TreePlace). u.after) (sym made) ∙ after in
         let met = all_true (λ (need : Need). list_any ready (filter (meets need) s)) (needs o) (sym (member_all (λ x. ready x ≡ is_met clock_of needs meets s ready x) s o rule kept.0) ∙ kept.1) in
         let found = any_member ready (filter (meets (need_of Place p)) s) (place_need (λ need. list_any ready (filter (meets need) s) ≡ true) p o.act is met) in

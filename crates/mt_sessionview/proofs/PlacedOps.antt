@@ -31,6 +31,7 @@ use Rattle.mt_sessionview.specs.Read.{op_at, ops_at, tree_place}
 use Rattle.mt_sessionview.proofs.InOrder.{apart_by}
 use Rattle.mt_sessionview.proofs.Lists.{all_also, all_members, any_member, member_all, member_map, rises_kept, rises_mapped, rises_unmapped}
 use Rattle.mt_sessionview.proofs.PlaceTree.{given_places}
+use Rattle.mt_sessionview.proofs.SameMembers.{members_same}
 use Rattle.mt_sessionview.proofs.SameSession.{tree_same}
 
 -- ---- operations at places
@@ -77,11 +78,14 @@ pub placed_differ : (r : List Operation) → DifferBy stamp_of r → DifferBy st
 placed_differ r differ = differ_sorted stamp_of (by_place r) (filter (fits Place) r) (differ_kept stamp_of (fits Place) r differ)
 
 -- there are the same of the same operations
-pub placed_same : (r u : List Operation) → SameItems r u → AllByRecursion (λ o. IsMember o r) u → ((a b : Operation) → IsMember a r → IsMember b r → a.stamp ≡ b.stamp → a ≡ b) → placed_in r ≡ placed_in u
+placed_same : (r u : List Operation) → SameItems r u → AllByRecursion (λ o. IsMember o r) u → ((a b : Operation) → IsMember a r → IsMember b r → a.stamp ≡ b.stamp → a ≡ b) → placed_in r ≡ placed_in u
 placed_same r u same all one =
     sort_same (by_place r) (by_place_total r) (λ o. IsMember o r) (λ a b in_a in_b tied. one a b in_a in_b ((trees_are_ordered (places_in r)).apart a.stamp b.stamp tied)) (filter (fits Place) r) (filter (fits Place) u)
     (all_members (λ o. IsMember o r) (filter (fits Place) r) (λ o m. (member_of_kept (fits Place) r o m).0)) (all_members (λ o. IsMember o r) (filter (fits Place) u) (λ o m. member_all (λ x. IsMember x r) u o all (member_of_kept (fits Place) u o m).0)) (same_filter r u same (fits Place))
     ∙ (λ i. sort_by (λ a b. tree_same r u same all one i a.stamp b.stamp) (filter (fits Place) u))
+
+pub placed_of : (r u : List Operation) → SameItems r u → ((a b : Operation) → IsMember a r → IsMember b r → a.stamp ≡ b.stamp → a ≡ b) → placed_in u ≡ placed_in r
+placed_of r u same one = sym (placed_same r u same (members_same u r (λ f. sym (same f))) one)
 
 -- those at the indexes of an order that has all of them
 module _ (r : List Operation) (differ : DifferBy stamp_of r) (order : List ℕ) where

@@ -164,7 +164,7 @@ module _ (r : List Operation) (noted : AreNoted r) where
   into : (t : Moment) → IsMember t (filter_map (standing r) those) → IsMember t (map stamp_of in_order)
   into t m =
       let from = given_by (standing r) those t m in
-      let found = shown_where from.item.stamp t (stands r from.item.stamp (placed_track from.item.stamp from.item.act) t from.gives) in
+      let found = shown_where from.0.stamp t (stands r from.0.stamp (placed_track from.0.stamp from.0.act) t from.2) in
       subst (λ (v : Moment). IsMember v (map stamp_of in_order)) found.2 (member_map stamp_of in_order found.0 found.1)
 
   out_of : (t : Moment) → IsMember t (map stamp_of in_order) → IsMember t (filter_map (standing r) those)

@@ -107,7 +107,7 @@ fn track_at<A: Allocator + Clone>(
 pub(crate) fn tracks<A: Allocator + Clone>(
     alloc: &A,
     items: &Items<A>,
-    clips: BTreeMap<Stamp, List<ClipView, A>, A>,
+    mut clips: BTreeMap<Stamp, List<ClipView, A>, A>,
     ops: &[&Op<A>],
 ) -> Result<Vec<TrackView<A>, A>, SessionFault>
     requires noted { AreNoted items.now }
@@ -116,7 +116,6 @@ pub(crate) fn tracks<A: Allocator + Clone>(
     ensures ok { IfOk result (λ tracks. tracks.items ≡ filter_map (track_read items.now) (map (λ o. o.now) ops.now)) }
     ensures err { IfErr result (λ fault. fault ≡ SessionFault.Memory) }
 {
-    let mut clips = clips;
     let mut tracks = Vec::with_capacity(alloc.clone()?, ops.len())?;
     for op in ops {
         if let Some(view) = track_at(alloc, items, &mut clips, op)? {

@@ -11,24 +11,21 @@ pub order_of-requires-clause-rising : goal.order_of-requires-clause-rising
 order_of-requires-clause-rising g c =
     let Ref = Bor (Op g.row.A.Denot) in
     let now : Ref → Operation = λ o. o.now in
-    let places_are : given_tree c.deref-2.result.now ≡ map tree_place (map now c.in_ok-ops.ops.items) =
-    ap given_tree c.deref-2.ensures.value ∙ c.in_ok-places.ensures ∙ ap (λ (l : List Ref). map tree_place (map now l)) c.deref.ensures.value in
+    let places_are = ap given_tree c.deref-2.ensures.value ∙ c.in_ok-places.ensures ∙ ap (λ (l : List Ref). map tree_place (map now l)) c.deref.ensures.value in
     places_rise now (map now c.args.ops.now) c.in_ok-ops.ops.items c.in_ok-ops.ensures.ok c.deref-2.result.now places_are c.requires.rising
 
 pub order_of-requires-clause-tree : goal.order_of-requires-clause-tree
 order_of-requires-clause-tree g c =
     let Ref = Bor (Op g.row.A.Denot) in
     let now : Ref → Operation = λ o. o.now in
-    let places_are : given_tree c.deref-2.result.now ≡ map tree_place (map now c.in_ok-ops.ops.items) =
-    ap given_tree c.deref-2.ensures.value ∙ c.in_ok-places.ensures ∙ ap (λ (l : List Ref). map tree_place (map now l)) c.deref.ensures.value in
+    let places_are = ap given_tree c.deref-2.ensures.value ∙ c.in_ok-places.ensures ∙ ap (λ (l : List Ref). map tree_place (map now l)) c.deref.ensures.value in
     are_a_tree now (map now c.args.ops.now) c.in_ok-ops.ops.items c.in_ok-ops.ensures.ok c.deref-2.result.now places_are c.requires.tree
 
 pub ops_at-requires : goal.ops_at-requires
 ops_at-requires g c =
     let Ref = Bor (Op g.row.A.Denot) in
     let now : Ref → Operation = λ o. o.now in
-    let places_are : given_tree c.deref-2.result.now ≡ map tree_place (map now c.in_ok-ops.ops.items) =
-    ap given_tree c.deref-2.ensures.value ∙ c.in_ok-places.ensures ∙ ap (λ (l : List Ref). map tree_place (map now l)) c.deref.ensures.value in
+    let places_are = ap given_tree c.deref-2.ensures.value ∙ c.in_ok-places.ensures ∙ ap (λ (l : List Ref). map tree_place (map now l)) c.deref.ensures.value in
     let many = as_many now (map now c.args.ops.now) c.in_ok-ops.ops.items c.in_ok-ops.ensures.ok c.deref-2.result.now places_are in
     record {
       below = λ k p at.
@@ -41,7 +38,6 @@ returns-clause-ok g c =
     let Ref = Bor (Op g.row.A.Denot) in
     let now : Ref → Operation = λ o. o.now in
     let ops = map now c.args.ops.now in
-    let places_are : given_tree c.deref-2.result.now ≡ map tree_place (map now c.in_ok-ops.ops.items) =
-    ap given_tree c.deref-2.ensures.value ∙ c.in_ok-places.ensures ∙ ap (λ (l : List Ref). map tree_place (map now l)) c.deref.ensures.value in
+    let places_are = ap given_tree c.deref-2.ensures.value ∙ c.in_ok-places.ensures ∙ ap (λ (l : List Ref). map tree_place (map now l)) c.deref.ensures.value in
     c.in_ok-ops_at.ensures ∙ (λ i. ops_at (map now (c.deref-3.ensures.value i)) (c.deref-4.ensures.value i))
     ∙ placed_refs now ops c.in_ok-ops.ops.items c.in_ok-ops.ensures.ok c.deref-2.result.now places_are (rising_differ ops c.requires.rising) c.in_ok-order.order.items c.in_ok-order.ensures.below c.in_ok-order.ensures.all c.in_ok-order.ensures.sorted

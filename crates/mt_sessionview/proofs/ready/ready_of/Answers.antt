@@ -1,4 +1,4 @@
-use Rattle.std.proofs.Common.{[], map, refl, sym, ◌∙◌, Bor}
+use Rattle.std.proofs.Common.{[], map, refl, sym, ◌∙◌, Bor, rules}
 use Rattle.mt_op.specs.declared.op.Op.{Op}
 use Rattle.mt_op.specs.Operation.{Operation}
 use Rattle.mt_items.proofs.Fresh.{passes_all}
@@ -34,3 +34,6 @@ returns-clause-items g c = (all_collected (λ o. o.now) c.args.ops.now c.loop-op
 
 pub returns-clause-noted : goal.returns-clause-noted
 returns-clause-noted g c = c.loop-op.invariant.noted
+
+pub returns-in_err-push-clause-err : goal.returns-in_err-push-clause-err
+returns-in_err-push-clause-err g c = search (rules, c.from_residual-in_err-push.ensures)

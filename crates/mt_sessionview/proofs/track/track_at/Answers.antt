@@ -1,10 +1,11 @@
-use Rattle.std.proofs.Common.{◌∙◌, List, Option, sym, ap, subst}
+use Rattle.std.proofs.Common.{◌∙◌, List, Option, Some, sym, ap, subst}
 use Rattle.std.specs.Prelude.{IfSome}
 use Rattle.mt_stamp.specs.Moment.{Moment}
 use Rattle.mt_op.specs.Writes.{title_written, last_write}
 use Rattle.mt_sessionview.specs.Content.{Clip, AreClips}
 use Rattle.mt_sessionview.specs.Read.{track_from, track_where, HasClips}
 use Rattle.mt_sessionview.proofs.InOrder.{clips_are}
+use Rattle.mt_sessionview.proofs.Orders.{is_elsewhere}
 use Rattle.mt_sessionview.proofs.Standing.{clips_taken}
 use Rattle.mt_sessionview.proofs.track.track_at.Goals as goal
 
@@ -22,3 +23,6 @@ returns-clause-ok g c =
     c.in_ok-track_from.ensures.ok r c.in-Some.ensures.some.1
     ∙ ap (λ (l : List Clip). track_from r track l (last_write title_written track r)) (clips_taken r c.requires.noted c.args.clips.now track _ _ has c.remove.ensures.value c.in_ok-sorted.ensures.moved c.in_ok-sorted.ensures.sorted)
     ∙ sym (ap (track_where r) c.in-Some.ensures.some.0)
+
+pub returns-clause-others : goal.returns-clause-others
+returns-clause-others g c = λ track other. c.remove.ensures.updates.2 track (is_elsewhere c.in-Some.here.track track (λ same. other (c.in-Some.ensures.some.0 ∙ ap Some same)))
