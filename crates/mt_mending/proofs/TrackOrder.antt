@@ -1,9 +1,9 @@
 -- Tracks in the order of their places, and where one more of them goes.
-use Rattle.std.proofs.Common.{◌≡◌, ◌≢◌, ℕ, true, false, List, [], ◌∷◌, Option, Some, None, refl, sym, ap, ◌∙◌, subst, true≢false}
-use Rattle.std.specs.Prelude.{insert, option_map, IfSome}
+use Rattle.std.proofs.Common.{◌≡◌, ◌≢◌, true, List, [], ◌∷◌, Option, Some, None, refl, sym, ap, ◌∙◌, subst}
+use Rattle.std.specs.Prelude.{option_map, IfSome}
 use Rattle.std.specs.List.{AllByRecursion}
 use Rattle.std.specs.Cmp.{IsTotalOrder}
-use Rattle.std.specs.Ordering.{is_lt, is_eq, match_ordering, ordering_reverse}
+use Rattle.std.specs.Ordering.{match_ordering, ordering_reverse}
 use Rattle.std.specs.declared.cmp.Ordering.{Ordering}
 use Rattle.std.specs.declared.cmp.Ordering.TheVariants.{Less, Equal, Greater}
 use Rattle.std.proofs.lemmas.Cmp.{on_total, nat_cmp_total}
@@ -26,7 +26,7 @@ use Rattle.mt_items.specs.Noting.{AreNoted}
 use Rattle.mt_sessionview.specs.Content.{Track}
 use Rattle.mt_sessionview.specs.Session.{place_added}
 use Rattle.mt_sessionview.specs.Noted.{is_shown_in, shown_in, places_in, track_place_in, track_cmp_in, track_in, tracks_in}
-use Rattle.mt_sessionview.specs.Changing.{IsPlace, put}
+use Rattle.mt_sessionview.specs.Changing.{put}
 use Rattle.mt_sessionview.proofs.InOrder.{one_op, noted_differ}
 use Rattle.mt_sessionview.proofs.Lists.{all_members, all_also, member_given, rises_mapped}
 use Rattle.mt_sessionview.proofs.Orders.{track_cmp_total}
