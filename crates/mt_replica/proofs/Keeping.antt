@@ -5,6 +5,7 @@ use Rattle.std.specs.List.{AllByRecursion, filter, list_all, sum_by}
 use Rattle.std.specs.FinMap as fin
 use Rattle.std.specs.FinMap.Entries.{find}
 use Rattle.std.specs.Ordering.{is_eq}
+use Rattle.std.specs.Result.{result_err}
 use Rattle.std.specs.declared.cmp.Ordering.{Ordering}
 use Rattle.std.specs.declared.cmp.Ordering.TheVariants.{Less, Equal, Greater}
 use Rattle.std.proofs.lemmas.Bool.{eq-eqb, true≢false}
@@ -161,6 +162,16 @@ made_is ops name edit stamp does body stamped acts =
 
 pub made_as : (ops : List Operation) (name : Replica) (edit : Edit) (o : Operation) → refused ops name edit ≡ None → made_op ops name edit ≡ o → made ops name edit ≡ Ok o
 made_as ops name edit o none is = λ i. or_made (none i) (is i)
+
+-- what has no stamp is refused for that
+pub unstamped : (ops : List Operation) (name : Replica) (edit : Edit) (fault : EditorFault) → body_refused ops edit ≡ None → or_made (stamp_refused ops name) (made_stamp ops name) ≡ Err fault → made ops name edit ≡ Err fault
+unstamped ops name edit fault body stamped =
+    let first = refused_in_parts (unless (plays edit) ZeroLength) (names_refused (ready_ops ops) (names_present edit) (names_of edit)) (unless (tags_fit (ready_ops ops) edit) TooManyTags) (stamp_refused ops name) in
+    ap (λ (r : Option EditorFault). or_made r (made_op ops name edit)) (first ∙ (λ i. or_else (body i) ((sym (told (stamp_refused ops name)) ∙ ap result_err stamped) i)))
+  where
+    told : (r : Option EditorFault) → result_err (or_made r (made_stamp ops name)) ≡ r
+    told None = refl
+    told (Some fault) = refl
 
 -- nothing else refuses what was made
 pub it_is_made : {X : Type 0} (ops : List Operation) (name : Replica) (edit : Edit) (o : Operation) (r : Result X OpFault) → dots_rise ops ≡ true → refused ops name edit ≡ None → made_op ops name edit ≡ o

@@ -1,11 +1,12 @@
-use Rattle.std.proofs.Common.{ap, ◌≡◌, ◌∙◌, sym, subst, true, rules}
+use Rattle.std.proofs.Common.{ap, ◌≡◌, ◌∙◌, sym, subst, true, rules, inr}
+use Rattle.std.proofs.lemmas.Result.{err_from_is_err_and}
 use Rattle.mt_op.specs.Bodies.{act_of}
 use Rattle.mt_op.specs.Dots.{dots_rise}
 use Rattle.mt_op.specs.Operation.{Operation}
 use Rattle.mt_opcodec.specs.LogValue.{operations}
 use Rattle.mt_replica.specs.Changes.{edit_of}
 use Rattle.mt_replica.specs.State.{Stated, Named}
-use Rattle.mt_replica.proofs.Keeping.{made_is, made_as, it_is_made}
+use Rattle.mt_replica.proofs.Keeping.{made_is, made_as, it_is_made, unstamped}
 use Rattle.mt_replica.proofs.state.State.made.Goals as goal
 
 pub unwrap-requires : goal.unwrap-requires
@@ -24,3 +25,8 @@ returns-clause-ok g c =
     let parts = made_is ops c.args.self.now.named.name edit c.in_ok-stamp.stamp (act_of c.in_ok-body.body) c.in_ok-body.ensures.passes (sym c.in_ok-stamp.ensures) c.in_ok-body.ensures.ok in
     let is : c.unwrap.result ≡ record { stamp = c.in_ok-stamp.stamp; act = act_of c.in_ok-body.body } = search (rules, c.new.ensures.ok, c.unwrap.ensures) in
     made_as ops c.args.self.now.named.name edit c.unwrap.result parts.0 (parts.1 ∙ sym is)
+
+pub returns-in_err-stamp-clause-err : goal.returns-in_err-stamp-clause-err
+returns-in_err-stamp-clause-err g c =
+    let p = err_from_is_err_and c.from_residual-in_err-stamp.result c.from_residual-in_err-stamp.ensures.1 in
+    rw (p.1, p.2) (inr (unstamped (operations c.args.self.now.named.log) c.args.self.now.named.name (edit_of c.args.change.now) c.in_err-stamp.field-0.0 c.in_ok-body.ensures.passes (sym c.next_stamp.ensures ∙ c.in_err-stamp.was)))
