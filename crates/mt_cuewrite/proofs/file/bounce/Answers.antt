@@ -1,4 +1,4 @@
-use Rattle.std.proofs.Common.{rules, sym, ◌∙◌}
+use Rattle.std.proofs.Common.{◌≡◌, rules, sym, ◌∙◌}
 use Rattle.std.proofs.lemmas.List.{append-nil}
 use Rattle.mt_latch.specs.Buffered.{Puts}
 use Rattle.mt_latch.proofs.Putting.{then_handed, same_handed, all_written, prefix_written}
@@ -11,7 +11,8 @@ returns-then-is_err-clause-err g c =
     let contents = g.W.Write.contents in
     let all = same_handed contents (append-nil (file c.args.mix.now c.args.markers.now c.args.head.now)) (then_handed contents c.put_file.ensures c.flush.ensures.puts) in
     let prefix = prefix_written contents c.new-buffered.ensures.empty all in
-    (c.in-Some.ensures.sizes.riff_fits, search rules, search rules)
+    let ended : c.output-1.given.0 ≡ c.flush.new.self.latch.now = search rules in
+    (c.in-Some.ensures.sizes.riff_fits, search rules, rw (ended, sym c.new-buffered.ensures.same_latch) prefix)
 
 pub returns-clause-ok : goal.returns-clause-ok
 unfolding Puts
