@@ -6,7 +6,7 @@ use mt_stamp::Stamp;
 use mt_testkit::{add_track, marker, removal, retitle};
 use std::alloc::Allocator;
 
-/// A title.
+/// A title, too long to take no memory.
 #[derive(Clone, Copy)]
 pub(crate) enum Name {
     News,
@@ -17,10 +17,10 @@ pub(crate) enum Name {
 
 pub(crate) fn text(name: Name) -> &'static str {
     match name {
-        Name::News => "News",
-        Name::Weather => "Weather",
-        Name::Early => "Early",
-        Name::Late => "Late",
+        Name::News => "News at nine o'clock",
+        Name::Weather => "Weather for the region",
+        Name::Early => "Early in the morning",
+        Name::Late => "Late in the evening",
     }
 }
 
