@@ -3,15 +3,20 @@
 
 The edits are those of crates/CRATE/wrong-bodies, or of the folder named, in the form of must-fail edits. `rt must-fail` checks a crate
 once for each edit; here a round applies one edit to each of many functions, checks the crate once, and wants each edited function
-to be refused for itself: by a goal of its own that is left open, or by an answer of its proof that no longer holds. A function that is
-refused only since it calls one that is not proved does not count: its edit goes into another round, and at last into a check of its
-own. One that is refused only since its proof names what the edit took away (as a branch that is gone) says little of the contract: it is told, and has to
-be mended. An edit of what is no function's body is a round of its own, and names the function that has to be refused in a line
-`refused: NAME`. It works on copies of the crates, over what their checks keep in out/, which it makes first where it is not there.
+to be refused for itself: by a goal of its own that is left open. A function that is refused only since it calls one that is not proved does not
+count: its edit goes into another round, and at last into a check of its own.
+
+A function with a hand-written answer can be refused since that answer fits no longer, though its contract may admit the body. So the round is
+checked again with such answers left out: a goal has to be open then. Where none is, the contract lets the body through. What is refused in no other
+way than that its proof names what the edit took away (as a branch that is gone) says little of the contract. Both are told, and have to be mended:
+by a clause that says more, or by another wrong body. An edit of what is no function's body is a round of its own, and names the function that has to
+be refused in a line `refused: NAME`.
+
+It works on copies of the crates, over what their checks keep in out/, which it makes first where it is not there; each round begins with that.
 
 tests/wrong_bodies.tried has a line for each crate whose wrong bodies were all refused: its name, how many there were, and a sum of all
-that this hung on: the files of the crate and of those that it stands on, the wrong bodies, this script and the toolchain's version. With
---changed, as the gate calls it, the crates whose line still holds are passed over, and all others are tried."""
+that this hung on: the files of the crate, its wrong bodies, of the crates that it stands on what their callers can know, what counts as refused, and
+the toolchain's logic; no tests. With --changed, as the gate calls it, the crates whose line still holds are passed over, and all others are tried."""
 import argparse
 import concurrent.futures
 import glob
@@ -136,13 +141,8 @@ def apply(edit, crate):
 NAMES_GONE = r"has no field|has no `|is not in scope|was not admitted"
 
 
-def refusals(one, report, names):
-    """How a report refuses a function for itself: by what it is to ensure, by names of its proof that are gone alone, or not at all."""
-    own = [
-        line
-        for line in re.findall(r"(?:note: )?%s:(\d+):" % re.escape(one.path), report)
-        if one.first <= int(line) <= one.last
-    ]
+def proof_places(one, names):
+    """Patterns of the folder that has a function's proof, of those of a round with functions of these names."""
     # what stands in the place of others is on as many lines, so the lines of functions stay
     module = os.path.splitext(one.path)[0][len("src/") :]
     # an impl of another module's type has its proofs under that type's name: its function's name alone tells it, where it is the only one
@@ -151,7 +151,17 @@ def refusals(one, report, names):
         places.append(r"proofs/(?:\w+/)*%s/\+?%s/" % (one.owner, one.name))
     elif names.count(one.name) == 1:
         places.append(r"proofs/(?:\w+/)*\+?%s/" % one.name)
-    for place in places:
+    return places
+
+
+def refusals(one, report, names):
+    """How a report refuses a function for itself: by what it is to ensure, by names of its proof that are gone alone, or not at all."""
+    own = [
+        line
+        for line in re.findall(r"(?:note: )?%s:(\d+):" % re.escape(one.path), report)
+        if one.first <= int(line) <= one.last
+    ]
+    for place in proof_places(one, names):
         errors = re.findall(place + r"\w+\.antt:\d+:\d+: error(.*)", report)
         expected = re.search(r"expected answers in \./" + place, report)
         if own or expected or any(not re.search(NAMES_GONE, error) for error in errors):
@@ -161,17 +171,119 @@ def refusals(one, report, names):
     return None
 
 
-def try_round(edits, crate, name, kept):
-    """What is wrong with each edit of a round, by its name, and those that are refused only since names of a proof are gone."""
+class Answers:
+    """A function's hand-written answers in a copy of its crate, of which those that fit no longer are left out."""
+
+    def __init__(self, path, crate):
+        self.path, self.file = path, os.path.join(crate, path)
+
+    def errors(self, report):
+        """The lines of the file at which a report finds an error, and what it says there."""
+        return [(int(line), text) for line, text in re.findall(re.escape(self.path) + r":(\d+):\d+: error(.*)", report)]
+
+    def is_open(self, report):
+        """Whether a report finds a goal of the function open that has no answer."""
+        return re.search(r"expected answers in \./" + re.escape(self.path), report) is not None
+
+    def leave_out(self, wrong):
+        """Leaves out the answers that these lines, counted from 1, belong to. None is left out where a line belongs to none."""
+        with open(self.file) as answers:
+            lines = answers.read().split("\n")
+        begins = [i for i, line in enumerate(lines) if re.match(r"(abbrev )?pub \S+ :", line)] + [len(lines)]
+        left = [(begin, end) for begin, end in zip(begins, begins[1:]) if any(begin < line <= end for line in wrong)]
+        for begin, end in reversed(left):
+            del lines[begin:end]
+        with open(self.file, "w") as answers:
+            answers.write("\n".join(lines).rstrip("\n") + "\n")
+        return bool(left)
+
+    def decided(self, report):
+        """What a report says of a function, where no answer is left that fits no longer; nothing where some were left out now, for another look."""
+        errors = self.errors(report)
+        if self.is_open(report):
+            return "for itself"
+        if errors:
+            return None if self.leave_out([line for line, _ in errors]) else "for itself"
+        folder = os.path.dirname(self.path)
+        if re.search(re.escape(folder) + r"/\w+\.antt:\d+:\d+: error", report):
+            return "names"
+        # what calls another edited function of the round is not looked at where that one is refused
+        name = re.escape(os.path.basename(folder).lstrip("+"))
+        return "hidden" if re.search(r"fn \S*\b%s: (no proof|not proved)[:;] it calls" % name, report) else "let through"
+
+
+# How often a round is checked again: an answer that fits no longer may be told only once another one is left out.
+LOOKS = 6
+
+
+def own_report(crate, name):
+    """Checks a crate, and gives what is said of it, and not of those below it."""
+    report = subprocess.run(["rt", "check", "--jobs", "1"], cwd=crate, capture_output=True, text=True)
+    report = report.stdout + report.stderr
+    return report[max(report.rfind("for " + name + "\n"), 0) :]
+
+
+def looked_at_again(edits, crate, name, report, begin):
+    """How those of the edits are refused whose functions were, and by no more than an answer that fits no longer: once such answers are left out. The
+    crate begins anew with these edits alone."""
+    names = [one.name for edit in edits for one in edit.touched.values() if one]
+    files = [os.path.relpath(os.path.join(at, "Answers.antt"), crate) for at, _, found in os.walk(os.path.join(crate, "proofs")) if "Answers.antt" in found]
+    left = {}
+    for edit in edits:
+        places = [place + "Answers.antt$" for one in edit.touched.values() if one for place in proof_places(one, names)]
+        for path in files:
+            if any(re.match(place, path) for place in places) and Answers(path, crate).errors(report):
+                left[path] = edit
+    told = {edit.name: ["for itself"] for path, edit in left.items() if Answers(path, crate).is_open(report)}
+    left = {path: edit for path, edit in left.items() if edit.name not in told}
+    if left:
+        begin(list(dict.fromkeys(left.values())))
+    for _ in range(LOOKS):
+        for path, edit in list(left.items()):
+            how = Answers(path, crate).decided(report)
+            if how:
+                told.setdefault(edit.name, []).append(how)
+                del left[path]
+        if not left:
+            break
+        report = own_report(crate, name)
+    for edit in left.values():
+        told.setdefault(edit.name, []).append("names")
+    return told
+
+
+def link_or_copy(one, other):
+    """Gives a file of kept work a second name: a check replaces such a file, and never writes into it."""
+    try:
+        return os.link(one, other)
+    except OSError:
+        return shutil.copy2(one, other)
+
+
+def begin_anew(crate, kept):
+    """Has the crate's files and its kept work be those of the crate as it is: a round that begins with what another round left would prove once
+    more each function that the other had edited, and all that call one."""
     for folder in ["src", "proofs", "specs"]:
         if os.path.isdir(os.path.join(kept, folder)):
             shutil.rmtree(os.path.join(crate, folder), ignore_errors=True)
             shutil.copytree(os.path.join(kept, folder), os.path.join(crate, folder))
-    wrong = {edit.name: apply(edit, crate) for edit in edits}
-    weak = []
-    report = subprocess.run(["rt", "check", "--jobs", "1"], cwd=crate, capture_output=True, text=True)
-    report = report.stdout + report.stderr
-    own = report[max(report.rfind("for " + name + "\n"), 0) :]
+    work = os.path.join(crate, "out", "incremental")
+    if os.path.isdir(crate + ".work"):
+        shutil.rmtree(work, ignore_errors=True)
+        shutil.copytree(crate + ".work", work, copy_function=link_or_copy)
+
+
+def try_round(edits, crate, name, kept):
+    """What is wrong with each edit of a round, by its name, and those that are refused by names of a proof that are gone, or let through once answers
+    that do not fit are left out."""
+
+    def begin(some):
+        begin_anew(crate, kept)
+        return {edit.name: apply(edit, crate) for edit in some}
+
+    wrong = begin(edits)
+    weak, doubtful = {}, []
+    own = own_report(crate, name)
     stops = [line for line in own.split("\n") if re.match(r"(so far: )?(\./)?src/\S+: error", line)]
     names = [one.name for edit in edits for one in edit.touched.values() if one]
     for edit in edits:
@@ -180,17 +292,25 @@ def try_round(edits, crate, name, kept):
         if stops:
             wrong[edit.name] = "the round does not compile: " + stops[0]
         elif edit.is_alone():
-            status = r"fn \S*\b%s: (not proved|no proof: expected answers)" % edit.refused
+            status = r"fn \S*\b%s: (not proved(?!; it calls)|no proof: expected answers)" % edit.refused
             if edit.refused is None:
                 wrong[edit.name] = "it changes no function's body, and names none that has to be refused"
             elif not re.search(status, own):
                 wrong[edit.name] = "%s was not refused for itself" % edit.refused
         else:
             how = [refusals(one, own, names) for one in edit.touched.values() if one]
-            if "for itself" not in how and "names" in how:
-                weak.append(edit.name)
-            elif "for itself" not in how:
+            if "for itself" not in how and "names" not in how:
                 wrong[edit.name] = "its function was not refused for itself"
+                continue
+            doubtful.append(edit)
+            if "for itself" not in how:
+                weak[edit.name] = "names"
+    for edit, how in looked_at_again(doubtful, crate, name, own, begin).items():
+        weak.pop(edit, None)
+        if "for itself" not in how and "hidden" in how:
+            wrong[edit] = "its function was not looked at beside the others"
+        elif "for itself" not in how:
+            weak[edit] = "names" if "names" in how else "let through"
     return {edit: why for edit, why in wrong.items() if why}, weak
 
 
@@ -211,19 +331,56 @@ def crate_lines():
         return {line.partition(":")[0].strip(): line for line in file if not line.startswith("#") and ":" in line}
 
 
+def without_bodies(path, text):
+    """A source file's text without the bodies of its functions: a caller knows of a function what its head and its clauses say. What is no plain body
+    stays: a constant function's, which a type may hang on, and any whose beginning is not found."""
+    lines, left = text.split("\n"), set()
+    for one in functions(path, text):
+        head = next(i for i in range(one.first - 1, one.last) if re.match(r" *(pub(\(crate\))? )?(const )?fn ", lines[i]))
+        indent = re.match(" *", lines[head]).group()
+        clauses = [i for i in range(head, one.last) if re.match(r" +(requires|ensures|ghost)\b", lines[i])]
+        begins = [i for i in range(head, one.last) if lines[i] == indent + "{"]
+        if not begins and not clauses:
+            begins = [i for i in range(head, one.last) if lines[i].endswith(" {")]
+        if begins and " const fn " not in " " + lines[head]:
+            left.update(range(begins[0] + 1, one.last - 1))
+    return "\n".join(line for i, line in enumerate(lines) if i not in left)
+
+
+# What counts as refused: a line of wrong_bodies.tried holds by these rules alone.
+RULES = "by a goal that is open, once answers that fit no longer are left out"
+
+# Tests, which no round compiles, and their proofs.
+OF_TESTS = re.compile(r"/(src|proofs)/(\w+_)?tests(\.rt$|/)")
+
+# The proofs of a function itself, which no other proof can cite.
+OWN_PROOFS = ("Answers.antt", "Invariants.antt", "Proof.antt")
+
+
 def sum_of(name):
-    """A sum of all that it hangs on whether a crate's wrong bodies are refused."""
+    """A sum of all that it hangs on whether a crate's wrong bodies are refused: its own files, and of those that it stands on what their callers can know."""
     lines = crate_lines()
     reached = sorted(crates_below(name, lines))
     folders = [os.path.join("crates", one, part) for one in reached for part in ["src", "specs", "proofs"]]
     folders.append(os.path.join("crates", name, "wrong-bodies"))
     files = [os.path.join(at, file) for folder in folders for at, _, found in os.walk(os.path.join(TOP, folder)) for file in found]
-    made = hashlib.sha256(subprocess.run(["rt", "version"], capture_output=True, check=True).stdout)
+    version = subprocess.run(["rt", "version"], capture_output=True, check=True, text=True).stdout
+    made = hashlib.sha256(version.partition("logic ")[2].encode())
     for line in [lines[one] for one in reached]:
         made.update(line.encode())
-    for path in sorted(files) + [os.path.abspath(__file__)]:
-        with open(path, "rb") as file:
-            made.update(("%s %s\n" % (os.path.relpath(path, TOP), hashlib.sha256(file.read()).hexdigest())).encode())
+    own = os.path.join(TOP, "crates", name, "")
+    made.update(RULES.encode())
+    for path in sorted(files):
+        is_below = os.path.join(TOP, "crates", "") in path and not path.startswith(own)
+        if OF_TESTS.search(path) or is_below and os.path.basename(path) in OWN_PROOFS:
+            continue
+        with open(path) as file:
+            text = file.read()
+        if path.endswith(".rt"):
+            text = re.sub(r"#\[cfg\(test\)\]\nmod \w+;\n", "", without_bodies(path, text) if is_below else text)
+        # neither a remark nor an empty line proves anything
+        text = re.sub(r"\n\s*\n+", "\n", re.sub(r"(?m)^ *(//|--).*$", "", text))
+        made.update(("%s %s\n" % (os.path.relpath(path, TOP), hashlib.sha256(text.encode()).hexdigest())).encode())
     return made.hexdigest()
 
 
@@ -262,8 +419,8 @@ def tried_alone(edits, crate, name, kept, weak):
     """What is wrong with each of these edits, tried in a check of its own."""
     wrong = {}
     for edit in edits:
-        of_one, by_names = try_round([edit], crate, name, kept)
-        weak += by_names
+        of_one, of_weak = try_round([edit], crate, name, kept)
+        weak.update(of_weak)
         wrong.update(of_one)
     return wrong
 
@@ -271,20 +428,21 @@ def tried_alone(edits, crate, name, kept, weak):
 def try_crate(name, folder):
     kept = os.path.join(TOP, "crates", name)
     edits = [Edit(path, kept) for path in sorted(glob.glob(os.path.join(kept, folder, "*.edit")))]
-    made, wrong, weak = sum_of(name), {}, []
+    made, wrong, weak = sum_of(name), {}, {}
     with tempfile.TemporaryDirectory() as top:
         crate = copy_project(name, top)
         first = subprocess.run(["rt", "check", "--jobs", "1"], cwd=crate, capture_output=True, text=True)
         if "not proved" in first.stdout + first.stderr or first.returncode != 0:
             print("%s: the crate itself is not proved" % name)
             return 1
+        shutil.copytree(os.path.join(crate, "out", "incremental"), crate + ".work", copy_function=link_or_copy)
         left, checks = edits, 0
         while left:
             hidden = []
             for one in rounds(left, kept):
-                of_round, by_names = try_round(one, crate, name, kept)
+                of_round, of_weak = try_round(one, crate, name, kept)
                 checks += 1
-                weak += by_names
+                weak.update(of_weak)
                 # a function is not looked at where one that it calls is refused in the same round: such edits go into rounds again
                 hidden += [edit for edit in one if edit.name in of_round and len(one) > 1]
                 wrong.update({edit.name: of_round[edit.name] for edit in one if edit.name in of_round and len(one) == 1})
@@ -295,8 +453,8 @@ def try_crate(name, folder):
             left = hidden
     for edit in sorted(wrong):
         print("%s: %s: %s" % (name, edit, wrong[edit]))
-    if weak:
-        print("%s: refused only since names of the proof are gone: %s" % (name, " ".join(sorted(weak))))
+    for edit in sorted(weak):
+        print("%s: %s: %s" % (name, edit, "let through by its contract" if weak[edit] == "let through" else "refused only since names of its proof are gone"))
     print("%s: %d wrong bodies in %d checks, %d not refused" % (name, len(edits), checks, len(wrong)), flush=True)
     if folder == "wrong-bodies" and not wrong and not weak and made == sum_of(name):
         note_tried(name, len(edits), made)
