@@ -1,5 +1,6 @@
 pub mod Readiness
 pub mod Needs
+pub mod Readier
 pub mod Dots
 pub mod Equal
 pub mod Digests

@@ -1,5 +1,5 @@
 -- What holds of every set of operations.
-use Rattle.std.specs.Prelude.{◌≡◌, ◌↔◌, ℕ, false, List, [], Option, Some, None, IsTrue}
+use Rattle.std.specs.Prelude.{◌≡◌, ◌↔◌, ℕ, true, false, List, [], Option, Some, None, IsTrue}
 use Rattle.std.specs.List.{AllByRecursion, Contains, slice_get}
 use Rattle.std.specs.Ordering.{is_lt}
 use Rattle.mt_stamp.specs.Moment.{Moment, stamp_cmp}
@@ -9,11 +9,15 @@ use Rattle.mt_op.specs.Presence.{is_listed, tags, removed_tags, live_tags, is_pr
 use Rattle.mt_op.specs.Writes.{Value, Write, sets, writes, latest, last_write}
 use Rattle.mt_op.specs.Operation.{Act, Operation}
 use Rattle.mt_op.specs.Needs.{needs, meets, clock_of, names_are_older}
-use Rattle.mt_op.specs.Ready.{IsTheOnlyReady}
+use Rattle.mt_op.specs.Ready.{is_ready, IsTheOnlyReady}
 
 -- Where every operation names older ones, ready is the only set that satisfies its rule.
 abbrev pub ReadyIsDefined : Type 0
 ReadyIsDefined = (s : List Operation) → AllByRecursion (λ o. IsTrue (names_are_older o)) s → IsTheOnlyReady clock_of needs meets s
+
+-- What is ready among some operations is ready among more of them.
+abbrev pub ReadyAmongMore : Type 0
+ReadyAmongMore = (some more : List Operation) → ((o : Operation) → Contains some o → Contains more o) → (o : Operation) → is_ready clock_of needs meets some o ≡ true → is_ready clock_of needs meets more o ≡ true
 
 -- it is one of the writes, and no write is by a greater stamp
 pub record IsLatest {X : Type 0} (ws : List (Written X)) (w : Written X) : Type 0 where

@@ -1,5 +1,4 @@
 pub mod Title
-pub mod TitleText
 pub mod Gain
 pub mod Operation
 pub mod Bodies

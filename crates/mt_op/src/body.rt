@@ -18,7 +18,7 @@ use std::alloc::{Allocator, Global};
 /// An AddTrack, AddClip or AddMarker adds an item, which the operation's own stamp names from then on, and is its first
 /// tag.
 #[derive(Drop)]
-#[derive_where(Debug, PartialEq, Eq)]
+#[derive_where(PartialEq, Eq)]
 pub enum Body<A: Allocator = Global> {
     /// Adds a track at a place of its own: after the place `after`, or at the head, and before all places that were put
     /// there with smaller stamps. The place has the operation's stamp. The track's gain is 1/1, and it is not muted.

@@ -11,7 +11,7 @@ ghost use Rattle.mt_op.specs.declared.value.TrimRange.{TrimRange};
 ghost use Rattle.std.specs.Cmp.Lexicographic.{slice_cmp};
 ghost use Rattle.mt_op.specs.Bodies.{act_of};
 ghost use Rattle.mt_op.specs.Writes as field;
-ghost use Rattle.mt_op.specs.Laws.{IsFieldOf, LastWriteIsGreatest, LatestIsGreatest, PresenceIsOfTags, ReadyIsDefined};
+ghost use Rattle.mt_op.specs.Laws.{IsFieldOf, LastWriteIsGreatest, LatestIsGreatest, PresenceIsOfTags, ReadyAmongMore, ReadyIsDefined};
 
 use crate::body::Body;
 use crate::digest::Digest;
@@ -25,6 +25,11 @@ use std::cmp::Ordering;
 /// is in it exactly where it is in the set and each of its needs is met by an operation that is in it.
 pub fn readiness()
     ensures { ReadyIsDefined }
+{}
+
+/// An operation that is ready among some operations is ready among these and more: readiness grows with the set.
+pub fn more_operations()
+    ensures { ReadyAmongMore }
 {}
 
 /// An act writes at most one value of each field, and what is told of a field is that value of its list.

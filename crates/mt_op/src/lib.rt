@@ -35,7 +35,6 @@ mod need;
 mod op;
 mod tags;
 mod title;
-mod title_text;
 mod value;
 
 pub use body::Body;

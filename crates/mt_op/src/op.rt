@@ -17,7 +17,7 @@ use std::marker::Model;
 /// An operation: its stamp and what it does. Each stamp that its body names has a smaller clock than its own, the
 /// length that it gives a clip is at least 1, and the tags of a Remove are from 1 to 65,535, rising.
 #[derive(Drop)]
-#[derive_where(Debug, PartialEq, Eq)]
+#[derive_where(PartialEq, Eq)]
 pub struct Op<A: Allocator = Global> {
     stamp: Stamp,
     body: Body<A>,

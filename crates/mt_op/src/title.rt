@@ -5,30 +5,28 @@ ghost use Rattle.std.specs.List.{list_all};
 ghost use Rattle.mt_op.specs.Title.{is_plain, is_title};
 
 use crate::fault::OpFault;
-use crate::title_text::TitleText;
 use std::alloc::{Allocator, Global};
 use std::cmp::Ordering;
 use std::marker::Model;
 
 /// A title: at most 255 bytes of UTF-8 with no character below 0x20 and no 0x7F. It may be empty, and hold
-/// every other character. Titles are ordered by their bytes, compared as numbers from the first on. One of up to 16 bytes
-/// takes no memory.
+/// every other character. Titles are ordered by their bytes, compared as numbers from the first on.
 #[derive(Drop)]
 #[derive_where(Debug)]
 pub struct Title<A: Allocator = Global> {
-    text: TitleText<A>,
+    text: String<A>,
 }
 
 impl<A: Allocator> Model for Title<A> {
     ghost use Rattle.std.specs.Prelude.{ℕ, List, IsTrue};
+    ghost use Rattle.std.specs.String.{string_bytes};
     ghost use Rattle.mt_op.specs.Title.{is_title};
-    ghost use Rattle.mt_op.specs.TitleText.{bytes_of};
 
     ghost Value = { List ℕ };
 
-    ghost view = { λ t. bytes_of t.text };
+    ghost view = { λ t. string_bytes t.text };
 
-    ghost invariant = { λ t. IsTrue (is_title (bytes_of t.text)) };
+    ghost invariant = { λ t. IsTrue (is_title (string_bytes t.text)) };
 }
 
 // Whether a byte may stand in a title.
@@ -54,7 +52,7 @@ fn is_title_text(text: &str) -> bool
 
 impl<A: Allocator> Title<A> {
     /// A title of this text. Refused as `BadTitle` (43) where the text is over 255 bytes, or has a character
-    /// below 0x20 or the character 0x7F. Any other text is refused only as `Memory` (0), where it has more than 16 bytes and there is none.
+    /// below 0x20 or the character 0x7F. Any other text is refused only as `Memory` (0), where there is none.
     pub fn new(alloc: A, text: &str) -> Result<Self, OpFault>
         ensures ok { IfOk result (λ title. title ≡ text.now) }
         ensures bad_title { IsErrOf result OpFault.BadTitle ↔ (is_title text.now ≡ false) }
@@ -64,7 +62,7 @@ impl<A: Allocator> Title<A> {
             return Err(OpFault::BadTitle);
         }
         Ok(Title {
-            text: TitleText::new(alloc, text)?,
+            text: String::from_str(alloc, text)?,
         })
     }
 
@@ -77,8 +75,8 @@ impl<A: Allocator> Title<A> {
         self.text.as_str()
     }
 
-    /// A title with the same text, on a clone of the allocator. Refused as `Memory` (0) where it has more than 16 bytes and there is no
-    /// memory, and for nothing else.
+    /// A title with the same text, on a clone of the allocator. Refused as `Memory` (0) where there is none, and
+    /// for nothing else.
     pub fn try_clone(&self) -> Result<Self, OpFault>
     where
         A: Clone,
@@ -86,7 +84,7 @@ impl<A: Allocator> Title<A> {
         ensures err { IfErr result (λ fault. fault ≡ OpFault.Memory) }
     {
         Ok(Title {
-            text: self.text.try_clone()?,
+            text: self.text.clone()?,
         })
     }
 }
@@ -102,7 +100,7 @@ impl<A: Allocator> PartialEq for Title<A> {
     ghost laws = { partial_equiv_from_equiv nat_list_eq_equiv };
 
     fn eq(&self, other: &Self) -> bool {
-        self.text() == other.text()
+        self.text.as_bytes() == other.text.as_bytes()
     }
 }
 
@@ -140,6 +138,6 @@ impl<A: Allocator> Ord for Title<A> {
     ghost matches_eq = { texts_ties };
 
     fn cmp(&self, other: &Self) -> Ordering {
-        self.text().cmp(other.text())
+        self.text.as_bytes().cmp(other.text.as_bytes())
     }
 }
