@@ -48,8 +48,3 @@ pub use cue::{Cue, Point};
 pub use fault::WaveFault;
 pub use label::{Label, Labels};
 pub use wave::Wave;
-
-#[cfg(test)]
-mod fill_tests;
-#[cfg(test)]
-mod tests;

@@ -7,12 +7,11 @@ mod refused_growth;
 mod renders;
 mod views;
 
-use mt_bwfread::WaveFault;
 use mt_cli::CliFault;
-use mt_op::{Digest, Op};
-use mt_opcodec::{Latch, Log, LogFault, ReadFault};
+use mt_op::Op;
+use mt_opcodec::{Latch, Log, LogFault};
 use mt_render::MixFault;
-use mt_stamp::{Dot, Stamp};
+use mt_stamp::Stamp;
 use mt_testkit::{A, B, FailingWriter, marker, retitle};
 use std::alloc::Global;
 use std::test::Fail;
@@ -33,11 +32,6 @@ pub fn news(rt: &HostRuntime) -> Result<Vec<u8>, Fail> {
 pub fn late(rt: &HostRuntime) -> Result<Vec<u8>, Fail> {
     let item = Stamp::new(1, A, 1)?;
     log_of(rt, retitle(rt.alloc(), Stamp::new(2, B, 1)?, item, "Late")?)
-}
-
-/// The log of another operation with the dot of that marker.
-pub fn other(rt: &HostRuntime) -> Result<Vec<u8>, Fail> {
-    log_of(rt, marker(rt.alloc(), Stamp::new(1, A, 1)?, "Other")?)
 }
 
 /// What a command did to its output: whether it wrote this text, or its refusal where it wrote nothing.
@@ -77,48 +71,10 @@ pub fn is_cut(
     answer == wanted && failed == answer.is_err() && text.get(..good) == Some(writer.written())
 }
 
+// The numbers and names of all refusals are compared with docs/refusals.md by tests/checks/refusals.sh.
 #[test]
-fn numbers_refused_logs(rt: HostRuntime) {
-    for (fault, number) in [
-        (CliFault::Read(3), 45),
-        (CliFault::Log(0, LogFault::BadMagic), 11),
-        (CliFault::Log(0, LogFault::BadVersion), 12),
-        (CliFault::Log(1, LogFault::Damaged), 13),
-        (
-            CliFault::Log(2, LogFault::BadRecord(7, ReadFault::BadTag)),
-            14,
-        ),
-        (CliFault::Log(3, LogFault::OutOfOrder(1)), 15),
-        (CliFault::Log(4, LogFault::Trailing), 16),
-        (CliFault::Merge(Dot { replica: A, seq: 1 }), 17),
-    ] {
-        assert!(rt; fault.number() == number, "{number}");
-    }
-}
-
-#[test]
-fn numbers_refused_recordings(rt: HostRuntime) {
-    for (fault, number) in [
-        (WaveFault::NotRiff, 26),
-        (WaveFault::NotWave, 27),
-        (WaveFault::Truncated, 28),
-        (WaveFault::NoFmt, 29),
-        (WaveFault::BadFmt, 30),
-        (WaveFault::Unsupported, 31),
-        (WaveFault::NoData, 32),
-    ] {
-        assert!(rt; CliFault::Source(0, fault).number() == number, "{number}");
-    }
-}
-
-#[test]
-fn numbers_refused_programmes(rt: HostRuntime) {
-    for (fault, number) in [
-        (CliFault::Memory, 0),
-        (CliFault::Mix(MixFault::RateDiffers(Digest([0; 32]))), 34),
-        (CliFault::Mix(MixFault::TooLong), 35),
-        (CliFault::Write, 37),
-    ] {
-        assert!(rt; fault.number() == number, "{number}");
-    }
+fn numbers_its_refusals(rt: HostRuntime) {
+    assert!(rt; CliFault::Write.number() == 37);
+    assert!(rt; CliFault::Log(1, LogFault::Damaged).number() == 13);
+    assert!(rt; CliFault::Mix(MixFault::TooLong).number() == 35);
 }

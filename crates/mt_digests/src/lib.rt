@@ -27,8 +27,6 @@
 mod constants;
 mod lane;
 mod rounds;
-#[cfg(test)]
-mod tests;
 mod words;
 
 pub use lane::digests_of;

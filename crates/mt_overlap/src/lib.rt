@@ -40,8 +40,6 @@ mod fault;
 mod growth;
 mod span;
 mod sweep;
-#[cfg(test)]
-mod tests;
 
 pub use fault::OverlapFault;
 pub use span::{Segment, Span};

@@ -9,4 +9,5 @@ pub mod Beginnings
 pub mod Differing
 pub mod Sorting
 pub mod Members
+pub mod Listed
 pub mod SameItems

@@ -27,8 +27,6 @@ pub mod laws;
 mod list;
 mod name;
 mod stamp;
-#[cfg(test)]
-mod tests;
 mod text;
 
 pub use fault::StampFault;

@@ -35,7 +35,5 @@
 
 mod index;
 mod map;
-#[cfg(test)]
-mod tests;
 
 pub use map::StampMap;

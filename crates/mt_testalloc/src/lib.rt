@@ -37,8 +37,6 @@
 use std::alloc::{AllocError, Allocator};
 
 mod tally;
-#[cfg(test)]
-mod tests;
 
 use tally::Tally;
 

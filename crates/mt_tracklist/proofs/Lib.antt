@@ -6,4 +6,3 @@ pub mod Equal
 pub mod Elements
 pub mod Links
 pub mod Linking
-pub mod FourPlaces

@@ -58,8 +58,6 @@ mod chain;
 mod fault;
 pub mod laws;
 mod rising;
-#[cfg(test)]
-mod tests;
 mod track_list;
 
 pub use fault::TrackListFault;

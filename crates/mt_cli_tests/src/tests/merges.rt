@@ -1,9 +1,8 @@
 //! Merges over memory and over devices that fail.
-use super::{is_cut, news, other, told};
+use super::{is_cut, news, told};
 use mt_cli::{CliFault, merge_logs};
-use mt_opcodec::{Latch, Log, LogFault};
-use mt_stamp::Dot;
-use mt_testkit::{A, FailingWriter, SlowReader};
+use mt_opcodec::{Latch, Log};
+use mt_testkit::{FailingWriter, SlowReader};
 use std::alloc::Global;
 use std::io::{ErrorKind, Read};
 use std::test::Fail;
@@ -23,26 +22,6 @@ fn merges_no_log_into_the_empty_one(rt: HostRuntime) -> Result<(), Fail> {
     assert!(rt; merge(rt.alloc(), &mut none, &empty) == Ok(true));
     let mut two = [Latch::new(empty.as_slice()), Latch::new(empty.as_slice())];
     assert!(rt; merge(rt.alloc(), &mut two, &empty) == Ok(true));
-    Ok(())
-}
-
-// What a merge of three logs is refused as.
-fn merge_three(alloc: Global, logs: [&[u8]; 3]) -> Result<bool, CliFault> {
-    let mut inputs = [
-        Latch::new(logs[0]),
-        Latch::new(logs[1]),
-        Latch::new(logs[2]),
-    ];
-    merge(alloc, &mut inputs, b"")
-}
-
-#[test]
-fn refuses_in_order_and_writes_nothing(rt: HostRuntime) -> Result<(), Fail> {
-    let (news, other) = (news(&rt)?, other(&rt)?);
-    let no_log = CliFault::Log(2, LogFault::BadMagic);
-    assert!(rt; merge_three(rt.alloc(), [&news, &other, b"abc"]) == Err(no_log));
-    let conflict = CliFault::Merge(Dot { replica: A, seq: 1 });
-    assert!(rt; merge_three(rt.alloc(), [&news, &news, &other]) == Err(conflict));
     Ok(())
 }
 

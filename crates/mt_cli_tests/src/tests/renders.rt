@@ -1,11 +1,9 @@
 //! Rendering over memory and over devices that fail.
-use super::other;
 use mt_bwfread::WaveFault;
 use mt_cli::{CliFault, bounce_logs};
 use mt_cuewrite::Head;
-use mt_op::Digest;
-use mt_opcodec::{Latch, Log, LogFault};
-use mt_render::{Format, MixFault};
+use mt_opcodec::Latch;
+use mt_render::Format;
 use mt_testkit::{RECORDING, Refusing, SlowReader, log_of_a_clip};
 use std::alloc::{Allocator, Global};
 use std::test::Fail;
@@ -86,17 +84,6 @@ fn render<'a, M: Allocator + Clone>(
 
 const WHOLE: usize = 9999;
 
-// three_sample_file
-#[test]
-fn renders_three_samples(rt: HostRuntime) -> Result<(), Fail> {
-    let log = one_clip(rt.alloc())?;
-    let empty = Log::new(rt.alloc()).write()?;
-    let logs = [(log.as_slice(), WHOLE), (empty.as_slice(), WHOLE)];
-    let found = render(rt.alloc(), rt.alloc(), &logs, &[(RECORDING, WHOLE)]);
-    assert!(rt; found == Ok(true));
-    Ok(())
-}
-
 // failing_devices: readers are counted through, and recordings by themselves
 #[test]
 fn names_the_reader_at_fault(rt: HostRuntime) -> Result<(), Fail> {
@@ -123,23 +110,7 @@ fn names_the_reader_at_fault(rt: HostRuntime) -> Result<(), Fail> {
     Ok(())
 }
 
-#[test]
-fn refuses_in_order(rt: HostRuntime) -> Result<(), Fail> {
-    let log = one_clip(rt.alloc())?;
-    let another = other(&rt)?;
-    let unread = [(RECORDING, 0)];
-    let found = render(rt.alloc(), rt.alloc(), &[(b"RMTS", WHOLE)], &unread);
-    assert!(rt; found == Err(CliFault::Log(0, LogFault::BadVersion)));
-    let both = [(log.as_slice(), WHOLE), (another.as_slice(), WHOLE)];
-    let found = render(rt.alloc(), rt.alloc(), &both, &unread);
-    assert!(rt; matches!(found, Err(CliFault::Merge(_))));
-    let found = render(rt.alloc(), rt.alloc(), &[(log.as_slice(), WHOLE)], &[]);
-    let missing = MixFault::MissingSource(Digest::of(RECORDING));
-    assert!(rt; found == Err(CliFault::Mix(missing)));
-    Ok(())
-}
-
-// Each growth refused in turn, until a run meets no refusal: nothing was written then.
+// three_sample_file. Each growth refused in turn, until a run meets no refusal: nothing was written then.
 #[test]
 fn refuses_each_growth(rt: HostRuntime) -> Result<(), Fail> {
     let log = one_clip(rt.alloc())?;

@@ -1,0 +1,128 @@
+mod fills;
+
+use mt_bwfread::{laws, *};
+use std::alloc::{AllocError, Global};
+use std::test::Fail;
+
+/// One frame of one channel of 8 bits, without the last pad byte.
+const SMALLEST: [u8; 45] = [
+    0x52, 0x49, 0x46, 0x46, 0x25, 0x00, 0x00, 0x00, 0x57, 0x41, 0x56, 0x45, 0x66, 0x6d, 0x74, 0x20,
+    0x10, 0x00, 0x00, 0x00, 0x01, 0x00, 0x01, 0x00, 0x44, 0xac, 0x00, 0x00, 0x44, 0xac, 0x00, 0x00,
+    0x01, 0x00, 0x08, 0x00, 0x64, 0x61, 0x74, 0x61, 0x01, 0x00, 0x00, 0x00, 0x00,
+];
+
+fn put_chunk(out: &mut Vec<u8>, id: &[u8], content: &[u8]) -> Result<(), AllocError> {
+    out.extend_from_slice(id)?;
+    out.extend_from_slice(&u32::try_from(content.len()).unwrap_or(0).to_le_bytes())?;
+    out.extend_from_slice(content)
+}
+
+/// A wave file of these chunks, each with its pad byte.
+pub(crate) fn file(alloc: Global, chunks: &[(&[u8], &[u8])]) -> Result<Vec<u8>, AllocError> {
+    let mut body = Vec::from_slice(alloc, b"WAVE")?;
+    for (id, content) in chunks {
+        put_chunk(&mut body, id, content)?;
+        if content.len() % 2 == 1 {
+            body.push(0)?;
+        }
+    }
+    let mut out = Vec::new(alloc);
+    put_chunk(&mut out, b"RIFF", &body)?;
+    Ok(out)
+}
+
+/// The content of a chunk `fmt ` for PCM at 8000 samples a second.
+pub(crate) fn pcm(channels: u8, bits: u8) -> [u8; 16] {
+    let align = channels.wrapping_mul(bits / 8);
+    [
+        1, 0, channels, 0, 0x40, 0x1f, 0, 0, 0, 0, 0, 0, align, 0, bits, 0,
+    ]
+}
+
+// The sample, or none where there is no such frame or channel.
+fn sample(wave: &Wave<'_>, frame: u64, channel: u16) -> Option<i64> {
+    if frame < wave.frames() && channel < wave.channels() {
+        Some(wave.sample(frame, channel))
+    } else {
+        None
+    }
+}
+
+// Whether a file has neither an extension nor a cue point nor a label.
+fn is_plain(wave: &Wave<'_>) -> bool {
+    let has_cue = wave.cue_count() > 0 || wave.point(0).is_some() || wave.cue(0).is_some();
+    let has_label = wave.label(0).is_some() || wave.labels().next().is_some();
+    wave.bext().is_none() && !has_cue && !has_label
+}
+
+// smallest_wave
+#[test]
+fn smallest(rt: HostRuntime) -> Result<(), Fail> {
+    let wave = Wave::read(&SMALLEST).ok().ok_or("a wave file")?;
+    laws::is_wave(&wave);
+    let layout = (wave.rate(), wave.channels(), wave.bits());
+    assert!(rt; layout == (44100, 1, 8) && wave.frames() == 1);
+    assert!(rt; sample(&wave, 0, 0) == Some(-2147483648));
+    assert!(rt; is_plain(&wave));
+    Ok(())
+}
+
+// The samples of two frames of two channels, as a file of this content of its `data` has them.
+fn samples_of(alloc: Global, bits: u8, samples: &[u8]) -> Option<[Option<i64>; 4]> {
+    let text = file(alloc, &[(b"fmt ", &pcm(2, bits)), (b"data", samples)]).ok()?;
+    match Wave::read(&text) {
+        Ok(wave) => Some([
+            sample(&wave, 0, 0),
+            sample(&wave, 0, 1),
+            sample(&wave, 1, 0),
+            sample(&wave, 1, 1),
+        ]),
+        Err(_) => None,
+    }
+}
+
+const SAMPLES: [(u8, &[u8], [i64; 4]); 4] = [
+    (
+        8,
+        &[0, 255, 128, 127],
+        [-2147483648, 2130706432, 0, -16777216],
+    ),
+    (
+        16,
+        &[0, 128, 255, 127, 0, 0, 255, 255],
+        [-2147483648, 2147418112, 0, -65536],
+    ),
+    (
+        24,
+        &[0, 0, 128, 255, 255, 127, 0, 0, 0, 255, 255, 255],
+        [-2147483648, 2147483392, 0, -256],
+    ),
+    (
+        32,
+        &[
+            0, 0, 0, 128, 255, 255, 255, 127, 0, 0, 0, 0, 255, 255, 255, 255,
+        ],
+        [-2147483648, 2147483647, 0, -1],
+    ),
+];
+
+#[test]
+fn widths(rt: HostRuntime) {
+    for (bits, samples, [first, second, third, fourth]) in SAMPLES {
+        let wanted = [Some(first), Some(second), Some(third), Some(fourth)];
+        assert!(rt;
+            samples_of(rt.alloc(), bits, samples) == Some(wanted),
+            "{bits} bits"
+        );
+    }
+}
+
+#[test]
+fn faults(rt: HostRuntime) {
+    assert!(rt; WaveFault::NotRiff.number() == 26);
+    assert!(rt; WaveFault::NoData.number() == 32);
+    laws::one_chunk_list();
+    laws::walk_finds();
+    laws::walk_splits(&SMALLEST);
+    laws::smallest_wave();
+}

@@ -1,0 +1,213 @@
+//! How many cells takes and edits join, and that they look at nothing else.
+
+use super::histories::{Answer, Step, edit, history, is_alike, newcomer, take};
+use super::operations::{Act, Name};
+use mt_replica::{Editor, EditorFault};
+use mt_stamp::{Stamp, StampFault};
+use mt_testkit::{A, B, Refusing};
+use std::alloc::{Allocator, Global};
+use std::test::Fail;
+
+// How many markers there are before the new titles.
+const MARKERS: u64 = 1000;
+
+// How many growths a take or an edit of a new title is given.
+const GROWTHS: u64 = 64;
+
+// What is asked for among the markers: a take of a new title of the first one, by B, or an edit of the same after that, or a
+// session that is made from nothing.
+#[derive(Clone, Copy, PartialEq, Eq)]
+enum Work {
+    Take,
+    Edit,
+    Scratch,
+}
+
+fn stamp_of_b(number: u64) -> Result<Stamp, StampFault> {
+    Stamp::new(number, B, number)
+}
+
+// Takes the marker of this number, and tells whether it is ready.
+fn takes_marker<M: Allocator + Copy>(editor: &mut Editor<M>, memory: M, number: u64) -> bool {
+    match stamp_of_b(number) {
+        Ok(item) => {
+            take(editor, memory, item, Act::AddMarker(Name::News)) == Ok(Answer::Applied(1))
+        }
+        Err(_) => false,
+    }
+}
+
+// Takes all markers.
+fn takes_markers<M: Allocator + Copy>(editor: &mut Editor<M>, memory: M) -> bool {
+    for number in 0..MARKERS {
+        if !takes_marker(editor, memory, number.saturating_add(1)) {
+            return false;
+        }
+    }
+    true
+}
+
+// The stamps of the new title and of the first marker.
+fn new_title() -> Result<(Stamp, Stamp), EditorFault> {
+    match (stamp_of_b(MARKERS.saturating_add(1)), stamp_of_b(1)) {
+        (Ok(title), Ok(item)) => Ok((title, item)),
+        _ => Err(EditorFault::Failed),
+    }
+}
+
+// Makes the session of the log from nothing, beside the one that is kept.
+fn made_from_nothing<M: Allocator + Copy>(
+    editor: &Editor<M>,
+    memory: M,
+) -> Result<Answer, EditorFault> {
+    if is_alike(memory, editor) {
+        Ok(Answer::Already)
+    } else {
+        Err(EditorFault::Memory)
+    }
+}
+
+fn done<M: Allocator + Copy>(
+    editor: &mut Editor<M>,
+    memory: M,
+    work: Work,
+) -> Result<Answer, EditorFault> {
+    let (title, item) = new_title()?;
+    match work {
+        Work::Take => take(editor, memory, title, Act::Retitle(item, Name::Early)),
+        Work::Edit => edit(editor, memory, Act::Retitle(item, Name::Late)),
+        Work::Scratch => made_from_nothing(editor, memory),
+    }
+}
+
+// Takes what is there before the work.
+fn is_prepared<M: Allocator + Copy>(editor: &mut Editor<M>, memory: M, work: Work) -> bool {
+    takes_markers(editor, memory)
+        && (work != Work::Edit || done(editor, memory, Work::Take).is_ok())
+}
+
+// How many growths were asked for before the work, by how much the work raised the count of joins, and what came of it.
+#[derive(Clone, Copy)]
+struct Cost {
+    before: u64,
+    raised: u64,
+    done: Result<Answer, EditorFault>,
+}
+
+fn cost_to<M: Allocator + Copy>(
+    editor: &mut Editor<M>,
+    memory: M,
+    tally: &Refusing<Global>,
+    work: Work,
+) -> Option<Cost> {
+    if !is_prepared(editor, memory, work) {
+        return None;
+    }
+    let (before, joins) = (tally.allocations(), editor.joins());
+    let done = done(editor, memory, work);
+    let raised = editor.joins().saturating_sub(joins);
+    Some(Cost {
+        before,
+        raised,
+        done,
+    })
+}
+
+// The same of an editor of A that begins with the empty log; none where it is refused memory before the work.
+fn cost_of<M: Allocator + Copy>(memory: M, tally: &Refusing<Global>, work: Work) -> Option<Cost> {
+    match newcomer(memory, A) {
+        Ok(mut editor) => cost_to(&mut editor, memory, tally, work),
+        Err(_) => None,
+    }
+}
+
+// The same where one growth is refused, and whether one was.
+fn refused_at(alloc: Global, at: u64, work: Work) -> (Option<Cost>, bool) {
+    let memory = Refusing::new(alloc, at);
+    let cost = cost_of(&memory, &memory, work);
+    (cost, memory.has_refused())
+}
+
+// The growths before it, where it is done and joins so many cells.
+fn growths_before(alloc: Global, work: Work, joins: u64) -> Option<u64> {
+    match refused_at(alloc, u64::MAX, work) {
+        (Some(cost), false) if cost.done.is_ok() && cost.raised == joins => Some(cost.before),
+        _ => None,
+    }
+}
+
+// Whether a growth is refused in it, which it answers with `Memory`.
+fn is_refused(alloc: Global, at: u64, work: Work) -> bool {
+    match refused_at(alloc, at, work) {
+        (Some(cost), true) => cost.done == Err(EditorFault::Memory),
+        _ => false,
+    }
+}
+
+// Whether it is done where no growth up to this one is refused.
+fn is_over(alloc: Global, at: u64, work: Work) -> bool {
+    match refused_at(alloc, at, work) {
+        (Some(cost), false) => cost.done.is_ok(),
+        _ => false,
+    }
+}
+
+// How many growths it takes, each of which is refused in turn; none where they are over 64, or it does not join one cell.
+fn growths_of(alloc: Global, work: Work) -> Option<u64> {
+    let before = growths_before(alloc, work, 1)?;
+    for more in 0..GROWTHS.saturating_add(1) {
+        if !is_refused(alloc, before.saturating_add(more), work) {
+            return if is_over(alloc, before.saturating_add(more), work) {
+                Some(more)
+            } else {
+                None
+            };
+        }
+    }
+    None
+}
+
+#[test]
+fn gives_a_title_at_the_cost_of_one_cell(rt: HostRuntime) -> Result<(), Fail> {
+    for work in [Work::Take, Work::Edit] {
+        assert!(rt; growths_of(rt.alloc(), work).is_some());
+    }
+    Ok(())
+}
+
+// Whether a session that is made from nothing joins nothing, and is refused a growth after as many as a title is given.
+fn scratch_takes_more(alloc: Global) -> bool {
+    match growths_before(alloc, Work::Scratch, 0) {
+        Some(before) => is_refused(alloc, before.saturating_add(GROWTHS), Work::Scratch),
+        None => false,
+    }
+}
+
+#[test]
+fn makes_a_session_from_nothing_with_more_growths(rt: HostRuntime) -> Result<(), Fail> {
+    assert!(rt; scratch_takes_more(rt.alloc()));
+    Ok(())
+}
+
+// A Remove that is held joins nothing, and with the track joins the one tag that it lists, and the track its four fields and its
+// tag.
+#[test]
+fn counts_what_became_ready(rt: HostRuntime) -> Result<(), Fail> {
+    let (track, removed) = (Stamp::new(1, B, 1)?, Stamp::new(2, B, 2)?);
+    let rows = [
+        (
+            Step::Take(removed, Act::Remove(track)),
+            Ok(Answer::Held),
+            (1, 1, 0),
+        ),
+        (Step::Joins, Ok(Answer::Joins(0)), (1, 1, 0)),
+        (
+            Step::Take(track, Act::AddTrack(None)),
+            Ok(Answer::Applied(2)),
+            (2, 0, 0),
+        ),
+        (Step::Joins, Ok(Answer::Joins(6)), (2, 0, 0)),
+    ];
+    assert!(rt; history(rt.alloc(), A, &rows) == Ok(4));
+    Ok(())
+}

@@ -1,0 +1,4 @@
+mod holdback;
+mod op;
+mod opcodec;
+mod summary;

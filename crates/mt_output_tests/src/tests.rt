@@ -1,0 +1,4 @@
+mod cuewrite;
+mod logtext;
+mod render;
+mod script;

@@ -1,5 +1,0 @@
-//! Tests of mt_script: whole scripts.
-#![tactic(auto)]
-
-#[cfg(test)]
-mod tests;

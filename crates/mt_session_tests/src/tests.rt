@@ -1,0 +1,3 @@
+mod items;
+mod mending;
+mod sessionview;

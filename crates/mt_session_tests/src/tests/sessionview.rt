@@ -1,0 +1,243 @@
+//! Sessions of a few operations.
+
+mod changes;
+mod texts;
+
+use mt_op::{Body, Digest, Op, OpFault};
+use mt_opcodec::Log;
+use mt_sessionview::laws::{
+    any_listing, equal_clips, equal_markers, equal_sessions, equal_tracks, held_operation,
+    places_tree, sorted_clips, sorted_markers, sorted_stamps, sorted_tracks,
+};
+use mt_sessionview::{Session, SessionFault, from_scratch, ready_stamps};
+use mt_stamp::{Replica, Stamp, StampFault};
+use mt_testkit::{A, B, Refusing, add_track, marker, retitle};
+use std::alloc::{Allocator, Global};
+use std::test::Fail;
+
+/// An operation of the tests: a track `Voice` that is moved, its clip, a marker `News`, its title `Late`, a title of a marker that no
+/// test has, and a mute of the track and of the clip.
+#[derive(Clone, Copy)]
+pub enum Item {
+    Voice,
+    Moved,
+    Clip,
+    News,
+    Late,
+    Early,
+    MutedTrack,
+    MutedClip,
+    Absent,
+}
+
+fn stamp_of(item: Item) -> Result<Stamp, StampFault> {
+    match item {
+        Item::News => Stamp::new(1, A, 1),
+        Item::Voice => Stamp::new(2, A, 2),
+        Item::Clip => Stamp::new(3, A, 3),
+        Item::Moved => Stamp::new(4, A, 4),
+        Item::MutedTrack => Stamp::new(5, A, 5),
+        Item::MutedClip => Stamp::new(6, A, 6),
+        Item::Early => Stamp::new(2, B, 1),
+        Item::Late => Stamp::new(3, B, 2),
+        Item::Absent => Stamp::new(1, Replica(12), 1),
+    }
+}
+
+// The operation that one names.
+fn named_by(item: Item) -> Item {
+    match item {
+        Item::Late => Item::News,
+        Item::Early => Item::Absent,
+        Item::MutedClip => Item::Clip,
+        _ => Item::Voice,
+    }
+}
+
+fn clip_on<M: Allocator>(track: Stamp) -> Body<M> {
+    Body::AddClip {
+        source: Digest([7; 32]),
+        track,
+        at: 48,
+        offset: 4,
+        len: 8,
+    }
+}
+
+// A track that is put behind itself.
+fn moved<M: Allocator>(track: Stamp) -> Body<M> {
+    Body::MoveTrack {
+        track,
+        after: Some(track),
+    }
+}
+
+// An operation of this stamp, which may name this item.
+fn made<M: Allocator>(memory: M, which: Item, own: Stamp, item: Stamp) -> Result<Op<M>, OpFault> {
+    match which {
+        Item::Voice => add_track(memory, own, None),
+        Item::Moved => Op::new(own, moved(item)),
+        Item::Clip => Op::new(own, clip_on(item)),
+        Item::Late | Item::Early => retitle(memory, own, item, "Late"),
+        Item::MutedTrack | Item::MutedClip => Op::new(own, Body::SetMute { item, on: true }),
+        _ => marker(memory, own, "News"),
+    }
+}
+
+// Adds an operation to a log.
+fn put<M: Allocator + Clone>(
+    memory: &M,
+    log: &mut Log<M>,
+    which: Item,
+) -> Result<(), SessionFault> {
+    let memory = memory.clone()?;
+    let (Ok(own), Ok(item)) = (stamp_of(which), stamp_of(named_by(which))) else {
+        return Err(SessionFault::Memory);
+    };
+    let Ok(op) = made(memory, which, own, item) else {
+        return Err(SessionFault::Memory);
+    };
+    match log.add(op) {
+        Ok(_) => Ok(()),
+        Err(_) => Err(SessionFault::Memory),
+    }
+}
+
+/// The log of these operations.
+pub fn log_of<M: Allocator + Clone>(memory: &M, items: &[Item]) -> Result<Log<M>, SessionFault> {
+    let mut log = Log::new(memory.clone()?);
+    for item in items {
+        put(memory, &mut log, *item)?;
+    }
+    Ok(log)
+}
+
+/// The session of these operations.
+pub fn session_of<M: Allocator + Clone>(
+    memory: &M,
+    items: &[Item],
+) -> Result<Session<M>, SessionFault> {
+    let over = memory.clone()?;
+    let log = log_of(memory, items)?;
+    from_scratch(over, &log)
+}
+
+fn same_tracks<M: Allocator>(one: &Session<M>, other: &Session<M>) -> bool {
+    for (track, second) in one.tracks.items().iter().zip(other.tracks.items()) {
+        if !equal_tracks(track, second) {
+            return false;
+        }
+    }
+    true
+}
+
+fn same_clips<M: Allocator>(one: &Session<M>, other: &Session<M>) -> bool {
+    for (track, second) in one.tracks.items().iter().zip(other.tracks.items()) {
+        for (clip, second) in track.clips.items().iter().zip(second.clips.items()) {
+            if !equal_clips(clip, second) {
+                return false;
+            }
+        }
+    }
+    true
+}
+
+fn same_markers<M: Allocator>(one: &Session<M>, other: &Session<M>) -> bool {
+    for (marker, second) in one.markers.items().iter().zip(other.markers.items()) {
+        if !equal_markers(marker, second) {
+            return false;
+        }
+    }
+    true
+}
+
+// Whether two sessions are equal, by `==` and by the law, and whether those of their tracks are, their clips and their markers that stand in the
+// same place.
+fn compared<M: Allocator>(one: &Session<M>, other: &Session<M>) -> [bool; 5] {
+    [
+        one == other,
+        equal_sessions(one, other),
+        same_tracks(one, other),
+        same_clips(one, other),
+        same_markers(one, other),
+    ]
+}
+
+// The same of the session of a track with a clip and a marker, and that with one operation more.
+fn compared_with<M: Allocator + Clone>(memory: &M, more: Item) -> Result<[bool; 5], SessionFault> {
+    let one = session_of(memory, &[Item::Voice, Item::Clip, Item::News])?;
+    let other = session_of(memory, &[Item::Voice, Item::Clip, Item::News, more])?;
+    Ok(compared(&one, &other))
+}
+
+#[test]
+fn tells_sessions_apart(rt: HostRuntime) {
+    for (more, wanted) in [
+        (Item::News, [true, true, true, true, true]),
+        (Item::Early, [false, false, true, true, true]),
+        (Item::Late, [false, false, true, true, false]),
+        (Item::MutedTrack, [false, false, false, true, true]),
+        (Item::MutedClip, [false, false, false, false, true]),
+    ] {
+        assert!(rt; compared_with(&rt.alloc(), more) == Ok(wanted));
+    }
+}
+
+#[test]
+fn numbers_its_refusals(rt: HostRuntime) {
+    assert!(rt; SessionFault::Memory.number() == 0);
+    assert!(rt; SessionFault::Write.number() == 37);
+    sorted_markers();
+    sorted_clips();
+    sorted_tracks();
+    sorted_stamps();
+    any_listing();
+    held_operation();
+    places_tree();
+}
+
+/// How many growths the log of these operations takes.
+pub fn growths_of_log(alloc: Global, items: &[Item]) -> Result<u64, SessionFault> {
+    let memory = Refusing::new(alloc, u64::MAX);
+    let _log = log_of(&&memory, items)?;
+    Ok(memory.allocations())
+}
+
+// Whether these stamps are those that are ready of the log of these operations.
+fn are_ready<M: Allocator + Clone>(
+    memory: &M,
+    items: &[Item],
+    wanted: &[Stamp],
+) -> Result<bool, SessionFault> {
+    let over = memory.clone()?;
+    let log = log_of(memory, items)?;
+    Ok(ready_stamps(over, &log)?.as_slice() == wanted)
+}
+
+const BOTH: [Item; 2] = [Item::Late, Item::News];
+
+// early_retitle
+#[test]
+fn tells_the_stamps_that_are_ready(rt: HostRuntime) -> Result<(), Fail> {
+    let both = [stamp_of(Item::News)?, stamp_of(Item::Late)?];
+    assert!(rt; are_ready(&rt.alloc(), &[Item::Late], &[]) == Ok(true));
+    assert!(rt; are_ready(&rt.alloc(), &BOTH, &both) == Ok(true));
+    Ok(())
+}
+
+#[test]
+fn refuses_each_growth_of_ready_stamps(rt: HostRuntime) -> Result<(), Fail> {
+    let both = [stamp_of(Item::News)?, stamp_of(Item::Late)?];
+    let first = growths_of_log(rt.alloc(), &BOTH)?;
+    for at in first..60 {
+        let memory = Refusing::new(rt.alloc(), at);
+        let ready = are_ready(&&memory, &BOTH, &both);
+        if !memory.has_refused() {
+            assert!(rt; ready == Ok(true));
+            assert!(rt; at - first > 2, "several growths were refused");
+            return Ok(());
+        }
+        assert!(rt; ready == Err(SessionFault::Memory), "at {at}");
+    }
+    Err(Fail::from("each run met a refusal"))
+}
