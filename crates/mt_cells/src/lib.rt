@@ -35,8 +35,6 @@ pub mod laws;
 mod presence;
 mod register;
 mod stamp_set;
-#[cfg(test)]
-mod tests;
 
 pub use fault::CellFault;
 pub use join::{Join, join_all};
