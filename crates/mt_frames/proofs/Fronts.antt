@@ -64,7 +64,7 @@ short-nil = front_headless [] (omega arith)
 body_len-take : (k : ℕ) (xs : List ℕ) → 4 ≤ k → body_len (take k xs) ≡ body_len xs
 body_len-take k xs le = ap (from_be_bytes w32) (take-take 4 k xs le)
 
-body_len-append : (xs ys : List ℕ) → 4 ≤ length xs → body_len (xs ++ ys) ≡ body_len xs
+pub body_len-append : (xs ys : List ℕ) → 4 ≤ length xs → body_len (xs ++ ys) ≡ body_len xs
 body_len-append xs ys le = ap (from_be_bytes w32) (take-append-le 4 xs ys le)
 
 -- a beginning of bytes in which no frame is whole has none

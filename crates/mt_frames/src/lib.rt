@@ -24,6 +24,8 @@
 //! on `Global` only; so its growth cannot be refused by a test's allocator.
 #![tactic(auto)]
 
+pub mod laws;
+
 ghost use Rattle.std.specs.Prelude.{◌≡◌, ℕ, List, [], ◌++◌, ◌<◌, slice_index, OnOk, OnErr};
 ghost use Rattle.mt_frames.specs.Frames.{frame_text};
 ghost use Rattle.mt_frames.specs.Faults.{number_of};
