@@ -15,6 +15,7 @@ pub mod Appends
 pub mod Records
 pub mod LogTexts
 pub mod Union
+pub mod Sets
 pub mod Merging
 pub mod EqualLogs
 mod Agreements

@@ -1,13 +1,16 @@
 -- What holds of texts and of unions.
-use Rattle.std.specs.Prelude.{◌≡◌, ℕ, ◌<◌, ◌^◌, List, [], ◌∷◌, ◌++◌, length, is_some, if◌then◌else◌, ◌↔◌}
-use Rattle.std.specs.List.{AllByRecursion}
+use Rattle.std.specs.Prelude.{◌≡◌, ℕ, ◌<◌, ◌^◌, List, [], ◌∷◌, ◌++◌, length, None, is_some, if◌then◌else◌, ◌↔◌, IsTrue}
+use Rattle.std.specs.List.{AllByRecursion, Contains}
 use Rattle.std.specs.FinMap as map
 use Rattle.mt_stamp.specs.declared.name.Dot.{Dot}
 use Rattle.mt_op.specs.Operation.{Operation}
+use Rattle.mt_op.specs.Dots.{op_dot}
+use Rattle.mt_op.specs.Needs.{names_are_older}
 use Rattle.mt_op.specs.Valid.{IsOperation}
 use Rattle.mt_opcodec.specs.OpText.{op_text}
 use Rattle.mt_opcodec.specs.LogText.{log_text}
-use Rattle.mt_opcodec.specs.LogValue.{LogMap, AreLogged}
+use Rattle.mt_opcodec.specs.LogValue.{LogMap, operations, log_of, AreLogged}
+use Rattle.mt_opcodec.specs.Sets.{Has, IsSet, HasJoined, IsReadyIn}
 use Rattle.mt_opcodec.specs.Union.{Agree, union, AllAgree}
 
 -- An operation has one text, and no operation's text begins another's: what stands at the front of bytes is determined.
@@ -37,3 +40,18 @@ AgreePairwise = (logs : List LogMap) → AllAgree logs ↔ PairsAgree logs
 -- Three logs agree in both groupings or in neither.
 abbrev pub AgreeGrouped : Type 0
 AgreeGrouped = (a b c : LogMap) → (Agree a b × Agree (union a b) c) ↔ (Agree b c × Agree a (union b c))
+
+-- A log is the set of the operations that it lists. The empty one has none, one more joins where nothing stands under its dot, and
+-- unions and the logs in memory are sets.
+pub record LogsAreSets : Type 0 where
+  pub listed : (log : LogMap) → IsSet log → (o : Operation) → Contains (operations log) o ↔ Has log o
+  pub empty : IsSet map.empty × ((o : Operation) → Has map.empty o → ⊥)
+  pub one_more : (log : LogMap) (o : Operation) → IsSet log → IsTrue (names_are_older o) → map.get log (op_dot o) ≡ None → HasJoined log o (map.insert log (op_dot o) o)
+  pub unions : (a b : LogMap) → IsSet a → IsSet b → IsSet (union a b)
+  pub logged : (log : LogMap) → AreLogged (operations log) → log_of (operations log) ≡ log → IsSet log
+
+-- What is ready in a log stays ready as the log grows: by one operation more, and in its union with another log.
+pub record ReadyStays : Type 0 where
+  pub one_more : (log : LogMap) (o p : Operation) → map.get log (op_dot o) ≡ None → IsReadyIn log p → IsReadyIn (map.insert log (op_dot o) o) p
+  pub first : (a b : LogMap) (o : Operation) → IsReadyIn a o → IsReadyIn (union a b) o
+  pub second : (a b : LogMap) (o : Operation) → Agree a b → IsReadyIn b o → IsReadyIn (union a b) o

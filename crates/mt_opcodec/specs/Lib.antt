@@ -3,6 +3,7 @@ pub mod OpReading
 pub mod LogText
 pub mod LogReading
 pub mod LogValue
+pub mod Sets
 pub mod Union
 pub mod Merging
 pub mod Laws

@@ -2,8 +2,9 @@
 //! compares.
 
 ghost use Rattle.std.specs.Prelude.{◌≡◌, ◌↔◌, IsTrue};
-ghost use Rattle.mt_opcodec.specs.Laws.{OpTextsAreApart, LogTextsAreApart, IsUnion, AgreePairwise, AgreeGrouped};
+ghost use Rattle.mt_opcodec.specs.Laws.{OpTextsAreApart, LogTextsAreApart, IsUnion, AgreePairwise, AgreeGrouped, LogsAreSets, ReadyStays};
 
+use crate::fault::LogFault;
 use crate::log::Log;
 use std::alloc::Allocator;
 
@@ -29,6 +30,17 @@ pub fn agreements()
     ensures grouped { AgreeGrouped }
 {}
 
+/// A log is the set of the operations that it lists: where each stands under its own dot, it has those and no others. The empty log has
+/// none, and one operation more joins the set where nothing stands under its dot.
+pub fn logs_as_sets()
+    ensures { LogsAreSets }
+{}
+
+/// An operation that is ready in a log stays ready when another one joins the log, and in the union of the log with another.
+pub fn growing_logs()
+    ensures { ReadyStays }
+{}
+
 /// Logs are equal where they have the same operations.
 pub fn equal_logs<A: Allocator>(a: &Log<A>, b: &Log<A>) -> bool
     ensures { IsTrue result ↔ (a.now ≡ b.now) }
@@ -37,4 +49,11 @@ pub fn equal_logs<A: Allocator>(a: &Log<A>, b: &Log<A>) -> bool
     let _ = a.runs();
     let _ = b.runs();
     a == b
+}
+
+/// Faults are equal where they are of one case and say the same of it: the same index and cause, or the same dot.
+pub fn equal_log_faults(fault: &LogFault, other: &LogFault) -> bool
+    ensures { IsTrue result ↔ (fault.now ≡ other.now) }
+{
+    fault == other
 }
