@@ -7,13 +7,15 @@ use Rattle.std.specs.declared.cmp.Ordering.{Ordering}
 use Rattle.std.specs.declared.cmp.Ordering.TheVariants.{Less, Equal, Greater}
 use Rattle.std.proofs.lemmas.Cmp.{ranked}
 use Rattle.std.proofs.lemmas.List.{length-append}
+use Rattle.std.proofs.lemmas.List.Sorted.{IsPermutation-trans, IsPermutation-sym, IsPermutation-middle, IsPermutation-insert, IsPermutation-append_right, IsPermutation-filter_both}
+use Rattle.std.specs.List.Sorted.{IsPermutation}
 use Rattle.mt_stamp.specs.Moment.{Moment, stamp_cmp, stamp_eq}
 use Rattle.mt_stamp.proofs.Order.{stamp_cmp_total, stamp_cmp-IsAntisymmetric, stamp_eq-itself}
 use Rattle.mt_holdback.specs.Waiting.{NamesOlder, clock_of, meets, is_ready, AllNameOlder}
 use Rattle.mt_holdback.specs.Laws.{is_met_by, passed, ClocksRise}
 use Rattle.mt_holdback.specs.Passing.{left}
 use Rattle.mt_holdback.specs.Queue.{Takes, NoneIsMet}
-use Rattle.mt_holdback.specs.HoldBack.{Kept, offered, knows, KeysRise, queued, offered_with, newly_ready, kept_with, IsHoldBack, OfferKeepsTheRule, HeldReleasesNothing}
+use Rattle.mt_holdback.specs.HoldBack.{Kept, offered, knows, KeysRise, queued, offered_with, newly_ready, kept_with, IsHoldBack, OfferKeepsTheRule, OfferedStays, HeldReleasesNothing}
 use Rattle.mt_holdback.proofs.Readiness.{held_changes_nothing, one_pass_finds_all, one_pass_leaves, met_is_ready, named_later, filter_push, filter_whole}
 use Rattle.mt_holdback.proofs.Listings.{IsWithin, or_left, or_middle, any_append, any_parts, ready_within, ready_same}
 
@@ -189,6 +191,18 @@ module _ {T R : Type 0} (key : T → Moment) (needs : T → List (Moment × R)) 
         held = all_along (λ u. not (r u) ≡ true) (λ u. is_ready key needs fits new u ≡ false) (λ u h. sym (ready_moved kept t u) ∙ turned (r u) h) (filter (λ u. not (r u)) q) (kept_pass (λ u. not (r u)) q);
         rise = kept_rise (λ u. not (r u)) q (queue_rises t kept.waiting is.rise (all_rest (λ u. stamp_eq (key u) (key t) ≡ false) kept.released kept.waiting (none_known (key t) (offered key needs fits kept) fresh)));
       }
+
+  pub offered_stays : OfferedStays key needs fits
+  offered_stays kept t =
+      let r : T → Bool = is_ready key needs fits (offered_with key needs fits kept t) in
+      let q : List T = queued key needs fits t kept.waiting in
+      let place = prefix_len (λ u. is_lt (stamp_cmp (key u) (key t))) kept.waiting in
+      let first = IsPermutation-sym _ _ (IsPermutation-middle kept.released t kept.waiting) in
+      let queues = IsPermutation-append_right kept.released _ _ (IsPermutation-insert kept.waiting place t) in
+      let parts = IsPermutation-append_right kept.released _ _ (IsPermutation-filter_both r (λ u. not (r u)) (λ u. refl) q) in
+      let whole : kept.released ++ (filter r q ++ filter (λ u. not (r u)) q) ≡ offered key needs fits (kept_with key needs fits kept t)
+      = sym (append_assoc kept.released (filter r q) (filter (λ u. not (r u)) q)) in
+      subst (IsPermutation (t ∷ offered key needs fits kept)) whole (IsPermutation-trans _ _ _ first (IsPermutation-trans _ _ _ queues parts))
 
   pub held_releases_nothing : HeldReleasesNothing key needs fits
   held_releases_nothing kept t is names_older held =

@@ -1,6 +1,7 @@
 -- What a hold-back holds, and what an item that is offered changes.
 use Rattle.std.specs.Prelude.{◌≡◌, Bool, true, false, not, List, [], ◌∷◌, ◌++◌, filter, insert}
 use Rattle.std.specs.List.{AllByRecursion, list_any, prefix_len}
+use Rattle.std.specs.List.Sorted.{IsPermutation}
 use Rattle.std.specs.Ordering.{is_lt}
 use Rattle.std.specs.declared.cmp.Ordering.TheVariants.{Less}
 use Rattle.mt_stamp.specs.Moment.{Moment, stamp_cmp, stamp_eq}
@@ -53,6 +54,10 @@ module _ {T R : Type 0} (key : T → Moment) (needs : T → List (Moment × R)) 
   -- A hold-back to which an item with a new key is offered is one again.
   abbrev pub OfferKeepsTheRule : Type 0
   OfferKeepsTheRule = (kept : Kept T) (t : T) → IsHoldBack kept → knows kept (key t) ≡ false → NamesOlder (key t) (needs t) → IsHoldBack (kept_with kept t)
+
+  -- What was offered stays offered: once an item more is offered, all that were are there, and that item, each as often as before.
+  abbrev pub OfferedStays : Type 0
+  OfferedStays = (kept : Kept T) (t : T) → IsPermutation (t ∷ offered kept) (offered (kept_with kept t))
 
   -- Where the item that is offered is held, nothing is released and it alone waits with the others.
   abbrev pub HeldReleasesNothing : Type 0

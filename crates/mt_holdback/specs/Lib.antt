@@ -7,3 +7,4 @@ pub mod Queue
 pub mod Offering
 pub mod Faults
 pub mod Ops
+pub mod Examples

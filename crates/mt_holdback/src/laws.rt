@@ -1,8 +1,10 @@
-//! What holds of everything that waits: each law is the contract of a function that does nothing.
+//! What holds of everything that waits: each law is the contract of a function that does nothing or only compares.
 
-ghost use Rattle.mt_holdback.specs.HoldBack.{OfferKeepsTheRule, HeldReleasesNothing};
+ghost use Rattle.std.specs.Prelude.{◌≡◌, ◌↔◌, IsTrue};
+ghost use Rattle.mt_holdback.specs.HoldBack.{OfferKeepsTheRule, OfferedStays, HeldReleasesNothing};
 ghost use Rattle.mt_holdback.specs.Laws.{ReadyIsDefined, MoreIsReady, HeldChangesNothing, OnePassFindsAll};
 
+use crate::hold_back::Offered;
 use crate::waits::Waits;
 
 /// Where every item names older ones, as each that waits does, ready is the only set that satisfies its rule: an item is in it
@@ -33,7 +35,19 @@ pub fn offered_item<T: Waits>()
     ensures { OfferKeepsTheRule T.key_of T.needs_of T.fits_role }
 {}
 
+/// What was offered stays offered, held or released: once an item more is offered, all that were are there, and that item.
+pub fn offered_stays<T: Waits>()
+    ensures { OfferedStays T.key_of T.needs_of T.fits_role }
+{}
+
 /// Where the item that is offered is held, nothing is released, and it waits with the others.
 pub fn offered_and_held<T: Waits>()
     ensures { HeldReleasesNothing T.key_of T.needs_of T.fits_role }
 {}
+
+/// Answers to an offer are equal where both are `Held`, or both are `Ready` from the same index on.
+pub fn equal_offers(first: &Offered, second: &Offered) -> bool
+    ensures { IsTrue result ↔ (first.now ≡ second.now) }
+{
+    first == second
+}

@@ -1,5 +1,5 @@
 -- A session before the last of the noted operations, and where the item of this operation stood in it.
-use Rattle.std.specs.Prelude.{◌≡◌, ℕ, Bool, true, false, ◌&&◌, ◌==◌, List, ◌∷◌, map, filter, not, slice_get, Option, option_map, Some, None, if◌then◌else◌}
+use Rattle.std.specs.Prelude.{◌≡◌, ℕ, Bool, true, false, ◌&&◌, ◌==◌, List, ◌∷◌, map, filter, not, slice_get, Option, option_map, Some, None, if◌then◌else◌, ◌⊎◌}
 use Rattle.std.specs.List.{sum_by, list_any}
 use Rattle.std.specs.Ordering.{nat_cmp}
 use Rattle.std.specs.declared.cmp.Ordering.{Ordering}
@@ -15,7 +15,7 @@ use Rattle.mt_items.specs.Noting.{AreNoted, is_need_met}
 use Rattle.mt_sessionview.specs.Content.{Clip, Track, Marker, Content}
 use Rattle.mt_sessionview.specs.Noted.{markers_in, tracks_in, places_in, track_place_in}
 use Rattle.mt_sessionview.specs.Read.{clip_read}
-use Rattle.mt_sessionview.specs.Changing.{is_marker_at, is_clip_at, is_placed_by, with_clip, without_clip}
+use Rattle.mt_sessionview.specs.Changing.{is_marker_at, is_clip_at, is_placed_by, with_clip, without_clip, without}
 use Rattle.mt_mending.specs.declared.before.Stood.{Stood}
 use Rattle.mt_mending.specs.declared.clip.PlacedClip.{PlacedClip}
 use Rattle.mt_mending.specs.Mending.{subject_of, marker_entry}
@@ -89,21 +89,36 @@ pub record SessionStood (ops : List Operation) (item : Moment) (stood : Stood) (
   pub markers_are : content.markers ≡ markers_in before
   pub stood_is : stood ≡ stood_in before item
 
--- ---- working definitions, of which no public function speaks
+-- ---- what a refusal may leave
 
 -- the markers but the one of a stamp that stood at this position
 abbrev pub without_stood : Option ℕ → Moment → List Marker → List Marker
 without_stood None item markers = markers
 without_stood (Some at) item markers = filter (λ m. not (is_marker_at at item m)) markers
 
+-- a track without a clip that stood on it
+abbrev pub clip_off : PlacedClip → Track → Track
+clip_off found t = if stamp_eq found.track t.track then without_clip found.clip.at found.clip.place t else t
+
+-- the tracks with a clip taken off where it stood
+abbrev pub tracks_without : Option PlacedClip → List Track → List Track
+tracks_without None tracks = tracks
+tracks_without (Some found) tracks = map (clip_off found) tracks
+
+-- A session is as it was, or lacks what stood of an item: the marker, the clip, or the track. All else stays.
+abbrev pub LacksAtMost : Moment → Stood → Content → Content → Type 0
+LacksAtMost item stood old new =
+    (new ≡ old)
+    ⊎ (new ≡ record old { markers = without_stood stood.marker item old.markers })
+    ⊎ (new ≡ record old { tracks = tracks_without stood.clip old.tracks })
+    ⊎ (new ≡ record old { tracks = without (λ (t : Track). t.track) item old.tracks })
+
+-- ---- working definitions, of which no public function speaks
+
 -- a clip, where it is on this track
 abbrev pub if_there : Moment → Option PlacedClip → Option Clip
 if_there track None = None
 if_there track (Some found) = if stamp_eq found.track track then Some found.clip else None
-
--- a track without a clip that stood on it
-abbrev pub clip_off : PlacedClip → Track → Track
-clip_off found t = if stamp_eq found.track t.track then without_clip found.clip.at found.clip.place t else t
 
 -- a track with a clip that comes to it
 abbrev pub clip_to : PlacedClip → Track → Track
@@ -121,11 +136,6 @@ IsThere found tracks = (k : ℕ) (t : Track) → slice_get tracks k ≡ Some t �
 -- Its track, where it is one of these, has no clip that the same operation put where it is.
 abbrev pub IsNew : PlacedClip → List Track → Type 0
 IsNew found tracks = (k : ℕ) (t : Track) → slice_get tracks k ≡ Some t → stamp_eq found.track t.track ≡ true → list_any (is_placed_by found.clip.place) t.clips ≡ false
-
--- the tracks with a clip taken off where it stood
-abbrev pub tracks_without : Option PlacedClip → List Track → List Track
-tracks_without None tracks = tracks
-tracks_without (Some found) tracks = map (clip_off found) tracks
 
 -- the tracks with a clip put where it is
 abbrev pub tracks_with : Option PlacedClip → List Track → List Track

@@ -1,6 +1,6 @@
 //! The clips of a session, mended by one operation more.
 
-ghost use Rattle.std.specs.Prelude.{◌≡◌, false, map, IfOk, IfErr, IfSome, OnOk};
+ghost use Rattle.std.specs.Prelude.{◌≡◌, false, map, IfOk, IfErr, IfSome, OnOk, OnErr};
 ghost use Rattle.mt_stamp.specs.Sorting.{DifferBy};
 ghost use Rattle.mt_op.specs.declared.need.Role.TheVariants.{Track as TrackRole};
 ghost use Rattle.mt_op.specs.Needs.{need_of};
@@ -89,6 +89,7 @@ fn put_on<A: Allocator>(session: &mut Session<A>, found: PlacedClip) -> Result<(
     requires new { IsNew found session.old.tracks }
     ensures ok { OnOk result (session.new ≡ record session.old { tracks = map (clip_to found) session.old.tracks }) }
     ensures err { IfErr result (λ fault. fault ≡ SessionFault.Memory) }
+    ensures kept { OnErr result (session.new ≡ session.old) }
 {
     match session.index_of_track(found.track) {
         Some(index) => session.put_clip(index, found.clip),
@@ -133,6 +134,7 @@ fn put_in<A: Allocator>(
     requires new { IsNew found (tracks_without stood session.old.tracks) }
     ensures ok { OnOk result (session.new ≡ record session.old { tracks = map (clip_to found) (tracks_without stood session.old.tracks) }) }
     ensures err { IfErr result (λ fault. fault ≡ SessionFault.Memory) }
+    ensures left { OnErr result (session.new ≡ record session.old { tracks = tracks_without stood session.old.tracks }) }
 {
     if stands_there(&stood, &found) {
         set_on(session, found);
@@ -147,7 +149,7 @@ fn put_in<A: Allocator>(
 /// the one on which it is now, where this is shown; where it stays at its position on its track, put there by the same
 /// operation, it is rewritten in its place: nothing moves, and no memory is taken. Looks at one track after another, and takes
 /// as many comparisons as the logarithm of the number of clips and items; what follows the clip moves else. Refused only as
-/// `Memory` (0), where a growth was refused; the session may then lack the clip.
+/// `Memory` (0), where a growth was refused: the session then lacks the clip, if it stood there, and is else as it was.
 pub fn mend_clips<A: Allocator>(
     session: &mut Session<A>,
     stood: Option<PlacedClip>,
@@ -158,6 +160,7 @@ pub fn mend_clips<A: Allocator>(
     requires no_track { is_need_met items.now (need_of TrackRole item) ≡ false }
     ensures ok { OnOk result (session.new ≡ record session.old { tracks = tracks_in items.now }) }
     ensures err { IfErr result (λ fault. fault ≡ SessionFault.Memory) }
+    ensures left { OnErr result (session.new ≡ record session.old { tracks = tracks_without stood session.old.tracks }) }
 {
     match placed_clip(items, item) {
         Some(found) => put_in(session, stood, found),

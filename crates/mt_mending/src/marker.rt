@@ -1,6 +1,6 @@
 //! The markers of a session, mended by one operation more.
 
-ghost use Rattle.std.specs.Prelude.{◌≡◌, true, false, ◌&&◌, Option, None, option_map, if◌then◌else◌, IfOk, IfErr, IfSome, OnOk};
+ghost use Rattle.std.specs.Prelude.{◌≡◌, true, false, ◌&&◌, Option, None, option_map, if◌then◌else◌, IfOk, IfErr, IfSome, OnOk, OnErr, ◌⊎◌};
 ghost use Rattle.std.specs.List.{list_any};
 ghost use Rattle.mt_stamp.specs.Moment.{stamp_eq};
 ghost use Rattle.mt_op.specs.declared.need.Role.TheVariants.{Marker as MarkerRole};
@@ -88,6 +88,7 @@ fn put_in<A: Allocator>(
     requires new { list_any (λ x. stamp_eq view.marker x.marker) (without_stood stood view.marker session.old.markers) ≡ false }
     ensures ok { OnOk result (session.new ≡ record session.old { markers = insert_by marker_cmp view (without_stood stood view.marker session.old.markers) }) }
     ensures err { IfErr result (λ fault. fault ≡ SessionFault.Memory) }
+    ensures left { OnErr result (session.new ≡ record session.old { markers = without_stood stood view.marker session.old.markers }) }
 {
     if stood == Some(view.at) {
         session.set_marker(view);
@@ -101,7 +102,7 @@ fn put_in<A: Allocator>(
 /// position at which it stood before (`marker_position` of the operations before), and puts in the one that the operations
 /// show now; where that stands at the same position it takes its place, and nothing moves. Takes as many comparisons as the
 /// logarithm of the number of markers and items, and moves what follows else. Refused
-/// only as `Memory` (0), where a growth was refused; the session may then lack the marker.
+/// only as `Memory` (0), where a growth was refused: the session is then as it was, or lacks the marker that stood there, and that alone.
 pub fn mend_markers<A: Allocator + Clone>(
     session: &mut Session<A>,
     stood: Option<u32>,
@@ -111,6 +112,7 @@ pub fn mend_markers<A: Allocator + Clone>(
     requires before { MarkersStood items.now item stood session.old.markers }
     ensures ok { OnOk result (session.new ≡ record session.old { markers = markers_in items.now }) }
     ensures err { IfErr result (λ fault. fault ≡ SessionFault.Memory) }
+    ensures left { OnErr result ((session.new ≡ session.old) ⊎ (session.new ≡ record session.old { markers = without_stood stood item session.old.markers })) }
 {
     match marker_at(items, item)? {
         Some(view) => put_in(session, stood, view),

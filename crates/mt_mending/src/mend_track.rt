@@ -1,6 +1,6 @@
 //! The tracks of a session, mended by one operation more.
 
-ghost use Rattle.std.specs.Prelude.{◌≡◌, ◌≢◌, [], true, false, ◌&&◌, find, IfOk, IfErr, IfSome, OnOk};
+ghost use Rattle.std.specs.Prelude.{◌≡◌, ◌≢◌, [], true, false, ◌&&◌, find, IfOk, IfErr, IfSome, OnOk, OnErr};
 ghost use Rattle.std.specs.List.{AllByRecursion, list_any};
 ghost use Rattle.std.specs.Ordering.{nat_cmp, is_lt};
 ghost use Rattle.std.specs.declared.cmp.Ordering.TheVariants.{Equal};
@@ -131,6 +131,7 @@ fn put_shown<A: Allocator>(
     requires new { IfSome shown (λ t. list_any (is_track_of t.track) session.old.tracks ≡ false) }
     ensures ok { OnOk result (session.new ≡ record session.old { tracks = put (index_order places.now items.now) shown session.old.tracks }) }
     ensures err { IfErr result (λ fault. fault ≡ SessionFault.Memory) }
+    ensures kept { OnErr result (session.new ≡ session.old) }
 {
     match shown {
         Some(view) => {
@@ -146,7 +147,7 @@ fn put_shown<A: Allocator>(
 /// its clips anew, which takes a look at every clip; and one that was not `known` before (whether it was added, as `stood`
 /// tells) has none. `list` has the places of all noted operations (`add_place`). Looks at one track after another, and at one
 /// place after another as many times as the logarithm of the number of tracks; what follows the track moves. Refused only as
-/// `Memory` (0), where a growth was refused; the session may then lack the track.
+/// `Memory` (0), where a growth was refused: the session then lacks the track with its clips, if it stood there, and is else as it was.
 pub fn mend_tracks<A: Allocator + Clone>(
     alloc: &A,
     session: &mut Session<A>,
@@ -160,6 +161,7 @@ pub fn mend_tracks<A: Allocator + Clone>(
     requires places { ArePlacesOf list.now items.now }
     ensures ok { OnOk result (session.new ≡ record session.old { tracks = tracks_in items.now }) }
     ensures err { IfErr result (λ fault. fault ≡ SessionFault.Memory) }
+    ensures left { OnErr result (session.new ≡ record session.old { tracks = without (λ (t : Track). t.track) item session.old.tracks }) }
 {
     let taken = take_out(session, item);
     let shown = track_now(alloc, items, item, known, taken)?;

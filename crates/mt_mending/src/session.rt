@@ -1,8 +1,8 @@
 //! A session, mended by one operation more.
 
-ghost use Rattle.std.specs.Prelude.{◌≡◌, IfErr, OnOk};
+ghost use Rattle.std.specs.Prelude.{◌≡◌, IfErr, OnOk, OnErr};
 ghost use Rattle.mt_mending.specs.Mending.{session_in};
-ghost use Rattle.mt_mending.specs.Before.{ArePlacesOf, SessionStood, stood_in};
+ghost use Rattle.mt_mending.specs.Before.{ArePlacesOf, SessionStood, LacksAtMost, stood_in};
 
 use crate::before::Stood;
 use crate::clip::{mend_clips, placed_clip};
@@ -34,7 +34,7 @@ pub fn stood<A: Allocator>(items: &Items<A>, item: Stamp) -> Stood
 /// Mends a session after one operation more was noted: takes the entry of its item out where it stood before (`stood` of the
 /// operations before), and puts in the one that they show now. `list` has the places of all of them (`add_place`), and the
 /// number held stays. Takes as long as `mend_tracks`, `mend_markers` or `mend_clips`, by what the item is. Refused only as
-/// `Memory` (0), where a growth was refused; the session may then lack the entry.
+/// `Memory` (0), where a growth was refused: the session is then as it was, or lacks the entry that stood there, and that alone.
 pub fn mend<A: Allocator + Clone>(
     alloc: &A,
     session: &mut Session<A>,
@@ -47,6 +47,7 @@ pub fn mend<A: Allocator + Clone>(
     requires places { ArePlacesOf list.now items.now }
     ensures ok { OnOk result (session.new ≡ session_in items.now session.old.held) }
     ensures err { IfErr result (λ fault. fault ≡ SessionFault.Memory) }
+    ensures left { OnErr result (LacksAtMost item stood session.old session.new) }
 {
     let track = Need {
         stamp: item,

@@ -12,3 +12,4 @@ pub mod Gaining
 pub mod Rising
 pub mod Summing
 pub mod Sounding
+pub mod EndToEnd

@@ -2,6 +2,7 @@ pub mod Faults
 pub mod Layout
 pub mod Sources
 pub mod Mix
+pub mod Blocks
 pub mod Refusals
 pub mod Lanes
 pub mod Divides

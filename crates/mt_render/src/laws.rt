@@ -1,12 +1,15 @@
-//! Laws of the definitions. Each function does nothing: its contract is the law.
+//! Laws of the definitions. Each function does nothing or only compares: its contract is the law.
 
-ghost use Rattle.std.specs.Prelude.{◌≡◌, ℕ, List, None, Some, true, false};
+ghost use Rattle.std.specs.Prelude.{◌≡◌, ◌↔◌, IsTrue, ℕ, List, None, Some, true, false};
 ghost use Rattle.std.specs.Ordering.{is_lt};
 ghost use Rattle.mt_stamp.specs.Moment.{stamp_cmp};
 ghost use Rattle.mt_stamp.specs.Sorting.{DifferBy};
 ghost use Rattle.mt_sessionview.specs.Content.{Clip};
 ghost use Rattle.mt_render.specs.Mix.{sounds, sounding};
+ghost use Rattle.mt_render.specs.Blocks.{BlocksAreSamples};
 ghost use Rattle.mt_render.specs.Refusals.{IsAmong};
+
+use crate::fault::{MixFault, SourceFault};
 
 /// Of clips whose places differ, that of the greatest place among those that would sound in a frame does, in whatever order they stand; where
 /// none would, none does.
@@ -15,3 +18,23 @@ pub fn sounding_clip()
         → ((d : Clip) → IsAmong d clips → sounds d f ≡ true → is_lt (stamp_cmp c.place d.place) ≡ false) → sounding clips f ≡ Some c }
     ensures none { (clips : List Clip) (f : ℕ) → ((d : Clip) → IsAmong d clips → sounds d f ≡ false) → sounding clips f ≡ None }
 {}
+
+/// Blocks of any sizes, end to end, are the samples of the programme in order: frame after frame, the channels of each side by side. So
+/// how a programme is cut into blocks changes nothing.
+pub fn blocks()
+    ensures { BlocksAreSamples }
+{}
+
+/// Refusals of a recording are equal where they are of one case and have the same fault of the file.
+pub fn equal_source_faults(fault: &SourceFault, other: &SourceFault) -> bool
+    ensures { IsTrue result ↔ (fault.now ≡ other.now) }
+{
+    fault == other
+}
+
+/// Refusals of a mix are equal where they are of one case and name the same digest.
+pub fn equal_mix_faults(fault: &MixFault, other: &MixFault) -> bool
+    ensures { IsTrue result ↔ (fault.now ≡ other.now) }
+{
+    fault == other
+}

@@ -26,6 +26,25 @@
 //!     Ok(())
 //! }
 //! ```
+//!
+//! `ready_stamps` gives the stamps of those operations of a log that its session shows, rising: all but the held ones. `session_of_ready` makes the
+//! session of ready operations that were noted already (`Items` of mt_items), as an editor does for a whole log.
+//!
+//! A session is changed one entry at a time by twelve calls, each of which says what the whole session is then. `put_marker`,
+//! `put_clip` and `put_track` put an entry in, which must not be there yet; they alone take memory, and where that is refused
+//! the session is unchanged. `take_marker`, `take_clip` and `take_track` take one out and give it back; `set_marker`,
+//! `set_clip`, `set_track` and `move_track` rewrite or move one that is there, and `set_held` sets the number held;
+//! `index_of_track` tells at which index a track stands. A marker that is not in the session yet:
+//!
+//! ```rust
+//! session.put_marker(MarkerView { marker, at: 480, title: news })?;
+//! // it has the place that its position and its stamp say, and keeps it where only its title is another
+//! session.set_marker(MarkerView { marker, at: 480, title: weather });
+//! // to move it, it is taken out where it stands and put in elsewhere
+//! if let Some(taken) = session.take_marker(480, marker) {
+//!     session.put_marker(MarkerView { at: 960, ..taken })?;
+//! }
+//! ```
 #![tactic(auto)]
 
 mod build;

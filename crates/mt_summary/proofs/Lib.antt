@@ -10,3 +10,4 @@ pub mod ReadExtras
 pub mod ReadReplicas
 pub mod Pieces
 pub mod Cutting
+pub mod Equal

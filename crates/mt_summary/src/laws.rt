@@ -1,7 +1,12 @@
-//! What holds of summaries and messages: each law is the contract of a small function, which does nothing.
+//! What holds of summaries and messages: each law is the contract of a small function, which does nothing or only compares.
 
+ghost use Rattle.std.specs.Prelude.{◌≡◌, ◌↔◌, IsTrue};
 ghost use Rattle.mt_summary.specs.Laws.{IsSummaryOf, RunsAreGreatest, MessageTexts, PacksAreGreedy};
+ghost use Rattle.mt_summary.specs.Reading.{message_of};
 
+use crate::message::Message;
+use crate::numbers::Numbers;
+use crate::summary::Summary;
 use mt_opcodec::Log;
 use std::alloc::Allocator;
 
@@ -28,3 +33,24 @@ pub fn texts()
 pub fn packs()
     ensures { PacksAreGreedy }
 {}
+
+/// What is said of a replica is equal where the replica, the run and the extras are.
+pub fn equal_numbers<A: Allocator>(numbers: &Numbers<A>, other: &Numbers<A>) -> bool
+    ensures { IsTrue result ↔ (numbers.now ≡ other.now) }
+{
+    numbers == other
+}
+
+/// Summaries are equal where they say the same of each replica: so, as each log has one summary, where they cover the same dots.
+pub fn equal_summaries<A: Allocator>(summary: &Summary<A>, other: &Summary<A>) -> bool
+    ensures { IsTrue result ↔ (summary.now ≡ other.now) }
+{
+    summary == other
+}
+
+/// Messages are equal where they are of one kind and say the same: the same summary, or the same operations.
+pub fn equal_messages<A: Allocator>(message: &Message<A>, other: &Message<A>) -> bool
+    ensures { IsTrue result ↔ (message_of message.now ≡ message_of other.now) }
+{
+    message == other
+}

@@ -17,6 +17,7 @@ use std::alloc::{AllocError, Allocator, Global};
 
 /// What one end of a conversation tells the other: the summary of its log, operations, or that it has told all.
 #[derive(Drop)]
+#[derive_where(PartialEq, Eq)]
 pub enum Message<A: Allocator = Global> {
     /// Which operations its log has.
     Have(Summary<A>),

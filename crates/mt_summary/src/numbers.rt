@@ -102,6 +102,31 @@ impl<A: Allocator> Numbers<A> {
     }
 }
 
+// By the replica, the run and the extras.
+impl<A: Allocator> PartialEq for Numbers<A> {
+    ghost use Rattle.std.specs.Cmp.{on_per, partial_equiv_from_equiv};
+    ghost use Rattle.std.specs.Cmp.Lexicographic.{nat_list_eq_equiv};
+    ghost use Rattle.mt_summary.specs.Equal.{numbers_word, numbers_eq};
+
+    ghost eq = { numbers_eq };
+
+    ghost laws = { on_per numbers_word (partial_equiv_from_equiv nat_list_eq_equiv) };
+
+    fn eq(&self, other: &Self) -> bool {
+        self.replica == other.replica
+            && self.run == other.run
+            && self.extras.as_slice() == other.extras.as_slice()
+    }
+}
+
+impl<A: Allocator> Eq for Numbers<A> {
+    ghost use Rattle.std.specs.Cmp.{on_equiv};
+    ghost use Rattle.std.specs.Cmp.Lexicographic.{nat_list_eq_equiv};
+    ghost use Rattle.mt_summary.specs.Equal.{numbers_word};
+
+    ghost laws = { on_equiv numbers_word nat_list_eq_equiv };
+}
+
 // Whether a number is among extras.
 fn contains(extras: &[u64], seq: u64) -> bool
     requires rising { (last : ℕ) × ExtrasRise last extras.now }

@@ -59,6 +59,27 @@ impl<A: Allocator> Summary<A> {
     }
 }
 
+// By what they say of each replica.
+impl<A: Allocator> PartialEq for Summary<A> {
+    ghost use Rattle.std.specs.Cmp.Lexicographic.{pointwise, lists_per};
+    ghost use Rattle.mt_summary.specs.Equal.{numbers_eq, numbers_per};
+
+    ghost eq = { pointwise numbers_eq };
+
+    ghost laws = { lists_per numbers_per };
+
+    fn eq(&self, other: &Self) -> bool {
+        self.replicas() == other.replicas()
+    }
+}
+
+impl<A: Allocator> Eq for Summary<A> {
+    ghost use Rattle.std.specs.Cmp.Lexicographic.{lists_equiv};
+    ghost use Rattle.mt_summary.specs.Equal.{numbers_equiv};
+
+    ghost laws = { lists_equiv numbers_equiv };
+}
+
 impl<A: Allocator + Clone> Summary<A> {
     /// The summary of a log, in one walk of it. Refused only as `Memory` (0).
     #[tactic(auto, unfolding(crate::specs::Summary::summary_of))]

@@ -1,0 +1,127 @@
+-- Offers of operations, worked out one after another.
+use Rattle.std.specs.Prelude.{◌≡◌, ℕ, Bool, true, false, List, [], ◌∷◌, Some, None, refl, codes}
+use Rattle.mt_stamp.specs.Moment.{Moment}
+use Rattle.mt_op.specs.Gain.{unchanged}
+use Rattle.mt_op.specs.Needs.{fits}
+use Rattle.mt_op.specs.Operation.{AddTrack, SetGain, Remove, Restore, AddMarker, Retitle, Operation}
+use Rattle.mt_holdback.specs.Ops.{op_key, op_needs}
+use Rattle.mt_holdback.specs.HoldBack.{Kept, knows, kept_with, newly_ready}
+use Rattle.mt_holdback.specs.Offering.{empty, answer}
+use Rattle.mt_holdback.specs.declared.hold_back.Offered.{Offered}
+use Rattle.mt_holdback.specs.declared.hold_back.Offered.TheVariants.{Held, Ready}
+
+abbrev by : ℕ → ℕ → ℕ → Moment
+by c r n = record { clock = c; replica = record { 0 = r }; seq = n }
+
+-- what an offer answers, what is kept after it, and what it releases
+abbrev told : Kept Operation → Operation → Offered
+told kept o = answer op_key op_needs fits kept o
+
+abbrev after : Kept Operation → Operation → Kept Operation
+after kept o = kept_with op_key op_needs fits kept o
+
+abbrev released_by : Kept Operation → Operation → List Operation
+released_by kept o = newly_ready op_key op_needs fits kept o
+
+abbrev is_known : Kept Operation → Moment → Bool
+is_known kept stamp = knows op_key op_needs fits kept stamp
+
+abbrev kept_of : List Operation → List Operation → Kept Operation
+kept_of released waiting = record { released = released; waiting = waiting }
+
+-- ---- a marker, and its title that comes before it
+
+abbrev news : Operation
+news = record { stamp = by 1 10 1; act = AddMarker 480 (codes "News") }
+
+abbrev late : Operation
+late = record { stamp = by 2 11 1; act = Retitle (by 1 10 1) (codes "Late") }
+
+pub early_retitle : told empty late ≡ Held
+early_retitle = refl
+
+pub early_retitle_waits : after empty late ≡ kept_of [] (late ∷ [])
+early_retitle_waits = refl
+
+pub early_retitle_is_known : is_known (after empty late) (by 2 11 1) ≡ true
+early_retitle_is_known = refl
+
+pub what_it_needs_is_not_known : is_known (after empty late) (by 1 10 1) ≡ false
+what_it_needs_is_not_known = refl
+
+pub marker_releases_both : told (after empty late) news ≡ Ready 0
+marker_releases_both = refl
+
+pub both_are_released : after (after empty late) news ≡ kept_of (news ∷ late ∷ []) []
+both_are_released = refl
+
+-- in the other order each is ready at once
+pub retitle_in_time : told (after empty news) late ≡ Ready 1
+retitle_in_time = refl
+
+-- ---- a chain of three tracks, each after the one before
+
+abbrev first : Operation
+first = record { stamp = by 1 11 1; act = AddTrack None (codes "a") }
+
+abbrev second : Operation
+second = record { stamp = by 2 11 2; act = AddTrack (Some (by 1 11 1)) (codes "b") }
+
+abbrev third : Operation
+third = record { stamp = by 3 11 3; act = AddTrack (Some (by 2 11 2)) (codes "c") }
+
+-- they wait by rising stamp, whatever order they came in
+pub chain_waits : after (after empty third) second ≡ kept_of [] (second ∷ third ∷ [])
+chain_waits = refl
+
+pub chain_is_released : released_by (after (after empty third) second) first ≡ first ∷ second ∷ third ∷ []
+chain_is_released = refl
+
+-- from index 1 on: the first was released before
+pub chain_is_closed : told (after (after empty first) third) second ≡ Ready 1
+chain_is_closed = refl
+
+pub chain_is_told : released_by (after (after empty first) third) second ≡ second ∷ third ∷ []
+chain_is_told = refl
+
+-- ---- a Remove that lists the tags of an Add and of a Restore waits for both
+
+abbrev restored : Operation
+restored = record { stamp = by 2 10 2; act = Restore (by 1 10 1) }
+
+abbrev removed : Operation
+removed = record { stamp = by 3 10 3; act = Remove (by 1 10 1) (by 1 10 1 ∷ by 2 10 2 ∷ []) }
+
+pub waits_for_its_last_tag : after (after empty news) removed ≡ kept_of (news ∷ []) (removed ∷ [])
+waits_for_its_last_tag = refl
+
+pub last_tag_releases_it : released_by (after (after empty news) removed) restored ≡ restored ∷ removed ∷ []
+last_tag_releases_it = refl
+
+-- ---- a wrong role: a marker has no gain, so what gives it one waits for good
+
+abbrev louder : Operation
+louder = record { stamp = by 2 11 1; act = SetGain (by 1 10 1) unchanged }
+
+pub wrong_role : told (after empty news) louder ≡ Held
+wrong_role = refl
+
+pub wrong_role_before : after (after empty louder) news ≡ kept_of (news ∷ []) (louder ∷ [])
+wrong_role_before = refl
+
+-- a tag of another item is in the wrong role too
+abbrev sport : Operation
+sport = record { stamp = by 1 11 1; act = AddMarker 7 (codes "Sport") }
+
+abbrev removed_by_another_tag : Operation
+removed_by_another_tag = record { stamp = by 2 10 2; act = Remove (by 1 10 1) (by 1 11 1 ∷ []) }
+
+pub tag_of_another_item : told (after (after empty news) sport) removed_by_another_tag ≡ Held
+tag_of_another_item = refl
+
+-- a stamp is met as a whole: another operation of that replica and number does not meet it
+abbrev news_later : Operation
+news_later = record { stamp = by 2 10 1; act = AddMarker 480 (codes "News") }
+
+pub other_clock : told (after empty news_later) (record { stamp = by 3 11 1; act = Retitle (by 1 10 1) (codes "Late") }) ≡ Held
+other_clock = refl
