@@ -27,7 +27,8 @@ use Rattle.mt_op.proofs.Needs.{stamp_eq-true}
 use Rattle.mt_items.specs.Noting.{AreNoted, is_noted}
 use Rattle.mt_items.proofs.Noting.{first_false, rest_false}
 use Rattle.mt_sessionview.proofs.Items.{stamp_eq_same}
-use Rattle.mt_replica.proofs.Making.{any_member, member_any, member_all, all_members}
+use Rattle.mt_stamp.proofs.Listed.{any_member, member_any}
+use Rattle.mt_replica.proofs.Making.{member_all, all_members}
 use Rattle.mt_replica.proofs.Valid.{apart_stamps, live_differ}
 use Rattle.mt_op.proofs.SameWrites.{present_same}
 use Rattle.mt_replica.specs.Edit.{Edit, AddTrack, MoveTrack, AddClip, MoveClip, TrimClip, SetGain, SetMute, Remove, Restore, AddMarker, MoveMarker, Retitle}

@@ -9,7 +9,8 @@ use Rattle.mt_op.specs.Ready.{is_met, is_ready}
 use Rattle.mt_op.proofs.Needs.{ready_is_defined, needs_are_older}
 use Rattle.mt_sessionview.specs.Session.{ready_ops}
 use Rattle.mt_stamp.proofs.Members.{member_kept, member_of_kept}
-use Rattle.mt_replica.proofs.Making.{Met, any_member, member_any, member_all}
+use Rattle.mt_stamp.proofs.Listed.{any_member, member_any}
+use Rattle.mt_replica.proofs.Making.{Met, member_all}
 
 same_kept : (p q : Operation → Bool) (xs : List Operation) → AllByRecursion (λ x. p x ≡ q x) xs → filter p xs ≡ filter q xs
 same_kept p q [] same = refl

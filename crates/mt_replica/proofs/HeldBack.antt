@@ -1,9 +1,9 @@
 -- What was released of the operations of a log is what is ready, and what an offer releases may be noted.
-use Rattle.std.proofs.Common.{◌≡◌, ℕ, zero, suc, ◌+◌, ◌<◌, ◌≤◌, Bool, true, false, not, cond, ◌||◌, ◌&&◌, List, [], ◌∷◌, ◌++◌, filter, map, refl, sym, ap, ◌∙◌, subst, arith, append_assoc, append-nil}
+use Rattle.std.proofs.Common.{◌≡◌, ℕ, zero, suc, ◌+◌, ◌<◌, ◌≤◌, Bool, true, false, cond, ◌||◌, ◌&&◌, List, [], ◌∷◌, ◌++◌, filter, map, refl, sym, ap, ◌∙◌, subst, arith, append_assoc, append-nil}
 use Rattle.std.specs.List.{AllByRecursion, list_all, list_any, prefix_len, sum_by}
 use Rattle.std.specs.Ordering.{is_lt}
 use Rattle.std.proofs.lemmas.List.Sums.{sum_by-cons, sum_by-append, sum_by-insert}
-use Rattle.std.proofs.lemmas.List.Filters.{sum_by-filter_both}
+use Rattle.std.proofs.lemmas.List.Sorted.{sum_by-IsPermutation}
 use Rattle.std.specs.declared.cmp.Ordering.TheVariants.{Less}
 use Rattle.mt_stamp.specs.Moment.{Moment, stamp_cmp, stamp_eq}
 use Rattle.mt_stamp.proofs.Order.{stamp_eq-true}
@@ -21,7 +21,7 @@ use Rattle.mt_holdback.specs.Waiting.{NamesOlder}
 use Rattle.mt_holdback.specs.HoldBack.{Kept, IsHoldBack, queued, offered_with}
 use Rattle.mt_holdback.specs.Ops.{op_key, op_needs}
 use Rattle.mt_holdback.proofs.Readiness.{all_older}
-use Rattle.mt_holdback.proofs.Offers.{less_clock}
+use Rattle.mt_holdback.proofs.Offers.{less_clock, offered_stays}
 use Rattle.mt_sessionview.specs.Session.{ready_ops}
 use Rattle.mt_sessionview.proofs.SameReady.{is_ready_same}
 use Rattle.mt_replica.specs.Holding.{all_offered, newly_released, with_offered, StampsRise, HaveOwnStamps, stamp_count, noted_after, MayAllFollow}
@@ -77,18 +77,10 @@ with_one f kept o =
     let all = sum_by-append f kept.released kept.waiting in
     omega (arith, both, one, all)
 
-moved : (f : Operation → ℕ) (kept : Kept Operation) (o : Operation) → sum_by f (all_offered (with_offered kept o)) ≡ sum_by f (offered_with op_key op_needs fits kept o)
-moved f kept o =
-    let r : Operation → Bool = as_waiting (offered_with op_key op_needs fits kept o) in
-    let q : List Operation = queued op_key op_needs fits o kept.waiting in
-    let whole = sum_by-append f (kept.released ++ filter r q) (filter (λ u. not (r u)) q) in
-    let first = sum_by-append f kept.released (filter r q) in
-    let parts = sum_by-filter_both r (λ u. not (r u)) (λ u. refl) f q in
-    let both = sum_by-append f kept.released q in
-    omega (arith, whole, first, parts, both)
-
+-- what was offered stays offered
 pub offered_more : (f : Operation → ℕ) (kept : Kept Operation) (o : Operation) → sum_by f (all_offered (with_offered kept o)) ≡ f o + sum_by f (all_offered kept)
-offered_more f kept o = moved f kept o ∙ with_one f kept o
+offered_more f kept o =
+    sum_by-IsPermutation f (o ∷ all_offered kept) (all_offered (with_offered kept o)) (offered_stays op_key op_needs fits kept o) ∙ sum_by-cons f o (all_offered kept)
 
 module _ (kept : Kept Operation) (o : Operation) (ops all : List Operation) (was : SameItems (all_offered kept) ops) (are : SameItems all (o ∷ ops)) where
   added : (f : Operation → ℕ) → f o + sum_by f (all_offered kept) ≡ sum_by f all

@@ -47,7 +47,8 @@ use Rattle.mt_op.specs.declared.fault.OpFault.TheVariants as op
 use Rattle.mt_op.specs.Valid.{length_is_good, tags_are_good}
 use Rattle.mt_op.specs.Dots.{dots_rise}
 use Rattle.mt_replica.proofs.Bridging.{refused_in_parts}
-use Rattle.mt_replica.proofs.Making.{Met, any_member, mapped_below, all_members}
+use Rattle.mt_stamp.proofs.Listed.{any_member}
+use Rattle.mt_replica.proofs.Making.{Met, mapped_below, all_members}
 use Rattle.mt_replica.proofs.Valid.{newest, all_met, older, it_plays, same_length, tags_good}
 use Rattle.mt_replica.proofs.Gaining.{ready_gains}
 use Rattle.mt_replica.proofs.HeldBack.{offered_same}

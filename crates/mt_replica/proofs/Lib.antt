@@ -13,3 +13,4 @@ pub mod NextOne
 pub mod FromLog
 pub mod ShownPlaces
 pub mod EqualEditors
+pub mod EqualTaken

@@ -1,9 +1,9 @@
 -- What an edit that is not refused makes: an operation whose needs are met by ready operations, and that names older ones.
-use Rattle.std.proofs.Common.{◌≡◌, ℕ, suc, ◌≤◌, Bool, true, false, not, ◌||◌, List, [], ◌∷◌, map, refl, sym, ap, ◌∙◌, subst, inl, inr, arith}
+use Rattle.std.proofs.Common.{◌≡◌, ℕ, suc, ◌≤◌, Bool, true, false, not, ◌||◌, List, [], ◌∷◌, map, refl, sym, ap, subst, inl, inr, arith}
 use Rattle.std.specs.Prelude.{Option, Some, None, option_map, unwrap_or, nat_lt}
 use Rattle.std.specs.List.{AllByRecursion, filter, filter_map, list_any}
 use Rattle.std.proofs.lemmas.Option.{none-some}
-use Rattle.std.proofs.lemmas.Bool.{false≢true, lt-ltb}
+use Rattle.std.proofs.lemmas.Bool.{lt-ltb}
 use Rattle.std.proofs.Math.Nat.{le-max_left, le-max_right}
 use Rattle.mt_stamp.specs.Moment.{Moment, stamp_cmp, stamp_eq}
 use Rattle.mt_stamp.specs.Written.{Written}
@@ -22,6 +22,7 @@ use Rattle.mt_op.specs.Writes.{Write, track_place_written, written_by, last_writ
 use Rattle.mt_op.proofs.LastWrite.{latest_is_greatest}
 use Rattle.mt_op.proofs.Needs.{and_first, and_second, stamp_eq-true}
 use Rattle.mt_sessionview.specs.Session.{ready_ops}
+use Rattle.mt_stamp.proofs.Listed.{any_member, member_any}
 use Rattle.mt_stamp.proofs.Members.{IsMember, member_of_kept, member_unsorted}
 use Rattle.mt_stamp.proofs.SameItems.{all_filter_map, all_here, all_map, GivenBy}
 use Rattle.mt_replica.specs.Edit.{Edit, AddTrack, MoveTrack, AddClip, MoveClip, TrimClip, SetGain, SetMute, Remove, Restore, AddMarker, MoveMarker, Retitle}
@@ -39,23 +40,6 @@ passed true fault none = refl
 passed false fault none = absurd (none-some fault (sym none))
 
 -- ---- lists
-
-pub any_member : {X : Type 0} (p : X → Bool) (xs : List X) → list_any p xs ≡ true → (x : X) × (IsMember x xs × (p x ≡ true))
-any_member p [] found = absurd (false≢true found)
-any_member {X} p (x ∷ xs) found = by (p x) refl found (any_member p xs)
-  where
-    by : (b : Bool) → p x ≡ b → b || list_any p xs ≡ true → (list_any p xs ≡ true → (y : X) × (IsMember y xs × (p y ≡ true))) → (y : X) × (IsMember y (x ∷ xs) × (p y ≡ true))
-    by true is h later = (x, (inl refl, is))
-    by false is h later = let rest = later h in (rest.0, (inr rest.1.0, rest.1.1))
-
-pub member_any : {X : Type 0} (p : X → Bool) (xs : List X) (x : X) → IsMember x xs → p x ≡ true → list_any p xs ≡ true
-member_any p [] x m passes = absurd m
-member_any p (y ∷ xs) x (inl here) passes = ap (λ (b : Bool). b || list_any p xs) (ap p here ∙ passes)
-member_any {X} p (y ∷ xs) x (inr later) passes = by (p y) (member_any p xs x later passes)
-  where
-    by : (b : Bool) → list_any p xs ≡ true → b || list_any p xs ≡ true
-    by true h = refl
-    by false h = h
 
 pub all_members : {X : Type 0} (P : X → Type 0) (xs : List X) → ((x : X) → IsMember x xs → P x) → AllByRecursion P xs
 all_members P [] each = tt

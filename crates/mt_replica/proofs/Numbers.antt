@@ -14,7 +14,8 @@ use Rattle.mt_opcodec.specs.Runs.{RunOf, run_ops}
 use Rattle.mt_opcodec.proofs.RunLists.{ops_left}
 use Rattle.mt_replica.specs.Made.{greatest_of, greatest_clock, greatest_seq, is_by}
 use Rattle.mt_replica.specs.State.{own_seq}
-use Rattle.mt_replica.proofs.Making.{any_member, member_any, mapped_below}
+use Rattle.mt_stamp.proofs.Listed.{any_member, member_any}
+use Rattle.mt_replica.proofs.Making.{mapped_below}
 
 pub max_grouped : (a b c : ℕ) → max a (max b c) ≡ max (max a b) c
 max_grouped a b c =

@@ -10,3 +10,4 @@ pub mod Viewed
 pub mod Codes
 pub mod Laws
 pub mod Equal
+pub mod Examples

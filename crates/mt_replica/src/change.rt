@@ -8,7 +8,6 @@ use std::alloc::{Allocator, Global};
 /// `after` names a track, since its current place is meant. Positions and offsets are in frames, counted from 0, and each is
 /// any `u32`.
 #[derive(Drop)]
-#[derive_where(Debug, PartialEq, Eq)]
 pub enum Change<A: Allocator = Global> {
     /// Adds a track after another, or at the head. Its gain is 1/1, and it is not muted.
     AddTrack {

@@ -1,14 +1,19 @@
-//! What holds of every operation that an edit makes, and when editors are equal: each law is the contract of a function.
+//! What holds of every operation that an edit makes, and when editors, drafts and their answers are equal: each law is the contract of
+//! a function.
 
 ghost use Rattle.std.specs.Prelude.{◌≡◌, ◌↔◌, IsTrue, IfSome};
 ghost use Rattle.mt_opcodec.specs.LogValue.{AreLogged, operations, log_of};
 ghost use Rattle.mt_replica.specs.Laws.{MadeIsNext};
 
+use crate::draft::Draft;
 use crate::editor::Editor;
+use crate::fault::EditorFault;
+use crate::taken::Taken;
 use std::alloc::Allocator;
 
-/// What an edit makes of a log is the next operation of it: it names older ones, its clock passes every clock of the log, held
-/// operations included, the log has nothing under its dot, and with it the log has it ready and nothing else more.
+/// What an edit makes of a log, where each operation stands under its own dot and names older ones, is its author's next operation: its number
+/// passes every number of the author in the log, its clock every clock, held operations included, and the log has nothing under its dot.
+/// It names older ones, ready operations of the log meet its needs, and with it the log has it ready and nothing else more.
 pub fn made_operations()
     ensures { MadeIsNext }
 {}
@@ -29,4 +34,37 @@ fn holds_operations<A: Allocator>(editor: &Editor<A>)
     if let Some(log) = editor.log() {
         let _ = log.runs();
     }
+}
+
+/// Drafts are equal where they have one name and one log, or have both failed. What they have counted does not matter.
+pub fn equal_drafts<A: Allocator>(draft: &Draft<A>, other: &Draft<A>) -> bool
+    ensures { IsTrue result ↔ ((draft.now.name ≡ other.now.name) × (draft.now.log ≡ other.now.log)) }
+{
+    draft_holds_operations(draft);
+    draft_holds_operations(other);
+    draft == other
+}
+
+// The same of a draft's log.
+fn draft_holds_operations<A: Allocator>(draft: &Draft<A>)
+    ensures { IfSome draft.now.log (λ log. AreLogged (operations log) × (log_of (operations log) ≡ log)) }
+{
+    if let Some(log) = draft.log() {
+        let _ = log.runs();
+    }
+}
+
+/// What became of two operations is equal where both are `Already`, or both `Held`, or both `Applied` with the same stamps in the same
+/// order.
+pub fn equal_taken<A: Allocator>(taken: &Taken<A>, other: &Taken<A>) -> bool
+    ensures { IsTrue result ↔ (taken.now ≡ other.now) }
+{
+    taken == other
+}
+
+/// Refusals of an editor are equal where they are of one case and name the same dot or stamp.
+pub fn equal_editor_faults(fault: &EditorFault, other: &EditorFault) -> bool
+    ensures { IsTrue result ↔ (fault.now ≡ other.now) }
+{
+    fault == other
 }
