@@ -2,11 +2,8 @@
 use Rattle.std.proofs.Common.{◌≡◌, ℕ, List, [], ◌∷◌, ◌++◌, refl, sym, ap, ◌∙◌, append_assoc}
 use Rattle.std.specs.List.{flat_map}
 use Rattle.mt_sync.specs.Conversation.{End, Told, byte_in, told}
+pub use Rattle.mt_sync.specs.Laws.{after}
 use Rattle.mt_sync.specs.Laws.{CutsDoNotMatter}
-
--- what more bytes do after what was told
-abbrev pub after : Told → List ℕ → Told
-after t bytes = ((told t.0 bytes).0, t.1 ++ (told t.0 bytes).1)
 
 abbrev pub with_reply : List ℕ → Told → Told
 with_reply reply t = (t.0, reply ++ t.1)

@@ -16,7 +16,7 @@ use Rattle.mt_opcodec.proofs.Union.{get-union}
 use Rattle.mt_sync.specs.Conversation.{clashes, with_op, joined}
 use Rattle.mt_sync.proofs.Honest.{all_front, rise_front}
 use Rattle.mt_sync.proofs.Joined.{is_other, joined_behind}
-use Rattle.mt_sync.proofs.Unions.{found_in}
+use Rattle.mt_opcodec.proofs.Sets.{found_in}
 use Rattle.mt_sync.proofs.Whole.{Meets, joined_meeting}
 
 pub meeting_agree : (set : LogMap) (list : List Operation) → dots_rise list ≡ true → AllByRecursion (Meets set) list → Agree set (log_of list)

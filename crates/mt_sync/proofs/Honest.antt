@@ -1,14 +1,11 @@
 -- What an honest end's bytes add to a set.
-use Rattle.std.proofs.Common.{◌≡◌, ℕ, suc, zero, ◌+◌, ◌<◌, ◌≤◌, Bool, true, false, cond, ltb, not, List, [], ◌∷◌, ◌++◌, length, take, drop, map, Option, Some, None, Result, Ok, Err, refl, sym, ap, ap₂, ◌∙◌, subst, inl, inr, arith, append_assoc, append-nil}
+use Rattle.std.proofs.Common.{◌≡◌, ℕ, suc, zero, ◌+◌, ◌<◌, ◌≤◌, Bool, true, false, cond, ltb, not, List, [], ◌∷◌, ◌++◌, length, map, Option, Some, None, Result, Ok, Err, refl, sym, ap, ◌∙◌, subst, inl, inr, arith, append_assoc, append-nil}
 use Rattle.std.specs.Prelude.{is_some, slice_get, ◌⊎◌}
 use Rattle.std.specs.List.{flat_map, AllByRecursion}
-use Rattle.std.specs.Int.{w32, to_be_bytes, from_be_bytes}
 use Rattle.std.specs.FinMap as fin
 use Rattle.std.specs.FinMap.Entries.{below_all}
 use Rattle.std.specs.Ordering.{is_eq}
-use Rattle.std.proofs.lemmas.List.{take_at, drop_at, length-append}
 use Rattle.std.proofs.lemmas.Bool.{leb-true}
-use Rattle.std.proofs.lemmas.Nat.{from_be_bytes-to_be_bytes_4}
 use Rattle.mt_stamp.specs.declared.name.Dot.{Dot}
 use Rattle.mt_stamp.specs.Moment.{dot_cmp}
 use Rattle.mt_stamp.proofs.Order.{dot_cmp_total}
@@ -19,8 +16,8 @@ use Rattle.mt_op.proofs.Needs.{and_first, and_second}
 use Rattle.mt_opcodec.specs.declared.fault.ReadFault.{ReadFault}
 use Rattle.mt_opcodec.specs.LogValue.{LogMap, AreLogged, operations, log_of}
 use Rattle.mt_opcodec.proofs.Logs.{get-at}
-use Rattle.mt_frames.specs.Frames.{longest_body, frame_text, body_len, whole, front_of}
-use Rattle.mt_frames.proofs.Cutting.{front_whole}
+use Rattle.mt_frames.specs.Frames.{longest_body, frame_text}
+use Rattle.mt_frames.proofs.FramesRead.{front_again}
 use Rattle.mt_summary.specs.Summary.{Summary, summary_of, lacking, covers}
 use Rattle.mt_summary.specs.Messages.{Message, have, ops, bye, have_text, ops_text, bye_text, message_at, whole_have, counted_at, packs, ops_frames, IsMessage}
 use Rattle.mt_summary.proofs.Texts.{message_again}
@@ -35,20 +32,7 @@ use Rattle.mt_sync.proofs.Fronting.{told_whole, told_stopped, told_ended}
 use Rattle.mt_sync.proofs.Growing.{Grows, within_itself, equal, hears_set, told_grows}
 use Rattle.mt_sync.proofs.Exchanged.{all_filter, both, logged_filter}
 
--- ---- frames
-
-pub front_again : (body rest : List ℕ) → length body ≤ longest_body → front_of (frame_text body ++ rest) ≡ whole body rest
-front_again body rest small =
-    let n = length body in
-    let head = to_be_bytes w32 n in
-    let xs = frame_text body ++ rest in
-    let split : xs ≡ head ++ (body ++ rest) = append_assoc head body rest in
-    let len : body_len xs ≡ n = ap (λ (l : List ℕ). from_be_bytes w32 (take 4 l)) split ∙ ap (from_be_bytes w32) (take_at head (body ++ rest) 4 refl) ∙ from_be_bytes-to_be_bytes_4 n (omega arith) in
-    let after_head : drop 4 xs ≡ body ++ rest = ap (drop 4) split ∙ drop_at head (body ++ rest) 4 refl in
-    let all : length xs ≡ 4 + length (body ++ rest) = ap (λ (l : List ℕ). length l) split ∙ length-append head (body ++ rest) in
-    front_whole xs (omega arith) (omega arith) (omega (arith, len, ap (λ (l : List ℕ). length l) after_head, length-append body rest))
-    ∙ ap₂ (λ (k : ℕ) (l : List ℕ). whole (take k l) (drop k l)) len after_head
-    ∙ ap₂ whole (take_at body rest n refl) (drop_at body rest n refl)
+-- ---- what is left of bytes
 
 taken_rest : (turn : Turn) (set : LogMap) (clash : Option Dot) → (taken turn set clash).0.rest ≡ []
 taken_rest turn set None = refl

@@ -13,3 +13,4 @@ pub mod Leaving
 pub mod Unions
 pub mod Turns
 pub mod Cutting
+pub mod Stops

@@ -9,12 +9,18 @@ use Rattle.mt_sync.specs.declared.fault.TalkFault.{TalkFault}
 use Rattle.mt_sync.specs.declared.fault.TalkFault.TheVariants.{Memory, Conflict, Failed, BadMessage, OutOfTurn, FrameTooLong}
 use Rattle.mt_sync.specs.declared.fault.SyncFault.TheVariants as fault
 use Rattle.mt_sync.specs.Conversation.{Turn, greets, takes, ended, stopped, End, Told, told}
-use Rattle.mt_sync.specs.Feeding.{IsGoing, Fed, FeedsAt, Feeds}
+use Rattle.mt_sync.specs.Feeding.{IsGoing, IsOpen, Fed, FeedsAt, Feeds}
 use Rattle.mt_sync.specs.Conversing.{StopsBy, Outcome, Converses}
 use Rattle.mt_sync.specs.declared.fault.SyncFault.{SyncFault}
 use Rattle.mt_sync.specs.Leaving.{IsLeft}
 use Rattle.mt_sync.proofs.Leaving.{left_after}
 use Rattle.mt_sync.proofs.Cuts.{after, told-append}
+
+pub open_goes : (turn : Turn) → IsOpen turn → IsGoing turn
+open_goes (greets side) h = tt
+open_goes (takes owed) h = tt
+open_goes ended h = absurd h
+open_goes (stopped fault) h = absurd h
 
 -- so far
 pub record Goes (start : End) (read read' written written' : Option (List ℕ)) (end : End) : Type 0 where

@@ -25,13 +25,14 @@ use Rattle.mt_sync.specs.Laws.{honest, ConversationsEnd}
 use Rattle.mt_sync.proofs.Cuts.{after}
 use Rattle.mt_sync.proofs.Fronting.{told_whole}
 use Rattle.mt_sync.proofs.Exchanged.{is_missing}
-use Rattle.mt_sync.proofs.Honest.{front_again, packs_logged, IsLoggedPack}
+use Rattle.mt_frames.proofs.FramesRead.{front_again}
+use Rattle.mt_sync.proofs.Honest.{packs_logged, IsLoggedPack}
 use Rattle.mt_sync.proofs.Unions.{IsLog, union_is_log}
 
 -- ---- one frame
 
 -- a message that comes first is heard, and what follows comes next
-one_frame : (turn : Turn) (set : Option LogMap) (m : Message) (more : List ℕ) → IsOpen turn → IsMessage m → length (message_text m) ≤ longest_body → told (end_at turn [] set) (frame_text (message_text m) ++ more) ≡ after (hears turn m set) more
+pub one_frame : (turn : Turn) (set : Option LogMap) (m : Message) (more : List ℕ) → IsOpen turn → IsMessage m → length (message_text m) ≤ longest_body → told (end_at turn [] set) (frame_text (message_text m) ++ more) ≡ after (hears turn m set) more
 unfolding body_in
 one_frame turn set m more opens is short =
     told_whole turn set (frame_text (message_text m) ++ more) (message_text m) more opens (front_again (message_text m) more short)

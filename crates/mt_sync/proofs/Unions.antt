@@ -21,44 +21,11 @@ use Rattle.mt_opcodec.specs.LogValue.{LogMap, AreLogged, operations, log_of}
 use Rattle.mt_opcodec.specs.Union.{union}
 use Rattle.mt_opcodec.proofs.Logs.{get-log_of}
 use Rattle.mt_opcodec.proofs.Union.{get-union}
+use Rattle.mt_opcodec.proofs.Sets.{from_holds, entries_all, found_in}
 
 holds : (b : Bool) → b ≡ true → T b
 holds true e = tt
 holds false e = absurd cc
-
-from_holds : (b : Bool) → T b → b ≡ true
-from_holds true h = refl
-from_holds false h = absurd h
-
-equal_of : (o : Ordering) → is_eq o ≡ true → o ≡ Equal
-equal_of Less h = absurd cc
-equal_of Equal h = refl
-equal_of Greater h = absurd cc
-
-less_of : (o : Ordering) → is_lt o ≡ true → o ≡ Less
-less_of Less h = refl
-less_of Equal h = absurd cc
-less_of Greater h = absurd cc
-
--- what is found among greater dots is under another dot
-found_later : (d q : Dot) (v : Operation) (es : List (Dot × Operation)) → below_all dot_cmp d es ≡ true → find dot_cmp q es ≡ Some v → is_eq (dot_cmp q d) ≡ false
-found_later d q v [] below is = absurd (none-some v is)
-found_later d q v (e ∷ es) below is = by (is_eq (dot_cmp q e.0)) refl (found_later d q v es (and_second _ _ below)) is
-  where
-    by : (b : Bool) → is_eq (dot_cmp q e.0) ≡ b → (find dot_cmp q es ≡ Some v → is_eq (dot_cmp q d) ≡ false) → cond b (Some e.1) (find dot_cmp q es) ≡ Some v → is_eq (dot_cmp q d) ≡ false
-    by true tie later h =
-        let same : q ≡ e.0 = dot_cmp-IsAntisymmetric q e.0 (equal_of _ tie) in
-        let less : dot_cmp d q ≡ Less = ap (dot_cmp d) same ∙ less_of _ (and_first _ _ below) in
-        ap is_eq (dot_cmp_total.antisymm q d ∙ ap ordering_reverse less)
-    by false tie later h = later h
-
--- what holds of all that is found holds of all entries
-entries_all : (Q : Dot → Operation → Type 0) (es : List (Dot × Operation)) → is_sorted dot_cmp es ≡ true → ((q : Dot) (v : Operation) → find dot_cmp q es ≡ Some v → Q q v) → AllByRecursion (λ (e : Dot × Operation). Q e.0 e.1) es
-entries_all Q [] sorted h = tt
-entries_all Q (e ∷ es) sorted h = (
-  h e.0 e.1 (ap (λ (b : Bool). cond b (Some e.1) (find dot_cmp e.0 es)) (ap is_eq (tied_itself dot_cmp_total e.0))),
-  entries_all Q es (and_second _ _ sorted) (λ q v is. h q v (ap (λ (b : Bool). cond b (Some e.1) (find dot_cmp q es)) (found_later e.0 q v es (and_first _ _ sorted) is) ∙ is)),
-)
 
 -- a log
 pub record IsLog (m : LogMap) : Type 0 where
@@ -88,15 +55,6 @@ is_log m stands =
       logged = record { rise = ap (is_sorted dot_cmp) same ∙ sorted; valid = valued es every };
       all_of = ap (λ (l : List (Dot × Operation)). fin.from_sorted {R = dot_cmp} l) same ∙ fin.same_entries_map (fin.from_sorted {R = dot_cmp} es) m (fin.entries-from_sorted dot_cmp es (holds _ sorted));
     }
-
--- what is found under a dot stands under it, and what holds of all operations holds of it
-pub found_in : (P : Operation → Type 0) (d : Dot) (o : Operation) (ops : List Operation) → AllByRecursion P ops → find dot_cmp d (map entry_of ops) ≡ Some o → (d ≡ op_dot o) × P o
-found_in P d o [] all is = absurd (none-some o is)
-found_in P d o (x ∷ ops) all is = by (is_eq (dot_cmp d (op_dot x))) refl (found_in P d o ops all.1) is
-  where
-    by : (b : Bool) → is_eq (dot_cmp d (op_dot x)) ≡ b → (find dot_cmp d (map entry_of ops) ≡ Some o → (d ≡ op_dot o) × P o) → cond b (Some x) (find dot_cmp d (map entry_of ops)) ≡ Some o → (d ≡ op_dot o) × P o
-    by true tie later h = subst (λ (y : Operation). (d ≡ op_dot y) × P y) (same_Some x o h) (dot_cmp-IsAntisymmetric d (op_dot x) (equal_of _ tie), all.0)
-    by false tie later h = later h
 
 log_stands : (m : LogMap) → IsLog m → (d : Dot) (o : Operation) → fin.get m d ≡ Some o → StandsAt d o
 log_stands m is d o at = found_in IsOperation d o (operations m) is.logged.valid (sym (get-log_of (operations m) d is.logged.rise) ∙ ap (λ (n : LogMap). fin.get n d) is.all_of ∙ at)

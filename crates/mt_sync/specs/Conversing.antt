@@ -1,8 +1,8 @@
 -- What a conversation over a reader and a writer reads, writes and answers.
 use Rattle.std.specs.Prelude.{◌≡◌, ℕ, List, [], Option, Some, None, Result, true, false, ◌⊎◌, Ok, Err}
-use Rattle.std.specs.Io.KnownBytes.{Appends, Consumes}
+use Rattle.std.specs.Io.KnownBytes.{Appends, Consumes, IsAtEnd}
 use Rattle.mt_opcodec.specs.LogValue.{LogMap}
-use Rattle.mt_latch.specs.Latch.{AppendsPrefix}
+use Rattle.mt_latch.specs.Latch.{AppendsPrefix, Latched}
 use Rattle.mt_sync.specs.declared.fault.TalkFault.{TalkFault}
 use Rattle.mt_sync.specs.declared.fault.TalkFault.TheVariants.{Memory, Conflict, Failed, BadMessage, OutOfTurn, FrameTooLong}
 use Rattle.mt_sync.specs.declared.fault.SyncFault.{SyncFault}
@@ -43,6 +43,17 @@ pub record Converses (start : End) (read read' written written' : Option (List �
   pub prefix : AppendsPrefix written written' (told start bytes).1
   pub outcome : Outcome (told start bytes) written written' set result
   pub left : result ≡ Err (fault.Talk Memory) → IsLeft start bytes set
+
+-- What a refusal says of the reader and the writer: which of them has failed, or that the input has ended. A stop is the talk's own.
+abbrev pub Blames : {R W : Type 0} → (R → Option (List ℕ)) → Latched R → Latched W → SyncFault → Type 0
+Blames remaining reader writer fault.Read = reader.failed ≡ true
+Blames remaining reader writer fault.Write = writer.failed ≡ true
+Blames remaining reader writer fault.Ended = (reader.failed ≡ false) × IsAtEnd (remaining reader.inner)
+Blames remaining reader writer (fault.Talk by) = Unit {0}
+
+-- neither has failed
+abbrev pub AreSound : {R W : Type 0} → Latched R → Latched W → Type 0
+AreSound reader writer = (reader.failed ≡ false) × (writer.failed ≡ false)
 
 -- ---- a whole conversation
 

@@ -1,8 +1,9 @@
 //! A conversation over a reader and a writer.
 
-ghost use Rattle.std.specs.Prelude.{◌≡◌, []};
-ghost use Rattle.mt_sync.specs.Feeding.{end_of, IsGoing};
-ghost use Rattle.mt_sync.specs.Conversing.{Converses, ConversesAs, BeginsWith};
+ghost use Rattle.std.specs.Prelude.{◌≡◌, [], true, false, OnOk, IfErr};
+ghost use Rattle.mt_sync.specs.Feeding.{end_of, IsOpen};
+ghost use Rattle.mt_sync.specs.declared.fault.SyncFault.TheVariants.{Write as WriteFault};
+ghost use Rattle.mt_sync.specs.Conversing.{AreSound, BeginsWith, Blames, Converses, ConversesAs};
 
 use crate::fault::{Side, SyncFault};
 use crate::talk::Talk;
@@ -18,7 +19,8 @@ const PIECE: usize = 65_536;
 /// Nothing is read past the piece with that Bye, of at most 65,536 bytes, after which no byte may follow.
 ///
 /// Refused as the caller's `Talk::call` and each `Talk::feed` are; as `Read` (45) and `Write` (37) where the reader or the
-/// writer has failed; as `Ended` (49) where the input ends before the talk does. After a refusal the writer holds a prefix of the bytes
+/// writer has failed, before or in this call; as `Ended` (49) where the input ends before the talk does, and at no other time. A latch that had
+/// failed is not asked and stays as it was; after `Ok` neither has failed. After a refusal the writer holds a prefix of the bytes
 /// that the conversation calls for, and the editor its own operations and those that came before; where a growth was refused while operations
 /// joined, the editor has failed.
 pub fn converse<A: Allocator + Clone, R: Read, W: Write>(
@@ -31,6 +33,10 @@ pub fn converse<A: Allocator + Clone, R: Read, W: Write>(
 ) -> Result<(), SyncFault>
     ensures converses { ConversesAs side editor.old.log (R.remaining reader.old.inner) (R.remaining reader.new.inner) (W.contents writer.old.inner) (W.contents writer.new.inner) result editor.new.log }
     ensures name { editor.new.name ≡ editor.old.name }
+    ensures sound { OnOk result (AreSound reader.new writer.new) }
+    ensures blames { IfErr result (Blames R.remaining reader.new writer.new) }
+    ensures reader_stays_failed { reader.old.failed ≡ true → reader.new ≡ reader.old }
+    ensures writer_stays_failed { writer.old.failed ≡ true → writer.new ≡ writer.old }
 {
     match side {
         Side::Caller => match begin(alloc, frames, editor, writer) {
@@ -51,7 +57,10 @@ fn begin<A: Allocator + Clone, W: Write>(
     editor: &Editor<A>,
     writer: &mut Latch<W>,
 ) -> Result<Talk<A>, SyncFault>
-    ensures { BeginsWith (λ talk. talk) editor.now.log (W.contents writer.old.inner) (W.contents writer.new.inner) result }
+    ensures begins { BeginsWith (λ talk. talk) editor.now.log (W.contents writer.old.inner) (W.contents writer.new.inner) result }
+    ensures sound { OnOk result (writer.new.failed ≡ false) }
+    ensures blames { IfErr result (λ fault. fault ≡ WriteFault → writer.new.failed ≡ true) }
+    ensures stays_failed { writer.old.failed ≡ true → writer.new ≡ writer.old }
 {
     let (talk, bytes) = match Talk::call(alloc, frames, editor) {
         Ok(begun) => begun,
@@ -70,9 +79,13 @@ fn hold_on<A: Allocator + Clone, R: Read, W: Write>(
     reader: &mut Latch<R>,
     writer: &mut Latch<W>,
 ) -> Result<(), SyncFault>
-    requires { IsGoing talk.old.turn }
+    requires { IsOpen talk.old.turn }
     ensures converses { Converses (end_of talk.old editor.old.log) (R.remaining reader.old.inner) (R.remaining reader.new.inner) (W.contents writer.old.inner) (W.contents writer.new.inner) result editor.new.log }
     ensures name { editor.new.name ≡ editor.old.name }
+    ensures sound { OnOk result (AreSound reader.new writer.new) }
+    ensures blames { IfErr result (Blames R.remaining reader.new writer.new) }
+    ensures reader_stays_failed { reader.old.failed ≡ true → reader.new ≡ reader.old }
+    ensures writer_stays_failed { writer.old.failed ≡ true → writer.new ≡ writer.old }
 {
     let mut piece = [0; PIECE];
     loop {

@@ -53,4 +53,5 @@ pub use exchanging::exchange;
 pub use fault::{Side, SyncFault, TalkFault};
 pub use frames_of::{have_bytes, lack_bytes, take_ops};
 pub use mt_summary::{Message, MessageFault, Numbers, Summary, lacking};
+pub use mt_world::{Event, World, WorldFault};
 pub use talk::Talk;

@@ -1,37 +1,28 @@
-use Rattle.std.proofs.Common.{refl, ◌∙◌, ap, sym, subst, take, [], ℕ, Ok}
+use Rattle.std.proofs.Common.{rules, inr, refl, ◌∙◌, ap, sym, subst, take, [], ℕ, Ok}
 use Rattle.std.specs.Io.KnownBytes.{Appends}
 use Rattle.mt_latch.specs.Latch.{AppendsPrefix}
 use Rattle.mt_sync.specs.Feeding.{end_of}
-use Rattle.mt_sync.proofs.Pieces.{starts, fed_going, goes_on, is_done, is_unread, is_unfinished, is_unwritten, is_stopped, read_of, feed_stopped}
+use Rattle.mt_sync.proofs.Pieces.{starts, open_goes, fed_going, goes_on, is_done, is_unread, is_unfinished, is_unwritten, is_stopped, read_of, feed_stopped}
 use Rattle.mt_sync.proofs.conversing.hold_on.Goals as goal
 
 pub loop-piece-init : goal.loop-piece-init
-loop-piece-init g c = (c.requires, refl, starts _ _ _)
+loop-piece-init g c = (open_goes c.args.talk.now.turn c.requires, refl, starts _ _ _, inr c.requires, λ _. refl, λ _. refl)
 
-pub returns-then-ended : goal.returns-then-ended
-returns-then-ended g c = record {
-  converses =
-      is_done _ _ _ _ _ (end_of c.loop-piece.talk c.loop-piece.editor.log) c.loop-piece.invariant.2 (c.ended.ensures.0 c.if-ended.true);
-  name = c.loop-piece.invariant.1;
-}
+pub returns-then-ended-clause-converses : goal.returns-then-ended-clause-converses
+returns-then-ended-clause-converses g c =
+    is_done _ _ _ _ _ (end_of c.loop-piece.talk c.loop-piece.editor.log) c.loop-piece.invariant.2 (c.ended.ensures.0 c.if-ended.true)
 
-pub returns-in-Err : goal.returns-in-Err
-returns-in-Err g c = record {
-  converses =
-      is_unread (end_of c.args.talk.now c.args.editor.now.log) (g.R.Read.remaining c.args.reader.now.inner) (g.R.Read.remaining c.loop-piece.reader.inner) (g.R.Read.remaining c.get.new.self.inner)
-      (g.W.Write.contents c.args.writer.now.inner) (g.W.Write.contents c.loop-piece.writer.inner) (end_of c.loop-piece.talk c.loop-piece.editor.log) c.loop-piece.invariant.2 c.in-Err.ensures.bytes;
-  name = c.loop-piece.invariant.1;
-}
+pub returns-in-Err-clause-converses : goal.returns-in-Err-clause-converses
+returns-in-Err-clause-converses g c =
+    is_unread (end_of c.args.talk.now c.args.editor.now.log) (g.R.Read.remaining c.args.reader.now.inner) (g.R.Read.remaining c.loop-piece.reader.inner) (g.R.Read.remaining c.get.new.self.inner)
+    (g.W.Write.contents c.args.writer.now.inner) (g.W.Write.contents c.loop-piece.writer.inner) (end_of c.loop-piece.talk c.loop-piece.editor.log) c.loop-piece.invariant.2 c.in-Err.ensures.bytes
 
-pub returns-then-count-eq0 : goal.returns-then-count-eq0
-returns-then-count-eq0 g c = record {
-  converses =
-      is_unfinished (end_of c.args.talk.now c.args.editor.now.log) (g.R.Read.remaining c.args.reader.now.inner) (g.R.Read.remaining c.loop-piece.reader.inner) (g.R.Read.remaining c.get.new.self.inner)
-      (g.W.Write.contents c.args.writer.now.inner) (g.W.Write.contents c.loop-piece.writer.inner) (end_of c.loop-piece.talk c.loop-piece.editor.log) c.loop-piece.invariant.2
-      (read_of (g.R.Read.remaining c.loop-piece.reader.inner) (g.R.Read.remaining c.get.new.self.inner) c.in-Ok.count c.get.new.buffer [] c.in-Ok.ensures.bytes.0 (ap (λ (n : ℕ). take n c.get.new.buffer) (sym c.if-count-eq0.true)))
-      (λ is. let on = c.ended.ensures.1 is in let off = c.if-ended.false in cc);
-  name = c.loop-piece.invariant.1;
-}
+pub returns-then-count-eq0-clause-converses : goal.returns-then-count-eq0-clause-converses
+returns-then-count-eq0-clause-converses g c =
+    is_unfinished (end_of c.args.talk.now c.args.editor.now.log) (g.R.Read.remaining c.args.reader.now.inner) (g.R.Read.remaining c.loop-piece.reader.inner) (g.R.Read.remaining c.get.new.self.inner)
+    (g.W.Write.contents c.args.writer.now.inner) (g.W.Write.contents c.loop-piece.writer.inner) (end_of c.loop-piece.talk c.loop-piece.editor.log) c.loop-piece.invariant.2
+    (read_of (g.R.Read.remaining c.loop-piece.reader.inner) (g.R.Read.remaining c.get.new.self.inner) c.in-Ok.count c.get.new.buffer [] c.in-Ok.ensures.bytes.0 (ap (λ (n : ℕ). take n c.get.new.buffer) (sym c.if-count-eq0.true)))
+    (λ is. let on = c.ended.ensures.1 is in let off = c.if-ended.false in cc)
 
 pub loop-piece-preserved : goal.loop-piece-preserved
 loop-piece-preserved g c =
@@ -41,24 +32,21 @@ loop-piece-preserved g c =
       goes_on (end_of c.args.talk.now c.args.editor.now.log) (g.R.Read.remaining c.args.reader.now.inner) (g.R.Read.remaining c.loop-piece.reader.inner) (g.R.Read.remaining c.get.new.self.inner)
           (g.W.Write.contents c.args.writer.now.inner) (g.W.Write.contents c.loop-piece.writer.inner) (g.W.Write.contents c.put.new.self.inner) (end_of c.loop-piece.talk c.loop-piece.editor.log) (end_of c.feed.new.self c.feed.new.editor.log)
           (take c.in-Ok.count c.get.new.buffer) c.in-Ok-feed.reply.items c.loop-piece.invariant.2 c.in-Ok.ensures.bytes.0 fed.1 (subst (Appends (g.W.Write.contents c.loop-piece.writer.inner) (g.W.Write.contents c.put.new.self.inner)) c.as_slice.ensures.value c.in-Ok-put.ensures.whole),
+      search rules,
+      search rules,
+      search rules,
     )
 
-pub returns-in-Err-put : goal.returns-in-Err-put
-returns-in-Err-put g c = record {
-  converses =
-      let fed = fed_going (λ v. v.items) (end_of c.loop-piece.talk c.loop-piece.editor.log) (take c.in-Ok.count c.get.new.buffer) (Ok c.in-Ok-feed.reply) (end_of c.feed.new.self c.feed.new.editor.log) c.loop-piece.invariant.0 c.in-Ok-feed.ensures.told in
-      is_unwritten (end_of c.args.talk.now c.args.editor.now.log) (g.R.Read.remaining c.args.reader.now.inner) (g.R.Read.remaining c.loop-piece.reader.inner) (g.R.Read.remaining c.get.new.self.inner)
-      (g.W.Write.contents c.args.writer.now.inner) (g.W.Write.contents c.loop-piece.writer.inner) (g.W.Write.contents c.put.new.self.inner) (end_of c.loop-piece.talk c.loop-piece.editor.log) (end_of c.feed.new.self c.feed.new.editor.log)
-      (take c.in-Ok.count c.get.new.buffer) c.in-Ok-feed.reply.items c.loop-piece.invariant.2 c.in-Ok.ensures.bytes.0 fed.1 (subst (AppendsPrefix (g.W.Write.contents c.loop-piece.writer.inner) (g.W.Write.contents c.put.new.self.inner)) c.as_slice.ensures.value c.in-Err-put.ensures.prefix);
-  name = c.in-Ok-feed.ensures.name ∙ c.loop-piece.invariant.1;
-}
+pub returns-in-Err-put-clause-converses : goal.returns-in-Err-put-clause-converses
+returns-in-Err-put-clause-converses g c =
+    let fed = fed_going (λ v. v.items) (end_of c.loop-piece.talk c.loop-piece.editor.log) (take c.in-Ok.count c.get.new.buffer) (Ok c.in-Ok-feed.reply) (end_of c.feed.new.self c.feed.new.editor.log) c.loop-piece.invariant.0 c.in-Ok-feed.ensures.told in
+    is_unwritten (end_of c.args.talk.now c.args.editor.now.log) (g.R.Read.remaining c.args.reader.now.inner) (g.R.Read.remaining c.loop-piece.reader.inner) (g.R.Read.remaining c.get.new.self.inner)
+    (g.W.Write.contents c.args.writer.now.inner) (g.W.Write.contents c.loop-piece.writer.inner) (g.W.Write.contents c.put.new.self.inner) (end_of c.loop-piece.talk c.loop-piece.editor.log) (end_of c.feed.new.self c.feed.new.editor.log)
+    (take c.in-Ok.count c.get.new.buffer) c.in-Ok-feed.reply.items c.loop-piece.invariant.2 c.in-Ok.ensures.bytes.0 fed.1 (subst (AppendsPrefix (g.W.Write.contents c.loop-piece.writer.inner) (g.W.Write.contents c.put.new.self.inner)) c.as_slice.ensures.value c.in-Err-put.ensures.prefix)
 
-pub returns-in-Err-feed : goal.returns-in-Err-feed
-returns-in-Err-feed g c = record {
-  converses =
-      is_stopped (end_of c.args.talk.now c.args.editor.now.log) (g.R.Read.remaining c.args.reader.now.inner) (g.R.Read.remaining c.loop-piece.reader.inner) (g.R.Read.remaining c.get.new.self.inner)
-      (g.W.Write.contents c.args.writer.now.inner) (g.W.Write.contents c.loop-piece.writer.inner) (end_of c.loop-piece.talk c.loop-piece.editor.log) (end_of c.feed.new.self c.feed.new.editor.log)
-      (take c.in-Ok.count c.get.new.buffer) c.in-Err-feed.fault c.loop-piece.invariant.2 c.in-Ok.ensures.bytes.0
-      (feed_stopped _ (end_of c.loop-piece.talk c.loop-piece.editor.log) (take c.in-Ok.count c.get.new.buffer) c.in-Err-feed.fault (end_of c.feed.new.self c.feed.new.editor.log) c.loop-piece.invariant.0 c.in-Err-feed.ensures.told) c.in-Err-feed.ensures.left;
-  name = c.in-Err-feed.ensures.name ∙ c.loop-piece.invariant.1;
-}
+pub returns-in-Err-feed-clause-converses : goal.returns-in-Err-feed-clause-converses
+returns-in-Err-feed-clause-converses g c =
+    is_stopped (end_of c.args.talk.now c.args.editor.now.log) (g.R.Read.remaining c.args.reader.now.inner) (g.R.Read.remaining c.loop-piece.reader.inner) (g.R.Read.remaining c.get.new.self.inner)
+    (g.W.Write.contents c.args.writer.now.inner) (g.W.Write.contents c.loop-piece.writer.inner) (end_of c.loop-piece.talk c.loop-piece.editor.log) (end_of c.feed.new.self c.feed.new.editor.log)
+    (take c.in-Ok.count c.get.new.buffer) c.in-Err-feed.fault c.loop-piece.invariant.2 c.in-Ok.ensures.bytes.0
+    (feed_stopped _ (end_of c.loop-piece.talk c.loop-piece.editor.log) (take c.in-Ok.count c.get.new.buffer) c.in-Err-feed.fault (end_of c.feed.new.self c.feed.new.editor.log) c.loop-piece.invariant.0 c.in-Err-feed.ensures.told) c.in-Err-feed.ensures.left
