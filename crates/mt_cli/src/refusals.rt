@@ -261,8 +261,8 @@ const OF_RENDERING: [Refusal; 4] = [
     },
 ];
 
-/// The refusals of reading and writing, of exchange, of scripts, and of the parts of operations.
-const OF_FILES_AND_PARTS: [Refusal; 13] = [
+/// The refusals of reading and writing, of exchange, of scripts, of worlds, and of the parts of operations.
+const OF_FILES_AND_PARTS: [Refusal; 14] = [
     Refusal {
         number: 37,
         name: "Write",
@@ -328,6 +328,12 @@ const OF_FILES_AND_PARTS: [Refusal; 13] = [
         name: "BadFormat",
         meaning: "the format of a programme is not one that is written",
         advice: "Take a rate from 1 to 384000, 16 or 24 bits, and 1 or 2 channels.",
+    },
+    Refusal {
+        number: 48,
+        name: "SameName",
+        meaning: "two editors of a world have one name",
+        advice: FROM_A_PROGRAM,
     },
     Refusal {
         number: 49,

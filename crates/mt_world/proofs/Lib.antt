@@ -1,0 +1,14 @@
+mod Places
+mod Joining
+mod Rising
+mod MoreSent
+mod SavedSent
+mod Dots
+mod Worlds
+mod Steps
+mod Staying
+mod Histories
+mod Naming
+mod Filtering
+mod Seating
+mod Seated

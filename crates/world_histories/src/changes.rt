@@ -1,0 +1,77 @@
+//! Changes, from the bodies of operations.
+
+use mt_op::Body;
+use mt_opcodec::read_op;
+use mt_replica::Change;
+use std::alloc::Global;
+
+// The change of a body that says what becomes of a track, or that has a title.
+fn titled(body: &Body) -> Option<Change> {
+    match body {
+        Body::AddTrack { after, title } => {
+            let title = title.try_clone().ok()?;
+            let after = *after;
+            Some(Change::AddTrack { after, title })
+        }
+        Body::AddMarker { at, title } => {
+            let title = title.try_clone().ok()?;
+            let at = *at;
+            Some(Change::AddMarker { at, title })
+        }
+        Body::Retitle { item, title } => {
+            let title = title.try_clone().ok()?;
+            let item = *item;
+            Some(Change::Retitle { item, title })
+        }
+        _ => None,
+    }
+}
+
+// The change of a body that has no title and is of no clip.
+fn plain(body: &Body) -> Option<Change> {
+    match *body {
+        Body::MoveTrack { track, after } => Some(Change::MoveTrack { track, after }),
+        Body::SetGain { item, gain } => Some(Change::SetGain { item, gain }),
+        Body::SetMute { item, on } => Some(Change::SetMute { item, on }),
+        Body::Remove { item, .. } => Some(Change::Remove { item }),
+        Body::Restore { item } => Some(Change::Restore { item }),
+        Body::MoveMarker { marker, at } => Some(Change::MoveMarker { marker, at }),
+        _ => None,
+    }
+}
+
+// The change of a body of a clip.
+fn of_clip(body: &Body) -> Option<Change> {
+    match *body {
+        Body::AddClip {
+            source,
+            track,
+            at,
+            offset,
+            len,
+        } => Some(Change::AddClip {
+            source,
+            track,
+            at,
+            offset,
+            len,
+        }),
+        Body::MoveClip { clip, track, at } => Some(Change::MoveClip { clip, track, at }),
+        Body::TrimClip { clip, offset, len } => Some(Change::TrimClip { clip, offset, len }),
+        _ => None,
+    }
+}
+
+/// The change that the body of an operation says, from the operation's text in hex.
+pub(crate) fn change_of(alloc: Global, text: &str) -> Option<Change> {
+    let bytes = hex::decode(alloc, text).ok()?;
+    let (op, _) = read_op(alloc, &bytes).ok()?;
+    let body = op.body();
+    if let Some(change) = plain(body) {
+        return Some(change);
+    }
+    if let Some(change) = of_clip(body) {
+        return Some(change);
+    }
+    titled(body)
+}
