@@ -5,6 +5,8 @@ from subjects.command_lines import STATUS
 READ = "45 Read: an input cannot be opened, or reading it failed\nSee that each named file is there, is no folder, and may be read.\n"
 case("explain_a_number", ["explain", "45"], stdout=READ)
 case("explain_the_least", ["explain", "0"], stdout="0 Memory: memory ran out\nClose other programs, or give it fewer or smaller files.\n")
+OF_A_WORLD = "48 SameName: two editors of a world have one name\nNo file causes it alone: a program that makes operations by the library has to mend its call.\n"
+case("explain_of_a_world", ["explain", "48"], stdout=OF_A_WORLD)
 # of a wave file's: a program that shows the cause
 WAVES = {
     26: "NotRiff: a file is no RIFF file\nSee that each recording is a WAVE file; RF64, RIFX, FLAC and MP3 are not read (`file NAME` and `ffprobe NAME` tell).\n",

@@ -83,6 +83,11 @@ LOUD = wave([0x7FFFFF, -0x800000, 0x80])
 renders("24_bits_as_16", clip(LOUD), [LOUD], rendered([32767, -32768, 1], bits=16), ["--bits", "16"])
 BYTES = riff(fmt(bits=8), data(b"\x00\x80\xff"))
 renders("a_recording_of_8_bits", clip(BYTES), [BYTES], rendered([-0x800000, 0, 0x7F0000]))
+LOUDEST = wave([2**31 - 1, -2**31], bits=32)
+for name, gain, samples in (("no_gain", (0, 1), [0, 0]), ("the_greatest_gain", (65535, 1), [32767, -32768]), ("the_least_gain", (1, 65535), [1, -1])):
+    renders("at_" + name, clip(LOUDEST, length=2) + [set_gain((3, A, 3), CLIP, *gain)], [LOUDEST], rendered(samples, bits=16), ["--bits", "16"])
+renders("from_the_last_offset", clip(HALVES, offset=4294967295, length=2), [HALVES], rendered([0, 0], bits=16), ["--bits", "16"])
+renders("a_clip_that_is_muted_alone", clip(THREE, 4294967295, 4294967295, 4294967295) + [set_mute((3, A, 3), CLIP, 1)], [], rendered([]))
 # more than one block of 4,096 frames
 LONG = wave([(index * 37) % 65536 - 32768 for index in range(10000)], bits=16)
 renders("many_frames", clip(LONG, length=10000) + [add_marker((3, A, 3), 9999, "End")], [LONG],
