@@ -7,6 +7,7 @@ sh tests/suite.sh "$PWD/crates/radio/out/radio"
 sh tests/checks/refusals.sh "$PWD/crates/radio/out/radio"
 if command -v python3 >/dev/null 2>&1; then
   python3 tests/checks/model.py "$PWD/crates/radio/out/radio" --sets 300
+  python3 tests/checks/world.py "$PWD/crates/world_histories/out/world_histories"
   python3 tests/checks/real_waves.py "$PWD/crates/radio/out/radio"
   python3 tests/checks/rendered_waves.py "$PWD/crates/radio/out/radio"
   python3 tests/checks/story.py "$PWD/crates/radio/out/radio"
@@ -14,5 +15,5 @@ if command -v python3 >/dev/null 2>&1; then
   python3 tests/checks/examples.py
   python3 tests/wrong_bodies.py --changed
 else
-  echo "skipped the comparisons with the model, with other programs' wave files and with the README, the examples of the libraries, and the wrong bodies in rounds: no python3"
+  echo "skipped the comparisons with the model, of worlds, with other programs' wave files and with the README, the examples of the libraries, and the wrong bodies in rounds: no python3"
 fi

@@ -80,8 +80,9 @@ def ready_of(ops):
         ready += more
 
 
-def session_text(ops):
-    ready = ready_of(ops)
+def session_text(ops, ready=None):
+    """The text of the session of these operations; whoever knows which of them are ready may say so."""
+    ready = ready_of(ops) if ready is None else ready
 
     def last(item, field, writers):
         """What the writer with the greatest stamp gave a field, and that stamp. `writers` says by kind which field names the item."""
