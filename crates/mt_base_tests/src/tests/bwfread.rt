@@ -67,9 +67,18 @@ fn smallest(rt: HostRuntime) -> Result<(), Fail> {
     Ok(())
 }
 
+// A wave file of a format and samples.
+fn with_samples<'a>(
+    alloc: Global,
+    format: &'a [u8],
+    samples: &'a [u8],
+) -> Result<Vec<u8>, AllocError> {
+    file(alloc, &[(b"fmt ", format), (b"data", samples)])
+}
+
 // The samples of two frames of two channels, as a file of this content of its `data` has them.
 fn samples_of(alloc: Global, bits: u8, samples: &[u8]) -> Option<[Option<i64>; 4]> {
-    let text = file(alloc, &[(b"fmt ", &pcm(2, bits)), (b"data", samples)]).ok()?;
+    let text = with_samples(alloc, &pcm(2, bits), samples).ok()?;
     match Wave::read(&text) {
         Ok(wave) => Some([
             sample(&wave, 0, 0),
