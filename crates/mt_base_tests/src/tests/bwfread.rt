@@ -126,6 +126,51 @@ fn widths(rt: HostRuntime) {
     }
 }
 
+// The number under which bytes are refused as a wave file; 255 where they are one.
+fn refusal(bytes: &[u8]) -> u8 {
+    match Wave::read(bytes) {
+        Ok(_) => 255,
+        Err(fault) => fault.number(),
+    }
+}
+
+// That of as many bytes of the smallest file.
+fn refusal_of_a_cut(len: usize) -> u8 {
+    match len {
+        0..=7 => 26,
+        8..=11 => 27,
+        12..=19 => 29,
+        20..=35 => 28,
+        36..=43 => 32,
+        44 => 28,
+        _ => 255,
+    }
+}
+
+#[test]
+fn refuses_each_cut_file(rt: HostRuntime) {
+    for len in 0..SMALLEST.len() + 1 {
+        assert!(rt; refusal(&SMALLEST[..len]) == refusal_of_a_cut(len), "of {len}");
+    }
+}
+
+// The smallest file with another byte at a place.
+fn with_byte(place: usize, byte: u8) -> [u8; 45] {
+    let mut bytes = SMALLEST;
+    if let Some(there) = bytes.get_mut(place) {
+        *there = byte;
+    }
+    bytes
+}
+
+// a size of `data` past the end, a format that is not PCM, frames of two bytes
+#[test]
+fn refuses_the_smallest_with_another_byte(rt: HostRuntime) {
+    for (place, byte, number) in [(40, 2, 28), (20, 3, 31), (32, 2, 30)] {
+        assert!(rt; refusal(&with_byte(place, byte)) == number);
+    }
+}
+
 #[test]
 fn faults(rt: HostRuntime) {
     assert!(rt; WaveFault::NotRiff.number() == 26);

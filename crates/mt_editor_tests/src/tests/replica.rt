@@ -7,6 +7,7 @@ mod histories;
 mod joins;
 mod kept;
 mod operations;
+mod ready;
 mod refused_growth;
 
 use histories::{Answer, Step, history};
@@ -21,12 +22,14 @@ fn takes_an_operation_once(rt: HostRuntime) -> Result<(), Fail> {
     let (item, other) = (Stamp::new(1, A, 1)?, Stamp::new(2, A, 1)?);
     let news = Act::AddMarker(Name::News);
     let clash = Err(EditorFault::Conflict(item.dot()));
+    let another = Act::AddMarker(Name::Weather);
     let rows = [
         (Step::Take(item, news), Ok(Answer::Applied(1)), (1, 0, 1)),
         (Step::Take(item, news), Ok(Answer::Already), (1, 0, 1)),
         (Step::Take(other, news), clash, (1, 0, 1)),
+        (Step::Take(item, another), clash, (1, 0, 1)),
     ];
-    assert!(rt; history(rt.alloc(), B, &rows) == Ok(3));
+    assert!(rt; history(rt.alloc(), B, &rows) == Ok(4));
     Ok(())
 }
 

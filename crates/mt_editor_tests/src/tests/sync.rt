@@ -1,5 +1,6 @@
 //! What no clause says: bytes that were written out by hand, and that every call succeeds where there is memory.
 mod messages;
+mod sockets;
 mod streams;
 mod swaps;
 
@@ -48,6 +49,12 @@ fn held<M: Allocator + Clone>(editor: &Editor<M>) -> Option<usize> {
         Some(log) => Some(log.len()),
         None => None,
     }
+}
+
+// Whether an editor has the log of one marker.
+fn has_the_marker(alloc: Global, editor: &Editor) -> Option<bool> {
+    let wanted: Log = log_of(&alloc, &[Stamp::new(1, A, 1).ok()?]).ok()?;
+    Some(*editor.log()? == wanted)
 }
 
 // A talk that has read nothing. What a caller sends first is let go.

@@ -1,5 +1,6 @@
 //! What no clause says: texts that were worked out elsewhere, what each refusal looks at, and that
 //! every call succeeds where there is memory.
+mod cuts;
 mod latches;
 mod logs;
 mod operations;

@@ -1,5 +1,5 @@
 //! Two editors that swap what they lack.
-use super::{ANSWERER, CALLER, editor_of, held, log_with};
+use super::{ANSWERER, CALLER, editor_of, has_the_marker, held, log_with};
 use mt_opcodec::Latch;
 use mt_replica::Editor;
 use mt_stamp::Stamp;
@@ -221,7 +221,8 @@ fn speak<'a>(
 struct Spoken {
     number: u8,
     written: Option<usize>,
-    held: Option<usize>,
+    // whether the editor has the log that it had
+    kept: Option<bool>,
 }
 
 // How many bytes were written, if they are those of the caller.
@@ -246,7 +247,7 @@ fn calls_in(
     Spoken {
         number,
         written: front_of(output.into_inner().written()),
-        held: held(editor),
+        kept: has_the_marker(global, editor),
     }
 }
 
@@ -261,7 +262,7 @@ fn calls(global: Global, reads: (&[u8], usize), write_fails: usize, wanted: (u8,
     let wanted = Spoken {
         number: wanted.0,
         written: Some(wanted.1),
-        held: Some(1),
+        kept: Some(true),
     };
     match editor_of_one(global) {
         Some(mut editor) => calls_in(global, &mut editor, reads, write_fails) == wanted,
