@@ -17,7 +17,7 @@ use Rattle.mt_bwfread.specs.Wave.{IsWave}
 use Rattle.mt_render.specs.declared.fault.SourceFault.{SourceFault}
 use Rattle.mt_render.specs.declared.fault.SourceFault.TheVariants.{Memory, Wave}
 use Rattle.mt_render.specs.Faults.{IsSourceFault}
-use Rattle.mt_render.specs.Sources.{Sources, digest_cmp, found, under_digest, sources_of, HasAdded, IsFileFault}
+use Rattle.mt_render.specs.Sources.{Sources, digest_cmp, found, under_digest, sources_of, HasAdded, IsFileFault, AreLeft}
 use Rattle.mt_render.proofs.Digests.{equal_of, same_digest}
 
 tie : (d e : Digest) → is_eq (digest_cmp d e) ≡ true → d ≡ e
@@ -71,6 +71,11 @@ waves_more (x ∷ files) file all is = (all.0, waves_more files file all.1 is)
 pub fault_at : (files : List (List ℕ)) (index : ℕ) (file : List ℕ) (fault : SourceFault) → AllByRecursion IsWave (take index files) → slice_get files index ≡ Some file → IsSourceFault file fault → IsFileFault files fault
 fault_at files index file Memory all at is = tt
 fault_at files index file (Wave fault) all at is = (index, (file, (all, at, is)))
+
+pub left_at : (old new : Sources) (files : List (List ℕ)) (index : ℕ) (file : List ℕ) (fault : SourceFault) → AllByRecursion IsWave (take index files) → slice_get files index ≡ Some file
+    → IsSourceFault file fault → HasAdded old (take index files) new → AreLeft old files new fault
+left_at old new files index file Memory all at is added = (index, added)
+left_at old new files index file (Wave fault) all at is added = (index, ((file, (all, at, is)), added))
 
 -- what is read in a place of a list of slices, and its digest
 pub slice_at : (files : List (Bor (List ℕ))) (index : ℕ) (file : Bor (List ℕ)) → index < length files → slice_get (map (λ (f : Bor (List ℕ)). f.now) files) index ≡ Some (get_or files index file).now

@@ -1,6 +1,6 @@
 //! The recordings that are at hand.
 
-ghost use Rattle.std.specs.Prelude.{◌≡◌, ◌≢◌, ℕ, Some, None, IfOk, OnOk, OnErr, IfErr, map, take, unwrap_or};
+ghost use Rattle.std.specs.Prelude.{◌≡◌, ◌≢◌, ℕ, Some, None, IfOk, OnOk, OnErr, IfErr, map, unwrap_or};
 ghost use Rattle.std.specs.List.{AllByRecursion};
 ghost use Rattle.sha2.specs.Sha256.{sha256};
 ghost use Rattle.mt_op.specs.declared.digest.Digest.{Digest as DigestOf};
@@ -32,7 +32,7 @@ impl<'a, A: Allocator> Model for Catalogue<'a, A> {
 
 impl<'a, A: Allocator> Catalogue<'a, A> {
     ghost use Rattle.std.specs.Option.{option_copied};
-    ghost use Rattle.mt_render.specs.Sources.{found, HasAdded, IsFileFault};
+    ghost use Rattle.mt_render.specs.Sources.{found, AreLeft, HasAdded, IsFileFault};
 
     /// No recording. Takes no memory.
     pub fn new(alloc: A) -> Catalogue<'a, A>
@@ -101,15 +101,15 @@ impl<'a, A: Allocator> Catalogue<'a, A> {
     /// Puts wave files under their digests, from left to right, as `add` does with one after another: of several of one digest the
     /// first is kept. The digests are worked out together, four in about twice the time of one.
     ///
-    /// Refused as the first file that `Wave::read` refuses (26 to 32), and as `Memory` (0); then as many of the files as there were
-    /// before it, or before memory ran out, are kept, from the first on.
+    /// Refused as the first file that `Wave::read` refuses (26 to 32): those before it are kept then, and no other; and as `Memory`
+    /// (0): then as many are kept, from the first on, as there was memory for.
     pub fn add_all(&mut self, alloc: A, files: &[&'a [u8]]) -> Result<(), SourceFault>
     where
         A: Clone,
         ensures ok { OnOk result (HasAdded self.old (map (λ file. file.now) files.now) self.new) }
         ensures waves { OnOk result (AllByRecursion IsWave (map (λ file. file.now) files.now)) }
         ensures fault { IfErr result (IsFileFault (map (λ file. file.now) files.now)) }
-        ensures refused { OnErr result ((count : ℕ) × HasAdded self.old (take count (map (λ file. file.now) files.now)) self.new) }
+        ensures left { IfErr result (AreLeft self.old (map (λ file. file.now) files.now) self.new) }
     {
         let Ok(digests) = digests_of(alloc, files) else {
             return Err(SourceFault::Memory);

@@ -3,7 +3,7 @@ use Rattle.std.specs.List.{AllByRecursion}
 use Rattle.std.proofs.lemmas.List.{map_more, take_all, take-map}
 use Rattle.mt_bwfread.specs.Wave.{IsWave}
 use Rattle.mt_render.specs.Sources.{Sources, found, sources_of}
-use Rattle.mt_render.proofs.Gathered.{added_more, waves_more, fault_at, slice_at, digest_at}
+use Rattle.mt_render.proofs.Gathered.{added_more, waves_more, fault_at, left_at, slice_at, digest_at}
 use Rattle.mt_render.proofs.catalogue.Catalogue.add_all.Goals as goal
 
 pub loop-index-init : goal.loop-index-init
@@ -16,13 +16,13 @@ returns-in-Err-clause-fault g c =
     fault_at (map (λ file. file.now) files) i _ c.in-Err.fault (subst (AllByRecursion IsWave) (sym (take-map (λ file. file.now) i files)) c.loop-index.invariant.waves)
     (slice_at files i _ (omega arith)) c.in-Err.ensures.fault
 
-pub returns-in-Err-clause-refused : goal.returns-in-Err-clause-refused
-returns-in-Err-clause-refused g c =
+pub returns-in-Err-clause-left : goal.returns-in-Err-clause-left
+returns-in-Err-clause-left g c =
     let files = c.args.files.now in
-    let i = c.loop-index.index in (
-      i,
-      λ d. c.in-Err.ensures.refused d ∙ c.loop-index.invariant.added d ∙ ap (λ (fs : List (List ℕ)). found (c.args.self.now ++ sources_of fs) d) (sym (take-map (λ file. file.now) i files)),
-    )
+    let i = c.loop-index.index in
+    left_at c.args.self.now c.self (map (λ file. file.now) files) i _ c.in-Err.fault (subst (AllByRecursion IsWave) (sym (take-map (λ file. file.now) i files)) c.loop-index.invariant.waves)
+    (slice_at files i _ (omega arith)) c.in-Err.ensures.fault
+    (λ d. c.in-Err.ensures.refused d ∙ c.loop-index.invariant.added d ∙ ap (λ (fs : List (List ℕ)). found (c.args.self.now ++ sources_of fs) d) (sym (take-map (λ file. file.now) i files)))
 
 pub loop-index-preserved : goal.loop-index-preserved
 loop-index-preserved g c =
