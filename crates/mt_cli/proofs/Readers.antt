@@ -2,13 +2,14 @@
 use Rattle.std.proofs.Common.{◌≡◌, ℕ, zero, suc, ◌+◌, ◌<◌, List, [], ◌∷◌, ◌++◌, Option, length, get_or, take, drop, refl, sym, ap, subst, ◌∙◌, arith, inl, inr, Result, Ok, Err}
 use Rattle.std.specs.Prelude.{IfErr, IsErrAnd}
 use Rattle.std.proofs.lemmas.List.{drop-drop, drop-set-lt, get_or-drop, length-set, get_or-set_same, take-set}
+use Rattle.std.proofs.KnownBytes.{Consumes-nil}
 use Rattle.std.proofs.Math.ListN.{set}
 use Rattle.mt_latch.specs.Latch.{Latched}
 use Rattle.mt_opcodec.specs.LogValue.{LogMap}
 use Rattle.mt_cli.specs.declared.fault.CliFault.{CliFault}
 use Rattle.mt_cli.specs.declared.fault.CliFault.TheVariants.{Memory}
 use Rattle.std.specs.List.{AllByRecursion}
-use Rattle.mt_cli.specs.Reading.{Gave, GaveLogs, IsRead, AreRead, IsCause, HasCause, text_of}
+use Rattle.mt_cli.specs.Reading.{Gave, GaveLogs, IsRead, IsRest, AreRead, IsCause, HasCause, text_of}
 
 module _ {R : Type 0} (remaining : R → Option (List ℕ)) where
   pub GaveLogs-more : (latches : List (Latched R)) (logs : List LogMap) (i : ℕ) (latch : Latched R) (m : LogMap) → i < length latches → latch ≡ get_or latches i latch
@@ -40,10 +41,14 @@ module _ {R : Type 0} (remaining : R → Option (List ℕ)) where
       let here : place ≡ 0 + place = omega arith in
       subst (λ (n : ℕ). IsCause remaining n latch after fault) here (subst (λ (l : Latched R). IsCause remaining place l after fault) (sym same) cause)
 
+  -- a reader that was not asked
+  pub rest_same : (latch : Latched R) → IsRest remaining latch latch
+  rest_same latch = (([], Consumes-nil (remaining latch.inner)), λ _. refl)
+
   -- memory that runs out before any reader is asked
   pub HasCause-memory : (start : ℕ) (latches : List (Latched R)) → HasCause remaining start latches latches Memory
   HasCause-memory start [] = refl
-  HasCause-memory start (x ∷ latches) = inl (tt, refl)
+  HasCause-memory start (x ∷ latches) = inl (rest_same x, refl)
 
 -- after one more reader was read
 pub left_more : {X : Type 0} (i : ℕ) (xs ys : List X) (x : X) → drop i xs ≡ drop i ys → drop (i + 1) (set xs i x) ≡ drop (i + 1) ys

@@ -9,7 +9,7 @@ use Rattle.mt_cli.specs.declared.fault.CliFault.{CliFault}
 use Rattle.mt_cli.specs.declared.fault.CliFault.TheVariants.{Memory}
 use Rattle.mt_cli.specs.Reading.{Gave, AreRead}
 use Rattle.mt_cli.specs.Sources.{bytes_in, GaveWaves, IsSourceCause, HasSourceCause}
-use Rattle.mt_cli.proofs.Readers.{left_at, left_more}
+use Rattle.mt_cli.proofs.Readers.{rest_same, left_at, left_more}
 
 -- ---- from readers
 
@@ -46,7 +46,7 @@ module _ {R : Type 0} (remaining : R → Option (List ℕ)) where
   -- memory that runs out before any reader is asked
   pub HasSourceCause-memory : (others start : ℕ) (latches : List (Latched R)) → HasSourceCause remaining others start latches latches Memory
   HasSourceCause-memory others start [] = refl
-  HasSourceCause-memory others start (x ∷ latches) = inl (tt, refl)
+  HasSourceCause-memory others start (x ∷ latches) = inl (rest_same remaining x, refl)
 
 -- ---- of the slice of readers after the one at a place was read
 

@@ -3,7 +3,7 @@ use Rattle.std.specs.Io.KnownBytes.{IsAtEnd}
 use Rattle.std.specs.List.{AllByRecursion}
 use Rattle.std.specs.Prelude.{false, ◌≡◌, ◌≢◌, ℕ, true, List, [], ◌∷◌, Option, IfSome, ◌+◌, ◌⊎◌}
 use Rattle.mt_opcodec.specs.declared.fault.LogFault.TheVariants as log
-use Rattle.mt_latch.specs.Latch.{Latched}
+use Rattle.mt_latch.specs.Latch.{Latched, ConsumesPrefix}
 use Rattle.mt_opcodec.specs.LogText.{log_text}
 use Rattle.mt_opcodec.specs.LogReading.{log_at, LogFails}
 use Rattle.mt_opcodec.specs.LogValue.{LogMap, operations}
@@ -34,10 +34,14 @@ module _ {R : Type 0} (remaining : R → Option (List ℕ)) where
   abbrev pub AreRead : List (Latched R) → Type 0
   AreRead = AllByRecursion IsRead
 
+  -- what is left of a reader is a rest of what it had; one whose latch had failed is as it was
+  abbrev pub IsRest : Latched R → Latched R → Type 0
+  IsRest old new = ConsumesPrefix (remaining old.inner) (remaining new.inner) × (old.failed ≡ true → new ≡ old)
+
   -- why the reader of an index gave no log: the latch has failed, or all its bytes are no log's text
   abbrev pub IsCause : ℕ → Latched R → Latched R → CliFault → Type 0
-  IsCause index old new Memory = Unit {0}
-  IsCause index old new (Read place) = (place ≡ index) × (new.failed ≡ true)
+  IsCause index old new Memory = IsRest old new
+  IsCause index old new (Read place) = (place ≡ index) × (new.failed ≡ true) × IsRest old new
   IsCause index old new (Log place fault) = (place ≡ index) × ((fault ≢ log.Memory) × (IsRead new × ((bytes : List ℕ) × (Gave old bytes × LogFails fault (log_at bytes)))))
   IsCause index old new _ = ⊥
 

@@ -4,7 +4,7 @@ use Rattle.mt_latch.specs.Latch.{Latched}
 use Rattle.mt_bwfread.specs.Wave.{IsWave, fault_of}
 use Rattle.mt_cli.specs.declared.fault.CliFault.{CliFault}
 use Rattle.mt_cli.specs.declared.fault.CliFault.TheVariants.{Memory, Read, Source}
-use Rattle.mt_cli.specs.Reading.{Gave, IsRead}
+use Rattle.mt_cli.specs.Reading.{Gave, IsRead, IsRest}
 
 -- the bytes of each recording that is kept
 abbrev pub bytes_in : {Z : Type 0} → List (Vec ℕ Z) → List (List ℕ)
@@ -21,8 +21,8 @@ module _ {R : Type 0} (remaining : R → Option (List ℕ)) where
   -- Why the reader of an index gave no wave file: the latch has failed, or its bytes are none, by the first of their faults. As a
   -- reader it is counted behind so many others, and as a recording it is not.
   abbrev pub IsSourceCause : ℕ → ℕ → Latched R → Latched R → CliFault → Type 0
-  IsSourceCause others index old new Memory = Unit {0}
-  IsSourceCause others index old new (Read place) = (place ≡ others + index) × (new.failed ≡ true)
+  IsSourceCause others index old new Memory = IsRest remaining old new
+  IsSourceCause others index old new (Read place) = (place ≡ others + index) × (new.failed ≡ true) × IsRest remaining old new
   IsSourceCause others index old new (Source place fault) = (place ≡ index) × (IsRead remaining new × ((bytes : List ℕ) × (Gave remaining old bytes × (fault_of bytes ≡ Some fault))))
   IsSourceCause others index old new _ = ⊥
 

@@ -184,6 +184,8 @@ pub fn write_info<A: Allocator + Clone, W: Write>(
 ) -> Result<(), CliFault>
     ensures ok { OnOk result (IsWave bytes.now × Appends (W.contents output.old.inner) (W.contents output.new.inner) (info_text bytes.now)) }
     ensures err { IfErr result (InfoFails W.contents bytes.now output.old output.new) }
+    ensures sound { OnOk result (output.new.failed ≡ false) }
+    ensures stays_failed { output.old.failed ≡ true → output.new ≡ output.old }
 {
     let wave = match Wave::read(bytes) {
         Ok(wave) => wave,
@@ -208,6 +210,8 @@ fn write_lines<A: Allocator, W: Write>(
     requires digest { digest.now ≡ encode_lower (sha256 wave.now) }
     ensures ok { OnOk result (Appends (W.contents output.old.inner) (W.contents output.new.inner) (info_text wave.now)) }
     ensures err { IfErr result (λ fault. (fault ≡ CliFault.Write) × (output.new.failed ≡ true) × AppendsPrefix (W.contents output.old.inner) (W.contents output.new.inner) (info_text wave.now)) }
+    ensures sound { OnOk result (output.new.failed ≡ false) }
+    ensures stays_failed { output.old.failed ≡ true → output.new ≡ output.old }
 {
     let mut lines = BufferedLatch::new(output);
     put_lines(&mut lines, wave, digest, labels);

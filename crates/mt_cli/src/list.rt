@@ -1,6 +1,6 @@
 //! Listing the operations of logs.
 
-ghost use Rattle.std.specs.Prelude.{◌≡◌, IfErr, OnOk, List};
+ghost use Rattle.std.specs.Prelude.{◌≡◌, false, true, IfErr, OnOk, List};
 ghost use Rattle.std.specs.Io.KnownBytes.{Appends};
 ghost use Rattle.mt_opcodec.specs.LogValue.{LogMap};
 ghost use Rattle.mt_opcodec.specs.Union.{AllAgree};
@@ -55,6 +55,8 @@ pub fn list_logs<A: Allocator + Clone, R: Read, W: Write>(
     ensures ok { OnOk result ((logs : List LogMap) × (GaveLogs R.remaining inputs.old logs × AllAgree logs × Appends (W.contents output.old.inner) (W.contents output.new.inner) (list_text logs))) }
     ensures read { OnOk result (AreRead R.remaining inputs.new) }
     ensures err { IfErr result (InputsFail log_list W.contents R.remaining inputs.old inputs.new output.old output.new) }
+    ensures sound { OnOk result (output.new.failed ≡ false) }
+    ensures stays_failed { output.old.failed ≡ true → output.new ≡ output.old }
 {
     tell_logs(&Operations, alloc, inputs, output)
 }
@@ -68,6 +70,8 @@ pub fn list_log<A: Allocator + Clone, R: Read, W: Write>(
     ensures ok { OnOk result ((log : LogMap) × (Gave R.remaining input.old (text_of log) × Appends (W.contents output.old.inner) (W.contents output.new.inner) (log_list log))) }
     ensures read { OnOk result (IsRead R.remaining input.new) }
     ensures err { IfErr result (InputFails log_list W.contents R.remaining input.old input.new output.old output.new) }
+    ensures sound { OnOk result (output.new.failed ≡ false) }
+    ensures stays_failed { output.old.failed ≡ true → output.new ≡ output.old }
 {
     tell_log(&Operations, alloc, input, output)
 }

@@ -1,6 +1,6 @@
 //! Merging logs.
 
-ghost use Rattle.std.specs.Prelude.{◌≡◌, IfErr, OnOk, List};
+ghost use Rattle.std.specs.Prelude.{◌≡◌, false, true, IfErr, OnOk, List};
 ghost use Rattle.std.specs.Io.KnownBytes.{Appends};
 ghost use Rattle.mt_opcodec.specs.LogValue.{LogMap};
 ghost use Rattle.mt_opcodec.specs.Union.{AllAgree, union_all};
@@ -20,6 +20,8 @@ pub(crate) fn put_log<A: Allocator + Clone, W: Write>(
 ) -> Result<(), CliFault>
     ensures ok { OnOk result (Appends (W.contents output.old.inner) (W.contents output.new.inner) (text_of log.now)) }
     ensures err { IfErr result (WriteFails text_of W.contents log.now output.old output.new) }
+    ensures sound { OnOk result (output.new.failed ≡ false) }
+    ensures stays_failed { output.old.failed ≡ true → output.new ≡ output.old }
 {
     let Ok(text) = log.write() else {
         return Err(CliFault::Memory);
@@ -64,6 +66,8 @@ pub fn merge_logs<A: Allocator + Clone, R: Read, W: Write>(
     ensures read { OnOk result (AreRead R.remaining inputs.new) }
     ensures ok { OnOk result ((logs : List LogMap) × (GaveLogs R.remaining inputs.old logs × AllAgree logs × Appends (W.contents output.old.inner) (W.contents output.new.inner) (text_of (union_all logs)))) }
     ensures err { IfErr result (InputsFail text_of W.contents R.remaining inputs.old inputs.new output.old output.new) }
+    ensures sound { OnOk result (output.new.failed ≡ false) }
+    ensures stays_failed { output.old.failed ≡ true → output.new ≡ output.old }
 {
     tell_logs(&Logs, alloc, inputs, output)
 }

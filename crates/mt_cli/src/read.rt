@@ -2,7 +2,7 @@
 
 ghost use Rattle.std.specs.Prelude.{◌≡◌, ◌≢◌, IfOk, IfErr, OnOk};
 ghost use Rattle.mt_opcodec.specs.declared.fault.LogFault.TheVariants as log;
-ghost use Rattle.mt_cli.specs.Reading.{Gave, IsRead, AreRead, GaveLogs, IsCause, HasCause, text_of};
+ghost use Rattle.mt_cli.specs.Reading.{Gave, IsRead, IsRest, AreRead, GaveLogs, IsCause, HasCause, text_of};
 
 use crate::fault::CliFault;
 use mt_opcodec::{Latch, LatchFault, Log, LogFault};
@@ -17,6 +17,7 @@ pub(crate) fn read_all<A: Allocator, R: Read>(
 ) -> Result<Vec<u8, A>, CliFault>
     ensures read { OnOk result (IsRead R.remaining input.new) }
     ensures ok { IfOk result (λ bytes. Gave R.remaining input.old bytes.items) }
+    ensures rest { IsRest R.remaining input.old input.new }
     ensures err { IfErr result (IsCause R.remaining index input.old input.new) }
 {
     match input.get_all(alloc) {
@@ -34,6 +35,7 @@ pub(crate) fn read_log<A: Allocator + Clone, R: Read>(
 ) -> Result<Log<A>, CliFault>
     ensures read { OnOk result (IsRead R.remaining input.new) }
     ensures ok { IfOk result (λ log. Gave R.remaining input.old (text_of log)) }
+    ensures rest { IsRest R.remaining input.old input.new }
     ensures err { IfErr result (IsCause R.remaining index input.old input.new) }
 {
     let bytes = read_all(alloc.clone()?, index, input)?;

@@ -1,6 +1,6 @@
 //! Rendering logs and recordings.
 
-ghost use Rattle.std.specs.Prelude.{◌≡◌, ◌≢◌, ◌+◌, ◌<◌, ◌^◌, length, IfErr, OnOk};
+ghost use Rattle.std.specs.Prelude.{◌≡◌, ◌≢◌, false, true, ◌+◌, ◌<◌, ◌^◌, length, IfErr, OnOk};
 ghost use Rattle.std.specs.Io.KnownBytes.{Appends};
 ghost use Rattle.mt_opcodec.specs.LogValue.{operations};
 ghost use Rattle.mt_sessionview.specs.Session.{session_of};
@@ -54,6 +54,8 @@ fn put_session<A: Allocator + Clone, W: Write>(
     ensures can { OnOk result (CanBounce session.now (bytes_in texts.now) format head.now) }
     ensures ok { OnOk result (Appends (W.contents output.old.inner) (W.contents output.new.inner) (session_file session.now (bytes_in texts.now) format head.now)) }
     ensures err { IfErr result (SessionFails W.contents session.now (bytes_in texts.now) format head.now output.old output.new) }
+    ensures sound { OnOk result (output.new.failed ≡ false) }
+    ensures stays_failed { output.old.failed ≡ true → output.new ≡ output.old }
 {
     let catalogue = catalogue_of(alloc.clone()?, texts)?;
     let mix = match Mix::new(alloc.clone()?, session, &catalogue, format) {
@@ -78,6 +80,8 @@ fn put_log<A: Allocator + Clone, W: Write>(
     ensures can { OnOk result (CanBounce (session_of (operations log.now)) (bytes_in texts.now) format head.now) }
     ensures ok { OnOk result (Appends (W.contents output.old.inner) (W.contents output.new.inner) (session_file (session_of (operations log.now)) (bytes_in texts.now) format head.now)) }
     ensures err { IfErr result (SessionFails W.contents (session_of (operations log.now)) (bytes_in texts.now) format head.now output.old output.new) }
+    ensures sound { OnOk result (output.new.failed ≡ false) }
+    ensures stays_failed { output.old.failed ≡ true → output.new ≡ output.old }
 {
     let Ok(session) = from_scratch(alloc.clone()?, log) else {
         return Err(CliFault::Memory);
@@ -108,6 +112,8 @@ pub fn bounce_logs<A: Allocator + Clone, R: Read, W: Write>(
     ensures read_logs { OnOk result (AreRead R.remaining logs.new) }
     ensures read_sources { OnOk result (AreRead R.remaining sources.new) }
     ensures err { IfErr result (BounceFails W.contents R.remaining logs.old logs.new sources.old sources.new format head.now output.old output.new) }
+    ensures sound { OnOk result (output.new.failed ≡ false) }
+    ensures stays_failed { output.old.failed ≡ true → output.new ≡ output.old }
 {
     let count = logs.len();
     let log = match union_of(alloc.clone()?, logs) {

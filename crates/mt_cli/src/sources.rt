@@ -4,7 +4,7 @@ ghost use Rattle.std.specs.Prelude.{◌≡◌, ◌+◌, ◌<◌, ◌^◌, length
 ghost use Rattle.mt_bwfread.specs.Wave.{IsWave};
 ghost use Rattle.mt_op.specs.declared.digest.Digest.{Digest as DigestOf};
 ghost use Rattle.mt_render.specs.Sources.{found, sources_of};
-ghost use Rattle.mt_cli.specs.Reading.{Gave, IsRead, AreRead};
+ghost use Rattle.mt_cli.specs.Reading.{Gave, IsRead, IsRest, AreRead};
 ghost use Rattle.mt_cli.specs.Sources.{GaveWaves, IsSourceCause, HasSourceCause, bytes_in};
 
 use crate::fault::CliFault;
@@ -24,6 +24,7 @@ fn read_source<A: Allocator, R: Read>(
     requires few { others + index < 2 ^ 64 }
     ensures read { OnOk result (IsRead R.remaining input.new) }
     ensures ok { IfOk result (λ bytes. Gave R.remaining input.old bytes.items × IsWave bytes.items) }
+    ensures rest { IsRest R.remaining input.old input.new }
     ensures err { IfErr result (IsSourceCause R.remaining others index input.old input.new) }
 {
     let bytes = match input.get_all(alloc) {

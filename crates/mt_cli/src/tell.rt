@@ -1,6 +1,6 @@
 //! Commands that write one text of the union of logs.
 
-ghost use Rattle.std.specs.Prelude.{◌≡◌, ℕ, IfErr, OnOk, List};
+ghost use Rattle.std.specs.Prelude.{◌≡◌, ℕ, false, true, IfErr, OnOk, List};
 ghost use Rattle.std.specs.Io.KnownBytes.{Appends};
 ghost use Rattle.mt_opcodec.specs.LogValue.{LogMap};
 ghost use Rattle.mt_opcodec.specs.Union.{AllAgree, union_all};
@@ -26,7 +26,9 @@ pub(crate) trait Telling {
         output: &mut Latch<W>,
     ) -> Result<(), CliFault>
         ensures ok { OnOk result (Appends (W.contents output.old.inner) (W.contents output.new.inner) (told log.now)) }
-        ensures err { IfErr result (WriteFails told W.contents log.now output.old output.new) };
+        ensures err { IfErr result (WriteFails told W.contents log.now output.old output.new) }
+        ensures sound { OnOk result (output.new.failed ≡ false) }
+        ensures stays_failed { output.old.failed ≡ true → output.new ≡ output.old };
 }
 
 /// Writes the text of the union of the inputs' logs.
@@ -39,6 +41,8 @@ pub(crate) fn tell_logs<T: Telling, A: Allocator + Clone, R: Read, W: Write>(
     ensures ok { OnOk result ((logs : List LogMap) × (GaveLogs R.remaining inputs.old logs × AllAgree logs × Appends (W.contents output.old.inner) (W.contents output.new.inner) (T.told (union_all logs)))) }
     ensures read { OnOk result (AreRead R.remaining inputs.new) }
     ensures err { IfErr result (InputsFail T.told W.contents R.remaining inputs.old inputs.new output.old output.new) }
+    ensures sound { OnOk result (output.new.failed ≡ false) }
+    ensures stays_failed { output.old.failed ≡ true → output.new ≡ output.old }
 {
     match union_of(alloc.clone()?, inputs) {
         Ok(all) => text.tell(alloc, &all, output),
@@ -56,6 +60,8 @@ pub(crate) fn tell_log<T: Telling, A: Allocator + Clone, R: Read, W: Write>(
     ensures ok { OnOk result ((log : LogMap) × (Gave R.remaining input.old (text_of log) × Appends (W.contents output.old.inner) (W.contents output.new.inner) (T.told log))) }
     ensures read { OnOk result (IsRead R.remaining input.new) }
     ensures err { IfErr result (InputFails T.told W.contents R.remaining input.old input.new output.old output.new) }
+    ensures sound { OnOk result (output.new.failed ≡ false) }
+    ensures stays_failed { output.old.failed ≡ true → output.new ≡ output.old }
 {
     match read_log(alloc.clone()?, 0, input) {
         Ok(log) => text.tell(alloc, &log, output),

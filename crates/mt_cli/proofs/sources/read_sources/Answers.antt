@@ -2,7 +2,7 @@ use Rattle.std.proofs.Common.{get_or}
 use Rattle.std.proofs.Math.ListN.{set}
 use Rattle.mt_cli.specs.declared.fault.CliFault.TheVariants.{Memory}
 use Rattle.mt_cli.specs.Sources.{HasSourceCause, bytes_in}
-use Rattle.mt_cli.proofs.Readers.{told_as, read_more, left_more}
+use Rattle.mt_cli.proofs.Readers.{rest_same, told_as, read_more, left_more}
 use Rattle.mt_cli.proofs.Recordings.{HasSourceCause-memory, source_cause_at, waves_more, bytes_more}
 use Rattle.mt_cli.proofs.sources.read_sources.Goals as goal
 
@@ -14,7 +14,7 @@ returns-in_err-clone-clause-err g c =
 pub returns-in_err-clone-2-clause-err : goal.returns-in_err-clone-2-clause-err
 returns-in_err-clone-2-clause-err g c =
     told_as c.from_residual-in_err-clone-2.result (HasSourceCause g.R.Read.remaining c.args.others 0 c.args.inputs.now (set c.loop-place.inputs c.loop-place.place (get_or c.loop-place.inputs c.loop-place.place c.index-inputs-place.result))) Memory c.from_residual-in_err-clone-2.ensures.1
-    (source_cause_at g.R.Read.remaining c.args.others c.args.inputs.now c.loop-place.inputs c.loop-place.place c.index-inputs-place.result (get_or c.loop-place.inputs c.loop-place.place c.index-inputs-place.result) c.loop-place.auto.inputs c.loop-place-test.true (bytes_in c.loop-place.texts.items) Memory c.loop-place.invariant.left c.index-inputs-place.is c.loop-place.invariant.gave c.loop-place.invariant.read tt)
+    (source_cause_at g.R.Read.remaining c.args.others c.args.inputs.now c.loop-place.inputs c.loop-place.place c.index-inputs-place.result (get_or c.loop-place.inputs c.loop-place.place c.index-inputs-place.result) c.loop-place.auto.inputs c.loop-place-test.true (bytes_in c.loop-place.texts.items) Memory c.loop-place.invariant.left c.index-inputs-place.is c.loop-place.invariant.gave c.loop-place.invariant.read (rest_same g.R.Read.remaining (get_or c.loop-place.inputs c.loop-place.place c.index-inputs-place.result)))
 
 pub returns-in_err-text-clause-err : goal.returns-in_err-text-clause-err
 returns-in_err-text-clause-err g c =
@@ -24,7 +24,7 @@ returns-in_err-text-clause-err g c =
 pub returns-in_err-push-clause-err : goal.returns-in_err-push-clause-err
 returns-in_err-push-clause-err g c =
     told_as c.from_residual-in_err-push.result (HasSourceCause g.R.Read.remaining c.args.others 0 c.args.inputs.now (set c.loop-place.inputs c.loop-place.place c.read_source.new.input)) Memory c.from_residual-in_err-push.ensures.1
-    (source_cause_at g.R.Read.remaining c.args.others c.args.inputs.now c.loop-place.inputs c.loop-place.place c.index-inputs-place.result c.read_source.new.input c.loop-place.auto.inputs c.loop-place-test.true (bytes_in c.loop-place.texts.items) Memory c.loop-place.invariant.left c.index-inputs-place.is c.loop-place.invariant.gave c.loop-place.invariant.read tt)
+    (source_cause_at g.R.Read.remaining c.args.others c.args.inputs.now c.loop-place.inputs c.loop-place.place c.index-inputs-place.result c.read_source.new.input c.loop-place.auto.inputs c.loop-place-test.true (bytes_in c.loop-place.texts.items) Memory c.loop-place.invariant.left c.index-inputs-place.is c.loop-place.invariant.gave c.loop-place.invariant.read c.read_source.ensures.rest)
 
 pub loop-place-preserved : goal.loop-place-preserved
 loop-place-preserved g c = record {
