@@ -1,4 +1,5 @@
 //! What no clause says: bytes that were written out by hand, and that every call succeeds where there is memory.
+mod growth;
 mod messages;
 mod sockets;
 mod streams;
@@ -43,11 +44,20 @@ fn editor_of<M: Allocator + Clone>(memory: &M, stamps: &[Stamp]) -> Result<Edito
     editor_from(memory, log)
 }
 
-// How many operations an editor has, if it has not failed.
+// How many operations an editor of markers has, each of which its session shows; none where it has failed, and has neither log nor session.
 fn held<M: Allocator + Clone>(editor: &Editor<M>) -> Option<usize> {
-    match editor.log() {
-        Some(log) => Some(log.len()),
-        None => None,
+    match (editor.log(), editor.session()) {
+        (Some(log), Some(session)) if session.markers.items().len() == log.len() => Some(log.len()),
+        (None, None) => None,
+        _ => Some(usize::MAX),
+    }
+}
+
+// Whether an editor has so many operations, some of them, or has failed.
+fn is_left<M: Allocator + Clone>(editor: &Editor<M>, count: usize) -> bool {
+    match held(editor) {
+        Some(some) => some <= count,
+        None => true,
     }
 }
 
@@ -80,8 +90,22 @@ fn feed_piece<'w, M: Allocator + Clone>(
     piece: &[u8],
     wanted: &'w [u8],
 ) -> Result<Option<&'w [u8]>, TalkFault> {
-    let reply = talk.feed(editor, piece)?;
-    Ok(wanted.strip_prefix(reply.as_slice()))
+    match talk.feed(editor, piece) {
+        Ok(reply) => Ok(wanted.strip_prefix(reply.as_slice())),
+        Err(fault) => Err(stopped(talk, editor, fault)),
+    }
+}
+
+// The fault of a talk that is out of turn from then on, and whose editor holds a front of what it was told or has failed.
+fn stopped<M: Allocator + Clone>(
+    talk: &mut Talk<M>,
+    editor: &mut Editor<M>,
+    fault: TalkFault,
+) -> TalkFault {
+    match talk.feed(editor, &[]) {
+        Err(TalkFault::OutOfTurn) if is_left(editor, 1) => fault,
+        _ => TalkFault::BadMessage,
+    }
 }
 
 // What came of a stream.

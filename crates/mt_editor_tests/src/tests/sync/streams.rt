@@ -3,7 +3,7 @@ use super::{ANSWERER, CALLER, editor_of, held};
 use mt_replica::Editor;
 use mt_sync::{Talk, TalkFault, take_ops};
 use mt_testkit::Refusing;
-use std::alloc::{Allocator, Global};
+use std::alloc::{AllocError, Allocator, Global};
 use std::test::Fail;
 
 // What feeding a piece answers: the refusal's number, or how many bytes.
@@ -91,6 +91,23 @@ fn stops_at_the_first_fault(rt: HostRuntime) {
             "for {number}"
         );
     }
+}
+
+// A frame of so many bytes 0.
+fn frame_of(alloc: Global, length: u32) -> Result<Vec<u8>, AllocError> {
+    let mut frame = Vec::from_slice(alloc, &length.to_be_bytes())?;
+    frame.resize(length as usize + 4, 0)?;
+    Ok(frame)
+}
+
+// the longest frame is read, and a longer one is refused by its length
+#[test]
+fn reads_the_longest_frame(rt: HostRuntime) -> Result<(), Fail> {
+    for (length, number) in [(8_388_608, 38), (8_388_609, 40)] {
+        let frame = frame_of(rt.alloc(), length)?;
+        assert!(rt; stops(&rt.alloc(), rt.alloc(), &frame, number));
+    }
+    Ok(())
 }
 
 #[test]

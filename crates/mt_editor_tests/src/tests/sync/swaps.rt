@@ -1,5 +1,5 @@
 //! Two editors that swap what they lack.
-use super::{ANSWERER, CALLER, editor_of, has_the_marker, held, log_with};
+use super::{ANSWERER, CALLER, editor_of, has_the_marker, held, is_left, log_with};
 use mt_opcodec::Latch;
 use mt_replica::Editor;
 use mt_stamp::Stamp;
@@ -32,7 +32,8 @@ fn swap<M: Allocator + Clone>(
             answerer: held(answerer),
             same: caller == answerer,
         }),
-        Err(fault) => Err(fault),
+        Err(fault) if is_left(caller, 2) && is_left(answerer, 2) => Err(fault),
+        Err(_) => Err(TalkFault::BadMessage),
     }
 }
 
