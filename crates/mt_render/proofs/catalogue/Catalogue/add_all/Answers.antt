@@ -20,7 +20,7 @@ pub returns-in-Err-clause-left : goal.returns-in-Err-clause-left
 returns-in-Err-clause-left g c =
     let files = c.args.files.now in
     let i = c.loop-index.index in
-    left_at c.args.self.now c.self (map (λ file. file.now) files) i _ c.in-Err.fault (subst (AllByRecursion IsWave) (sym (take-map (λ file. file.now) i files)) c.loop-index.invariant.waves)
+    left_at c.args.self.now c.add_under.new.self (map (λ file. file.now) files) i _ c.in-Err.fault (subst (AllByRecursion IsWave) (sym (take-map (λ file. file.now) i files)) c.loop-index.invariant.waves)
     (slice_at files i _ (omega arith)) c.in-Err.ensures.fault
     (λ d. c.in-Err.ensures.refused d ∙ c.loop-index.invariant.added d ∙ ap (λ (fs : List (List ℕ)). found (c.args.self.now ++ sources_of fs) d) (sym (take-map (λ file. file.now) i files)))
 
