@@ -4,7 +4,7 @@ use mt_stamp::{Dot, Stamp};
 use mt_summary::laws::{packs, runs, texts};
 use mt_summary::{Message, MessageFault, Summary, lacking};
 use mt_testkit::{A, B, Refusing, log_of};
-use std::alloc::Allocator;
+use std::alloc::{Allocator, Global};
 use std::test::Fail;
 
 // How many of a log's markers the summary of another one lacks, and the places of the first and the last of them.
@@ -119,6 +119,27 @@ fn reads_bodies(rt: HostRuntime) {
         0, 0, 0,
     ];
     assert!(rt; refusal(&rt.alloc(), &silent) == Some(38));
+}
+
+// The number of the refusal of a body, and how often memory was asked for.
+fn refused_read(alloc: Global, body: &[u8]) -> (Option<u8>, u64) {
+    let memory = Refusing::new(alloc, u64::MAX);
+    let number = refusal(&&memory, body);
+    (number, memory.allocations())
+}
+
+// A count alone takes no memory: of replicas, of a replica's numbers beside its run, of operations.
+#[test]
+fn takes_no_memory_for_a_count(rt: HostRuntime) {
+    let replicas = [1, 255, 255, 255, 255];
+    let extras = [
+        1, 0, 0, 0, 1, 0, 0, 0, 0, 0, 0, 0, 0, 0, 0, 0, 0, 0, 0, 0, 10, 0, 0, 0, 0, 0, 0, 0, 0,
+        255, 255, 255, 255,
+    ];
+    let ops = [2, 255, 255, 255, 255];
+    for body in [replicas.as_slice(), &extras, &ops] {
+        assert!(rt; refused_read(rt.alloc(), body) == (Some(38), 0));
+    }
 }
 
 #[test]
