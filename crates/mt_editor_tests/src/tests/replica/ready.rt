@@ -65,16 +65,28 @@ fn holds_a_long_chain_until_its_first(rt: HostRuntime) {
     assert!(rt; taken_backwards(rt.alloc(), 10_000) == Some((9_999, 10_000)));
 }
 
+// Gives the marker another tag, or makes it where the number is 1.
+fn add_tag(log: &mut Log, alloc: Global, number: u64) -> Option<bool> {
+    let stamp = Stamp::new(number, A, number).ok()?;
+    let op = match number {
+        1 => marker(alloc, stamp, "N").ok()?,
+        _ => Op::new(stamp, restored()?).ok()?,
+    };
+    log.add(op).ok()
+}
+
+fn restored() -> Option<Body> {
+    let item = Stamp::new(1, A, 1).ok()?;
+    Some(Body::Restore { item })
+}
+
 // The log of a marker that is there by as many tags.
 fn log_with_tags(alloc: Global, tags: u64) -> Option<Log> {
-    let item = Stamp::new(1, A, 1).ok()?;
-    let mut ops = Vec::new(alloc);
-    ops.push(marker(alloc, item, "N").ok()?).ok()?;
-    for number in 2..tags.saturating_add(1) {
-        let stamp = Stamp::new(number, A, number).ok()?;
-        ops.push(Op::new(stamp, Body::Restore { item }).ok()?).ok()?;
+    let mut log = Log::new(alloc);
+    for before in 0..tags {
+        add_tag(&mut log, alloc, before.saturating_add(1))?;
     }
-    Log::of_ops(alloc, ops).ok()
+    Some(log)
 }
 
 // How many tags an operation lists.

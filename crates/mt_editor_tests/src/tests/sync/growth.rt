@@ -67,6 +67,5 @@ fn refuses_each_growth_of_a_caller(rt: HostRuntime) -> Result<(), Fail> {
 
 #[test]
 fn refuses_each_growth_of_an_answerer(rt: HostRuntime) {
-    let side = (Side::Answerer, [].as_slice());
-    assert!(rt; is_refused_each_growth(rt.alloc(), side, (CALLER, ANSWERER)));
+    assert!(rt; is_refused_each_growth(rt.alloc(), (Side::Answerer, &[]), (CALLER, ANSWERER)));
 }
