@@ -1,12 +1,12 @@
 -- Quotients that round down.
-use Rattle.std.proofs.Common.{◌≡◌, ℕ, zero, suc, ◌+◌, ◌*◌, ◌/◌, ◌^◌, ◌<◌, ◌≤◌, inl, inr, refl, sym, ◌∙◌, arith, ap, ℤ, pos, negsuc, ◌+ℤ◌, ◌-ℤ◌, neg_ℤ, ◌*ℤ◌, FitsSigned, to_z, of_z}
+use Rattle.std.proofs.Common.{◌≡◌, ℕ, zero, suc, ◌+◌, ◌*◌, ◌/◌, ◌<◌, ◌≤◌, inl, inr, refl, sym, ◌∙◌, arith, ap, ℤ, pos, negsuc, ◌+ℤ◌, ◌*ℤ◌, FitsSigned, to_z, of_z}
 use Rattle.std.proofs.Math.Nat.{mul-le-mul_right, mul-le-mul_left}
 use Rattle.std.proofs.lemmas.Bool.{cases_lt}
 use Rattle.std.proofs.lemmas.Nat.{mul-le, div-mul-add}
 use Rattle.mt_render.specs.Divides.{Divides}
-use Rattle.std.specs.Int.{w64, int_div_euclid, int_shr}
+use Rattle.std.specs.Int.{w64, int_div_euclid}
 use Rattle.std.proofs.lemmas.Int.{to_z-of_z}
-use borrow.Author.Differences.{up, down, same_in, same_out, sum_is_lem, product_is, neg_is}
+use borrow.Author.Differences.{up, down, same_in, sum_is_lem, product_is}
 use Rattle.mt_render.specs.Mix.{floored, rounded}
 
 -- c is the quotient of z by n

@@ -13,3 +13,5 @@ pub mod Rising
 pub mod Summing
 pub mod Sounding
 pub mod EndToEnd
+pub mod Alike
+pub mod OneAnswer

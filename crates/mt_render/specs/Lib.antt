@@ -4,6 +4,7 @@ pub mod Sources
 pub mod Mix
 pub mod Blocks
 pub mod Refusals
+pub mod Alike
 pub mod Lanes
 pub mod Divides
 pub mod Parts

@@ -5,7 +5,8 @@ ghost use Rattle.std.specs.Ordering.{is_lt};
 ghost use Rattle.mt_stamp.specs.Moment.{stamp_cmp};
 ghost use Rattle.mt_stamp.specs.Sorting.{DifferBy};
 ghost use Rattle.mt_sessionview.specs.Content.{Clip};
-ghost use Rattle.mt_render.specs.Mix.{sounds, sounding};
+ghost use Rattle.mt_render.specs.Mix.{Programme, sounds, sounding};
+ghost use Rattle.mt_render.specs.Alike.{OnlyAudibleCount, HasOneAnswer};
 ghost use Rattle.mt_render.specs.Blocks.{BlocksAreSamples};
 ghost use Rattle.mt_render.specs.Refusals.{IsAmong};
 
@@ -23,6 +24,19 @@ pub fn sounding_clip()
 /// how a programme is cut into blocks changes nothing.
 pub fn blocks()
     ensures { BlocksAreSamples }
+{}
+
+/// Of the recordings only those count that are under the digests of audible clips, the clips that are not muted on tracks that are not: over two
+/// catalogues that find the same under each of these digests, or both nothing, both mixes can be made or neither, both are refused for the same, and
+/// each sample is one.
+pub fn same_recordings()
+    ensures { OnlyAudibleCount }
+{}
+
+/// A programme that can be mixed is refused for want of memory alone, and one that is refused for something else is so for one reason, with one
+/// digest.
+pub fn one_refusal()
+    ensures { (p : Programme) → HasOneAnswer p }
 {}
 
 /// Refusals of a recording are equal where they are of one case and have the same fault of the file.
