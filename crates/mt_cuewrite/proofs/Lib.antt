@@ -4,3 +4,4 @@ pub mod Sizing
 pub mod Marking
 pub mod Blocks
 pub mod Totals
+pub mod Alike

@@ -44,6 +44,7 @@ mod chunks;
 mod fault;
 mod file;
 mod head;
+pub mod laws;
 mod marks;
 mod put;
 mod size;
