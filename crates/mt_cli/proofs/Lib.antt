@@ -4,3 +4,4 @@ pub mod Labels
 pub mod Recordings
 pub mod SameSources
 pub mod Rendering
+pub mod Headline

@@ -7,3 +7,4 @@ pub mod Writing
 pub mod Info
 pub mod Sources
 pub mod Bouncing
+pub mod Headline

@@ -44,6 +44,7 @@ mod commands;
 mod fault;
 mod files;
 mod info;
+pub mod laws;
 mod list;
 mod merge;
 mod part;

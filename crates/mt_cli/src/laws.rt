@@ -1,0 +1,40 @@
+//! The headline, and when refusals are equal: each law is the contract of a small function, which does nothing or only compares.
+
+ghost use Rattle.std.specs.Prelude.{◌≡◌, ◌↔◌, IsTrue};
+ghost use Rattle.mt_opcodec.specs.Sets.{IsSet};
+ghost use Rattle.mt_cli.specs.Headline.{SameAgree, SameIsTold, SameIsRendered, SameIsShown, OneIsItsUnion, MergedIsSame};
+
+use crate::fault::CliFault;
+use mt_opcodec::Log;
+use std::alloc::Allocator;
+
+/// Replicas with the same operations, spread over logs, ordered and repeated as may be: the logs of both agree, or clash on both sides. Where they
+/// agree both have one union, and so one session, one text of it, one text of the operations, and one log that is merged of them; and over recordings that are the
+/// same under the digests of the session's audible clips, in one format and with one head, one file is written of both, byte for byte, or both are
+/// refused for the same. Editors whose logs have the same operations lend one session, and of one log the same is told as of an editor that has it;
+/// and a log that is merged of others has their operations, and can stand for them.
+///
+/// That each log is the set of its operations is asked for; of a log in memory `log_in_memory` says it.
+pub fn headline()
+    ensures agree { SameAgree }
+    ensures told { SameIsTold }
+    ensures rendered { SameIsRendered }
+    ensures shown { SameIsShown }
+    ensures one_log { OneIsItsUnion }
+    ensures merged { MergedIsSame }
+{}
+
+/// A log in memory is the set of its operations: each stands under its own dot and names older ones.
+pub fn log_in_memory<A: Allocator>(log: &Log<A>)
+    ensures { IsSet log.now }
+{
+    // its operations are a log's
+    let _ = log.runs();
+}
+
+/// Refusals of a command are equal where they are of one case and say the same: the same index, the same dot, and the same fault inside.
+pub fn equal_cli_faults(fault: &CliFault, other: &CliFault) -> bool
+    ensures { IsTrue result ↔ (fault.now ≡ other.now) }
+{
+    fault == other
+}
