@@ -1,8 +1,7 @@
 #!/usr/bin/env python3
 """Compares `radio view`, `radio log` and `radio merge` with a model of the session in Python: tests/checks/model.py PROGRAM [--sets N] [--seed N]
 
-The model is written from docs/formats.md alone, in the plainest way: what is ready by a fixed point, a field's value by a
-maximum, the order of tracks by sorting whole paths. The sets are drawn at random: a few replicas whose numbers may have gaps,
+The model (tests/formats/sessions.py) is written from docs/formats.md alone. The sets are drawn at random: a few replicas whose numbers may have gaps,
 names of operations that are there, that are not, that have another clock or do not fit the role. Each set is handed to the
 program as one log, or as several that share operations, and merging these has to give the one log of the set. Stops at the
 first set of which the two tell different texts, of the session or of the operations."""
@@ -17,17 +16,8 @@ sys.dont_write_bytecode = True
 sys.path.insert(0, os.path.dirname(os.path.dirname(os.path.abspath(__file__))))
 from formats import logs
 from formats.log_text import log_text
+from formats.sessions import ADDS, FITS, NAMED, Op, ready_of, session_text
 
-ADDS = {"add_track", "add_clip", "add_marker"}
-FITS = {
-    "Track": {"add_track"},
-    "Place": {"add_track", "move_track"},
-    "Clip": {"add_clip"},
-    "Marker": {"add_marker"},
-    "Mixable": {"add_track", "add_clip"},
-    "Titled": {"add_track", "add_marker"},
-    "Item": ADDS,
-}
 TITLES = ["", "News", "  two  ", "held 9", "Wetter für morgen", "新聞", "t" * 255]
 SOURCES = [bytes(32), b"\xff" * 32, bytes(range(32))]
 FRAMES = [0, 0, 1, 1, 2, 480, 2**32 - 1]
@@ -35,104 +25,11 @@ LENGTHS = [1, 1, 2, 480, 2**32 - 1]
 SHORTS = [1, 1, 2, 65535]
 
 
-class Op:
-    """An operation: its stamp, what it does, and the fields of its body by name, in the order of the format."""
-
-    def __init__(self, own, kind, **fields):
-        self.own, self.kind, self.fields = own, kind, fields
-
-    def __getattr__(self, name):
-        return self.fields[name]
-
-    def text(self):
-        return getattr(logs, self.kind)(self.own, *self.fields.values())
-
-    def needs(self):
-        after = [(self.after, "Place")] if self.fields.get("after") is not None else []
-        return {
-            "add_track": lambda: after,
-            "move_track": lambda: [(self.track, "Track")] + after,
-            "add_clip": lambda: [(self.track, "Track")],
-            "move_clip": lambda: [(self.clip, "Clip"), (self.track, "Track")],
-            "trim_clip": lambda: [(self.clip, "Clip")],
-            "set_gain": lambda: [(self.item, "Mixable")],
-            "set_mute": lambda: [(self.item, "Mixable")],
-            "remove": lambda: [(self.item, "Item")] + [(tag, self.item) for tag in self.tags],
-            "restore": lambda: [(self.item, "Item")],
-            "add_marker": lambda: [],
-            "move_marker": lambda: [(self.marker, "Marker")],
-            "retitle": lambda: [(self.item, "Titled")],
-        }[self.kind]()
-
-    def fits(self, role):
-        """A role is a name, or the item that the operation has to be a tag of."""
-        if isinstance(role, str):
-            return self.kind in FITS[role]
-        return self.own == role if self.kind in ADDS else self.kind == "restore" and self.item == role
-
-
-def ready_of(ops):
-    ready = []
-    while True:
-        more = [op for op in ops if op not in ready and all(any(other.own == name and other.fits(role) for other in ready) for name, role in op.needs())]
-        if not more:
-            return ready
-        ready += more
-
-
-def session_text(ops, ready=None):
-    """The text of the session of these operations; whoever knows which of them are ready may say so."""
-    ready = ready_of(ops) if ready is None else ready
-
-    def last(item, field, writers):
-        """What the writer with the greatest stamp gave a field, and that stamp. `writers` says by kind which field names the item."""
-        writes = [(op.own, field(op)) for op in ready if op.kind in writers and (op.own if op.kind in ADDS else op.fields[writers[op.kind]]) == item]
-        return max(writes, key=lambda write: write[0])
-
-    def is_present(item):
-        tags = {item} | {op.own for op in ready if op.kind == "restore" and op.item == item}
-        return bool(tags - {tag for op in ready if op.kind == "remove" and op.item == item for tag in op.tags})
-
-    def title(item):
-        return last(item, lambda op: op.title, {"add_track": "", "add_marker": "", "retitle": "item"})[1]
-
-    def sound(item):
-        added = {"add_track": "", "add_clip": ""}
-        gain = last(item, lambda op: (op.num, op.den) if op.kind == "set_gain" else (1, 1), {**added, "set_gain": "item"})[1]
-        return gain, bool(last(item, lambda op: op.flag if op.kind == "set_mute" else 0, {**added, "set_mute": "item"})[1])
-
-    after = {op.own: op.after for op in ready if op.kind in FITS["Place"]}
-
-    def path(place):
-        way = []
-        while place is not None:
-            way.append(tuple(-part for part in place))
-            place = after[place]
-        return way[::-1]
-
-    present = {kind: [op for op in ready if op.kind == kind and is_present(op.own)] for kind in ADDS}
-    clips = []
-    for op in present["add_clip"]:
-        place, (track, at) = last(op.own, lambda op: (op.track, op.at), {"add_clip": "", "move_clip": "clip"})
-        offset, length = last(op.own, lambda op: (op.offset, op.length), {"add_clip": "", "trim_clip": "clip"})[1]
-        clips.append((track, at, place, logs.clip_line(op.own, place, at, offset, length, op.source, *sound(op.own))))
-    text = ""
-    for op in sorted(present["add_track"], key=lambda op: path(last(op.own, lambda op: None, {"add_track": "", "move_track": "track"})[0])):
-        text += logs.track_line(op.own, title(op.own), *sound(op.own))
-        text += "".join(line for track, at, place, line in sorted(clips) if track == op.own)
-    markers = [(last(op.own, lambda op: op.at, {"add_marker": "", "move_marker": "marker"})[1], op.own) for op in present["add_marker"]]
-    text += "".join(logs.marker_line(own, at, title(own)) for at, own in sorted(markers))
-    return text + "held %d\n" % (len(ops) - len(ready))
-
-
 def operations_text(ops):
     ready = {op.own for op in ready_of(ops)}
     return log_text([op.text() for op in ops], {op.own for op in ops} - ready)
 
 
-NAMED = {
-    "move_track": "Track", "add_clip": "Track", "move_clip": "Clip", "trim_clip": "Clip", "set_gain": "Mixable", "set_mute": "Mixable",
-    "remove": "Item", "restore": "Item", "move_marker": "Marker", "retitle": "Titled"}
 KINDS = sorted(ADDS) + ["add_track", "add_clip", "move_track", "remove"] + sorted(NAMED.keys() - {"add_clip", "move_track"})
 
 

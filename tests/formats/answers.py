@@ -1,0 +1,146 @@
+"""What `radio` answers to words and files, by the second reading in this folder: status, standard output, the refusal's number, and the files that it makes.
+The order of the refusals is that of docs/refusals.md and of the README: a command checks its words, opens its files from left to right, and reads and checks
+each in turn; `merge` and `render` make OUT.part once their files are open, the others once all is known."""
+from formats.log_text import log_text
+from formats.mixes import Mix, check_format, check_head
+from formats.read_logs import read_log, union, write_log
+from formats.read_messages import have_bytes, lack_bytes, take_ops
+from formats.read_waves import Wave
+from formats.refused import Refused, refuse_unless
+from formats.scripts import read_replica, run
+from formats.sessions import ready_of, session_of, session_text
+
+WRITE, READ = 37, 45
+OPTIONS = {
+    "rate": "48000", "bits": "24", "channels": "1", "description": "", "originator": "", "reference": "", "date": "2000-01-01", "time": "00:00:00",
+    "time-reference": "0"}
+# more frames than these are not mixed here
+FRAMES_MIXED = 20_000
+
+
+class TooMuch(Exception):
+    """A file that is too long to be worked out here."""
+
+
+class Answer:
+    """What a command comes to: the number of its refusal if it has one, its output, and the files that it makes with their bytes."""
+
+    def __init__(self, number=None, output=b"", made=None):
+        self.number, self.output, self.made = number, output, made or {}
+
+    @property
+    def status(self):
+        return 0 if self.number is None else 1
+
+    @property
+    def errors(self):
+        return b"" if self.number is None else b"radio: fault %d\n" % self.number
+
+
+class Folder:
+    """The files by their names, and what comes to standard input."""
+
+    def __init__(self, files, stdin):
+        self.files, self.stdin = files, stdin
+
+    def open(self, *names):
+        """The bytes of files that are opened from left to right."""
+        refuse_unless(all(name in self.files for name in names), READ)
+        return [self.files[name] for name in names]
+
+    def logs(self, names):
+        """The union of the logs of these names, or of the one on standard input where there is none."""
+        return union([read_log(data) for data in (self.open(*names) if names else [self.stdin])])
+
+    def part(self, out):
+        """OUT.part is made, which may not be there."""
+        refuse_unless(out and "/" not in out and out + ".part" not in self.files, WRITE)
+
+
+def view(folder, *names):
+    return Answer(output=session_text(folder.logs(names)).encode())
+
+
+def list_ops(folder, *names):
+    ops = folder.logs(names)
+    held = {op.own for op in ops} - {op.own for op in ready_of(ops)}
+    return Answer(output=log_text([op.text() for op in ops], held).encode())
+
+
+def merge(folder, out, *names):
+    inputs = folder.open(*names)
+    folder.part(out)
+    return Answer(made={out: write_log(union([read_log(data) for data in inputs]))})
+
+
+def edit(folder, replica, log, script, out):
+    name = read_replica(replica)
+    before, lines = folder.open(log, script)
+    ops = read_log(before)
+    made = run(ops, name, lines)
+    folder.part(out)
+    return Answer(output=b"ops %d\n" % len(made), made={out: write_log(ops + made)})
+
+
+def have(folder, log, out):
+    told = have_bytes(read_log(*folder.open(log)))
+    folder.part(out)
+    return Answer(made={out: told})
+
+
+def lack(folder, log, other, out):
+    before, asked = folder.open(log, other)
+    told = lack_bytes(read_log(before), asked)
+    folder.part(out)
+    return Answer(made={out: told})
+
+
+def take(folder, log, ops, out):
+    before, sent = folder.open(log, ops)
+    after = write_log(take_ops(read_log(before), sent))
+    folder.part(out)
+    return Answer(made={out: after})
+
+
+def info(folder, name):
+    return Answer(output=Wave(*folder.open(name)).info().encode())
+
+
+def render(folder, *words):
+    names, options = parted(words)
+    head = {name: options[name] for name in ("description", "originator", "reference", "date", "time")}
+    check_head(head)
+    rate, bits, channels = (int(options[name]) for name in ("rate", "bits", "channels"))
+    check_format(rate, bits, channels)
+    out, log, *recordings = names
+    inputs = folder.open(log, *recordings)
+    folder.part(out)
+    session = session_of(read_log(inputs[0]))
+    mix = Mix(session, [Wave(data) for data in inputs[1:]], rate, bits, channels)
+    if mix.length > FRAMES_MIXED:
+        raise TooMuch
+    return Answer(made={out: mix.file(dict(head, reference_time=int(options["time-reference"])))})
+
+
+def parted(words):
+    """The names among the words of `render`, and its options."""
+    names, options, left = [], dict(OPTIONS), list(words)
+    while left:
+        word = left.pop(0)
+        if not word.startswith("--"):
+            names.append(word)
+            continue
+        name, is_given, value = word[2:].partition("=")
+        options[name] = value if is_given else left.pop(0)
+    return names, options
+
+
+COMMANDS = {"view": view, "log": list_ops, "merge": merge, "edit": edit, "have": have, "lack": lack, "take": take, "info": info, "render": render}
+
+
+def answer(words, files, stdin=b""):
+    """What the program answers to these words where these files lie, by name."""
+    try:
+        return COMMANDS[words[0]](Folder(files, stdin), *[word for word in words[1:] if word != "--"])
+    except Refused as refused:
+        return Answer(refused.number)

@@ -1,0 +1,12 @@
+"""The refusal of a reading: its number is that of docs/refusals.md."""
+
+
+class Refused(Exception):
+    def __init__(self, number):
+        super().__init__("refused: %d" % number)
+        self.number = number
+
+
+def refuse_unless(held, number):
+    if not held:
+        raise Refused(number)
