@@ -1,0 +1,220 @@
+#!/usr/bin/env python3
+"""Compares what `radio` answers to damaged files with a second reading of the formats: python3 tests/checks/damage.py PROGRAM [--count N] [--seed N] [--first N]
+
+Logs, scripts, messages and wave files are drawn at random, damaged (formats/mutations.py: bits, bytes, numbers, counts and sizes changed, parts cut, put in,
+doubled, and spliced with others; the digest of a log, the frames of messages and the digests that a session names are mended, mostly, so that what is behind them
+is reached) and put through each command that reads them: view, log and merge; edit; have, lack and take; info and render. The second reading, of docs/formats.md
+alone, is formats/answers.py. Status, standard output, the refusal's line and every file of the folder have to be the same, byte for byte. First the reading itself is
+compared with the stored cases of these commands. Stops at the first that differs, and prints what repeats it."""
+import argparse
+import collections
+import os
+import random
+import subprocess
+import sys
+import tempfile
+
+sys.dont_write_bytecode = True
+sys.path.insert(0, os.path.dirname(os.path.dirname(os.path.abspath(__file__))))
+from checks.model import drawn
+from formats import drawings, exchange, logs
+from formats.answers import COMMANDS, TooMuch, answer
+from formats.mutations import damaged, damaged_frames, damaged_log, damaged_records, damaged_wave
+
+CASES = os.path.join(os.path.dirname(os.path.dirname(os.path.abspath(__file__))), "cases")
+EDITORS = ["00000000-0000-0000-0000-%012x" % name for name in (0, 1, 10, 11)] + ["ffffffff-ffff-ffff-ffff-ffffffffffff"]
+
+
+def bytes_of(path):
+    with open(path, "rb") as file:
+        return file.read()
+
+
+def files_in(folder):
+    """The files of a folder by name, where there is one."""
+    names = [name for name in os.listdir(folder) if name != ".keep"] if os.path.isdir(folder) else []
+    return {name: bytes_of(os.path.join(folder, name)) for name in names}
+
+
+def stored_cases():
+    """How many stored cases the reading answers as they are stored; those of the command line's own texts and of devices it does not know."""
+    count = 0
+    for command in sorted(COMMANDS):
+        for name in sorted(os.listdir(os.path.join(CASES, command))):
+            folder = os.path.join(CASES, command, name)
+            part = {part: bytes_of(os.path.join(folder, part)) for part in ("words", "stdin", "stdout", "stderr", "status")}
+            if part["status"] == b"2\n" or b"--help" in part["words"] or {"setup", "output"} & set(os.listdir(folder)):
+                continue
+            words = part["words"].decode().split("\n")[:-1]
+            told = answer(words, files_in(os.path.join(folder, "files")), part["stdin"])
+            assert (b"%d\n" % told.status, told.output, told.errors) == (part["status"], part["stdout"], part["stderr"]), (command, name, told.errors)
+            assert told.made == files_in(os.path.join(folder, "made")), (command, name)
+            count += 1
+    return count
+
+
+def texts(ops):
+    return [op.text() for op in sorted(ops, key=lambda op: op.own[1:])]
+
+
+def log_of(draw, ops):
+    """The log of these operations, whole or damaged."""
+    whole = logs.log([op.text() for op in ops])
+    other = logs.log([op.text() for op in drawn(draw)]) if draw.random() < 0.1 else whole
+    return whole if draw.random() < 0.04 else damaged_log(draw, whole, [text for _, text in texts(ops)], other)
+
+
+def read_log(draw):
+    """A damaged log, alone or beside others, shown, listed and merged."""
+    ops = drawn(draw)
+    files = {"a": log_of(draw, ops)}
+    if draw.random() < 0.4:
+        files["b"] = logs.log([op.text() for op in ops if draw.random() < 0.6])
+    names = draw.sample(sorted(files), len(files))
+    return [(["view", *names], files), (["log", *names], files), (["merge", draw.choice(["out", "a"]), *names], files)]
+
+
+def read_script(draw):
+    ops = drawn(draw)
+    lines = drawings.script(draw, ops)
+    how = draw.random()
+    script = lines.text() if how < 0.3 else drawings.damaged_script(draw, lines) if how < 0.7 else damaged(draw, lines.text())
+    log = log_of(draw, ops) if draw.random() < 0.05 else logs.log([op.text() for op in ops])
+    return [(["edit", draw.choice(EDITORS), "log", "script", draw.choice(["out", "log"])], {"log": log, "script": script})]
+
+
+def read_message(draw):
+    """Damaged operations that are taken, or a damaged summary that is answered."""
+    ops = drawn(draw)
+    some, more = [op for op in ops if draw.random() < 0.5], [op for op in ops if draw.random() < 0.7]
+    files = {"log": logs.log([op.text() for op in some])}
+    if draw.random() < 0.5:
+        asked = exchange.summary([op.text() for op in more])
+        files["have"] = asked if draw.random() < 0.04 else damaged_frames(draw, [asked[4:]])
+        return [(["lack", "log", "have", "out"], files)]
+    cuts = [sent for sent in (texts(more)[:3], texts(more)[3:]) if sent]
+    bodies = [exchange.ops_body(damaged_ops(draw, sent)) for sent in cuts] + [b"\3"]
+    files["ops"] = damaged_frames(draw, bodies) if draw.random() < 0.6 else b"".join(exchange.frame(body) for body in bodies)
+    return [(["take", "log", "ops", draw.choice(["out", "log"])], files)]
+
+
+def damaged_ops(draw, sent):
+    """Operations of which one is damaged, now and then, with how many there are."""
+    if draw.random() < 0.5:
+        return sent
+    return [(None, text) for text in damaged_records(draw, [text for _, text in sent])]
+
+
+def read_wave(draw):
+    whole = drawings.wave(draw)
+    file = whole if draw.random() < 0.04 else damaged_wave(draw, whole, drawings.wave(draw))
+    return [(["info", "wave"], {"wave": file})]
+
+
+def read_session(draw):
+    """A session of recordings, most of them damaged before it names them."""
+    rate = draw.choice([48000, 48000, 8000])
+    waves = {"r%d" % number: drawings.wave(draw, rate) for number in range(draw.randint(1, 3))}
+    for name in waves:
+        if draw.random() < 0.35:
+            waves[name] = damaged_wave(draw, waves[name], drawings.wave(draw, rate))
+    ops = drawings.session(draw, list(waves.values()))
+    log = logs.log(ops)
+    if draw.random() < 0.2:
+        log = damaged_log(draw, log, [text for _, text in sorted(ops, key=lambda op: op[0][1:])], log)
+    return [(["render", "out", "log", *waves, *drawings.options(draw, rate)], {"log": log, **waves})]
+
+
+def read_have(draw):
+    return [(["have", "log", "out"], {"log": log_of(draw, drawn(draw))})]
+
+
+KINDS = [(read_log, 20), (read_script, 24), (read_message, 24), (read_wave, 16), (read_session, 12), (read_have, 4)]
+
+
+class Desk:
+    """A folder in which the program is run."""
+
+    def __init__(self, program, folder):
+        self.program, self.folder = program, folder
+
+    def lay(self, files):
+        for name in os.listdir(self.folder):
+            if name not in files:
+                os.remove(os.path.join(self.folder, name))
+        for name, data in files.items():
+            with open(os.path.join(self.folder, name), "wb") as file:
+                file.write(data)
+
+    def run(self, words, files):
+        """Status, output, errors and the files that lie there afterwards."""
+        self.lay(files)
+        told = subprocess.run([self.program, *words], cwd=self.folder, stdin=subprocess.DEVNULL, capture_output=True, timeout=60)
+        return told.returncode, told.stdout, told.stderr, files_in(self.folder)
+
+
+def tell_difference(words, files, wanted, told):
+    print("radio " + " ".join(words))
+    for name, data in files.items():
+        print("  %s: %s" % (name, data.hex()))
+    for who, (status, output, errors, left) in (("the program", told), ("the reading", wanted)):
+        print("%s: status %d, %r, %r" % (who, status, errors, output))
+        print("".join("  %s: %s\n" % (name, data.hex()) for name, data in left.items() if files.get(name) != data), end="")
+
+
+def compare(desk, words, files, tally):
+    """Whether both say the same. A file that is too long to be worked out here is counted, and not made."""
+    try:
+        known = answer(words, files)
+    except TooMuch:
+        tally["left out"] += 1
+        return True
+    told = desk.run(words, files)
+    wanted = (known.status, known.output, known.errors, {**files, **known.made})
+    tally[words[0], known.number] += 1
+    if told == wanted:
+        return True
+    tell_difference(words, files, wanted, told)
+    return False
+
+
+def summary(tally):
+    """How often each command was refused by which number, or not."""
+    commands = {}
+    for key, count in tally.items():
+        if key != "left out":
+            commands.setdefault(key[0], []).append((-1 if key[1] is None else key[1], count))
+    return "\n".join("%s: %s" % (name, ", ".join("%s %d" % ("done" if number < 0 else number, count) for number, count in sorted(some))) for name, some in sorted(commands.items()))
+
+
+def main():
+    parser = argparse.ArgumentParser(description=__doc__.split("\n")[0])
+    parser.add_argument("program")
+    parser.add_argument("--count", type=int, default=3000)
+    parser.add_argument("--seed", type=int, default=1)
+    parser.add_argument("--first", type=int, default=0)
+    parser.add_argument("--tell", action="store_true", help="tell how often each refusal came")
+    options = parser.parse_args()
+    cases = stored_cases()
+    tally = collections.Counter()
+    with tempfile.TemporaryDirectory() as folder:
+        desk = Desk(os.path.abspath(options.program), folder)
+        for number in range(options.first, options.first + options.count):
+            draw = random.Random("%d %d" % (options.seed, number))
+            kind = draw.choices([kind for kind, _ in KINDS], [weight for _, weight in KINDS])[0]
+            for words, files in kind(draw):
+                if not compare(desk, words, files, tally):
+                    print("to repeat: --seed %d --first %d --count 1" % (options.seed, number))
+                    return 1
+    runs = sum(count for key, count in tally.items() if key != "left out")
+    done = sum(count for key, count in tally.items() if key != "left out" and key[1] is None)
+    kinds = len({key for key in tally if key != "left out"})
+    print("%d damaged inputs in %d runs are answered as a second reading of the formats has them, %d of them taken, by %d pairs of command and refusal; "
+          "%d stored cases too; %d renders too long to work out were left out" % (options.count, runs, done, kinds, cases, tally["left out"]))
+    if options.tell:
+        print(summary(tally))
+    return 0
+
+
+if __name__ == "__main__":
+    sys.exit(main())
