@@ -27,7 +27,7 @@ from formats.read_logs import read_log, write_log
 from formats.read_messages import OUT_OF_TURN, End
 
 OLD = b"what was there"
-SENT_FOR_EVER = 24_000_000
+SENT_FOR_EVER = 10_000_000
 PEAK_ALLOWED = 8 * exchange.LONGEST
 BROKEN_OFF = {37, 45, 49}
 
@@ -121,12 +121,10 @@ def cut(draw, stream):
 def finished(child):
     """The refusal's number, or none; nothing else is told."""
     output, errors = child.communicate(timeout=60)
-    assert output == b"", output
-    if child.returncode == 0:
-        assert errors == b"", errors
-        return None
-    number = int(errors.removeprefix(b"radio: fault "))
-    assert child.returncode == 1 and errors == b"radio: fault %d\n" % number, (child.returncode, errors)
+    word = errors.removeprefix(b"radio: fault ").rstrip(b"\n")
+    number = int(word) if word.isdigit() else None
+    wanted = (0, b"", b"") if number is None else (1, b"", b"radio: fault %d\n" % number)
+    assert (child.returncode, output, errors) == wanted, (child.returncode, output, errors)
     return number
 
 
@@ -154,7 +152,7 @@ def read_back(ops):
 
 
 def honest(own, theirs):
-    """What an honest other end with these operations sends, and where a change of it may come."""
+    """What an honest other end with these operations sends."""
     mine = {op[0] for op in own}
     return exchange.summary(theirs) + exchange.ops([op for op in theirs if op[0] not in mine]) + exchange.BYE
 
@@ -235,6 +233,8 @@ def for_ever(first, again):
 
 def silent(child, line):
     time.sleep(0.3)
+    line.shutdown(socket.SHUT_WR)
+    listen(line)
 
 
 def breaking(front):
@@ -249,7 +249,7 @@ def breaking(front):
 
 def check_hostile(desk):
     """Peers that never end, say nothing, or break off: how many, and the most memory that one of them took."""
-    other = [add_marker((2, B, 1), 9, "B")]
+    other = [add_marker((number, B, number), 9, "B" * 200) for number in range(1, 201)]
     have, one = exchange.summary(other), exchange.ops(other)
     never = struct.pack(">I", exchange.LONGEST) + b"\2" + struct.pack(">I", 2**32 - 1)
     endless = [(have, one, {49}), (have, have, {39}), (b"", bytes(4), {38}), (b"", b"\xff", {40}), (never, one[9:], {38}), (have + never, one[9:], {38})]
@@ -259,8 +259,8 @@ def check_hostile(desk):
             taken, number = kept(desk, calls, for_ever(first, again))
             assert number in wanted and taken <= PEAK_ALLOWED, (calls, first[:40], number, taken)
             most, count = max(most, taken), count + 1
-        stream = have + one + exchange.BYE
-        for talk, wanted in [(silent, {49})] + [(breaking(stream[:at]), BROKEN_OFF) for at in range(0, len(stream) - 5, 7)]:
+        stream = have + exchange.ops(other[:1]) + exchange.BYE
+        for talk, wanted in [(silent, {49})] + [(breaking(stream[:at]), BROKEN_OFF) for at in range(0, len(stream) - 5, 13)]:
             _, number = kept(desk, calls, talk)
             assert number in wanted, (calls, number)
             count += 1

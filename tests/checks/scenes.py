@@ -1,0 +1,177 @@
+"""Runs of each command that the checks of failures disturb: words, the files that lie there, what comes to standard input or from a peer, and what is right by the
+second reading (formats/answers.py, formats/read_messages.py)."""
+import hashlib
+import os
+import socket
+import subprocess
+import time
+
+from checks.meetings import free_port
+from formats import exchange, waves
+from formats.answers import Answer, answer
+from formats.logs import A, B, C, add_clip, add_marker, add_track, log
+from formats.read_logs import read_log, write_log
+from formats.read_messages import End
+
+OLD = b"what was there"
+EXPLAINED = os.path.join(os.path.dirname(os.path.dirname(os.path.abspath(__file__))), "cases", "explain", "a_number", "stdout")
+PATIENCE = 30
+
+
+class Scene:
+    """A run of the program. `stream` is what a peer sends, where the run is a conversation."""
+
+    def __init__(self, name, words, files, stdin=b"", stream=None, right=None):
+        self.name, self.words, self.files, self.stdin, self.stream = name, words, files, stdin, stream
+        self.right = right or self.answer(files, stdin, stream)
+
+    def answer(self, files, stdin, stream):
+        """What is right where the files have these bytes."""
+        if stream is None:
+            return answer(self.words, files, stdin)
+        end = End(read_log(files["log"]), self.words[0] == "meet").hear(stream)
+        return Answer(end.number) if end.number is not None else Answer(made={self.words[-1]: write_log(end.ops)})
+
+    @property
+    def files_after(self):
+        return {**self.files, **self.right.made}
+
+
+def markers(replica, count, size):
+    return [add_marker((number, replica, number), number, "m" * size) for number in range(1, count + 1)]
+
+
+def scenes(count, size):
+    """A run of each command or two, over logs of so many markers with titles of this size."""
+    ours, theirs = markers(A, count, size), markers(B, count, size)
+    recording = waves.riff(waves.fmt(1, 48000, 16), waves.data(bytes(index * 37 % 256 for index in range(600))), waves.cue(waves.point(1, 5)), waves.adtl(waves.labl(1, b"Bell\0")))
+    played = [add_track((1, C, 1), None, "T"), add_clip((2, C, 2), hashlib.sha256(recording).digest(), (1, C, 1), 0, 0, 300)] + ours[:3]
+    whole, other = log(ours), log(ours[: count // 2] + theirs)
+    script = b"add-track head Voice\nadd-marker 480 News\nretitle $2 Headlines\nmute $1 on\n"
+    asked, sent = exchange.summary(theirs), exchange.ops(theirs) + exchange.BYE
+    stream = exchange.summary(theirs) + sent
+    editor = "00000000-0000-0000-0000-00000000000c"
+    return [
+        Scene("view", ["view", "log", "other"], {"log": whole, "other": other}),
+        Scene("view of standard input", ["view"], {}, whole),
+        Scene("log", ["log", "log"], {"log": whole}),
+        Scene("merge", ["merge", "out", "log", "other"], {"log": whole, "other": other, "out": OLD}),
+        Scene("merge onto a log", ["merge", "log", "log", "other"], {"log": whole, "other": other}),
+        Scene("merge that is refused", ["merge", "out", "log", "other"], {"log": whole, "other": other[:-1], "out": OLD}),
+        Scene("edit", ["edit", editor, "log", "script", "out"], {"log": whole, "script": script, "out": OLD}),
+        Scene("edit that is refused", ["edit", editor, "log", "script", "out"], {"log": whole, "script": script + b"frob\n", "out": OLD}),
+        Scene("render", ["render", "out", "log", "r", "--bits", "16"], {"log": log(played), "r": recording, "out": OLD}),
+        Scene("render that is refused", ["render", "out", "log"], {"log": log(played), "out": OLD}),
+        Scene("info", ["info", "r"], {"r": recording}),
+        Scene("have", ["have", "log", "out"], {"log": whole, "out": OLD}),
+        Scene("lack", ["lack", "log", "have", "out"], {"log": whole, "have": asked, "out": OLD}),
+        Scene("take", ["take", "log", "ops", "out"], {"log": whole, "ops": sent, "out": OLD}),
+        Scene("take onto the log", ["take", "log", "ops", "log"], {"log": whole, "ops": sent}),
+        Scene("explain", ["explain", "45"], {}, right=Answer(output=read(EXPLAINED))),
+        Scene("serve", ["serve", "ADDR", "log", "out"], {"log": whole, "out": OLD}, stream=stream),
+        Scene("meet", ["meet", "ADDR", "log", "log"], {"log": whole}, stream=stream),
+    ]
+
+
+def read(path):
+    with open(path, "rb") as file:
+        return file.read()
+
+
+class Told:
+    """What a run came to: status, output, errors, and the files that lie there afterwards."""
+
+    def __init__(self, status, output, errors, files):
+        self.status, self.output, self.errors, self.files = status, output, errors, files
+
+    def is_right(self, scene):
+        right = scene.right
+        return (self.status, self.output, self.errors, self.files) == (right.status, right.output, right.errors, scene.files_after)
+
+    def __str__(self):
+        files = ", ".join("%s of %d bytes" % (name, len(data)) for name, data in sorted(self.files.items()))
+        return "status %d, errors %r, output of %d bytes, %s" % (self.status, self.errors[:200], len(self.output), files)
+
+
+class Stage:
+    """Two folders: `desk`, where the program runs, and `told`, with its input, output and errors."""
+
+    def __init__(self, program, folder):
+        self.program, self.desk, self.told = program, os.path.join(folder, "desk"), os.path.join(folder, "told")
+        for place in (self.desk, self.told):
+            os.mkdir(place)
+
+    def files(self):
+        return {name: read(os.path.join(self.desk, name)) for name in os.listdir(self.desk)}
+
+    def lay(self, files):
+        for name in os.listdir(self.desk):
+            os.remove(os.path.join(self.desk, name))
+        for name, data in files.items():
+            with open(os.path.join(self.desk, name), "wb") as file:
+                file.write(data)
+
+    def run(self, scene, before=(), files=None, more=None):
+        """Runs the program in this scene, behind the words `before`; `files` lie there if not those of the scene. `more` is added to its environment."""
+        self.lay(scene.files if files is None else files)
+        with open(os.path.join(self.told, "stdin"), "wb") as file:
+            file.write(scene.stdin)
+        with socket.create_server(("127.0.0.1", 0)) as listener:
+            listener.settimeout(0.02)
+            port = free_port() if scene.words[0] == "serve" else listener.getsockname()[1]
+            child = self.start([*before, self.program, *[word.replace("ADDR", "127.0.0.1:%d" % port) for word in scene.words]], more)
+            try:
+                if scene.stream is not None:
+                    converse(called(child, port) if scene.words[0] == "serve" else caller(child, listener), scene.stream)
+                child.wait(PATIENCE)
+            finally:
+                child.kill()
+                child.wait()
+        return Told(child.returncode, read(os.path.join(self.told, "stdout")), read(os.path.join(self.told, "stderr")), self.files())
+
+    def start(self, words, more):
+        streams = [open(os.path.join(self.told, name), mode) for name, mode in (("stdin", "rb"), ("stdout", "wb"), ("stderr", "wb"))]
+        child = subprocess.Popen(words, cwd=self.desk, stdin=streams[0], stdout=streams[1], stderr=streams[2], env={**os.environ, **(more or {})})
+        for stream in streams:
+            stream.close()
+        return child
+
+
+def converse(line, stream):
+    """Sends what a peer sends, and hears the other end out."""
+    if line is None:
+        return
+    with line:
+        line.settimeout(PATIENCE)
+        try:
+            line.sendall(stream)
+            line.shutdown(socket.SHUT_WR)
+            while line.recv(65536):
+                pass
+        except ConnectionError:
+            return
+
+
+def caller(child, listener):
+    """The line of the program that calls here, if it does before it ends."""
+    while True:
+        try:
+            return listener.accept()[0]
+        except TimeoutError:
+            if child.poll() is not None:
+                return None
+
+
+def called(child, port):
+    """The line to the program, if it listens before it ends."""
+    end = time.monotonic() + PATIENCE
+    while child.poll() is None and time.monotonic() < end:
+        try:
+            line = socket.create_connection(("127.0.0.1", port), PATIENCE)
+        except OSError:
+            time.sleep(0.001)
+            continue
+        if line.getsockname() != line.getpeername():
+            return line
+        line.close()
+    return None
