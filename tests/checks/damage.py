@@ -3,7 +3,7 @@
 
 Logs, scripts, messages and wave files are drawn at random, damaged (formats/mutations.py: bits, bytes, numbers, counts and sizes changed, parts cut, put in,
 doubled, and spliced with others; the digest of a log, the frames of messages and the digests that a session names are mended, mostly, so that what is behind them
-is reached) and put through each command that reads them: view, log and merge; edit; have, lack and take; info and render. The second reading, of docs/formats.md
+is reached) and put through each command that reads them: view, log and merge; edit; have, lack and take; info and render. So are the files of the stored cases. The second reading, of docs/formats.md
 alone, is formats/answers.py. Status, standard output, the refusal's line and every file of the folder have to be the same, byte for byte. First the reading itself is
 compared with the stored cases of these commands. Stops at the first that differs, and prints what repeats it."""
 import argparse
@@ -19,9 +19,10 @@ sys.path.insert(0, os.path.dirname(os.path.dirname(os.path.abspath(__file__))))
 from checks.model import drawn
 from formats import drawings, exchange, logs
 from formats.answers import COMMANDS, TooMuch, answer
-from formats.mutations import damaged, damaged_frames, damaged_log, damaged_records, damaged_wave
+from formats.mutations import damaged, damaged_frames, damaged_log, damaged_records, damaged_wave, seal
 
 CASES = os.path.join(os.path.dirname(os.path.dirname(os.path.abspath(__file__))), "cases")
+PATIENCE = 60
 EDITORS = ["00000000-0000-0000-0000-%012x" % name for name in (0, 1, 10, 11)] + ["ffffffff-ffff-ffff-ffff-ffffffffffff"]
 
 
@@ -36,21 +37,28 @@ def files_in(folder):
     return {name: bytes_of(os.path.join(folder, name)) for name in names}
 
 
+Case = collections.namedtuple("Case", "name words files stdin status output errors made")
+
+
 def stored_cases():
-    """How many stored cases the reading answers as they are stored; those of the command line's own texts and of devices it does not know."""
-    count = 0
+    """The stored cases of these commands, but for those of the command line's own texts and of devices, which the reading does not know."""
+    cases = []
     for command in sorted(COMMANDS):
         for name in sorted(os.listdir(os.path.join(CASES, command))):
             folder = os.path.join(CASES, command, name)
             part = {part: bytes_of(os.path.join(folder, part)) for part in ("words", "stdin", "stdout", "stderr", "status")}
             if part["status"] == b"2\n" or b"--help" in part["words"] or {"setup", "output"} & set(os.listdir(folder)):
                 continue
-            words = part["words"].decode().split("\n")[:-1]
-            told = answer(words, files_in(os.path.join(folder, "files")), part["stdin"])
-            assert (b"%d\n" % told.status, told.output, told.errors) == (part["status"], part["stdout"], part["stderr"]), (command, name, told.errors)
-            assert told.made == files_in(os.path.join(folder, "made")), (command, name)
-            count += 1
-    return count
+            words, files = part["words"].decode().split("\n")[:-1], files_in(os.path.join(folder, "files"))
+            cases.append(Case(command + "/" + name, words, files, part["stdin"], int(part["status"]), part["stdout"], part["stderr"], files_in(os.path.join(folder, "made"))))
+    return cases
+
+
+def check_stored(cases):
+    """The reading answers the stored cases as they are stored."""
+    for case in cases:
+        told = answer(case.words, case.files, case.stdin)
+        assert (told.status, told.output, told.errors, told.made) == case[4:], (case.name, told.errors)
 
 
 def texts(ops):
@@ -64,7 +72,7 @@ def log_of(draw, ops):
     return whole if draw.random() < 0.04 else damaged_log(draw, whole, [text for _, text in texts(ops)], other)
 
 
-def read_log(draw):
+def read_log(draw, cases):
     """A damaged log, alone or beside others, shown, listed and merged."""
     ops = drawn(draw)
     files = {"a": log_of(draw, ops)}
@@ -74,7 +82,7 @@ def read_log(draw):
     return [(["view", *names], files), (["log", *names], files), (["merge", draw.choice(["out", "a"]), *names], files)]
 
 
-def read_script(draw):
+def read_script(draw, cases):
     ops = drawn(draw)
     lines = drawings.script(draw, ops)
     how = draw.random()
@@ -83,7 +91,7 @@ def read_script(draw):
     return [(["edit", draw.choice(EDITORS), "log", "script", draw.choice(["out", "log"])], {"log": log, "script": script})]
 
 
-def read_message(draw):
+def read_message(draw, cases):
     """Damaged operations that are taken, or a damaged summary that is answered."""
     ops = drawn(draw)
     some, more = [op for op in ops if draw.random() < 0.5], [op for op in ops if draw.random() < 0.7]
@@ -105,13 +113,13 @@ def damaged_ops(draw, sent):
     return [(None, text) for text in damaged_records(draw, [text for _, text in sent])]
 
 
-def read_wave(draw):
+def read_wave(draw, cases):
     whole = drawings.wave(draw)
     file = whole if draw.random() < 0.04 else damaged_wave(draw, whole, drawings.wave(draw))
     return [(["info", "wave"], {"wave": file})]
 
 
-def read_session(draw):
+def read_session(draw, cases):
     """A session of recordings, most of them damaged before it names them."""
     rate = draw.choice([48000, 48000, 8000])
     waves = {"r%d" % number: drawings.wave(draw, rate) for number in range(draw.randint(1, 3))}
@@ -125,11 +133,30 @@ def read_session(draw):
     return [(["render", "out", "log", *waves, *drawings.options(draw, rate)], {"log": log, **waves})]
 
 
-def read_have(draw):
+def read_have(draw, cases):
     return [(["have", "log", "out"], {"log": log_of(draw, drawn(draw))})]
 
 
-KINDS = [(read_log, 20), (read_script, 24), (read_message, 24), (read_wave, 16), (read_session, 12), (read_have, 4)]
+def damaged_file(draw, data):
+    """A file of any kind, damaged as one of its kind."""
+    if data[:4] == b"RMTS" and len(data) >= 45 and draw.random() < 0.9:
+        return seal(damaged(draw, data[:-32]))
+    return damaged_wave(draw, data, b"") if data[:4] == b"RIFF" else damaged(draw, data)
+
+
+def read_case(draw, cases):
+    """A stored case of which a file is damaged, or what comes to standard input."""
+    case = draw.choice(cases)
+    files, stdin = dict(case.files), case.stdin
+    name = draw.choice(sorted(files) or [None])
+    if name is None:
+        stdin = damaged_file(draw, stdin)
+    else:
+        files[name] = damaged_file(draw, files[name])
+    return [(case.words, files, stdin)]
+
+
+KINDS = [(read_log, 18), (read_script, 22), (read_message, 22), (read_wave, 14), (read_session, 12), (read_have, 4), (read_case, 8)]
 
 
 class Desk:
@@ -146,15 +173,18 @@ class Desk:
             with open(os.path.join(self.folder, name), "wb") as file:
                 file.write(data)
 
-    def run(self, words, files):
+    def run(self, words, files, stdin):
         """Status, output, errors and the files that lie there afterwards."""
         self.lay(files)
-        told = subprocess.run([self.program, *words], cwd=self.folder, stdin=subprocess.DEVNULL, capture_output=True, timeout=60)
+        try:
+            told = subprocess.run([self.program, *words], cwd=self.folder, input=stdin, capture_output=True, timeout=PATIENCE)
+        except subprocess.TimeoutExpired:
+            return -1, b"", b"it does not end in %d seconds" % PATIENCE, files_in(self.folder)
         return told.returncode, told.stdout, told.stderr, files_in(self.folder)
 
 
-def tell_difference(words, files, wanted, told):
-    print("radio " + " ".join(words))
+def tell_difference(words, files, stdin, wanted, told):
+    print("radio %s with %s on standard input and these files" % (" ".join(words), stdin.hex() or "nothing"))
     for name, data in files.items():
         print("  %s: %s" % (name, data.hex()))
     for who, (status, output, errors, left) in (("the program", told), ("the reading", wanted)):
@@ -162,19 +192,19 @@ def tell_difference(words, files, wanted, told):
         print("".join("  %s: %s\n" % (name, data.hex()) for name, data in left.items() if files.get(name) != data), end="")
 
 
-def compare(desk, words, files, tally):
+def compare(desk, tally, words, files, stdin=b""):
     """Whether both say the same. A file that is too long to be worked out here is counted, and not made."""
     try:
-        known = answer(words, files)
+        known = answer(words, files, stdin)
     except TooMuch:
         tally["left out"] += 1
         return True
-    told = desk.run(words, files)
+    told = desk.run(words, files, stdin)
     wanted = (known.status, known.output, known.errors, {**files, **known.made})
     tally[words[0], known.number] += 1
     if told == wanted:
         return True
-    tell_difference(words, files, wanted, told)
+    tell_difference(words, files, stdin, wanted, told)
     return False
 
 
@@ -196,21 +226,22 @@ def main():
     parser.add_argument("--tell", action="store_true", help="tell how often each refusal came")
     options = parser.parse_args()
     cases = stored_cases()
+    check_stored(cases)
     tally = collections.Counter()
     with tempfile.TemporaryDirectory() as folder:
         desk = Desk(os.path.abspath(options.program), folder)
         for number in range(options.first, options.first + options.count):
             draw = random.Random("%d %d" % (options.seed, number))
             kind = draw.choices([kind for kind, _ in KINDS], [weight for _, weight in KINDS])[0]
-            for words, files in kind(draw):
-                if not compare(desk, words, files, tally):
+            for run in kind(draw, cases):
+                if not compare(desk, tally, *run):
                     print("to repeat: --seed %d --first %d --count 1" % (options.seed, number))
                     return 1
     runs = sum(count for key, count in tally.items() if key != "left out")
     done = sum(count for key, count in tally.items() if key != "left out" and key[1] is None)
     kinds = len({key for key in tally if key != "left out"})
     print("%d damaged inputs in %d runs are answered as a second reading of the formats has them, %d of them taken, by %d pairs of command and refusal; "
-          "%d stored cases too; %d renders too long to work out were left out" % (options.count, runs, done, kinds, cases, tally["left out"]))
+          "%d stored cases too; %d renders too long to work out were left out" % (options.count, runs, done, kinds, len(cases), tally["left out"]))
     if options.tell:
         print(summary(tally))
     return 0

@@ -27,6 +27,7 @@ from formats.read_logs import read_log, write_log
 from formats.read_messages import OUT_OF_TURN, End
 
 OLD = b"what was there"
+PATIENCE = 60
 SENT_FOR_EVER = 10_000_000
 PEAK_ALLOWED = 8 * exchange.LONGEST
 BROKEN_OFF = {37, 45, 49}
@@ -120,7 +121,10 @@ def cut(draw, stream):
 
 def finished(child):
     """The refusal's number, or none; nothing else is told."""
-    output, errors = child.communicate(timeout=60)
+    try:
+        output, errors = child.communicate(timeout=PATIENCE)
+    finally:
+        child.kill()
     word = errors.removeprefix(b"radio: fault ").rstrip(b"\n")
     number = int(word) if word.isdigit() else None
     wanted = (0, b"", b"") if number is None else (1, b"", b"radio: fault %d\n" % number)
