@@ -120,7 +120,7 @@ def read_wave(draw, cases):
 
 
 def read_session(draw, cases):
-    """A session of recordings, most of them damaged before it names them."""
+    """A session of recordings, some of them damaged before it names them."""
     rate = draw.choice([48000, 48000, 8000])
     waves = {"r%d" % number: drawings.wave(draw, rate) for number in range(draw.randint(1, 3))}
     for name in waves:

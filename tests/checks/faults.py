@@ -22,9 +22,11 @@ import tempfile
 sys.dont_write_bytecode = True
 HERE = os.path.dirname(os.path.abspath(__file__))
 sys.path.insert(0, os.path.dirname(HERE))
-from checks.scenes import Stage, scenes
+from checks.scenes import Stage, endless_scenes, scenes
 
 MEMORY, WRITE, READ, NET = 0, 37, 45, 46
+# the address space that an input without end has to fill
+ROOM = 1 << 26
 FOR_MEMORY = {"mmap", "munmap", "mremap", "mprotect", "madvise", "brk"}
 # what a process does once for itself, not for files, memory or sockets
 OF_PROCESSES = {"exit_group", "exit", "rt_sigaction", "rt_sigprocmask", "set_tid_address", "set_robust_list", "rseq", "arch_prctl", "prlimit64", "futex", "execve"}
@@ -289,7 +291,12 @@ def try_limits(bench, options):
         for step in range(steps):
             began += limit_room(bench, scene, enough * step // steps, bench.wrong)[0]
             count += 1
-    print("in %d runs with too little address space or enough the program began %d times, and then was right or told so" % (count, began))
+    for scene in endless_scenes():
+        told = bench.traced(scene, "limit", 0, ROOM)
+        if not told.is_right(scene):
+            bench.wrong.append("%s with %d bytes of address space: %s" % (scene.name, ROOM, told))
+    print("in %d runs with too little address space or enough the program began %d times, and then was right or told so; %d inputs without end are told as want of memory" % (
+        count, began, len(endless_scenes())))
 
 
 def main():

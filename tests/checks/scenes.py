@@ -12,6 +12,7 @@ from formats.answers import Answer, answer
 from formats.logs import A, B, C, add_clip, add_marker, add_track, log
 from formats.read_logs import read_log, write_log
 from formats.read_messages import End
+from formats.refused import Refused
 
 OLD = b"what was there"
 EXPLAINED = os.path.join(os.path.dirname(os.path.dirname(os.path.abspath(__file__))), "cases", "explain", "a_number", "stdout")
@@ -29,7 +30,10 @@ class Scene:
         """What is right where the files have these bytes."""
         if stream is None:
             return answer(self.words, files, stdin)
-        end = End(read_log(files["log"]), self.words[0] == "meet").hear(stream)
+        try:
+            end = End(read_log(files["log"]), self.words[0] == "meet").hear(stream)
+        except Refused as refused:
+            return Answer(refused.number)
         return Answer(end.number) if end.number is not None else Answer(made={self.words[-1]: write_log(end.ops)})
 
     @property
@@ -71,6 +75,15 @@ def scenes(count, size):
         Scene("serve", ["serve", "ADDR", "log", "out"], {"log": whole, "out": OLD}, stream=stream),
         Scene("meet", ["meet", "ADDR", "log", "log"], {"log": whole}, stream=stream),
     ]
+
+
+def endless_scenes():
+    """Commands that read an input without end, which no memory holds."""
+    whole, zero, editor = log(markers(A, 3, 8)), "/dev/zero", "00000000-0000-0000-0000-00000000000c"
+    words = [
+        ["view", zero], ["log", "log", zero], ["merge", "out", zero], ["edit", editor, zero, "log", "out"], ["edit", editor, "log", zero, "out"], ["have", zero, "out"],
+        ["lack", "log", zero, "out"], ["take", "log", zero, "out"], ["render", "out", "log", zero], ["info", zero], ["serve", "127.0.0.1:0", zero, "out"]]
+    return [Scene(" ".join(some), some, {"log": whole, "out": OLD}, right=Answer(0)) for some in words]
 
 
 def read(path):
