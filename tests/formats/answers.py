@@ -53,8 +53,8 @@ class Folder:
         return union([read_log(data) for data in (self.open(*names) if names else [self.stdin])])
 
     def part(self, out):
-        """OUT.part is made, which may not be there."""
-        refuse_unless(out and "/" not in out and out + ".part" not in self.files, WRITE)
+        """OUT.part is made, which may not be there; a name of no letter is not known to be none before the part gets it."""
+        refuse_unless("/" not in out and out + ".part" not in self.files, WRITE)
 
 
 def view(folder, *names):
@@ -141,6 +141,7 @@ COMMANDS = {"view": view, "log": list_ops, "merge": merge, "edit": edit, "have":
 def answer(words, files, stdin=b""):
     """What the program answers to these words where these files lie, by name."""
     try:
-        return COMMANDS[words[0]](Folder(files, stdin), *[word for word in words[1:] if word != "--"])
+        told = COMMANDS[words[0]](Folder(files, stdin), *[word for word in words[1:] if word != "--"])
+        return Answer(WRITE, told.output) if "" in told.made else told
     except Refused as refused:
         return Answer(refused.number)
