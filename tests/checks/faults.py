@@ -27,6 +27,7 @@ from checks.scenes import Stage, endless_scenes, scenes
 MEMORY, WRITE, READ, NET = 0, 37, 45, 46
 # the address space that an input without end has to fill
 ROOM = 1 << 26
+PAGE = 4096
 FOR_MEMORY = {"mmap", "munmap", "mremap", "mprotect", "madvise", "brk"}
 # what a process does once for itself, not for files, memory or sockets
 OF_PROCESSES = {"exit_group", "exit", "rt_sigaction", "rt_sigprocmask", "set_tid_address", "set_robust_list", "rseq", "arch_prctl", "prlimit64", "futex", "execve"}
@@ -87,7 +88,8 @@ class Bench:
 
     def __init__(self, stage, tracer, folder):
         self.stage, self.tracer, self.report = stage, tracer, os.path.join(folder, "report")
-        self.calls, self.tally, self.wrong, self.moved = {}, collections.Counter(), [], 0
+        self.calls, self.tally, self.wrong = {}, collections.Counter(), []
+        self.moved = self.limited = self.no_stack = 0
 
     def traced(self, scene, how, index=0, value=0):
         return self.stage.run(scene, [self.tracer, self.report, how, str(index), str(value)])
@@ -111,7 +113,7 @@ class Bench:
         """One trial, where the call is still the one that was listed: how a peer's bytes arrive can move it."""
         told = self.traced(trial.scene, trial.how, trial.index, trial.value)
         hit = calls_in(self.report)
-        if not hit or (hit[0].name, hit[0].target) != (trial.call.name, trial.call.target) and not is_socket(trial.call):
+        if not hit or hit[0].name != trial.call.name or hit[0].target != trial.call.target and not is_socket(hit[0]):
             self.moved += 1
             return None
         if trial.how in ("before", "after"):
@@ -146,17 +148,22 @@ class Bench:
 
     def check_killed(self, trial, told):
         """Killed it leaves OUT as it was or whole, and is right when it runs again."""
-        scene, files = trial.scene, dict(told.files)
         self.note(trial, "killed")
         if told.status != -9:
             return self.fault(trial, told, "not killed")
+        files, parts = self.check_left(trial.scene, told, "%s %d of %s" % (trial.how, trial.index, trial.call.name))
+        self.check_again(trial, files, told.files, parts)
+
+    def check_left(self, scene, told, context):
+        """What a process leaves that ended in between: the files without a part, and the names of parts."""
+        files = dict(told.files)
         parts = [name for name in files if name.endswith(".part") and name not in scene.files]
         for name in parts:
-            if not scene.right.made.get(name[:-5], scene.files.get(name[:-5], b"")).startswith(files.pop(name)) and scene.right.number is None:
-                self.fault(trial, told, "the part is no prefix of OUT")
+            if not scene.right.made.get(name[:-5], b"").startswith(files.pop(name)) and scene.right.number is None:
+                self.wrong.append("%s, %s: the part is no prefix of OUT: %s" % (scene.name, context, told))
         if files not in (scene.files, scene.files_after):
-            return self.fault(trial, told, "the files are neither as they were nor whole")
-        self.check_again(trial, files, told.files, parts)
+            self.wrong.append("%s, %s: the files are neither as they were nor whole: %s" % (scene.name, context, told))
+        return files, parts
 
     def check_again(self, trial, files, left, parts):
         scene = trial.scene
@@ -239,23 +246,29 @@ def refuse_requests(stage, preloaded, scene, number, goes_on, wrong):
     check_memory(scene, stage.run(scene, more=more), "request %d%s for memory refused" % (number, " and all after it" if goes_on else ""), wrong)
 
 
-def limit_room(bench, scene, room, wrong):
-    """One run with so much address space; whether the program began at all. Before its own first call it is the loader that has to do without."""
+def limit_room(bench, scene, room):
+    """One run with so much address space: whether the program began at all, and whether it was right. Before its own first call it is the loader that has to do without."""
     told = bench.traced(scene, "limit", 0, room)
+    bench.limited += 1
     with open(bench.report) as file:
-        began = "own " in file.read()
-    if began:
-        check_memory(scene, told, "%d bytes of address space" % room, wrong)
+        lines = file.read().split("\n")
+    began = any(line.startswith("own ") for line in lines)
+    context = "%d bytes of address space" % room
+    if "stack" in lines and told.status == -11:
+        bench.no_stack += 1
+        bench.check_left(scene, told, context)
+    elif began:
+        check_memory(scene, told, context, bench.wrong)
     return began, told.is_right(scene)
 
 
-def enough_room(bench, scene):
-    """Address space with which the scene is right."""
-    room = 1 << 20
-    while not limit_room(bench, scene, room, [])[1]:
-        room *= 2
-        assert room < 1 << 36, "%s is not right with any room" % scene.name
-    return room
+def least_room(bench, scene, enough, place):
+    """The least address space, in pages, with which a run of the scene began (place 0) or was right (place 1)."""
+    least = 0
+    while enough - least > 1:
+        middle = (least + enough) // 2
+        least, enough = (least, middle) if limit_room(bench, scene, middle * PAGE)[place] else (middle, enough)
+    return enough
 
 
 def try_calls(bench, options):
@@ -284,26 +297,26 @@ def try_requests(bench, preloaded, folder, options):
 
 
 def try_limits(bench, options):
-    """Address space from nothing to enough."""
-    steps, count, began = 256 if options.full else 16, 0, 0
+    """Address space from what the program begins with to enough."""
+    steps = None if options.full else 24
     for scene in scenes(3, 8):
-        enough = enough_room(bench, scene)
-        for step in range(steps):
-            began += limit_room(bench, scene, enough * step // steps, bench.wrong)[0]
-            count += 1
+        first = least_room(bench, scene, ROOM // PAGE, 0)
+        pages = range(first, least_room(bench, scene, ROOM // PAGE, 1) + 1)
+        for page in chosen(random.Random(options.seed), pages, steps):
+            limit_room(bench, scene, page * PAGE)
     for scene in endless_scenes():
         told = bench.traced(scene, "limit", 0, ROOM)
         if not told.is_right(scene):
             bench.wrong.append("%s with %d bytes of address space: %s" % (scene.name, ROOM, told))
-    print("in %d runs with too little address space or enough the program began %d times, and then was right or told so; %d inputs without end are told as want of memory" % (
-        count, began, len(endless_scenes())))
+    print("%d runs with address space from nothing to enough did not begin, are right or told as want of memory, and so are %d inputs without end; "
+          "%d more were ended by the system, which had no room for the stack, and left the files as they were" % (bench.limited - bench.no_stack, len(endless_scenes()), bench.no_stack))
 
 
 def main():
     parser = argparse.ArgumentParser(description=__doc__.split("\n")[0])
     parser.add_argument("program")
     parser.add_argument("--full", action="store_true")
-    parser.add_argument("--trials", type=int, default=1500)
+    parser.add_argument("--trials", type=int, default=1000)
     parser.add_argument("--seed", type=int, default=1)
     parser.add_argument("--tell", action="store_true", help="tell what each kind of failure came to")
     options = parser.parse_args()

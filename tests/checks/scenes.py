@@ -161,7 +161,10 @@ def converse(line, stream):
             line.shutdown(socket.SHUT_WR)
             while line.recv(65536):
                 pass
-        except ConnectionError:
+        except TimeoutError:
+            raise
+        except OSError:
+            # the program has hung up
             return
 
 

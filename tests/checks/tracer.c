@@ -1,7 +1,7 @@
 // Runs a program and makes one of its system calls fail, answer something else or end the process: tracer REPORT HOW INDEX VALUE PROGRAM [WORD]...
 // Calls are counted from 1 after the program has begun. HOW is one of
 //   list        changes nothing
-//   fail        the call of this index is not made, and answers the error VALUE
+//   fail        the call of this index is not made, and answers the error VALUE, or where the break stands
 //   fail-from   so do all calls for memory from this index on
 //   give        the call is not made, and answers VALUE
 //   short       the call is asked for VALUE bytes at most
@@ -9,7 +9,7 @@
 //   after       the process is killed after it
 //   limit       the program may have VALUE bytes of address space, and changes nothing else
 // Into the file REPORT goes a line for each call that was listed or changed: index, name, `loader` or `own`, answer, and what it was about; under a limit the
-// name of the last call that was the program's own, if there was one; and at the end `signal N` where one ended the process. The status is the program's, or 126
+// name of the last call that was the program's own, if there was one; `stack` where the stack could not grow; and at the end `signal N` where one ended the process. The status is the program's, or 126
 // where it could not be started. Linux on x86-64.
 #define _GNU_SOURCE
 #include <errno.h>
@@ -29,6 +29,9 @@
 #ifndef __x86_64__
 #error "written for x86-64"
 #endif
+
+// as far from the end of the stack as a function reaches that has no greater locals
+#define NEAR (1 << 20)
 
 enum about { NOTHING, DESCRIPTOR, FIRST_PATH, SECOND_PATH, MEMORY };
 
@@ -119,6 +122,15 @@ static void report(FILE *told, pid_t child, long index, const struct user_regs_s
   fflush(told);
 }
 
+// Whether the process was stopped since its stack could not grow: it meant a place near the end of its stack.
+static int is_stack(pid_t child) {
+  siginfo_t told;
+  struct user_regs_struct regs;
+  if (ptrace(PTRACE_GETSIGINFO, child, 0, &told) < 0 || ptrace(PTRACE_GETREGS, child, 0, &regs) < 0) return 0;
+  long long below = (long long)regs.rsp - (long long)told.si_addr;
+  return told.si_signo == SIGSEGV && told.si_code > 0 && below < NEAR && below > -NEAR;
+}
+
 static int begin(pid_t child) {
   int status;
   if (waitpid(child, &status, 0) != child || !WIFSTOPPED(status)) return -1;
@@ -172,6 +184,7 @@ int main(int count, char **words) {
     }
     if (WSTOPSIG(status) != (SIGTRAP | 0x80)) {
       signal_to_pass = WSTOPSIG(status);
+      if (signal_to_pass == SIGSEGV && is_stack(child)) fprintf(told, "stack\n");
       continue;
     }
     if (!running) continue;
@@ -189,7 +202,9 @@ int main(int count, char **words) {
         report(told, child, number, &entry, 0, path);
         kill(child, SIGKILL);
       } else if (changes && (!strncmp(how, "fail", 4) || !strcmp(how, "give"))) {
-        regs.orig_rax = -1;
+        // a break that cannot be moved is told by where it stands, and never by an error
+        if (regs.orig_rax == SYS_brk) regs.rdi = 0;
+        else regs.orig_rax = -1;
         ptrace(PTRACE_SETREGS, child, 0, &regs);
       } else if (changes && !strcmp(how, "short") && (long long)regs.rdx > value) {
         regs.rdx = value;
@@ -200,9 +215,10 @@ int main(int count, char **words) {
     inside = 0;
     if (number == 0) continue;
     if (changes) {
-      if (!strncmp(how, "fail", 4)) regs.rax = -value;
+      if (!strncmp(how, "fail", 4) && entry.orig_rax != SYS_brk) regs.rax = -value;
       if (!strcmp(how, "give")) regs.rax = value;
       regs.rdx = entry.rdx;
+      regs.rdi = entry.rdi;
       ptrace(PTRACE_SETREGS, child, 0, &regs);
       report(told, child, number, &entry, (long long)regs.rax, path);
       if (!strcmp(how, "after")) kill(child, SIGKILL);
