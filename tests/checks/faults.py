@@ -237,6 +237,8 @@ def refused_requests(stage, preloaded, scene, folder):
     count = os.path.join(folder, "count")
     told = stage.run(scene, more={"LD_PRELOAD": preloaded, "REFUSE_COUNT": count})
     assert told.is_right(scene), "%s with counted requests: %s" % (scene.name, told)
+    if not os.path.exists(count):
+        return 0
     with open(count) as file:
         return int(file.read())
 
@@ -279,9 +281,9 @@ def try_calls(bench, options):
     some = chosen(random.Random(options.seed), trials, None if options.full else options.trials)
     for trial in some:
         bench.check(trial)
-    killed = sum(trial.how in ("before", "after") for trial in some)
-    print("%d of %d failures of system calls in %d runs of commands are told or made up for, and %d of %d killed runs are right when they run again" % (
-        len(some) - killed, sum(trial.how not in ("before", "after") for trial in trials), len(bench.calls), killed, sum(trial.how in ("before", "after") for trial in trials)))
+    killed, kills = [sum(trial.how in ("before", "after") for trial in of) for of in (some, trials)]
+    print("%d of %d failures of system calls in %d runs of commands are told or made up for, and %d of %d killed runs are right when they run again; "
+          "%d times the call was another one by then" % (len(some) - killed, len(trials) - kills, len(bench.calls), killed, kills, bench.moved))
 
 
 def try_requests(bench, preloaded, folder, options):
@@ -293,7 +295,10 @@ def try_requests(bench, preloaded, folder, options):
     some = chosen(random.Random(options.seed), all_of, None if options.full else options.trials)
     for scene, number, goes_on in some:
         refuse_requests(bench.stage, preloaded, scene, number, goes_on, bench.wrong)
-    print("%d of %d requests for memory are refused, alone or with all after them, and told or made up for" % (len(some), len(all_of)))
+    if some:
+        print("%d of %d requests for memory are refused, alone or with all after them, and told or made up for" % (len(some), len(all_of)))
+    else:
+        print("skipped refused requests for memory: the program makes none by the C library")
 
 
 def try_limits(bench, options):
