@@ -118,7 +118,7 @@ class Bench:
             return None
         if trial.how in ("before", "after"):
             return self.check_killed(trial, told)
-        if trial.how == "give" and trial.call.name in READING:
+        if trial.how == "give" and trial.call.name in READING and (is_socket(trial.call) or base(trial.call) in {*trial.scene.files, "stdin"}):
             return self.check_answer(trial, told, before_the_end(trial.scene, trial.call, self.calls[trial.scene.name]))
         return self.check_failed(trial, told)
 
