@@ -3,7 +3,7 @@
 
 Each call of the program for files, memory and sockets is made to fail in turn with several errors, to be interrupted, to read or write less than it was asked for, or
 nothing; the process is killed before it and after it; the calls for memory are refused from each one on; the program's own requests for memory are refused, one and
-all from one on; and it gets address space from nothing to enough. What is right without a failure is told by a second reading (scenes.py). With one the program
+all from one on; it gets address space from nothing to enough; and its standard input, output and errors are closed. What is right without a failure is told by a second reading (scenes.py). With one the program
 has to do the same, or to refuse by a number that fits the call, with status 1, its one line and no file made, changed or left. Killed it leaves OUT as it was or
 whole and the inputs as they were, and is right when it runs again; where OUT.part is left that is refused (37) until it is gone.
 
@@ -12,6 +12,7 @@ many trials as take about a minute, evenly from all of them; --full makes all.""
 import argparse
 import collections
 import errno
+import itertools
 import os
 import random
 import shutil
@@ -22,12 +23,13 @@ import tempfile
 sys.dont_write_bytecode = True
 HERE = os.path.dirname(os.path.abspath(__file__))
 sys.path.insert(0, os.path.dirname(HERE))
-from checks.scenes import Stage, endless_scenes, scenes
+from checks.scenes import Stage, Told, endless_scenes, scenes
 
 MEMORY, WRITE, READ, NET = 0, 37, 45, 46
 # the address space that an input without end has to fill
 ROOM = 1 << 26
 PAGE = 4096
+CLOSING = ("<&-", ">&-", "2>&-")
 FOR_MEMORY = {"mmap", "munmap", "mremap", "mprotect", "madvise", "brk"}
 # what a process does once for itself, not for files, memory or sockets
 OF_PROCESSES = {"exit_group", "exit", "rt_sigaction", "rt_sigprocmask", "set_tid_address", "set_robust_list", "rseq", "arch_prctl", "prlimit64", "futex", "execve"}
@@ -317,6 +319,23 @@ def try_limits(bench, options):
           "%d more were ended by the system, which had no room for the stack, and left the files as they were" % (bench.limited - bench.no_stack, len(endless_scenes()), bench.no_stack))
 
 
+def try_closed(bench):
+    """Standard input, output and errors closed, so that files and sockets get their numbers: what would be told there goes nowhere, and into no file."""
+    count = 0
+    for scene in scenes(3, 8):
+        for closed in [some for size in (1, 2, 3) for some in itertools.combinations(CLOSING, size)]:
+            told = bench.stage.run(scene, ["/bin/sh", "-c", 'exec "$0" "$@" ' + " ".join(closed)])
+            number = READ if scene.words == ["view"] and CLOSING[0] in closed else WRITE if scene.right.output and CLOSING[1] in closed else scene.right.number
+            if number is None:
+                wanted = Told(0, b"" if CLOSING[1] in closed else scene.right.output, b"", scene.files_after)
+            else:
+                wanted = Told(1, b"", b"" if CLOSING[2] in closed else b"radio: fault %d\n" % number, scene.files)
+            if vars(told) != vars(wanted):
+                bench.wrong.append("%s with %s: %s" % (scene.name, " ".join(closed), told))
+            count += 1
+    print("%d runs with standard input, output or errors closed are right or told, and write into no file what belongs there" % count)
+
+
 def main():
     parser = argparse.ArgumentParser(description=__doc__.split("\n")[0])
     parser.add_argument("program")
@@ -333,6 +352,7 @@ def main():
             try_limits(bench, options)
         else:
             print("skipped failing system calls and too little address space: no compiler, no ptrace, or no Linux on x86-64")
+        try_closed(bench)
         if preloaded:
             try_requests(bench, preloaded, folder, options)
         else:
