@@ -9,13 +9,13 @@ use Rattle.mt_opcodec.specs.LogValue.{LogMap}
 use Rattle.mt_cli.specs.declared.fault.CliFault.{CliFault}
 use Rattle.mt_cli.specs.declared.fault.CliFault.TheVariants.{Memory}
 use Rattle.std.specs.List.{AllByRecursion}
-use Rattle.mt_cli.specs.Reading.{Gave, GaveLogs, IsRead, IsRest, AreRead, IsCause, HasCause, text_of}
+use Rattle.mt_cli.specs.Reading.{GaveLog, GaveLogs, IsRead, IsRest, AreRead, IsCause, HasCause}
 
 module _ {R : Type 0} (remaining : R → Option (List ℕ)) where
   pub GaveLogs-more : (latches : List (Latched R)) (logs : List LogMap) (i : ℕ) (latch : Latched R) (m : LogMap) → i < length latches → latch ≡ get_or latches i latch
-      → GaveLogs remaining (take i latches) logs → Gave remaining latch (text_of m) → GaveLogs remaining (take (suc i) latches) (logs ++ m ∷ [])
+      → GaveLogs remaining (take i latches) logs → GaveLog remaining latch m → GaveLogs remaining (take (suc i) latches) (logs ++ m ∷ [])
   GaveLogs-more [] logs i latch m lt at h gave = absurd (omega arith)
-  GaveLogs-more (x ∷ latches) [] zero latch m lt at h gave = (subst (λ (l : Latched R). Gave remaining l (text_of m)) at gave, tt)
+  GaveLogs-more (x ∷ latches) [] zero latch m lt at h gave = (subst (λ (l : Latched R). GaveLog remaining l m) at gave, tt)
   GaveLogs-more (x ∷ latches) (n ∷ logs) zero latch m lt at h gave = absurd h
   GaveLogs-more (x ∷ latches) [] (suc i) latch m lt at h gave = absurd h
   GaveLogs-more (x ∷ latches) (n ∷ logs) (suc i) latch m lt at h gave = (h.0, GaveLogs-more latches logs i latch m (omega arith) at h.1 gave)
@@ -33,8 +33,8 @@ module _ {R : Type 0} (remaining : R → Option (List ℕ)) where
       inr (m, (gave.0, (read.0, HasCause-at old new logs i (start + 1) before after fault (omega arith) (omega arith) at_old at_new gave.1 read.1 later (subst (λ (n : ℕ). IsCause remaining n before after fault) next cause))))
 
   -- a reader and what is read out of a slice in its place
-  pub Gave-same : (raw latch : Latched R) (m : LogMap) → latch ≡ raw → Gave remaining raw (text_of m) → Gave remaining latch (text_of m)
-  Gave-same raw latch m same gave = subst (λ (l : Latched R). Gave remaining l (text_of m)) (sym same) gave
+  pub Gave-same : (raw latch : Latched R) (m : LogMap) → latch ≡ raw → GaveLog remaining raw m → GaveLog remaining latch m
+  Gave-same raw latch m same gave = subst (λ (l : Latched R). GaveLog remaining l m) (sym same) gave
 
   pub IsCause-same : (place : ℕ) (raw latch after : Latched R) (fault : CliFault) → latch ≡ raw → IsCause remaining place raw after fault → IsCause remaining (0 + place) latch after fault
   IsCause-same place raw latch after fault same cause =
@@ -89,7 +89,7 @@ module _ {R : Type 0} (remaining : R → Option (List ℕ)) (entry inputs : List
       HasCause-at remaining entry (set inputs i after) logs i 0 latch after fault (length-set inputs i after ∙ same) lt (left_at i inputs entry latch within same left at) (sym (get_or-set_same inputs i after after within)) gave
       (subst (AreRead remaining) (sym (take-set inputs i after)) read) (subst (λ (n : ℕ). drop n (set inputs i after) ≡ drop n entry) next (left_more i inputs entry after left)) (IsCause-same remaining i (get_or inputs i latch) latch after fault at cause)
 
-  pub gave_more : (logs : List LogMap) (m : LogMap) → drop i inputs ≡ drop i entry → latch ≡ get_or inputs i latch → GaveLogs remaining (take i entry) logs → Gave remaining (get_or inputs i latch) (text_of m) → GaveLogs remaining (take (i + 1) entry) (logs ++ m ∷ [])
+  pub gave_more : (logs : List LogMap) (m : LogMap) → drop i inputs ≡ drop i entry → latch ≡ get_or inputs i latch → GaveLogs remaining (take i entry) logs → GaveLog remaining (get_or inputs i latch) m → GaveLogs remaining (take (i + 1) entry) (logs ++ m ∷ [])
   gave_more logs m left at gave more =
       let next : suc i ≡ i + 1 = omega arith in
       subst (λ (n : ℕ). GaveLogs remaining (take n entry) (logs ++ m ∷ [])) next (GaveLogs-more remaining entry logs i latch m lt (left_at i inputs entry latch within same left at) gave (Gave-same remaining (get_or inputs i latch) latch m at more))

@@ -5,7 +5,7 @@ use Rattle.mt_latch.specs.Latch.{Latched}
 use Rattle.mt_opcodec.specs.LogValue.{LogMap}
 use Rattle.mt_opcodec.specs.Union.{union_all, AllAgree}
 use Rattle.mt_cli.specs.declared.fault.CliFault.{CliFault}
-use Rattle.mt_cli.specs.Reading.{text_of, Gave, GaveLogs, IsRead}
+use Rattle.mt_cli.specs.Reading.{GaveLog, GaveLogs, IsRead}
 use Rattle.mt_cli.specs.Writing.{WriteFails, InputFails}
 
 pub log_written : (result : Result (Unit {0}) CliFault) (log : LogMap) (Given : LogMap → Type 0) (Writes : LogMap → Type 0) → Given log → OnOk result (Writes log) → OnOk result ((m : LogMap) × (Given m × Writes m))
@@ -13,7 +13,7 @@ log_written (Ok unit) log Given Writes given writes = (log, (given, writes))
 log_written (Err fault) log Given Writes given writes = writes
 
 pub log_not_written : {R W : Type 0} (text : LogMap → List ℕ) (contents : W → Option (List ℕ)) (remaining : R → Option (List ℕ)) (result : Result (Unit {0}) CliFault) (log : LogMap) (before after : Latched R) (old new : Latched W)
-    → Gave remaining before (text_of log) → IsRead remaining after → IfErr result (WriteFails text contents log old new) → IfErr result (InputFails text contents remaining before after old new)
+    → GaveLog remaining before log → IsRead remaining after → IfErr result (WriteFails text contents log old new) → IfErr result (InputFails text contents remaining before after old new)
 log_not_written text contents remaining (Ok unit) log before after old new gave read fails = fails
 log_not_written text contents remaining (Err fault) log before after old new gave read fails = inr (log, (gave, (read, fails)))
 

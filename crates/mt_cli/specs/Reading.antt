@@ -7,6 +7,7 @@ use Rattle.mt_latch.specs.Latch.{Latched, ConsumesPrefix}
 use Rattle.mt_opcodec.specs.LogText.{log_text}
 use Rattle.mt_opcodec.specs.LogReading.{log_at, LogFails}
 use Rattle.mt_opcodec.specs.LogValue.{LogMap, operations}
+use Rattle.mt_opcodec.specs.Sets.{IsSet}
 use Rattle.mt_cli.specs.declared.fault.CliFault.{CliFault}
 use Rattle.mt_cli.specs.declared.fault.CliFault.TheVariants.{Memory, Read, Log}
 
@@ -23,12 +24,16 @@ module _ {R : Type 0} (remaining : R → Option (List ℕ)) where
   abbrev pub IsRead : Latched R → Type 0
   IsRead latch = (latch.failed ≡ false) × IsAtEnd (remaining latch.inner)
 
+  -- the reader gave the text of a log, which is the set of its operations
+  abbrev pub GaveLog : Latched R → LogMap → Type 0
+  GaveLog latch m = Gave latch (text_of m) × IsSet m
+
   -- each reader gave the text of the log at its place
   abbrev pub GaveLogs : List (Latched R) → List LogMap → Type 0
   GaveLogs [] [] = Unit {0}
   GaveLogs [] (m ∷ logs) = ⊥
   GaveLogs (latch ∷ latches) [] = ⊥
-  GaveLogs (latch ∷ latches) (m ∷ logs) = Gave latch (text_of m) × GaveLogs latches logs
+  GaveLogs (latch ∷ latches) (m ∷ logs) = GaveLog latch m × GaveLogs latches logs
 
   -- each reader was read to its end, and has not failed
   abbrev pub AreRead : List (Latched R) → Type 0
@@ -51,4 +56,4 @@ module _ {R : Type 0} (remaining : R → Option (List ℕ)) where
   HasCause index [] new fault = fault ≡ Memory
   HasCause index (latch ∷ latches) [] fault = ⊥
   HasCause index (latch ∷ latches) (after ∷ afters) fault =
-      (IsCause index latch after fault × (afters ≡ latches)) ⊎ ((m : LogMap) × (Gave latch (text_of m) × (IsRead after × HasCause (index + 1) latches afters fault)))
+      (IsCause index latch after fault × (afters ≡ latches)) ⊎ ((m : LogMap) × (GaveLog latch m × (IsRead after × HasCause (index + 1) latches afters fault)))

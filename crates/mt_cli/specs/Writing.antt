@@ -5,7 +5,7 @@ use Rattle.mt_opcodec.specs.LogValue.{LogMap}
 use Rattle.mt_opcodec.specs.Union.{union_all, AllAgree, FirstClash}
 use Rattle.mt_cli.specs.declared.fault.CliFault.{CliFault}
 use Rattle.mt_cli.specs.declared.fault.CliFault.TheVariants.{Memory, Merge, Write}
-use Rattle.mt_cli.specs.Reading.{text_of, Gave, GaveLogs, IsRead, AreRead, IsCause, HasCause}
+use Rattle.mt_cli.specs.Reading.{text_of, GaveLog, GaveLogs, IsRead, AreRead, IsCause, HasCause}
 
 module _ (text : LogMap → List ℕ) {W : Type 0} (contents : W → Option (List ℕ)) where
   -- what refuses to write the text of a log: memory, with the output as it was, or the output, which holds a prefix of the text
@@ -29,4 +29,4 @@ module _ (text : LogMap → List ℕ) {W : Type 0} (contents : W → Option (Lis
   -- of one input: it gave no log, with the output as it was, or it gave one, is at its end, and that is refused
   abbrev pub InputFails : {R : Type 0} → (R → Option (List ℕ)) → Latched R → Latched R → Latched W → Latched W → CliFault → Type 0
   InputFails remaining before after old new fault =
-      (IsCause remaining 0 before after fault × (new ≡ old)) ⊎ ((log : LogMap) × (Gave remaining before (text_of log) × (IsRead remaining after × WriteFails log old new fault)))
+      (IsCause remaining 0 before after fault × (new ≡ old)) ⊎ ((log : LogMap) × (GaveLog remaining before log × (IsRead remaining after × WriteFails log old new fault)))

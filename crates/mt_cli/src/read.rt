@@ -2,9 +2,10 @@
 
 ghost use Rattle.std.specs.Prelude.{◌≡◌, ◌≢◌, IfOk, IfErr, OnOk};
 ghost use Rattle.mt_opcodec.specs.declared.fault.LogFault.TheVariants as log;
-ghost use Rattle.mt_cli.specs.Reading.{Gave, IsRead, IsRest, AreRead, GaveLogs, IsCause, HasCause, text_of};
+ghost use Rattle.mt_cli.specs.Reading.{Gave, GaveLog, IsRead, IsRest, AreRead, GaveLogs, IsCause, HasCause};
 
 use crate::fault::CliFault;
+use crate::laws::log_in_memory;
 use mt_opcodec::{Latch, LatchFault, Log, LogFault};
 use std::alloc::Allocator;
 use std::io::Read;
@@ -34,13 +35,16 @@ pub(crate) fn read_log<A: Allocator + Clone, R: Read>(
     input: &mut Latch<R>,
 ) -> Result<Log<A>, CliFault>
     ensures read { OnOk result (IsRead R.remaining input.new) }
-    ensures ok { IfOk result (λ log. Gave R.remaining input.old (text_of log)) }
+    ensures ok { IfOk result (λ log. GaveLog R.remaining input.old log) }
     ensures rest { IsRest R.remaining input.old input.new }
     ensures err { IfErr result (IsCause R.remaining index input.old input.new) }
 {
     let bytes = read_all(alloc.clone()?, index, input)?;
     match Log::read(alloc, &bytes) {
-        Ok(log) => Ok(log),
+        Ok(log) => {
+            log_in_memory(&log);
+            Ok(log)
+        }
         Err(fault) => Err(refused(index, fault)),
     }
 }

@@ -4,7 +4,7 @@ ghost use Rattle.std.specs.Prelude.{◌≡◌, ℕ, false, true, IfErr, OnOk, Li
 ghost use Rattle.std.specs.Io.KnownBytes.{Appends};
 ghost use Rattle.mt_opcodec.specs.LogValue.{LogMap};
 ghost use Rattle.mt_opcodec.specs.Union.{AllAgree, union_all};
-ghost use Rattle.mt_cli.specs.Reading.{text_of, Gave, GaveLogs, IsRead, AreRead};
+ghost use Rattle.mt_cli.specs.Reading.{GaveLog, GaveLogs, IsRead, AreRead};
 ghost use Rattle.mt_cli.specs.Writing.{WriteFails, InputsFail, InputFails};
 
 use crate::fault::CliFault;
@@ -57,7 +57,7 @@ pub(crate) fn tell_log<T: Telling, A: Allocator + Clone, R: Read, W: Write>(
     input: &mut Latch<R>,
     output: &mut Latch<W>,
 ) -> Result<(), CliFault>
-    ensures ok { OnOk result ((log : LogMap) × (Gave R.remaining input.old (text_of log) × Appends (W.contents output.old.inner) (W.contents output.new.inner) (T.told log))) }
+    ensures ok { OnOk result ((log : LogMap) × (GaveLog R.remaining input.old log × Appends (W.contents output.old.inner) (W.contents output.new.inner) (T.told log))) }
     ensures read { OnOk result (IsRead R.remaining input.new) }
     ensures err { IfErr result (InputFails T.told W.contents R.remaining input.old input.new output.old output.new) }
     ensures sound { OnOk result (output.new.failed ≡ false) }
