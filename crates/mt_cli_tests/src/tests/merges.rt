@@ -2,7 +2,7 @@
 use super::{is_cut, news, told};
 use mt_cli::{CliFault, merge_logs};
 use mt_opcodec::{Latch, Log};
-use mt_testkit::{FailingWriter, SlowReader};
+use mt_testkit::{ChokedWriter, FailingWriter, SlowReader};
 use std::alloc::Global;
 use std::io::{ErrorKind, Read};
 use std::test::Fail;
@@ -55,11 +55,21 @@ fn stops_behind(alloc: Global, news: &[u8], good: usize) -> bool {
     is_cut(answer, output, news, good)
 }
 
+// What a merge answers where the writer takes no byte.
+fn merge_choked(alloc: Global, news: &[u8]) -> Result<(), CliFault> {
+    merge_logs(
+        alloc,
+        &mut [Latch::new(news)],
+        &mut Latch::new(ChokedWriter::new()),
+    )
+}
+
 #[test]
 fn each_write_fails_in_turn(rt: HostRuntime) -> Result<(), Fail> {
     let news = news(&rt)?;
     for good in 0..news.len() + 1 {
         assert!(rt; stops_behind(rt.alloc(), &news, good), "behind {good}");
     }
+    assert!(rt; merge_choked(rt.alloc(), &news) == Err(CliFault::Write));
     Ok(())
 }

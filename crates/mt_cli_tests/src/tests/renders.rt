@@ -1,11 +1,13 @@
 //! Rendering over memory and over devices that fail.
+use super::is_cut;
 use mt_bwfread::WaveFault;
 use mt_cli::{CliFault, bounce_logs};
 use mt_cuewrite::Head;
 use mt_opcodec::Latch;
 use mt_render::Format;
-use mt_testkit::{RECORDING, Refusing, SlowReader, log_of_a_clip};
+use mt_testkit::{ChokedWriter, FailingWriter, RECORDING, Refusing, SlowReader, log_of_a_clip};
 use std::alloc::{Allocator, Global};
+use std::io::{ErrorKind, Write};
 use std::test::Fail;
 
 // The log of a track with one clip of the recording.
@@ -123,6 +125,76 @@ fn names_the_reader_at_fault(rt: HostRuntime) -> Result<(), Fail> {
         );
         assert!(rt; found == Err(fault));
     }
+    Ok(())
+}
+
+// failing_devices
+#[test]
+fn each_read_fails_in_turn(rt: HostRuntime) -> Result<(), Fail> {
+    let log = one_clip(rt.alloc())?;
+    for fails_at in 0..log.len() + 1 {
+        let found = render(
+            rt.alloc(),
+            rt.alloc(),
+            &[(&log, fails_at)],
+            &[(RECORDING, WHOLE)],
+        );
+        assert!(rt; found == Err(CliFault::Read(0)), "at {fails_at}");
+    }
+    for fails_at in 0..RECORDING.len() + 1 {
+        let found = render(
+            rt.alloc(),
+            rt.alloc(),
+            &[(&log, WHOLE)],
+            &[(RECORDING, fails_at)],
+        );
+        assert!(rt; found == Err(CliFault::Read(1)), "at {fails_at}");
+    }
+    Ok(())
+}
+
+// What rendering into a writer answers.
+fn render_into<W: Write>(
+    alloc: Global,
+    log: &[u8],
+    output: &mut Latch<W>,
+) -> Option<Result<(), CliFault>> {
+    let head = Head::new("", "", "", "2000-01-01", "00:00:00", 0).ok()?;
+    let format = Format::new(48000, 24, 1).ok()?;
+    let mut logs = [Latch::new(log)];
+    let mut sources = [Latch::new(RECORDING)];
+    Some(bounce_logs(alloc, &mut logs, &mut sources, &head, format, output))
+}
+
+// The file of three samples.
+fn rendered_file(alloc: Global, log: &[u8]) -> Option<Vec<u8>> {
+    let mut output = Latch::new(Vec::new(alloc));
+    match render_into(alloc, log, &mut output)? {
+        Ok(()) => Some(output.into_inner()),
+        Err(_) => None,
+    }
+}
+
+// Whether rendering stops where the writer fails behind so many bytes.
+fn stops_behind(alloc: Global, log: &[u8], file: &[u8], good: usize) -> Option<bool> {
+    let mut output = Latch::new(FailingWriter::new(alloc, good, ErrorKind::Other));
+    let answer = render_into(alloc, log, &mut output)?;
+    Some(is_cut(answer, output, file, good))
+}
+
+// a writer of a byte at a time, and one of none
+#[test]
+fn each_write_fails_in_turn(rt: HostRuntime) -> Result<(), Fail> {
+    let log = one_clip(rt.alloc())?;
+    let file = rendered_file(rt.alloc(), &log).ok_or("a file")?;
+    for good in 0..file.len() + 1 {
+        assert!(rt;
+            stops_behind(rt.alloc(), &log, &file, good) == Some(true),
+            "behind {good}"
+        );
+    }
+    let choked = render_into(rt.alloc(), &log, &mut Latch::new(ChokedWriter::new()));
+    assert!(rt; choked == Some(Err(CliFault::Write)));
     Ok(())
 }
 
