@@ -1,4 +1,5 @@
 //! What no clause says: bytes that were written out by hand, and that every call succeeds where there is memory.
+mod answering;
 mod growth;
 mod messages;
 mod sockets;
