@@ -20,5 +20,6 @@ import subjects.renders
 import subjects.command_lines
 import subjects.edits
 import subjects.exchanges
+import subjects.parts
 import subjects.refusals
 import subjects.listings
