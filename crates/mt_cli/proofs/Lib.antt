@@ -5,3 +5,6 @@ pub mod Recordings
 pub mod SameSources
 pub mod Rendering
 pub mod Headline
+mod Making
+mod Editing
+mod Telling

@@ -8,3 +8,9 @@ pub mod Info
 pub mod Sources
 pub mod Bouncing
 pub mod Headline
+pub mod OneLog
+pub mod Swapping
+pub mod Editing
+pub mod Telling
+pub mod Working
+pub mod Mistakes

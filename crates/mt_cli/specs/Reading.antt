@@ -15,6 +15,12 @@ use Rattle.mt_cli.specs.declared.fault.CliFault.TheVariants.{Memory, Read, Log}
 abbrev pub text_of : LogMap → List ℕ
 text_of m = log_text (operations m)
 
+-- why the reader of an index was not read to its end: the latch has failed, or memory ran out
+abbrev pub IsReadCause : {R : Type 0} → ℕ → Latched R → CliFault → Type 0
+IsReadCause index new Memory = Unit {0}
+IsReadCause index new (Read place) = (place ≡ index) × (new.failed ≡ true)
+IsReadCause index new _ = ⊥
+
 module _ {R : Type 0} (remaining : R → Option (List ℕ)) where
   -- these bytes are all that the reader had left, where it tells
   abbrev pub Gave : Latched R → List ℕ → Type 0

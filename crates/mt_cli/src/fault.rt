@@ -5,13 +5,16 @@ ghost use Rattle.mt_cli.specs.Faults.{number_of};
 ghost use Rattle.mt_cli.specs.declared.fault.CliFault.TheVariants.{Memory};
 
 use mt_bwfread::WaveFault;
+use mt_cuewrite::HeadFault;
 use mt_opcodec::LogFault;
-use mt_render::MixFault;
-use mt_stamp::Dot;
+use mt_render::{FormatFault, MixFault};
+use mt_script::ScriptFault;
+use mt_stamp::{Dot, StampFault};
+use mt_sync::{MessageFault, SyncFault};
 use std::alloc::{AllocError, AllocFailed};
 use thiserror::Error;
 
-/// Why a command was refused. Inputs are counted from 0.
+/// Why a command was refused. Inputs are counted from 0. It tells all that is known of the cause: which input, record, line or output.
 #[derive(Clone, Copy, Debug, PartialEq, Eq, Error)]
 pub enum CliFault {
     #[error("out of memory")]
@@ -34,6 +37,30 @@ pub enum CliFault {
     /// The output failed, or cannot be made or get its name.
     #[error("the output cannot be written")]
     Write,
+    /// The output failed on which a count or a text is told beside a file that is written.
+    #[error("what was done cannot be told")]
+    Print,
+    /// A word that is to name an editor is no UUID.
+    #[error("the editor's name: {0}")]
+    Name(StampFault),
+    /// A text of the head of a wave file is not taken.
+    #[error("{0}")]
+    Head(HeadFault),
+    /// The format of a wave file is not one that is written.
+    #[error("{0}")]
+    Format(FormatFault),
+    /// The script is refused, at the line that the fault tells.
+    #[error("the script is refused: {0}")]
+    Script(ScriptFault),
+    /// The bytes that are to say what another editor has are no such message, or the message of a log is too long.
+    #[error("what an editor has: {0}")]
+    Message(MessageFault),
+    /// The conversation, or the taking of another editor's operations, did not come to its end.
+    #[error("the other editor's operations: {0}")]
+    Sync(SyncFault),
+    /// An address cannot be bound, accepted at or connected to.
+    #[error("the address cannot be met at")]
+    Net,
 }
 
 impl CliFault {
@@ -48,7 +75,14 @@ impl CliFault {
             CliFault::Merge(_) => 17,
             CliFault::Source(_, fault) => fault.number(),
             CliFault::Mix(fault) => fault.number(),
-            CliFault::Write => 37,
+            CliFault::Write | CliFault::Print => 37,
+            CliFault::Name(fault) => fault.number(),
+            CliFault::Head(fault) => fault.number(),
+            CliFault::Format(fault) => fault.number(),
+            CliFault::Script(fault) => fault.number(),
+            CliFault::Message(fault) => fault.number(),
+            CliFault::Sync(fault) => fault.number(),
+            CliFault::Net => 46,
         }
     }
 }

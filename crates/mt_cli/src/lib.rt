@@ -1,7 +1,7 @@
 //! The commands of `radio`.
 //!
-//! `view_logs`, `list_logs`, `merge_logs`, `bounce_logs` and `write_info` do the work of commands over any readers and writers, of which
-//! each is in a latch:
+//! `view_logs`, `list_logs`, `merge_logs`, `bounce_logs`, `write_info`, `edit_log`, `have_log`, `lack_log`, `take_log` and `swap_log` do the
+//! work of commands over any readers and writers, of which each is in a latch:
 //!
 //! ```rust
 //! use mt_cli::{merge_logs, view_logs};
@@ -40,30 +40,43 @@
 //! ```
 #![tactic(auto)]
 
+mod both;
 mod commands;
+mod edit;
 mod fault;
 mod files;
+mod have;
 mod info;
+mod lack;
 pub mod laws;
 mod list;
 mod merge;
 mod part;
 mod program;
+mod put;
 mod read;
 mod refusals;
 mod render;
 mod sources;
 mod stop;
+mod swap;
+mod take;
 mod tell;
 mod union;
 mod view;
 mod words;
 
+pub use both::read_editor;
+pub use edit::edit_log;
 pub use fault::CliFault;
+pub use have::have_log;
 pub use info::write_info;
+pub use lack::lack_log;
 pub use list::{list_log, list_logs};
 pub use merge::merge_logs;
 pub use program::command;
 pub use refusals::{Refusal, find_refusal};
 pub use render::bounce_logs;
+pub use swap::swap_log;
+pub use take::take_log;
 pub use view::{view_log, view_logs};

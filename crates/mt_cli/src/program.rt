@@ -1,24 +1,28 @@
 //! The command line.
 
-ghost use Rattle.std.specs.Prelude.{◌≡◌, ◌≤◌};
+ghost use Rattle.std.specs.Prelude.{◌≡◌, ◌≤◌, IfErr};
+ghost use Rattle.mt_cli.specs.Telling.{fault_line, HasTold, TellsRefusal, TellsText};
+ghost use Rattle.mt_cli.specs.Mistakes.{IsMistake};
 
 use crate::commands::{
     edit, explain, have, info, lack, log, meet, merge, render, serve, take, view,
 };
 use crate::fault::CliFault;
-use crate::stop::Stop;
+use crate::put::put_number_line;
+use crate::stop::{Stop, stopped_by};
 use crate::words::{Words, bare, with_all};
 use clap::{ArgMatches, Command};
-use mt_opcodec::{BufferedLatch, Latch};
+use mt_opcodec::Latch;
 use std::alloc::{AllocError, Global};
 use std::io::{Read, Write};
 use std::net::Net;
 use std::rt::Files;
 
 /// Runs the words after the program's name over standard input, output and error, and answers the exit
-/// status: 0 where it is done, 1 where it is refused, and standard error has then the line `radio: fault N`,
-/// 2 where the words do not parse, and standard error has then the parser's text. Help and the version go
-/// to the output with status 0. A failure of `errors` is not told.
+/// status: 0 where it is done, and nothing is told on `errors` then; 1 where it is refused, and standard error has then the line
+/// `radio: fault N` of the refusal's number, or a prefix of it where `errors` has failed; 2 where the words do not parse, and standard
+/// error has then the parser's text, or a prefix of it, and neither the input nor the output was asked. Help and the version go to the output with status 0. A failure of `errors` is not
+/// told.
 pub fn command<F: Files + Net + AllocGlobal, R: Read, W: Write, E: Write>(
     rt: &F,
     words: &[String],
@@ -26,7 +30,12 @@ pub fn command<F: Files + Net + AllocGlobal, R: Read, W: Write, E: Write>(
     output: &mut Latch<W>,
     errors: &mut Latch<E>,
 ) -> u8
-    ensures { result ≤ 2 }
+    ensures status { result ≤ 2 }
+    ensures done { result ≡ 0 → errors.new ≡ errors.old }
+    ensures refused { result ≡ 1 → TellsRefusal E.contents errors.old errors.new }
+    ensures mistaken { result ≡ 2 → TellsText E.contents errors.old errors.new }
+    ensures mistaken_input { result ≡ 2 → input.new ≡ input.old }
+    ensures mistaken_output { result ≡ 2 → output.new ≡ output.old }
 {
     match run(rt, words, input, output) {
         Ok(()) => 0,
@@ -36,21 +45,18 @@ pub fn command<F: Files + Net + AllocGlobal, R: Read, W: Write, E: Write>(
         }
         Err(Stop::Told { text, .. }) => match output.put(text.as_bytes()) {
             Ok(()) => 0,
-            Err(_) => refused(CliFault::Write.number(), errors),
+            Err(_) => refused(CliFault::Print, errors),
         },
-        Err(Stop::Refused(number)) => refused(number, errors),
+        Err(Stop::Refused(fault)) => refused(fault, errors),
     }
 }
 
 // Tells a refusal, and answers its status.
-fn refused<E: Write>(number: u8, errors: &mut Latch<E>) -> u8
-    ensures { result ≡ 1 }
+fn refused<E: Write>(fault: CliFault, errors: &mut Latch<E>) -> u8
+    ensures status { result ≡ 1 }
+    ensures told { HasTold E.contents errors.old errors.new (fault_line fault) }
 {
-    let mut line = BufferedLatch::new(errors);
-    line.put(b"radio: fault ");
-    line.put_decimal(u64::from(number));
-    line.put(b"\n");
-    let _ = line.flush();
+    let _ = put_number_line(b"radio: fault ", u64::from(fault.number()), errors);
     1
 }
 
@@ -59,8 +65,14 @@ fn run<F: Files + Net + AllocGlobal, R: Read, W: Write>(
     words: &[String],
     input: &mut Latch<R>,
     output: &mut Latch<W>,
-) -> Result<(), Stop> {
-    let matches = match radio(rt.alloc())?.try_get_matches_from(words) {
+) -> Result<(), Stop>
+    ensures untouched_input { IfErr result (λ stop. IsMistake stop → input.new ≡ input.old) }
+    ensures untouched_output { IfErr result (λ stop. IsMistake stop → output.new ≡ output.old) }
+{
+    let Ok(command) = radio(rt.alloc()) else {
+        return Err(Stop::Refused(CliFault::Memory));
+    };
+    let matches = match command.try_get_matches_from(words) {
         Ok(matches) => matches,
         Err(error) => return Err(Stop::told(rt.alloc(), error)),
     };
@@ -85,11 +97,14 @@ fn print<F: Files + Net + AllocGlobal, R: Read, W: Write>(
     words: &ArgMatches<'_>,
     input: &mut Latch<R>,
     output: &mut Latch<W>,
-) -> Result<(), Stop> {
+) -> Result<(), Stop>
+    ensures untouched_input { IfErr result (λ stop. IsMistake stop → input.new ≡ input.old) }
+    ensures untouched_output { IfErr result (λ stop. IsMistake stop → output.new ≡ output.old) }
+{
     match name {
-        "view" => view::run(rt, words, input, output),
-        "log" => log::run(rt, words, input, output),
-        "info" => info::run(rt, words, output),
+        "view" => stopped_by(view::run(rt, words, input, output)),
+        "log" => stopped_by(log::run(rt, words, input, output)),
+        "info" => stopped_by(info::run(rt, words, output)),
         "explain" => explain::run(rt.alloc(), words, output),
         _ => make(rt, name, words, output),
     }
@@ -101,11 +116,13 @@ fn make<F: Files + Net + AllocGlobal, W: Write>(
     name: &str,
     words: &ArgMatches<'_>,
     output: &mut Latch<W>,
-) -> Result<(), Stop> {
+) -> Result<(), Stop>
+    ensures untouched_output { IfErr result (λ stop. IsMistake stop → output.new ≡ output.old) }
+{
     match name {
-        "merge" => merge::run(rt, words),
-        "edit" => edit::run(rt, words, output),
-        "render" => render::run(rt, words),
+        "merge" => stopped_by(merge::run(rt, words)),
+        "edit" => stopped_by(edit::run(rt, words, output)),
+        "render" => stopped_by(render::run(rt, words)),
         _ => swap(rt, name, words),
     }
 }
@@ -117,11 +134,11 @@ fn swap<F: Files + Net + AllocGlobal>(
     words: &ArgMatches<'_>,
 ) -> Result<(), Stop> {
     match name {
-        "have" => have::run(rt, words),
-        "lack" => lack::run(rt, words),
-        "take" => take::run(rt, words),
-        "serve" => serve::run(rt, words),
-        "meet" => meet::run(rt, words),
+        "have" => stopped_by(have::run(rt, words)),
+        "lack" => stopped_by(lack::run(rt, words)),
+        "take" => stopped_by(take::run(rt, words)),
+        "serve" => stopped_by(serve::run(rt, words)),
+        "meet" => stopped_by(meet::run(rt, words)),
         _ => Err(nobody(rt.alloc())),
     }
 }

@@ -2,7 +2,7 @@
 
 ghost use Rattle.std.specs.Prelude.{◌≡◌, ◌≢◌, IfOk, IfErr, OnOk};
 ghost use Rattle.mt_opcodec.specs.declared.fault.LogFault.TheVariants as log;
-ghost use Rattle.mt_cli.specs.Reading.{Gave, GaveLog, IsRead, IsRest, AreRead, GaveLogs, IsCause, HasCause};
+ghost use Rattle.mt_cli.specs.Reading.{Gave, GaveLog, IsRead, IsRest, AreRead, GaveLogs, IsReadCause, IsCause, HasCause};
 
 use crate::fault::CliFault;
 use crate::laws::log_in_memory;
@@ -19,7 +19,7 @@ pub(crate) fn read_all<A: Allocator, R: Read>(
     ensures read { OnOk result (IsRead R.remaining input.new) }
     ensures ok { IfOk result (λ bytes. Gave R.remaining input.old bytes.items) }
     ensures rest { IsRest R.remaining input.old input.new }
-    ensures err { IfErr result (IsCause R.remaining index input.old input.new) }
+    ensures err { IfErr result (IsReadCause index input.new) }
 {
     match input.get_all(alloc) {
         Ok(bytes) => Ok(bytes),

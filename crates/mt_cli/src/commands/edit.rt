@@ -1,20 +1,14 @@
 //! `radio edit`.
 
-use super::editor_of;
+use crate::edit::edit_log;
 use crate::fault::CliFault;
 use crate::files::open;
-use crate::merge::put_log;
 use crate::part::Part;
-use crate::read::read_all;
-use crate::stop::Stop;
 use crate::words::{Word, Words};
 use clap::ArgMatches;
-use mt_opcodec::{BufferedLatch, Latch};
-use mt_replica::Editor;
-use mt_script::run as run_script;
+use mt_opcodec::Latch;
 use mt_stamp::Replica;
-use std::alloc::Global;
-use std::io::{Read, Write};
+use std::io::Write;
 use std::rt::Files;
 
 pub(crate) const WORDS: Words = Words {
@@ -41,69 +35,20 @@ pub(crate) const WORDS: Words = Words {
     ],
 };
 
-// Writes the editor's log into the part, and how many operations were made to the output.
-fn put_edited<W: Write, P: Write>(
-    editor: &Editor,
-    made: usize,
-    output: &mut Latch<W>,
-    part: &mut Latch<P>,
-) -> Result<(), CliFault> {
-    let Some(log) = editor.log() else {
-        return Err(CliFault::Memory);
-    };
-    put_log(log, part)?;
-    let mut line = BufferedLatch::new(output);
-    line.put(b"ops ");
-    line.put_decimal(made as u64);
-    line.put(b"\n");
-    line.flush().map_err(|_| CliFault::Write)
-}
-
-// Makes the changes of the script that the second input holds, and tells how many they are.
-fn make_all<R: Read>(
-    alloc: Global,
-    editor: &mut Editor,
-    script: &mut Latch<R>,
-) -> Result<usize, Stop> {
-    let text = read_all(alloc, 1, script)?;
-    Ok(run_script(alloc, editor, &text)?)
-}
-
-// Writes what became of an editor's log into a file.
-fn put_out<F: Files + AllocGlobal, W: Write>(
-    rt: &F,
-    out: &str,
-    editor: &Editor,
-    made: usize,
-    output: &mut Latch<W>,
-) -> Result<(), Stop> {
-    let mut part = Part::create(rt.alloc(), rt, out)?;
-    let written = put_edited(editor, made, output, part.output());
-    Ok(part.finish(rt, out, written)?)
-}
-
-// Writes what an editor of this name makes of a log by a script.
-fn put_made<F: Files + AllocGlobal, R: Read, W: Write>(
-    rt: &F,
-    name: Replica,
-    log: &mut Latch<R>,
-    script: &mut Latch<R>,
-    out: &str,
-    output: &mut Latch<W>,
-) -> Result<(), Stop> {
-    let mut editor = editor_of(rt.alloc(), name, log)?;
-    let made = make_all(rt.alloc(), &mut editor, script)?;
-    put_out(rt, out, &editor, made, output)
-}
-
 pub(crate) fn run<F: Files + AllocGlobal, W: Write>(
     rt: &F,
     words: &ArgMatches<'_>,
     output: &mut Latch<W>,
-) -> Result<(), Stop> {
-    let name = Replica::read(words.get_str("REPLICA").unwrap_or(""))?;
+) -> Result<(), CliFault> {
+    let alloc = rt.alloc();
+    let name = match Replica::read(words.get_str("REPLICA").unwrap_or("")) {
+        Ok(name) => name,
+        Err(fault) => return Err(CliFault::Name(fault)),
+    };
+    let out = words.get_str("OUT").unwrap_or("");
     let mut log = open(rt, 0, words.get_str("LOG").unwrap_or(""))?;
     let mut script = open(rt, 1, words.get_str("SCRIPT").unwrap_or(""))?;
-    let out = words.get_str("OUT").unwrap_or("");
-    put_made(rt, name, &mut log, &mut script, out, output)
+    let mut part = Part::later(alloc, rt, out)?;
+    let written = edit_log(alloc, name, &mut log, &mut script, part.output(), output);
+    part.finish(out, written)
 }

@@ -1,12 +1,15 @@
 //! `radio explain`.
 
+ghost use Rattle.std.specs.Prelude.{◌≡◌, IfErr};
+ghost use Rattle.mt_cli.specs.Mistakes.{IsMistake};
+
 use crate::fault::CliFault;
 use crate::refusals::{Refusal, find_refusal};
-use crate::stop::Stop;
+use crate::stop::{Stop, stopped_by};
 use crate::words::{Word, Words};
 use clap::ArgMatches;
 use mt_opcodec::{BufferedLatch, Latch};
-use std::alloc::{AllocError, Global};
+use std::alloc::Global;
 use std::io::Write;
 
 pub(crate) const WORDS: Words = Words {
@@ -24,43 +27,49 @@ pub(crate) fn run<W: Write>(
     alloc: Global,
     words: &ArgMatches<'_>,
     output: &mut Latch<W>,
-) -> Result<(), Stop> {
-    let mut lines = BufferedLatch::new(output);
-    match words.get_one::<u8>("N") {
-        None => put_all(&mut lines),
-        Some(number) => match find_refusal(number) {
-            Some(found) => put_whole(&mut lines, found),
-            None => return Err(unknown(alloc, number)?),
-        },
+) -> Result<(), Stop>
+    ensures untouched_output { IfErr result (λ stop. IsMistake stop → output.new ≡ output.old) }
+{
+    let Some(number) = words.get_one::<u8>("N") else {
+        return stopped_by(put_all(output));
+    };
+    match find_refusal(number) {
+        Some(found) => stopped_by(put_whole(output, found)),
+        None => Err(unknown(alloc, number)),
     }
-    Ok(lines.flush().map_err(|_| CliFault::Write)?)
 }
 
 // What is told of a number that is no refusal, as the parser tells of a mistake.
-fn unknown(alloc: Global, number: u8) -> Result<Stop, AllocError> {
-    let text = format!(in alloc;
+fn unknown(alloc: Global, number: u8) -> Stop {
+    match format!(in alloc;
         "error: no refusal has the number {number}\n\nUsage: radio explain [N]\n\nFor more information, try '--help'.\n"
-    )?;
-    Ok(Stop::Told {
-        text,
-        is_mistake: true,
-    })
-}
-
-// Puts all refusals, a line each, by their numbers.
-fn put_all<W: Write>(output: &mut BufferedLatch<'_, W>) {
-    for number in 0..=u8::MAX {
-        if let Some(one) = find_refusal(number) {
-            put_line(output, one);
-        }
+    ) {
+        Ok(text) => Stop::Told {
+            text,
+            is_mistake: true,
+        },
+        Err(_) => Stop::Refused(CliFault::Memory),
     }
 }
 
+// Puts all refusals, a line each, by their numbers.
+fn put_all<W: Write>(output: &mut Latch<W>) -> Result<(), CliFault> {
+    let mut lines = BufferedLatch::new(output);
+    for number in 0..=u8::MAX {
+        if let Some(one) = find_refusal(number) {
+            put_line(&mut lines, one);
+        }
+    }
+    lines.flush().map_err(|_| CliFault::Write)
+}
+
 // Puts a refusal's line, and what can be done about it.
-fn put_whole<W: Write>(output: &mut BufferedLatch<'_, W>, refusal: &Refusal) {
-    put_line(output, refusal);
-    output.put(refusal.advice.as_bytes());
-    output.put(b"\n");
+fn put_whole<W: Write>(output: &mut Latch<W>, refusal: &Refusal) -> Result<(), CliFault> {
+    let mut lines = BufferedLatch::new(output);
+    put_line(&mut lines, refusal);
+    lines.put(refusal.advice.as_bytes());
+    lines.put(b"\n");
+    lines.flush().map_err(|_| CliFault::Write)
 }
 
 // Puts a refusal's number, name and meaning.

@@ -1,12 +1,11 @@
 //! `radio have`.
 
+use crate::fault::CliFault;
 use crate::files::open;
-use crate::part::put_file;
-use crate::read::read_log;
-use crate::stop::Stop;
+use crate::have::have_log;
+use crate::part::Part;
 use crate::words::{Word, Words};
 use clap::ArgMatches;
-use mt_sync::have_bytes;
 use std::rt::Files;
 
 pub(crate) const WORDS: Words = Words {
@@ -25,10 +24,10 @@ pub(crate) const WORDS: Words = Words {
     ],
 };
 
-pub(crate) fn run<F: Files + AllocGlobal>(rt: &F, words: &ArgMatches<'_>) -> Result<(), Stop> {
-    let alloc = rt.alloc();
-    let mut input = open(rt, 0, words.get_str("LOG").unwrap_or(""))?;
-    let log = read_log(alloc, 0, &mut input)?;
-    let bytes = have_bytes(alloc, &log)?;
-    Ok(put_file(rt, words.get_str("OUT").unwrap_or(""), &bytes)?)
+pub(crate) fn run<F: Files + AllocGlobal>(rt: &F, words: &ArgMatches<'_>) -> Result<(), CliFault> {
+    let out = words.get_str("OUT").unwrap_or("");
+    let mut log = open(rt, 0, words.get_str("LOG").unwrap_or(""))?;
+    let mut part = Part::later(rt.alloc(), rt, out)?;
+    let written = have_log(rt.alloc(), &mut log, part.output());
+    part.finish(out, written)
 }

@@ -1,9 +1,9 @@
 //! `radio info`.
 
+use crate::fault::CliFault;
 use crate::files::open;
 use crate::info::write_info;
 use crate::read::read_all;
-use crate::stop::Stop;
 use crate::words::{Word, Words};
 use clap::ArgMatches;
 use mt_opcodec::Latch;
@@ -24,8 +24,8 @@ pub(crate) fn run<F: Files + AllocGlobal, W: Write>(
     rt: &F,
     words: &ArgMatches<'_>,
     output: &mut Latch<W>,
-) -> Result<(), Stop> {
+) -> Result<(), CliFault> {
     let mut file = open(rt, 0, words.get_str("WAVE").unwrap_or(""))?;
     let bytes = read_all(rt.alloc(), 0, &mut file)?;
-    Ok(write_info(rt.alloc(), &bytes, output)?)
+    write_info(rt.alloc(), &bytes, output)
 }

@@ -1,12 +1,11 @@
 //! `radio lack`.
 
+use crate::fault::CliFault;
 use crate::files::open;
-use crate::part::put_file;
-use crate::read::{read_all, read_log};
-use crate::stop::Stop;
+use crate::lack::lack_log;
+use crate::part::Part;
 use crate::words::{Word, Words};
 use clap::ArgMatches;
-use mt_sync::lack_bytes;
 use std::rt::Files;
 
 pub(crate) const WORDS: Words = Words {
@@ -29,12 +28,11 @@ pub(crate) const WORDS: Words = Words {
     ],
 };
 
-pub(crate) fn run<F: Files + AllocGlobal>(rt: &F, words: &ArgMatches<'_>) -> Result<(), Stop> {
-    let alloc = rt.alloc();
-    let mut input = open(rt, 0, words.get_str("LOG").unwrap_or(""))?;
+pub(crate) fn run<F: Files + AllocGlobal>(rt: &F, words: &ArgMatches<'_>) -> Result<(), CliFault> {
+    let out = words.get_str("OUT").unwrap_or("");
+    let mut log = open(rt, 0, words.get_str("LOG").unwrap_or(""))?;
     let mut have = open(rt, 1, words.get_str("HAVE").unwrap_or(""))?;
-    let log = read_log(alloc, 0, &mut input)?;
-    let have = read_all(alloc, 1, &mut have)?;
-    let bytes = lack_bytes(alloc, &log, &have)?;
-    Ok(put_file(rt, words.get_str("OUT").unwrap_or(""), &bytes)?)
+    let mut part = Part::later(rt.alloc(), rt, out)?;
+    let written = lack_log(rt.alloc(), &mut log, &mut have, part.output());
+    part.finish(out, written)
 }

@@ -1,8 +1,8 @@
 //! `radio log`.
 
+use crate::fault::CliFault;
 use crate::files::open_all;
 use crate::list::{list_log, list_logs};
-use crate::stop::Stop;
 use crate::words::{Word, Words};
 use clap::ArgMatches;
 use mt_opcodec::Latch;
@@ -24,12 +24,12 @@ pub(crate) fn run<F: Files + AllocGlobal, R: Read, W: Write>(
     words: &ArgMatches<'_>,
     input: &mut Latch<R>,
     output: &mut Latch<W>,
-) -> Result<(), Stop> {
+) -> Result<(), CliFault> {
     match words.get_strs("LOG") {
         Some(names) if !names.is_empty() => {
             let mut files = open_all(rt, names)?;
-            Ok(list_logs(rt.alloc(), &mut files, output)?)
+            list_logs(rt.alloc(), &mut files, output)
         }
-        _ => Ok(list_log(rt.alloc(), input, output)?),
+        _ => list_log(rt.alloc(), input, output),
     }
 }

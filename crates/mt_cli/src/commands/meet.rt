@@ -1,7 +1,7 @@
 //! `radio meet`.
 
 use super::{open_editor, swap};
-use crate::stop::Stop;
+use crate::fault::CliFault;
 use crate::words::{Word, Words};
 use clap::ArgMatches;
 use mt_sync::Side;
@@ -31,11 +31,11 @@ pub(crate) const WORDS: Words = Words {
 pub(crate) fn run<F: Files + Net + AllocGlobal>(
     rt: &F,
     words: &ArgMatches<'_>,
-) -> Result<(), Stop> {
+) -> Result<(), CliFault> {
     let out = words.get_str("OUT").unwrap_or("");
     let editor = open_editor(rt, words.get_str("LOG").unwrap_or(""))?;
     match TcpStream::connect(rt, words.get_str("ADDR").unwrap_or("")) {
         Ok(stream) => swap(rt, editor, Side::Caller, stream, out),
-        Err(_) => Err(Stop::net()),
+        Err(_) => Err(CliFault::Net),
     }
 }

@@ -1,9 +1,9 @@
 //! `radio merge`.
 
+use crate::fault::CliFault;
 use crate::files::open_all;
 use crate::merge::merge_logs;
 use crate::part::Part;
-use crate::stop::Stop;
 use crate::words::{Word, Words};
 use clap::ArgMatches;
 use std::rt::Files;
@@ -24,10 +24,10 @@ pub(crate) const WORDS: Words = Words {
     ],
 };
 
-pub(crate) fn run<F: Files + AllocGlobal>(rt: &F, words: &ArgMatches<'_>) -> Result<(), Stop> {
+pub(crate) fn run<F: Files + AllocGlobal>(rt: &F, words: &ArgMatches<'_>) -> Result<(), CliFault> {
     let out = words.get_str("OUT").unwrap_or("");
     let mut inputs = open_all(rt, words.get_strs("LOG").unwrap_or(&[]))?;
     let mut part = Part::create(rt.alloc(), rt, out)?;
     let merged = merge_logs(rt.alloc(), &mut inputs, part.output());
-    Ok(part.finish(rt, out, merged)?)
+    part.finish(out, merged)
 }

@@ -1,9 +1,9 @@
 //! `radio render`.
 
+use crate::fault::CliFault;
 use crate::files::open_all;
 use crate::part::Part;
 use crate::render::bounce_logs;
-use crate::stop::Stop;
 use crate::words::{Word, Words};
 use clap::ArgMatches;
 use mt_cuewrite::Head;
@@ -85,27 +85,29 @@ fn given<'w>(words: &ArgMatches<'w>, name: &str) -> &'w str {
 }
 
 // The head of these words.
-fn head_of<'w>(words: &ArgMatches<'w>) -> Result<Head<'w>, Stop> {
-    Ok(Head::new(
+fn head_of<'w>(words: &ArgMatches<'w>) -> Result<Head<'w>, CliFault> {
+    Head::new(
         given(words, "description"),
         given(words, "originator"),
         given(words, "reference"),
         given(words, "date"),
         given(words, "time"),
         words.get_one::<u64>("time-reference").unwrap_or(0),
-    )?)
+    )
+    .map_err(CliFault::Head)
 }
 
 // The format of these words.
-fn format_of(words: &ArgMatches<'_>) -> Result<Format, Stop> {
-    Ok(Format::new(
+fn format_of(words: &ArgMatches<'_>) -> Result<Format, CliFault> {
+    Format::new(
         words.get_one::<u32>("rate").unwrap_or(0),
         words.get_one::<u16>("bits").unwrap_or(0),
         words.get_one::<u16>("channels").unwrap_or(0),
-    )?)
+    )
+    .map_err(CliFault::Format)
 }
 
-pub(crate) fn run<F: Files + AllocGlobal>(rt: &F, words: &ArgMatches<'_>) -> Result<(), Stop> {
+pub(crate) fn run<F: Files + AllocGlobal>(rt: &F, words: &ArgMatches<'_>) -> Result<(), CliFault> {
     let head = head_of(words)?;
     let format = format_of(words)?;
     let out = given(words, "OUT");
@@ -120,5 +122,5 @@ pub(crate) fn run<F: Files + AllocGlobal>(rt: &F, words: &ArgMatches<'_>) -> Res
         format,
         part.output(),
     );
-    Ok(part.finish(rt, out, rendered)?)
+    part.finish(out, rendered)
 }

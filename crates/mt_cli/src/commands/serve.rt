@@ -1,7 +1,7 @@
 //! `radio serve`.
 
 use super::{open_editor, swap};
-use crate::stop::Stop;
+use crate::fault::CliFault;
 use crate::words::{Word, Words};
 use clap::ArgMatches;
 use mt_sync::Side;
@@ -29,24 +29,24 @@ pub(crate) const WORDS: Words = Words {
 };
 
 // The stream of the first caller at an address.
-fn accepted<N: Net>(net: &N, address: &str) -> Result<N::Stream, Stop> {
+fn accepted<N: Net>(net: &N, address: &str) -> Result<N::Stream, CliFault> {
     let Ok(listener) = TcpListener::bind(net, address) else {
-        return Err(Stop::net());
+        return Err(CliFault::Net);
     };
     match listener.accept() {
         Ok((stream, _)) => Ok(stream),
-        Err(_) => Err(Stop::net()),
+        Err(_) => Err(CliFault::Net),
     }
 }
 
 pub(crate) fn run<F: Files + Net + AllocGlobal>(
     rt: &F,
     words: &ArgMatches<'_>,
-) -> Result<(), Stop> {
+) -> Result<(), CliFault> {
     let out = words.get_str("OUT").unwrap_or("");
     let editor = open_editor(rt, words.get_str("LOG").unwrap_or(""))?;
     match accepted(rt, words.get_str("ADDR").unwrap_or("")) {
         Ok(stream) => swap(rt, editor, Side::Answerer, stream, out),
-        Err(stop) => Err(stop),
+        Err(fault) => Err(fault),
     }
 }

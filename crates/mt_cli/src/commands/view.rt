@@ -1,7 +1,7 @@
 //! `radio view`.
 
+use crate::fault::CliFault;
 use crate::files::open_all;
-use crate::stop::Stop;
 use crate::view::{view_log, view_logs};
 use crate::words::{Word, Words};
 use clap::ArgMatches;
@@ -24,12 +24,12 @@ pub(crate) fn run<F: Files + AllocGlobal, R: Read, W: Write>(
     words: &ArgMatches<'_>,
     input: &mut Latch<R>,
     output: &mut Latch<W>,
-) -> Result<(), Stop> {
+) -> Result<(), CliFault> {
     match words.get_strs("LOG") {
         Some(names) if !names.is_empty() => {
             let mut files = open_all(rt, names)?;
-            Ok(view_logs(rt.alloc(), &mut files, output)?)
+            view_logs(rt.alloc(), &mut files, output)
         }
-        _ => Ok(view_log(rt.alloc(), input, output)?),
+        _ => view_log(rt.alloc(), input, output),
     }
 }

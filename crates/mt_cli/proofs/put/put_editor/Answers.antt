@@ -1,0 +1,10 @@
+use Rattle.mt_cli.proofs.Making.{editor_written, editor_not_written}
+use Rattle.mt_cli.proofs.put.put_editor.Goals as goal
+
+pub returns-in-Some-clause-ok : goal.returns-in-Some-clause-ok
+returns-in-Some-clause-ok g c =
+    editor_written g.W.Write.contents c.args.output.now c.put_log.new.output c.args.editor.now.log c.in-Some.log.now c.put_log.result c.in-Some.ensures c.put_log.ensures.sound c.put_log.ensures.ok
+
+pub returns-in-Some-clause-err : goal.returns-in-Some-clause-err
+returns-in-Some-clause-err g c =
+    editor_not_written g.W.Write.contents c.args.output.now c.put_log.new.output c.args.editor.now.log c.in-Some.log.now c.put_log.result c.in-Some.ensures c.put_log.ensures.err

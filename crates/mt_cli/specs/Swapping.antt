@@ -1,0 +1,73 @@
+-- What the commands make by which editors swap operations, of a log and of what another editor sent.
+use Rattle.std.specs.Prelude.{◌≡◌, ◌≢◌, ℕ, List, [], Option, Some, None, Result, Ok, Err, ◌⊎◌}
+use Rattle.mt_latch.specs.Latch.{Latched}
+use Rattle.mt_opcodec.specs.LogValue.{LogMap}
+use Rattle.mt_summary.specs.declared.fault.MessageFault.TheVariants as message
+use Rattle.mt_sync.specs.declared.fault.Side.{Side}
+use Rattle.mt_sync.specs.declared.fault.TalkFault.TheVariants as talk
+use Rattle.mt_sync.specs.declared.fault.SyncFault.{SyncFault}
+use Rattle.mt_sync.specs.declared.fault.SyncFault.TheVariants as sync
+use Rattle.mt_sync.specs.Conversation.{takes, told}
+use Rattle.mt_sync.specs.Feeding.{end_at}
+use Rattle.mt_sync.specs.Conversing.{HasBytes, Lacks, TakesAll, ConversesAs, AreSound, Blames}
+use Rattle.mt_cli.specs.declared.fault.CliFault.{CliFault}
+use Rattle.mt_cli.specs.declared.fault.CliFault.TheVariants.{Memory, Write, Message, Sync}
+use Rattle.mt_cli.specs.Reading.{text_of}
+use Rattle.mt_cli.specs.OneLog.{HasWritten, HasFailed}
+
+-- ---- by files
+
+-- `have`: the frame of the log's Have, where it fits one
+abbrev pub Having : LogMap → Result (List ℕ) CliFault → Type 0
+Having log (Ok bytes) = HasBytes (λ out. out) log (Ok bytes)
+Having log (Err (Message fault)) = (fault ≢ message.Memory) × HasBytes {X = List ℕ} (λ out. out) log (Err fault)
+Having log (Err _) = ⊥
+
+-- `lack`: what the log has and the summary does not cover that the bytes say, and Bye; the bytes are one frame with a Have
+abbrev pub Lacking : LogMap → List ℕ → Result (List ℕ) CliFault → Type 0
+Lacking log asked (Ok bytes) = Lacks (λ out. out) log asked (Ok bytes)
+Lacking log asked (Err (Message fault)) = (fault ≢ message.Memory) × Lacks {X = List ℕ} (λ out. out) log asked (Err fault)
+Lacking log asked (Err _) = ⊥
+
+-- `take`: the text of the set that the log's editor comes to by these bytes, which end with Bye; of a set that may be gone
+abbrev pub TakingIn : Option LogMap → List ℕ → Result (List ℕ) CliFault → Type 0
+TakingIn old sent (Ok bytes) = (set : LogMap) × (TakesAll (told (end_at (takes None) [] old) sent) (Ok tt) (Some set) × (bytes ≡ text_of set))
+TakingIn old sent (Err (Sync fault)) = (fault ≢ sync.Talk talk.Memory) × ((set : Option LogMap) × TakesAll (told (end_at (takes None) [] old) sent) (Err fault) set)
+TakingIn old sent (Err _) = ⊥
+
+abbrev pub Taking : LogMap → List ℕ → Result (List ℕ) CliFault → Type 0
+Taking log sent made = TakingIn (Some log) sent made
+
+-- ---- by a conversation
+
+-- what is lent to it, before or after: the editor's set, which is gone where the editor has failed, what is read from the other end and
+-- written to it, and the output
+pub record TalkLent (R W O : Type 0) : Type 0 where
+  pub set : Option LogMap
+  pub reader : Latched R
+  pub writer : Latched W
+  pub output : Latched O
+
+abbrev pub lent_talk : {R W O : Type 0} → Option LogMap → Latched R → Latched W → Latched O → TalkLent R W O
+lent_talk set reader writer output = record { set = set; reader = reader; writer = writer; output = output }
+
+module _ {R W O : Type 0} (remaining : R → Option (List ℕ)) (written : W → Option (List ℕ)) (contents : O → Option (List ℕ)) (side : Side) (before after : TalkLent R W O) where
+  -- the conversation has read, written and left what `converse` says of this answer
+  abbrev pub HasConversed : Result (Unit {0}) SyncFault → Type 0
+  HasConversed answer =
+      ConversesAs side before.set (remaining before.reader.inner) (remaining after.reader.inner) (written before.writer.inner) (written after.writer.inner) answer after.set
+
+  -- it came to its end with both its streams sound, and left this set
+  abbrev pub HasMet : LogMap → Type 0
+  HasMet set = (after.set ≡ Some set) × (HasConversed (Ok tt) × AreSound after.reader after.writer)
+
+  -- it came to its end, and the text of the set that it left was written
+  abbrev pub SwapWritten : Type 0
+  SwapWritten = (set : LogMap) × (HasMet set × HasWritten contents (text_of set) before.output after.output)
+
+  -- It stopped, with its cause, or memory ran out in it or after it, each with the output as it was; or the output has failed.
+  abbrev pub SwapFails : CliFault → Type 0
+  SwapFails Memory = (HasConversed (Err (sync.Talk talk.Memory)) ⊎ HasConversed (Ok tt)) × (after.output ≡ before.output)
+  SwapFails (Sync fault) = (fault ≢ sync.Talk talk.Memory) × ((HasConversed (Err fault) × Blames remaining after.reader after.writer fault) × (after.output ≡ before.output))
+  SwapFails Write = (set : LogMap) × (HasMet set × HasFailed contents (text_of set) before.output after.output)
+  SwapFails _ = ⊥

@@ -1,0 +1,66 @@
+//! Reading a log, and other bytes after it.
+
+ghost use Rattle.std.specs.Prelude.{◌≡◌, IfOk, IfErr, OnOk, Some};
+ghost use Rattle.mt_opcodec.specs.LogValue.{LogMap};
+ghost use Rattle.mt_cli.specs.Reading.{text_of, Gave, IsRead, IsCause};
+ghost use Rattle.mt_cli.specs.OneLog.{BothCause};
+
+use crate::fault::CliFault;
+use crate::read::{read_all, read_log};
+use mt_opcodec::{Latch, Log};
+use mt_replica::Editor;
+use mt_stamp::Replica;
+use std::alloc::Allocator;
+use std::io::Read;
+
+/// A log, and the bytes that were read after it.
+#[derive(Drop)]
+pub(crate) struct Both<A: Allocator> {
+    pub(crate) log: Log<A>,
+    pub(crate) bytes: Vec<u8, A>,
+}
+
+/// Reads the log of the first input and then all bytes of the second.
+pub(crate) fn read_both<A: Allocator + Clone, R: Read>(
+    alloc: A,
+    log: &mut Latch<R>,
+    other: &mut Latch<R>,
+) -> Result<Both<A>, CliFault>
+    ensures ok { IfOk result (λ both. Gave R.remaining log.old (text_of both.log) × Gave R.remaining other.old both.bytes.items) }
+    ensures read_log { OnOk result (IsRead R.remaining log.new) }
+    ensures read_other { OnOk result (IsRead R.remaining other.new) }
+    ensures err { IfErr result (BothCause R.remaining log.old log.new other.old other.new) }
+{
+    let log = match read_log(alloc.clone()?, 0, log) {
+        Ok(log) => log,
+        Err(fault) => return Err(fault),
+    };
+    match read_all(alloc, 1, other) {
+        Ok(bytes) => Ok(Both { log, bytes }),
+        Err(fault) => Err(fault),
+    }
+}
+
+/// Reads the log of an input, and makes an editor of it.
+///
+/// Refused as `Read` where the input's latch has failed, and as `Log` where its bytes are no log's text, each with index 0; as `Memory`
+/// where a growth was refused. The input is read to its end, unless its latch has failed or memory ran out.
+pub fn read_editor<A: Allocator + Clone, R: Read>(
+    alloc: A,
+    name: Replica,
+    input: &mut Latch<R>,
+) -> Result<Editor<A>, CliFault>
+    ensures ok { IfOk result (λ editor. (log : LogMap) × (Gave R.remaining input.old (text_of log)
+        × (editor ≡ record { name = name; log = Some log; joins = 0 }))) }
+    ensures read { OnOk result (IsRead R.remaining input.new) }
+    ensures err { IfErr result (IsCause R.remaining 0 input.old input.new) }
+{
+    let log = match read_log(alloc.clone()?, 0, input) {
+        Ok(log) => log,
+        Err(fault) => return Err(fault),
+    };
+    match Editor::from_log(alloc, name, log) {
+        Ok(editor) => Ok(editor),
+        Err(_) => Err(CliFault::Memory),
+    }
+}

@@ -1,0 +1,70 @@
+//! What several commands write.
+
+ghost use Rattle.std.specs.Prelude.{◌≡◌, true, OnOk, IfErr};
+ghost use Rattle.mt_latch.specs.Buffered.{Puts};
+ghost use Rattle.mt_cli.specs.OneLog.{HasWritten, HasFailed};
+ghost use Rattle.mt_cli.specs.Editing.{number_line};
+ghost use Rattle.mt_cli.specs.Working.{EditorWritten, EditorFails};
+
+use crate::fault::CliFault;
+use crate::merge::put_log;
+use mt_opcodec::{BufferedLatch, Latch, LatchFault};
+use mt_replica::Editor;
+use std::alloc::Allocator;
+use std::io::Write;
+
+/// Writes bytes.
+pub(crate) fn put_bytes<W: Write>(bytes: &[u8], output: &mut Latch<W>) -> Result<(), CliFault>
+    ensures ok { OnOk result (HasWritten W.contents bytes.now output.old output.new) }
+    ensures err { IfErr result (λ fault. (fault ≡ CliFault.Write) × HasFailed W.contents bytes.now output.old output.new) }
+    ensures stays_failed { output.old.failed ≡ true → output.new ≡ output.old }
+{
+    match output.put(bytes) {
+        Ok(()) => Ok(()),
+        Err(_) => Err(CliFault::Write),
+    }
+}
+
+/// Writes the text of an editor's log. `Memory` also where the editor has failed, so that there is none.
+pub(crate) fn put_editor<A: Allocator + Clone, W: Write>(
+    editor: &Editor<A>,
+    output: &mut Latch<W>,
+) -> Result<(), CliFault>
+    ensures ok { OnOk result (EditorWritten W.contents editor.now.log output.old output.new) }
+    ensures err { IfErr result (EditorFails W.contents editor.now.log output.old output.new) }
+    ensures stays_failed { output.old.failed ≡ true → output.new ≡ output.old }
+{
+    match editor.log() {
+        Some(log) => put_log(log, output),
+        None => Err(CliFault::Memory),
+    }
+}
+
+/// Writes a line: these bytes and a number. It is handed over as a whole. Refused as `Write` where the output's latch has failed.
+#[tactic(auto, unfolding(mt_latch::specs::Buffered::Puts))]
+pub(crate) fn put_number_line<W: Write>(
+    front: &[u8],
+    number: u64,
+    output: &mut Latch<W>,
+) -> Result<(), LatchFault>
+    ensures ok { OnOk result (HasWritten W.contents (number_line front.now number) output.old output.new) }
+    ensures err { IfErr result (λ _. HasFailed W.contents (number_line front.now number) output.old output.new) }
+    ensures stays_failed { output.old.failed ≡ true → output.new ≡ output.old }
+{
+    let mut line = BufferedLatch::new(output);
+    hand_line(&mut line, front, number);
+    if line.flush().is_err() {
+        return Err(LatchFault::Write);
+    }
+    Ok(())
+}
+
+// Hands over a line: these bytes and a number.
+#[tactic(auto, using(mt_latch::proofs::Putting::then_puts))]
+fn hand_line<W: Write>(line: &mut BufferedLatch<'_, W>, front: &[u8], number: u64)
+    ensures { Puts W.contents line.old line.new (number_line front.now number) }
+{
+    line.put(front);
+    line.put_decimal(number);
+    line.put(b"\n");
+}
