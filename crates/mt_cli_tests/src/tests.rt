@@ -5,6 +5,7 @@ mod infos;
 mod merges;
 mod refused_growth;
 mod renders;
+mod swaps;
 mod views;
 
 use mt_cli::CliFault;
