@@ -176,10 +176,13 @@ fn rendered_file(alloc: Global, log: &[u8]) -> Option<Vec<u8>> {
 }
 
 // Whether rendering stops where the writer fails behind so many bytes.
-fn stops_behind(alloc: Global, log: &[u8], file: &[u8], good: usize) -> Option<bool> {
+fn stops_behind(alloc: Global, log: &[u8], file: &[u8], good: usize) -> bool {
     let mut output = Latch::new(FailingWriter::new(alloc, good, ErrorKind::Other));
-    let answer = render_into(alloc, log, &mut output)?;
-    Some(is_cut(answer, output, file, good))
+    let answer = match render_into(alloc, log, &mut output) {
+        Some(answer) => answer,
+        None => Err(CliFault::Memory),
+    };
+    is_cut(answer, output, file, good)
 }
 
 // a writer of a byte at a time, and one of none
@@ -189,7 +192,7 @@ fn each_write_fails_in_turn(rt: HostRuntime) -> Result<(), Fail> {
     let file = rendered_file(rt.alloc(), &log).ok_or("a file")?;
     for good in 0..file.len() + 1 {
         assert!(rt;
-            stops_behind(rt.alloc(), &log, &file, good) == Some(true),
+            stops_behind(rt.alloc(), &log, &file, good),
             "behind {good}"
         );
     }
