@@ -37,12 +37,27 @@
 //! `index_of_track` tells at which index a track stands. A marker that is not in the session yet:
 //!
 //! ```rust
-//! session.put_marker(MarkerView { marker, at: 480, title: news })?;
-//! // it has the place that its position and its stamp say, and keeps it where only its title is another
-//! session.set_marker(MarkerView { marker, at: 480, title: weather });
-//! // to move it, it is taken out where it stands and put in elsewhere
-//! if let Some(taken) = session.take_marker(480, marker) {
-//!     session.put_marker(MarkerView { at: 960, ..taken })?;
+//! use mt_op::Title;
+//! use mt_opcodec::Log;
+//! use mt_sessionview::{MarkerView, from_scratch};
+//! use mt_stamp::{Replica, Stamp};
+//! use std::test::Fail;
+//!
+//! fn changes_a_marker(rt: HostRuntime) -> Result<(), Fail> {
+//!     let marker = Stamp::new(1, Replica(10), 1)?;
+//!     let news = Title::new(rt.alloc(), "News")?;
+//!     let weather = Title::new(rt.alloc(), "Weather")?;
+//!     let mut session = from_scratch(rt.alloc(), &Log::new(rt.alloc()))?;
+//!     session.put_marker(MarkerView { marker, at: 480, title: news })?;
+//!     // it has the place that its position and its stamp say, and keeps it where only its title is another
+//!     session.set_marker(MarkerView { marker, at: 480, title: weather });
+//!     // to move it, it is taken out where it stands and put in elsewhere
+//!     if let Some(taken) = session.take_marker(480, marker) {
+//!         session.put_marker(MarkerView { at: 960, ..taken })?;
+//!     }
+//!     assert!(rt; session.markers.items()[0].at == 960);
+//!     assert!(rt; session.markers.items()[0].title.text() == "Weather");
+//!     Ok(())
 //! }
 //! ```
 #![tactic(auto)]

@@ -150,7 +150,10 @@ fn refusal_of_a_cut(len: usize) -> u8 {
 #[test]
 fn refuses_each_cut_file(rt: HostRuntime) {
     for len in 0..SMALLEST.len() + 1 {
-        assert!(rt; refusal(&SMALLEST[..len]) == refusal_of_a_cut(len), "of {len}");
+        assert!(rt;
+            refusal(&SMALLEST[..len]) == refusal_of_a_cut(len),
+            "of {len}"
+        );
     }
 }
 
