@@ -2,8 +2,8 @@
 
    mix PLAN WAVE CHANNELS BITS TURNS
 
-   PLAN is a text with a line for each segment, `track start end offset num den`, by tracks and by starts, a gain in lowest terms; the first line
-   gives the programme's frames. WAVE is a file whose samples begin at byte 44. A segment plays from frame `offset` on. With one turn the samples
+   PLAN is a text with a line for each segment, `track start end offset num den at len in out`, by tracks and by starts, a gain in lowest terms, and
+   where the clip begins, how long it is and how long its fades are; the first line gives the programme's frames. WAVE is a file whose samples begin at byte 44. A segment plays from frame `offset` on. With one turn the samples
    are summed up as the bench's other program does it; with more the last sample of each block of 4,096 samples is. */
 #include <stddef.h>
 #include <stdint.h>
@@ -13,7 +13,7 @@
 
 enum { FRAMES = 1024, SAMPLES = 4096 };
 
-struct segment { int track; int64_t start, end, offset; uint64_t num, den; };
+struct segment { int track; int64_t start, end, offset; uint64_t num, den; int64_t at, len, in, out; };
 struct wave { const uint8_t *bytes; int64_t frames; int channels, width; };
 
 static struct segment *segments;
@@ -63,6 +63,44 @@ static void add(int64_t *restrict sums, const int32_t *restrict x, int n, uint64
   }
 }
 
+static int64_t level(int64_t fade, int64_t i) { return fade == 0 ? 1 : i < fade ? i : fade; }
+
+/* the same under fades, from frame i of a clip: p = num level(in, i) level(out, len - i) x, q = den in out, without the fade that is 0 */
+static void add_faded(int64_t *restrict sums, const int32_t *restrict x, int n, uint64_t num, uint64_t den, int64_t i, int64_t len, int64_t in, int64_t out) {
+  int64_t full = (in ? in : 1) * (out ? out : 1);
+  __int128 d = (__int128)den * full;
+  if (in == 0 && out == 0) {
+    add(sums, x, n, num, den);
+  } else if (d > 1 && d <= (int64_t)1 << 53 && (__int128)num * full <= 1 << 30) {
+    /* a product with the inverse and a shift, of what is lifted above zero */
+    int shift = 63 - __builtin_clzll((uint64_t)d - 1);
+    uint64_t inverse = (uint64_t)((((unsigned __int128)1 << (64 + shift)) + (unsigned __int128)(d - 1)) / (unsigned __int128)d);
+    int64_t a = (int64_t)num, q = (int64_t)d, turns = ((a * full << 31) + q - 1) / q, lift = q / 2 + q * turns;
+#define FADE(LEVEL) for (int k = 0; k < n; k++) { \
+      uint64_t t = (uint64_t)(x[k] * (a * (LEVEL)) + lift); \
+      sums[k] += (int64_t)((uint64_t)(((unsigned __int128)t * inverse) >> 64) >> shift) - turns; }
+    if (out == 0) FADE(level(in, i + k))
+    else if (in == 0) FADE(level(out, len - i - k))
+    else FADE(level(in, i + k) * level(out, len - i - k))
+  } else {
+    for (int k = 0; k < n; k++) {
+      __int128 t = (__int128)x[k] * (int64_t)num * (level(in, i + k) * level(out, len - i - k)) + d / 2, c = t / d;
+      sums[k] += (int64_t)(c - (c * d > t));
+    }
+  }
+}
+
+/* the frames from..to of a segment, of which x is read: where a fade has ended or has not begun it is left out */
+static void add_segment(int64_t *restrict sums, const int32_t *restrict x, const struct segment *s, int64_t from, int64_t to) {
+  int64_t rise = s->at + (s->in < s->len ? s->in : s->len), fall = s->at + s->len - (s->out < s->len ? s->out : s->len);
+  int64_t cuts[4] = { from, rise < fall ? rise : fall, rise < fall ? fall : rise, to };
+  for (int k = 0; k < 3; k++) {
+    int64_t a = cuts[k] > from ? cuts[k] : from, b = cuts[k + 1] < to ? cuts[k + 1] : to;
+    if (a < b)
+      add_faded(sums + (a - from), x + (a - from), (int)(b - a), s->num, s->den, a - s->at, s->len, a < rise ? s->in : 0, b > fall ? s->out : 0);
+  }
+}
+
 static int32_t cut(int64_t s, int bits) {
   int k = 32 - bits;
   int64_t v = (s + ((int64_t)1 << (k - 1))) >> k, top = ((int64_t)1 << (bits - 1)) - 1;
@@ -87,7 +125,7 @@ static void block(const struct wave *w, int64_t first, int frames, int channels,
         int64_t from = s->start > first ? s->start : first, to = s->end < first + frames ? s->end : first + frames;
         int n = (int)(to - from);
         load(w, s->offset + (from - s->start), c, n, x);
-        add(sums + (from - first), x, n, s->num, s->den);
+        add_segment(sums + (from - first), x, s, from, to);
       }
     if (channels == 1 && bits == 16) for (int i = 0; i < frames; i++) out[i] = cut(sums[i], 16);
     else if (channels == 1) for (int i = 0; i < frames; i++) out[i] = cut(sums[i], 24);
@@ -103,9 +141,9 @@ int main(int argc, char **argv) {
   if (!plan || !file || fscanf(plan, "%lld", &length) != 1) return 1;
   for (;;) {
     struct segment s;
-    long long start, end, offset, num, den;
-    if (fscanf(plan, "%d %lld %lld %lld %lld %lld", &s.track, &start, &end, &offset, &num, &den) != 6) break;
-    s.start = start, s.end = end, s.offset = offset, s.num = (uint64_t)num, s.den = (uint64_t)den;
+    long long start, end, offset, num, den, at, len, in, out;
+    if (fscanf(plan, "%d %lld %lld %lld %lld %lld %lld %lld %lld %lld", &s.track, &start, &end, &offset, &num, &den, &at, &len, &in, &out) != 10) break;
+    s.start = start, s.end = end, s.offset = offset, s.num = (uint64_t)num, s.den = (uint64_t)den, s.at = at, s.len = len, s.in = in, s.out = out;
     segments = realloc(segments, (count + 1) * sizeof s);
     segments[count++] = s;
     tracks = s.track + 1;

@@ -14,7 +14,9 @@ if command -v python3 >/dev/null 2>&1; then
   python3 tests/checks/meetings.py "$PWD/crates/radio/out/radio"
   python3 tests/checks/damage.py "$PWD/crates/radio/out/radio"
   python3 tests/checks/peers.py "$PWD/crates/radio/out/radio"
+  python3 tests/checks/slips.py "$PWD/crates/radio/out/radio"
   python3 tests/checks/faults.py "$PWD/crates/radio/out/radio"
+  python3 tests/checks/chain.py "$PWD/crates/radio/out/radio"
   python3 tests/checks/examples.py
   python3 tests/checks/calls.py
   python3 tests/wrong_bodies.py --changed

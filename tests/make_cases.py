@@ -15,11 +15,14 @@ import subjects.markers
 import subjects.tracks
 import subjects.logs
 import subjects.merges
+import subjects.pulls
 import subjects.waves
 import subjects.renders
 import subjects.command_lines
 import subjects.edits
 import subjects.exchanges
 import subjects.parts
+import subjects.names
+import subjects.causes
 import subjects.refusals
 import subjects.listings

@@ -90,6 +90,11 @@ class Edit:
         """The names of the functions that it brings in: two edits of one round may not bring in one name."""
         return {name for _, old, new in self.pairs for name in re.findall(r"\bfn (\w+)", new) if "fn %s" % name not in old}
 
+    def has(self, error):
+        """Whether an error is told at a line of a function that it edits. What stands in the place of others is on as many lines."""
+        place = re.match(r"(?:so far: )?(?:\./)?(src/[^:]+):(\d+):", error)
+        return place is not None and any(one and one.path == place.group(1) and one.first <= int(place.group(2)) <= one.last for one in self.touched.values())
+
     def is_alone(self):
         """Whether it changes what is no function's body, so that another function's goal shows it."""
         return any(one is None and not old.startswith("use ") for (_, old), one in self.touched.items())
@@ -137,6 +142,9 @@ def apply(edit, crate):
             source.write(text.replace(old, new))
     return None
 
+
+# What is said of a body that does not compile.
+NOT_COMPILED = "it does not compile: "
 
 NAMES_GONE = r"has no field|has no `|is not in scope|was not admitted"
 
@@ -290,7 +298,8 @@ def try_round(edits, crate, name, kept):
         if wrong[edit.name] is not None:
             continue
         if stops:
-            wrong[edit.name] = "the round does not compile: " + stops[0]
+            own_stops = stops if len(edits) == 1 else [stop for stop in stops if edit.has(stop)]
+            wrong[edit.name] = NOT_COMPILED + own_stops[0] if own_stops else "a body beside it does not compile"
         elif edit.is_alone():
             status = r"fn \S*\b%s: (not proved(?!; it calls)|no proof: expected answers)" % edit.refused
             if edit.refused is None:
@@ -443,9 +452,11 @@ def try_crate(name, folder):
                 of_round, of_weak = try_round(one, crate, name, kept)
                 checks += 1
                 weak.update(of_weak)
-                # a function is not looked at where one that it calls is refused in the same round: such edits go into rounds again
-                hidden += [edit for edit in one if edit.name in of_round and len(one) > 1]
-                wrong.update({edit.name: of_round[edit.name] for edit in one if edit.name in of_round and len(one) == 1})
+                # what does not compile is told at once; a function is not looked at beside such a one, nor where one that it calls is refused in the
+                # same round: such edits go into rounds again
+                told = {edit.name for edit in one if len(one) == 1 or of_round.get(edit.name, "").startswith(NOT_COMPILED)}
+                hidden += [edit for edit in one if edit.name in of_round and edit.name not in told]
+                wrong.update({name: why for name, why in of_round.items() if name in told})
             if len(hidden) == len(left):
                 wrong.update(tried_alone(hidden, crate, name, kept, weak))
                 checks += len(hidden)

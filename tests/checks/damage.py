@@ -47,7 +47,7 @@ def stored_cases():
         for name in sorted(os.listdir(os.path.join(CASES, command))):
             folder = os.path.join(CASES, command, name)
             part = {part: bytes_of(os.path.join(folder, part)) for part in ("words", "stdin", "stdout", "stderr", "status")}
-            if part["status"] == b"2\n" or b"--help" in part["words"] or {"setup", "output"} & set(os.listdir(folder)):
+            if part["status"] == b"2\n" or b"--help" in part["words"] or b"--why" in part["words"] or {"setup", "output"} & set(os.listdir(folder)):
                 continue
             words, files = part["words"].decode().split("\n")[:-1], files_in(os.path.join(folder, "files"))
             cases.append(Case(command + "/" + name, words, files, part["stdin"], int(part["status"]), part["stdout"], part["stderr"], files_in(os.path.join(folder, "made"))))
@@ -79,7 +79,7 @@ def read_log(draw, cases):
     if draw.random() < 0.4:
         files["b"] = logs.log([op.text() for op in ops if draw.random() < 0.6])
     names = draw.sample(sorted(files), len(files))
-    return [(["view", *names], files), (["log", *names], files), (["merge", draw.choice(["out", "a"]), *names], files)]
+    return [(["view", *names], files), (["log", *names], files), (["merge", draw.choice(["out", "a"]), *names], files), (["pull", *names, names[0]], files)]
 
 
 def read_script(draw, cases):

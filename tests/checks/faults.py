@@ -65,7 +65,10 @@ def numbers_of(call, scene):
         return set()
     if call.name in FOR_MEMORY:
         return {MEMORY}
-    if call.name in ("rename", "renameat", "renameat2") or base(call).endswith(".part"):
+    if call.name in ("rename", "renameat", "renameat2", "link", "linkat", "flock") or base(call).endswith(".part"):
+        return {WRITE}
+    if call.name in ("stat", "newfstatat", "fstat", "statx") or call.name in ("dup", "fcntl") and not is_socket(call):
+        # how OUT and the log that was read are told apart, and a second handle of it
         return {WRITE}
     if is_socket(call) or call.name in ON_SOCKETS:
         return {NET} if call.name in ON_SOCKETS else {READ} if call.name in READING else {WRITE} if call.name in MOVING else set()
@@ -171,12 +174,12 @@ class Bench:
         scene = trial.scene
         if parts:
             told = self.stage.run(scene, files=left)
-            early = scene.words[0] in ("merge", "render")
+            early = scene.words[0] in ("merge", "pull", "render")
             number = WRITE if early or scene.right.number is None else scene.right.number
             if (told.status, refusal(told), told.files) != (1, number, left):
                 self.fault(trial, told, "with a part that was left it is not refused by %d" % number)
         told = self.stage.run(scene, files=files)
-        if not told.is_right(scene):
+        if not told.is_right(scene.again(files)):
             self.fault(trial, told, "not right when it runs again")
 
 

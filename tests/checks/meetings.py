@@ -3,8 +3,9 @@
 
 `radio serve` and `radio meet` over loopback on logs of several sizes with what they share: both end with the union, byte for byte as
 `radio merge` gives it, and what `have`, `lack` and `take` do by files gives the same. Then peers that cut, that send one byte at a
-time, that send what is no message: a clear status, and the files that were there whole; and a meeting of which one side is killed at
-a random moment, which a second meeting completes.
+time, that send what is no message: a clear status, and the files that were there whole; a meeting of which one side is killed at
+a random moment, which a second meeting completes; ends that wait no longer than is said; and one who serves many in turn, edits made meanwhile going
+along, whom callers that say garbage or nothing do not end.
 """
 import os
 import random
@@ -62,10 +63,10 @@ class Desk:
         assert child.returncode == (1 if errors else 0), (words, child.returncode, errors)
         return int(errors.rsplit(" ", 1)[1]) if errors else None
 
-    def serving(self, out="left.new"):
+    def serving(self, out="left.new", *flags):
         """One who serves the left log, and the port at which it waits."""
         port = free_port()
-        child = self.start("serve", "127.0.0.1:%d" % port, "left", out)
+        child = self.start("serve", *flags, "127.0.0.1:%d" % port, "left", out)
         for _ in range(500):
             if listens(port) or child.poll() is not None:
                 return child, port
@@ -171,6 +172,79 @@ def check_killed(program, seed):
     desk.close()
 
 
+def check_waits(program):
+    """Ends that wait a second: for one to come, or to call, and for what the other end says."""
+    desk = Desk(program, markers(A, 3), markers(B, 2))
+    began = time.monotonic()
+    child, _ = desk.serving("left.new", "--wait", "1")
+    assert told(child) == 46
+    child, port = desk.serving("left.new", "--wait", "1")
+    with socket.create_connection(("127.0.0.1", port)):
+        assert told(child) == 45
+    with socket.socket() as silent:
+        silent.bind(("127.0.0.1", 0))
+        silent.listen()
+        assert desk.run("meet", "--wait", "1", "127.0.0.1:%d" % silent.getsockname()[1], "right", "right.new") == 45
+    assert time.monotonic() - began < 60
+    # what answers in time is not ended
+    child, port = desk.serving("left.new", "--wait", "20")
+    assert desk.run("meet", "--wait", "20", "127.0.0.1:%d" % port, "right", "right.new") is None and told(child) is None
+    assert desk.bytes_of("left.new") == log(markers(A, 3) + markers(B, 2))
+    for wait in ("0", "x", ""):
+        child = desk.start("serve", "--wait", wait, "127.0.0.1:0", "left", "left.new")
+        child.communicate(timeout=60)
+        assert child.returncode == 2, wait
+    desk.close()
+    return 4
+
+
+EDITOR = "00000000-0000-0000-0000-%012x"
+
+
+def check_many(program):
+    """One who serves three in turn, into its own log: an edit that is made between meetings goes along, and so does what came before; a caller that says
+    garbage, and one that says nothing and hangs up, are told and not counted."""
+    desk = Desk(program, markers(A, 3), markers(B, 2))
+    child, port = desk.serving("left", "--why", "--meetings", "3")
+    address = "127.0.0.1:%d" % port
+    assert desk.run("meet", address, "right", "right") is None
+    caller(port, [b"GET / HTTP/1.0\r\n\r\n"])
+    caller(port, [])
+    wait_for(lambda: desk.bytes_of("left") == log(markers(A, 3) + markers(B, 2)))
+    with open(desk.path("script"), "w") as file:
+        file.write("add-marker 7 Meanwhile\n")
+    assert desk.run("edit", EDITOR % C, "left", "script", "left") is None
+    with open(desk.path("third"), "wb") as file:
+        file.write(log([]))
+    for name in ("third", "right"):
+        assert desk.run("meet", address, name, name) is None
+    output, errors = child.communicate(timeout=120)
+    assert (output, child.returncode) == ("", 0)
+    why = "radio: why: peer %s\n" % address
+    assert errors == "radio: fault 40\n" + why + "radio: fault 49\n" + why, errors
+    assert desk.bytes_of("left") == desk.bytes_of("third") == desk.bytes_of("right")
+    assert b"Meanwhile" in desk.bytes_of("left")
+    # without --why nothing is told of them; and what is refused for another cause ends it
+    child, port = desk.serving("left", "--meetings", "0")
+    caller(port, [b"\0" * 64])
+    assert desk.run("meet", "127.0.0.1:%d" % port, "right", "right") is None
+    with open(desk.path("left"), "wb") as file:
+        file.write(b"no log")
+    caller(port, [])
+    output, errors = child.communicate(timeout=120)
+    assert (output, errors, child.returncode) == ("", "radio: fault 11\n", 1), (output, errors)
+    desk.close()
+    return 7
+
+
+def wait_for(is_so):
+    for _ in range(500):
+        if is_so():
+            return
+        time.sleep(0.01)
+    raise AssertionError("it never came")
+
+
 def main():
     program = os.path.abspath(sys.argv[1])
     sizes = [(0, 0, 0), (0, 1, 0), (1, 1, 1), (0, 0, 1), (500, 1000, 700), (3000, 2000, 5000)]
@@ -195,7 +269,8 @@ def main():
     rounds = 50
     for seed in range(rounds):
         check_killed(program, seed)
-    print("%d meetings of two processes agree with merging and with files, %d peers are told as they are, %d killed meetings were completed" % (len(sizes) + 1, len(peers), rounds))
+    waits, callers = check_waits(program), check_many(program)
+    print("%d meetings of two processes agree with merging and with files, %d peers are told as they are, %d killed meetings were completed, %d waits ended or did not, %d callers were served in turn" % (len(sizes) + 1, len(peers), rounds, waits, callers))
 
 
 if __name__ == "__main__":

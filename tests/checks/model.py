@@ -23,6 +23,7 @@ SOURCES = [bytes(32), b"\xff" * 32, bytes(range(32))]
 FRAMES = [0, 0, 1, 1, 2, 480, 2**32 - 1]
 LENGTHS = [1, 1, 2, 480, 2**32 - 1]
 SHORTS = [1, 1, 2, 65535]
+FADES = [0, 0, 1, 480, 1048576]
 
 
 def operations_text(ops):
@@ -77,6 +78,8 @@ class History:
             "add_marker": lambda: {"at": frame, "title": draw.choice(TITLES)},
             "move_marker": lambda: {"marker": item, "at": frame},
             "retitle": lambda: {"item": item, "title": draw.choice(TITLES)},
+            "set_fade": lambda: {"clip": item, "fade_in": draw.choice(FADES), "fade_out": draw.choice(FADES)},
+            "set_marker_length": lambda: {"marker": item, "span": frame},
         }[kind]()
 
     def add(self):

@@ -2,8 +2,9 @@
 """Compares `radio info` with what other programs say of wave files that other programs wrote:
 python3 tests/checks/real_waves.py PROGRAM
 
-sox, ffmpeg, libsndfile's tools, espeak-ng and flac write the files; soxi, ffprobe and sndfile-info read them. What is not
-installed is skipped, with a line that says so. For a file that is refused, the number is given here.
+sox, ffmpeg, libsndfile's tools, espeak-ng and flac write the files; soxi, ffprobe and sndfile-info read them, and exiftool the
+lengths of their cue points. None of those that write makes a chunk `ltxt` of its own: flac writes out the chunks of a file that it
+packed. What is not installed is skipped, with a line that says so. For a file that is refused, the number is given here.
 """
 import json
 import os
@@ -12,6 +13,10 @@ import shutil
 import subprocess
 import sys
 import tempfile
+
+sys.dont_write_bytecode = True
+sys.path.insert(0, os.path.dirname(os.path.dirname(os.path.abspath(__file__))))
+from formats.waves import adtl, cue, data, fmt, labl, ltxt, point, riff
 
 FIELDS = ["description", "originator", "reference", "date", "time", "time-reference", "history"]
 
@@ -51,7 +56,14 @@ def sndfile_info(path):
     return facts
 
 
+def exiftool(path):
+    """What it tells of lengths: of each chunk the name and the length."""
+    told = output("exiftool", "-a", "-s3", "-LabeledText", path)
+    return {"lengths": [tuple(int(number) for number in line.split()[:2]) for line in told.splitlines()]}
+
+
 READERS = [("soxi", soxi), ("ffprobe", ffprobe), ("sndfile-info", sndfile_info)]
+LENGTH_READERS = [("exiftool", exiftool)]
 
 
 def unescaped(text):
@@ -65,9 +77,12 @@ def radio(program, path):
     told = subprocess.run([program, "info", path], stdout=subprocess.PIPE, stderr=subprocess.PIPE, text=True)
     if told.returncode != 0:
         return int(told.stderr.removeprefix("radio: fault "))
-    facts = {}
+    facts = {"lengths": []}
     for line in told.stdout.splitlines():
         word, value = line.split(" ", 1)
+        length = re.match(r"(\d+) at \d+ len (\d+)", value)
+        if word == "cue" and length:
+            facts["lengths"].append((int(length.group(1)), int(length.group(2))))
         facts[word] = int(value) if word in ["rate", "channels", "bits", "frames"] else unescaped(value)
     return facts
 
@@ -128,19 +143,26 @@ FILES = [
     ("espeak-ng", ["espeak-ng", "-w", "FILE", "News at nine"], None),
     ("espeak-ng into a pipe, unfinished sizes", ["sh", "-c", "espeak-ng --stdout 'News at nine' | cat > FILE"], 28),
     ("flac 16 bits", ["sh", "-c", "flac -s -f -o FLAC SOURCE && flac -s -f -d -o FILE FLAC"], None),
+    ("flac, the chunks of another file", ["sh", "-c", "flac -s -f --keep-foreign-metadata -o FLAC LISTED && flac -s -f -d --keep-foreign-metadata -o FILE FLAC"], None),
     ("flac 24 bits", ["sh", "-c", "sndfile-convert -pcm24 SOURCE OTHER && flac -s -f -o FLAC OTHER && flac -s -f -d -o FILE FLAC"], None),
 ]
 
 
+# a file with a list of labels and lengths
+LISTED = riff(fmt(bits=16), data(bytes(range(200))), cue(point(1, 0), point(2, 40), point(3, 50)), adtl(labl(1, b"News\0"), labl(2, b"Weather\0"), ltxt(1, 40), ltxt(3, 7, b"beat", text=b"odd")))
+
+
 def main():
     program = os.path.abspath(sys.argv[1])
-    tools = {words[0] if words[0] != "sh" else words[2].split()[0] for _, words, _ in FILES} | {name for name, _ in READERS}
+    tools = {words[0] if words[0] != "sh" else words[2].split()[0] for _, words, _ in FILES} | {name for name, _ in READERS + LENGTH_READERS}
     missing = sorted(tool for tool in tools if not shutil.which(tool))
     if missing:
         print("skipped what needs %s: not installed" % ", ".join(missing))
     compared = refused = failed = 0
     with tempfile.TemporaryDirectory() as place:
-        names = {"FILE": os.path.join(place, "file.wav"), "SOURCE": os.path.join(place, "source.wav"), "OTHER": os.path.join(place, "other.wav"), "FLAC": os.path.join(place, "file.flac")}
+        names = {"FILE": os.path.join(place, "file.wav"), "SOURCE": os.path.join(place, "source.wav"), "OTHER": os.path.join(place, "other.wav"), "FLAC": os.path.join(place, "file.flac"), "LISTED": os.path.join(place, "listed.wav")}
+        with open(names["LISTED"], "wb") as file:
+            file.write(LISTED)
         sources = "sox -n -r 48000 -c 2 -b 16 SOURCE synth 0.5 sine 440 gain -6" if shutil.which("sox") else None
         if sources:
             subprocess.run([names.get(word, word) for word in sources.split()], check=True)
@@ -166,7 +188,7 @@ def main():
                 failed += 1
                 print("FAILED %s: refused as %d" % (name, ours))
                 continue
-            for reader, ask in READERS:
+            for reader, ask in READERS + LENGTH_READERS:
                 if reader in missing:
                     continue
                 for fact, theirs in ask(names["FILE"]).items():

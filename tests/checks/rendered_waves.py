@@ -5,9 +5,11 @@ with those of the recording: python3 tests/checks/rendered_waves.py PROGRAM
 python3's own module `wave` always reads them; soxi, ffprobe, sndfile-info, mediainfo, and sox and ffmpeg for the samples, where they are
 installed. What `radio info` tells of a file's `bext` chunk has to be the head that the file was rendered with.
 
-sndfile-info tells the cue points and their labels, and ffprobe tells them as chapters: both have to be the markers.
+sndfile-info tells the cue points and their labels, and ffprobe tells them as chapters: both have to be the markers. exiftool tells
+the lengths: they have to be those of the markers, cut at the programme's end.
 
 Known to be told otherwise by others: python's `wave` and soxi show neither the `bext` chunk nor cue points, and mediainfo no cue points;
+sndfile-info reads of the lengths that there is one, and ffprobe none: a chapter lasts to the next one;
 mediainfo counts no frames of a file that has none, so files without a frame are read by python's `wave` alone.
 """
 import hashlib
@@ -22,8 +24,8 @@ import wave
 
 sys.dont_write_bytecode = True
 sys.path.insert(0, os.path.dirname(os.path.dirname(os.path.abspath(__file__))))
-from formats.logs import A, add_clip, add_marker, add_track, log
-from checks.real_waves import READERS, output
+from formats.logs import A, add_clip, add_marker, add_track, log, set_marker_length
+from checks.real_waves import LENGTH_READERS, READERS, output
 from checks.real_waves import radio as info
 from formats.waves import data, fmt, riff
 
@@ -87,13 +89,17 @@ def sound_of(kind, size, bits):
 
 
 def compare(program, folder, rate, bits, channels, frames, markers, kind="any"):
+    """A marker is its frame, its title and its length."""
     sound = sound_of(kind, frames * channels * bits // 8, bits)
     recording = riff(fmt(channels, rate, bits), data(sound))
     track, clip = (1, A, 1), (2, A, 2)
     ops = [add_track(track, None, "Voice")]
     if frames:
         ops.append(add_clip(clip, hashlib.sha256(recording).digest(), track, 0, 0, frames))
-    ops += [add_marker((number, A, number), at, title) for number, (at, title) in enumerate(markers, 3)]
+    for number, (at, title, length) in enumerate(markers):
+        marker, longer = [(3 + 2 * number + behind, A, 3 + 2 * number + behind) for behind in (0, 1)]
+        ops += [add_marker(marker, at, title)] + ([set_marker_length(longer, marker, length)] if length else [])
+    points, lengths = [marker[:2] for marker in markers], [min(length, frames - at) for at, _, length in markers]
     paths = {name: os.path.join(folder, name) for name in ("log", "recording.wav", "out.wav")}
     for name, text in (("log", log(ops)), ("recording.wav", recording)):
         with open(paths[name], "wb") as file:
@@ -104,7 +110,7 @@ def compare(program, folder, rate, bits, channels, frames, markers, kind="any"):
     read, samples = of_module(paths["out.wav"])
     assert facts == read == {"rate": rate, "channels": channels, "bits": bits, "frames": frames}, (facts, read)
     assert samples == sound, "other samples than the recording's"
-    assert cues == ["cue %d at %d label %s" % (name, at, title) for name, (at, title) in enumerate(markers, 1)], cues
+    assert cues == ["cue %d at %d%s label %s" % (name, at, " len %d" % length if length else "", title) for name, ((at, title), length) in enumerate(zip(points, lengths), 1)], cues
     for name, reader in TELLERS:
         if shutil.which(name) and frames:
             other = reader(paths["out.wav"])
@@ -113,7 +119,11 @@ def compare(program, folder, rate, bits, channels, frames, markers, kind="any"):
     for name, teller in CUE_TELLERS:
         # more cue points than a few are not listed by each of them
         if shutil.which(name) and frames and len(markers) < 10:
-            assert teller(paths["out.wav"]) == markers, (name, teller(paths["out.wav"]), markers)
+            assert teller(paths["out.wav"]) == points, (name, teller(paths["out.wav"]), points)
+    for name, reader in LENGTH_READERS:
+        if shutil.which(name) and len(markers) < 10:
+            wanted = [(number, length) for number, length in enumerate(lengths, 1) if length]
+            assert reader(paths["out.wav"])["lengths"] == wanted, (name, reader(paths["out.wav"]), wanted)
     for name, player in PLAYERS:
         if shutil.which(name) and frames:
             assert player(paths["out.wav"], bits) == sound, "%s plays other samples than the recording's" % name
@@ -152,20 +162,20 @@ def main():
             for bits in (16, 24):
                 for channels in (1, 2):
                     for frames in (0, 1, 3, 4096, 4097, 10000):
-                        markers = [(0, "Start"), (frames - 1, "End")] if frames > 1 else []
+                        markers = [(0, "Start", 0), (1, "Middle", frames // 3), (frames - 1, "End", frames)] if frames > 1 else []
                         compare(program, folder, rate, bits, channels, frames, markers)
                         count += 1
         for kind in ("silence", "full scale"):
             for bits in (16, 24):
                 compare(program, folder, 48000, bits, 2, 4800, [], kind)
                 count += 1
-        compare(program, folder, 48000, 16, 1, 65536, [(at, "m%d" % at) for at in range(65536)])
+        compare(program, folder, 48000, 16, 1, 65536, [(at, "m%d" % at, at % 3) for at in range(65536)])
         count += 1
         for head in HEADS:
             compare_head(program, folder, head)
-    there = ["wave"] + [name for name, _ in TELLERS + PLAYERS if shutil.which(name)]
+    there = ["wave"] + [name for name, _ in TELLERS + LENGTH_READERS + PLAYERS if shutil.which(name)]
     print("%d rendered files are read alike by radio and by %s, and %d heads are read again" % (count, ", ".join(there), len(HEADS)))
-    absent = [name for name, _ in TELLERS + PLAYERS if not shutil.which(name)]
+    absent = [name for name, _ in TELLERS + LENGTH_READERS + PLAYERS if not shutil.which(name)]
     if absent:
         print("skipped what needs %s: not installed" % ", ".join(absent))
 

@@ -36,6 +36,10 @@ class Scene:
             return Answer(refused.number)
         return Answer(end.number) if end.number is not None else Answer(made={self.words[-1]: write_log(end.ops)})
 
+    def again(self, files):
+        """The same run where these files are left."""
+        return self if files == self.files else Scene(self.name, self.words, files, self.stdin, self.stream)
+
     @property
     def files_after(self):
         return {**self.files, **self.right.made}
@@ -48,7 +52,7 @@ def markers(replica, count, size):
 def scenes(count, size):
     """A run of each command or two, over logs of so many markers with titles of this size."""
     ours, theirs = markers(A, count, size), markers(B, count, size)
-    recording = waves.riff(waves.fmt(1, 48000, 16), waves.data(bytes(index * 37 % 256 for index in range(600))), waves.cue(waves.point(1, 5)), waves.adtl(waves.labl(1, b"Bell\0")))
+    recording = waves.riff(waves.fmt(1, 48000, 16), waves.data(bytes(index * 37 % 256 for index in range(600))), waves.cue(waves.point(1, 5)), waves.adtl(waves.labl(1, b"Bell\0"), waves.ltxt(1, 9)))
     played = [add_track((1, C, 1), None, "T"), add_clip((2, C, 2), hashlib.sha256(recording).digest(), (1, C, 1), 0, 0, 300)] + ours[:3]
     whole, other = log(ours), log(ours[: count // 2] + theirs)
     script = b"add-track head Voice\nadd-marker 480 News\nretitle $2 Headlines\nmute $1 on\n"
@@ -62,6 +66,7 @@ def scenes(count, size):
         Scene("merge", ["merge", "out", "log", "other"], {"log": whole, "other": other, "out": OLD}),
         Scene("merge onto a log", ["merge", "log", "log", "other"], {"log": whole, "other": other}),
         Scene("merge that is refused", ["merge", "out", "log", "other"], {"log": whole, "other": other[:-1], "out": OLD}),
+        Scene("pull", ["pull", "log", "other"], {"log": whole, "other": other}),
         Scene("edit", ["edit", editor, "log", "script", "out"], {"log": whole, "script": script, "out": OLD}),
         Scene("edit that is refused", ["edit", editor, "log", "script", "out"], {"log": whole, "script": script + b"frob\n", "out": OLD}),
         Scene("render", ["render", "out", "log", "r", "--bits", "16"], {"log": log(played), "r": recording, "out": OLD}),

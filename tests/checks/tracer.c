@@ -43,6 +43,7 @@ static const struct {
   {SYS_read, "read", DESCRIPTOR}, {SYS_write, "write", DESCRIPTOR}, {SYS_readv, "readv", DESCRIPTOR}, {SYS_writev, "writev", DESCRIPTOR},
   {SYS_pread64, "pread64", DESCRIPTOR}, {SYS_pwrite64, "pwrite64", DESCRIPTOR}, {SYS_close, "close", DESCRIPTOR}, {SYS_fstat, "fstat", DESCRIPTOR},
   {SYS_lseek, "lseek", DESCRIPTOR}, {SYS_fcntl, "fcntl", DESCRIPTOR}, {SYS_dup, "dup", DESCRIPTOR}, {SYS_fsync, "fsync", DESCRIPTOR},
+  {SYS_flock, "flock", DESCRIPTOR}, {SYS_fchmod, "fchmod", DESCRIPTOR}, {SYS_link, "link", FIRST_PATH}, {SYS_linkat, "linkat", SECOND_PATH},
   {SYS_fdatasync, "fdatasync", DESCRIPTOR}, {SYS_ftruncate, "ftruncate", DESCRIPTOR}, {SYS_ioctl, "ioctl", DESCRIPTOR}, {SYS_open, "open", FIRST_PATH},
   {SYS_openat, "openat", SECOND_PATH}, {SYS_newfstatat, "newfstatat", SECOND_PATH}, {SYS_statx, "statx", SECOND_PATH}, {SYS_stat, "stat", FIRST_PATH},
   {SYS_lstat, "lstat", FIRST_PATH}, {SYS_access, "access", FIRST_PATH}, {SYS_rename, "rename", FIRST_PATH}, {SYS_renameat, "renameat", SECOND_PATH},

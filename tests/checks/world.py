@@ -20,7 +20,7 @@ sys.dont_write_bytecode = True
 HERE = os.path.dirname(os.path.abspath(__file__))
 sys.path[:0] = [HERE, os.path.dirname(HERE)]
 from formats import logs
-from model import ADDS, FITS, FRAMES, NAMED, SHORTS, SOURCES, TITLES, Op, session_text
+from model import ADDS, FADES, FITS, FRAMES, NAMED, SHORTS, SOURCES, TITLES, Op, session_text
 
 EDITORS = 5
 NAMES = [0, 1, 10, 11, 12, 2**64, 2**127, 2**128 - 2, 2**128 - 1]
@@ -151,6 +151,8 @@ def drawn_change(draw, editor):
         "add_marker": lambda: {"at": frame, "title": draw.choice(TITLES)},
         "move_marker": lambda: {"marker": item("Marker"), "at": frame},
         "retitle": lambda: {"item": item("Titled"), "title": draw.choice(TITLES)},
+        "set_fade": lambda: {"clip": item("Clip"), "fade_in": draw.choice(FADES), "fade_out": draw.choice(FADES)},
+        "set_marker_length": lambda: {"marker": item("Marker"), "span": frame},
     }[kind]()
     return kind, fields
 

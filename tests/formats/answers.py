@@ -3,7 +3,7 @@ The order of the refusals is that of docs/refusals.md and of the README: a comma
 each in turn; `merge` and `render` make OUT.part once their files are open, the others once all is known."""
 from formats.log_text import log_text
 from formats.mixes import Mix, check_format, check_head
-from formats.read_logs import read_log, union, write_log
+from formats.read_logs import dot, read_log, union, write_log
 from formats.read_messages import have_bytes, lack_bytes, take_ops
 from formats.read_waves import Wave
 from formats.refused import Refused, refuse_unless
@@ -38,10 +38,10 @@ class Answer:
 
 
 class Folder:
-    """The files by their names, and what comes to standard input."""
+    """The files by their names, what comes to standard input, and whether what is made may not be there."""
 
-    def __init__(self, files, stdin):
-        self.files, self.stdin = files, stdin
+    def __init__(self, files, stdin, is_new=False):
+        self.files, self.stdin, self.is_new = files, stdin, is_new
 
     def open(self, *names):
         """The bytes of files that are opened from left to right."""
@@ -54,7 +54,7 @@ class Folder:
 
     def part(self, out):
         """OUT.part is made, which may not be there; a name of no letter is not known to be none before the part gets it."""
-        refuse_unless("/" not in out and out + ".part" not in self.files, WRITE)
+        refuse_unless("/" not in out and out + ".part" not in self.files and not (self.is_new and out in self.files), WRITE)
 
 
 def view(folder, *names):
@@ -71,6 +71,23 @@ def merge(folder, out, *names):
     inputs = folder.open(*names)
     folder.part(out)
     return Answer(made={out: write_log(union([read_log(data) for data in inputs]))})
+
+
+def pull(folder, *words):
+    log, *names = [word for word in words if word != "--dry"]
+    is_dry = "--dry" in words
+    inputs = folder.open(log, *names)
+    if not is_dry:
+        folder.part(log)
+    logs = [read_log(data) for data in inputs]
+    together = union(logs)
+    # of each in order what is new to the logs before it, and what these have
+    seen, lines = {dot(op) for op in logs[0]}, b""
+    for name, ops in zip(names, logs[1:]):
+        dots = {dot(op) for op in ops}
+        lines += b"from %s new %d shared %d\n" % (name.encode(), len(dots - seen), len(dots & seen))
+        seen |= dots
+    return Answer(output=lines + b"ops %d\n" % len(together), made={} if is_dry else {log: write_log(together)})
 
 
 def edit(folder, replica, log, script, out):
@@ -135,13 +152,13 @@ def parted(words):
     return names, options
 
 
-COMMANDS = {"view": view, "log": list_ops, "merge": merge, "edit": edit, "have": have, "lack": lack, "take": take, "info": info, "render": render}
+COMMANDS = {"view": view, "log": list_ops, "merge": merge, "pull": pull, "edit": edit, "have": have, "lack": lack, "take": take, "info": info, "render": render}
 
 
 def answer(words, files, stdin=b""):
     """What the program answers to these words where these files lie, by name."""
     try:
-        told = COMMANDS[words[0]](Folder(files, stdin), *[word for word in words[1:] if word != "--"])
+        told = COMMANDS[words[0]](Folder(files, stdin, "--new" in words), *[word for word in words[1:] if word not in ("--", "--new", "--no-sync")])
         return Answer(WRITE, told.output) if "" in told.made else told
     except Refused as refused:
         return Answer(refused.number)

@@ -8,7 +8,8 @@ from formats.sessions import FITS
 
 TITLES = ["", "News", "  two  ", "$1", "Wetter für morgen", "新聞", "t" * 255]
 FRAMES = ["0", "1", "2", "480", "4294967295"]
-ODD_WORDS = ["", "head", "$0", "$99", "00", "+1", "-1", "4294967296", "1/0", "65536/1", "on", "off", "add-track", "#", "\t", "1.1.x", "0x1", "é"]
+FADES = ["0", "0", "1", "480", "1048576"]
+ODD_WORDS = ["", "head", "$0", "$99", "00", "+1", "-1", "1048577", "4294967296", "1/0", "65536/1", "on", "off", "add-track", "#", "\t", "1.1.x", "0x1", "é"]
 
 
 class Script:
@@ -45,6 +46,8 @@ class Script:
             "add-marker": lambda: [at, title],
             "move-marker": lambda: [self.item("Marker"), at],
             "retitle": lambda: [self.item("Titled"), title],
+            "fade": lambda: [self.item("Clip"), draw.choice(FADES), draw.choice(FADES)],
+            "marker-length": lambda: [self.item("Marker"), at],
         }[word]()
 
     def add(self):
@@ -52,7 +55,7 @@ class Script:
         if draw.random() < 0.1:
             self.lines.append(draw.choice(["", "#", "# a remark", "#add-track head x"]))
             return
-        word = draw.choice(["add-track", "add-track", "add-clip", "add-marker", "move-track", "move-clip", "trim-clip", "gain", "mute", "remove", "restore", "move-marker", "retitle"])
+        word = draw.choice(["add-track", "add-track", "add-clip", "add-marker", "move-track", "move-clip", "trim-clip", "gain", "mute", "remove", "restore", "move-marker", "retitle", "fade", "marker-length"])
         words = [word] + self.words(word)
         if word.startswith("add-"):
             self.made.append((len(self.lines) + 1, word.replace("-", "_")))
@@ -91,7 +94,7 @@ def damaged_script(draw, lines):
 
 
 def wave(draw, rate=None, most=60):
-    """A recording with a head, cue points and labels, some of them odd."""
+    """A recording with a head, cue points, labels and lengths, some of them odd."""
     bits, channels = draw.choice([8, 16, 24, 32]), draw.choice([1, 1, 2, 3])
     rate = draw.choice([8000, 44100, 48000, 384001]) if rate is None else rate
     sound = draw.randbytes(draw.randint(0, most) * channels * bits // 8 + draw.choice([0, 0, 0, 1]))
@@ -122,8 +125,14 @@ def cues(draw):
 
 
 def labels(draw):
-    kinds = [lambda: waves.labl(draw.randint(0, 4), words_of(draw) + draw.choice([b"\0", b""])), lambda: waves.chunk(b"note", struct.pack("<I", 1) + b"x"), lambda: waves.chunk(b"labl", b"\1\0")]
-    return waves.adtl(*[draw.choices(kinds, [8, 1, 1])[0]() for _ in range(draw.randint(0, 4))])
+    kinds = [
+        lambda: waves.labl(draw.randint(0, 4), words_of(draw) + draw.choice([b"\0", b""])),
+        lambda: waves.ltxt(draw.randint(0, 4), draw.choice([0, 1, 480, 2**32 - 1]), draw.choice([b"rgn ", b"beat", bytes(4)]), draw.randbytes(8), draw.choice([b"", words_of(draw)])),
+        lambda: waves.chunk(b"note", struct.pack("<I", 1) + b"x"),
+        lambda: waves.chunk(b"labl", b"\1\0"),
+        lambda: waves.chunk(b"ltxt", struct.pack("<II", draw.randint(0, 4), 1) + bytes(11)),
+    ]
+    return waves.adtl(*[draw.choices(kinds, [8, 8, 1, 1, 1])[0]() for _ in range(draw.randint(0, 4))])
 
 
 def session(draw, files):
@@ -145,7 +154,7 @@ def session(draw, files):
         ops.append(logs.add_clip(clips[-1], source, draw.choice(tracks), draw.randint(0, 40), draw.choice([0, 0, draw.randint(0, 30), 2**32 - 1]), draw.randint(1, 50)))
     for _ in range(draw.randint(0, 8)):
         some = tracks + clips
-        change = draw.choice(["gain", "mute", "move", "trim", "marker", "remove"])
+        change = draw.choice(["gain", "mute", "move", "trim", "fade", "marker", "remove"])
         if change == "gain":
             ops.append(logs.set_gain(own(), draw.choice(some), draw.choice([0, 1, 3, 65535]), draw.choice([1, 2, 7, 65535])))
         elif change == "mute":
@@ -154,11 +163,15 @@ def session(draw, files):
             ops.append(logs.move_clip(own(), draw.choice(clips), draw.choice(tracks), draw.randint(0, 40)))
         elif change == "trim" and clips:
             ops.append(logs.trim_clip(own(), draw.choice(clips), draw.randint(0, 30), draw.randint(1, 50)))
+        elif change == "fade" and clips:
+            ops.append(logs.set_fade(own(), draw.choice(clips), draw.choice([0, 1, draw.randint(0, 60), 1048576]), draw.choice([0, 1, draw.randint(0, 60), 1048576])))
         elif change == "remove":
             item = draw.choice(some)
             ops.append(logs.remove(own(), item, [item]))
         else:
             ops.append(logs.add_marker(own(), draw.randint(0, 60), draw.choice(TITLES)))
+            if draw.random() < 0.5:
+                ops.append(logs.set_marker_length(own(), ops[-1][0], draw.choice([0, 1, draw.randint(0, 60), 2**32 - 1])))
     return ops
 
 

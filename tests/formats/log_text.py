@@ -26,6 +26,8 @@ ACTS = {
     10: ("add-marker", "frame", "title"),
     11: ("move-marker", "stamp", "frame"),
     12: ("retitle", "stamp", "title"),
+    13: ("fade", "stamp", "frame", "frame"),
+    14: ("marker-length", "stamp", "frame"),
 }
 # how a field is told; `take` gives the next bytes
 WORDS = {

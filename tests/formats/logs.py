@@ -68,6 +68,14 @@ def retitle(own, item, text):
     return (own, stamp(*own) + bytes([12]) + stamp(*item) + title(text))
 
 
+def set_fade(own, clip, fade_in, fade_out):
+    return (own, stamp(*own) + bytes([13]) + stamp(*clip) + struct.pack(">II", fade_in, fade_out))
+
+
+def set_marker_length(own, marker, span):
+    return (own, stamp(*own) + bytes([14]) + stamp(*marker) + struct.pack(">I", span))
+
+
 def seal(body):
     return body + hashlib.sha256(body).digest()
 
@@ -76,10 +84,16 @@ def head(count, magic=b"RMTS", version=1):
     return magic + bytes([version]) + struct.pack(">Q", count)
 
 
+def version_of(texts):
+    """The least version of a log that has operations of these texts: by their kind bytes."""
+    kinds = {text[32] for text in texts if len(text) > 32}
+    return 3 if 14 in kinds else 2 if 13 in kinds else 1
+
+
 def log(ops):
     """The log of these operations, by rising dot (replica, then number)."""
-    ops = sorted(ops, key=lambda op: (op[0][1], op[0][2]))
-    return seal(head(len(ops)) + b"".join(text for _, text in ops))
+    texts = [text for _, text in sorted(ops, key=lambda op: (op[0][1], op[0][2]))]
+    return seal(head(len(texts), version=version_of(texts)) + b"".join(texts))
 
 
 def name(replica):
@@ -99,10 +113,11 @@ def track_line(own, text, gain=(1, 1), mute=False):
     return "track %s %s title %s\n" % (stamp_text(*own), sound_text(gain, mute), text)
 
 
-def clip_line(own, place, at, offset, length, source, gain=(1, 1), mute=False):
-    return "clip %s place %s at %d offset %d len %d %s source %s\n" % (
-        stamp_text(*own), stamp_text(*place), at, offset, length, sound_text(gain, mute), source.hex())
+def clip_line(own, place, at, offset, length, source, gain=(1, 1), mute=False, fades=(0, 0)):
+    fade_text = " fade %d %d" % fades if any(fades) else ""
+    return "clip %s place %s at %d offset %d len %d %s%s source %s\n" % (
+        stamp_text(*own), stamp_text(*place), at, offset, length, sound_text(gain, mute), fade_text, source.hex())
 
 
-def marker_line(own, at, text):
-    return "marker %s at %d title %s\n" % (stamp_text(*own), at, text)
+def marker_line(own, at, text, span=0):
+    return "marker %s at %d%s title %s\n" % (stamp_text(*own), at, " len %d" % span if span else "", text)

@@ -43,16 +43,20 @@ class Mix:
         refuse_unless(self.size <= MOST_BYTES, TOO_LONG)
 
     def contribution(self, track, clips, frame, channel):
-        """What a track gives: its clip of the greatest place under both gains, rounded to the nearest, halves up."""
+        """What a track gives: its clip of the greatest place under both gains and its fades, rounded to the nearest, halves up."""
         covering = [clip for clip in clips if clip.at <= frame < clip.at + clip.length]
         if not covering:
             return 0
         clip = max(covering, key=lambda clip: clip.place)
-        wave, at = self.found[clip.source], clip.offset + frame - clip.at
+        wave, since = self.found[clip.source], frame - clip.at
+        at = clip.offset + since
         if at >= wave.frames:
             return 0
         over = wave.sample(at, min(channel, wave.channels - 1)) * clip.gain[0] * track.gain[0]
         under = clip.gain[1] * track.gain[1]
+        for fade, faded in zip(clip.fades, (since, clip.length - since)):
+            if fade:
+                over, under = over * min(faded, fade), under * fade
         return (2 * over + under) // (2 * under)
 
     def sample(self, frame, channel):
@@ -66,7 +70,7 @@ class Mix:
 
     def file(self, head):
         """The file, with the session's markers before its end as cue points."""
-        markers = [(marker.at, marker.title) for marker in self.session.markers if marker.at < self.length]
+        markers = [(marker.at, marker.title, marker.span) for marker in self.session.markers if marker.at < self.length]
         texts = {name: text.encode() if isinstance(text, str) else text for name, text in head.items()}
         file = rendered(self.samples(), markers, self.rate, self.bits, self.channels, **texts)
         refuse_unless(len(file) - 8 <= MOST_IN_ALL, TOO_LONG)

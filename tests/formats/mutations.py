@@ -3,9 +3,9 @@ messages, the digest of a log and the sizes of a wave file can be mended afterwa
 import struct
 
 from formats.exchange import frame
-from formats.logs import head, seal
+from formats.logs import head, seal, version_of
 
-NUMBERS = [0, 1, 2, 3, 4, 7, 8, 12, 16, 24, 127, 128, 255, 256, 602, 2**15, 2**16 - 1, 2**16, 2**31 - 1, 2**31, 2**32 - 2, 2**32 - 1, 2**62, 2**62 + 1, 2**63, 2**64 - 1]
+NUMBERS = [0, 1, 2, 3, 4, 7, 8, 12, 16, 24, 127, 128, 255, 256, 602, 2**15, 2**16 - 1, 2**16, 2**20, 2**20 + 1, 2**31 - 1, 2**31, 2**32 - 2, 2**32 - 1, 2**62, 2**62 + 1, 2**63, 2**64 - 1]
 PRINTING = b" \n$#0123456789./-abcdef\t\r\0\x7f\xc3\xff"
 
 
@@ -113,7 +113,8 @@ def damaged_log(draw, data, records, other):
     """A log in which the bytes or the records are damaged; its digest is mended, mostly, and so is the count of the records."""
     if draw.random() < 0.5:
         some = damaged_records(draw, records)
-        return seal(head(counted(draw, len(some)) % 2**64) + b"".join(some))
+        version = version_of(some) if draw.random() < 0.9 else draw.choice([0, 1, 1, 2, 2, 3, 3, 4])
+        return seal(head(counted(draw, len(some)) % 2**64, version=version) + b"".join(some))
     hurt = damaged(draw, data[:-32], other[:-32])
     return seal(hurt) if draw.random() < 0.85 else damaged(draw, data, other)
 
@@ -135,7 +136,7 @@ def damaged_wave(draw, data, other):
 
 def change_size(draw, data):
     """The size of a chunk is another one."""
-    names = [at for name in (b"fmt ", b"data", b"bext", b"cue ", b"LIST", b"labl", b"JUNK", b"RIFF") for at in [data.find(name)] if at >= 0 and at + 8 <= len(data)]
+    names = [at for name in (b"fmt ", b"data", b"bext", b"cue ", b"LIST", b"labl", b"ltxt", b"JUNK", b"RIFF") for at in [data.find(name)] if at >= 0 and at + 8 <= len(data)]
     if not names:
         return data
     at = draw.choice(names) + 4

@@ -7,7 +7,8 @@ from formats.sessions import Op
 
 GREATEST = 1 << 62
 TRUNCATED, BAD_TAG, BAD_FIELD = 8, 9, 10
-BAD_MAGIC, BAD_VERSION, DAMAGED, BAD_RECORD, OUT_OF_ORDER, TRAILING, CONFLICT = 11, 12, 13, 14, 15, 16, 17
+BAD_MAGIC, BAD_VERSION, DAMAGED, BAD_RECORD, OUT_OF_ORDER, TRAILING, CONFLICT, VERSION_TOO_HIGH = 11, 12, 13, 14, 15, 16, 17, 52
+NEWEST, LONGEST_FADE = 3, 1048576
 
 # by kind byte: the kind, and its fields in their order, each with how it is read
 KINDS = {
@@ -23,7 +24,11 @@ KINDS = {
     10: ("add_marker", [("at", "frame"), ("title", "title")]),
     11: ("move_marker", [("marker", "name"), ("at", "frame")]),
     12: ("retitle", [("item", "name"), ("title", "title")]),
+    13: ("set_fade", [("clip", "name"), ("fade_in", "fade"), ("fade_out", "fade")]),
+    14: ("set_marker_length", [("marker", "name"), ("span", "frame")]),
 }
+# the version of logs that a kind byte came with, where it is not the first
+CAME_WITH = {13: 2, 14: 3}
 
 
 def is_title(data):
@@ -83,6 +88,11 @@ class Reader:
     def length(self):
         return self.not_0(4)
 
+    def fade(self):
+        frames = self.number(4)
+        refuse_unless(frames <= LONGEST_FADE, BAD_FIELD)
+        return frames
+
     def short(self):
         return self.number(2)
 
@@ -102,30 +112,31 @@ class Reader:
             tags.append(tag)
         return tags
 
-    def op(self):
+    def op(self, version):
+        """An operation, as a log of this version may have it."""
         self.own = self.stamp()
         byte = self.number(1)
-        refuse_unless(byte in KINDS, BAD_TAG)
+        refuse_unless(byte in KINDS and CAME_WITH.get(byte, 1) <= version, BAD_TAG)
         kind, fields = KINDS[byte]
         return Op(self.own, kind, **{name: getattr(self, how)() for name, how in fields})
 
 
-def read_op(data, at=0):
+def read_op(data, at=0, version=NEWEST):
     """The operation that begins there, and where it ends."""
     reader = Reader(data, at)
-    return reader.op(), reader.at
+    return reader.op(version), reader.at
 
 
 def dot(op):
     return op.own[1:]
 
 
-def read_rising(data, at, count, bad_record, out_of_order):
+def read_rising(data, at, count, bad_record, out_of_order, version=NEWEST):
     """So many operations by rising dot, and where the last one ends. A record that is none and one that does not rise are refused by these numbers."""
     ops = []
     for _ in range(count):
         try:
-            op, at = read_op(data, at)
+            op, at = read_op(data, at, version)
         except Refused:
             raise Refused(bad_record)
         refuse_unless(not ops or dot(op) > dot(ops[-1]), out_of_order)
@@ -136,11 +147,12 @@ def read_rising(data, at, count, bad_record, out_of_order):
 def read_log(data):
     """The operations of a log, by rising dot."""
     refuse_unless(data[:4] == b"RMTS", BAD_MAGIC)
-    refuse_unless(data[4:5] == b"\1", BAD_VERSION)
+    refuse_unless(len(data) > 4 and 1 <= data[4] <= NEWEST, BAD_VERSION)
     refuse_unless(len(data) >= 45 and hashlib.sha256(data[:-32]).digest() == data[-32:], DAMAGED)
     body = data[:-32]
-    ops, at = read_rising(body, 13, int.from_bytes(body[5:13], "big"), BAD_RECORD, OUT_OF_ORDER)
+    ops, at = read_rising(body, 13, int.from_bytes(body[5:13], "big"), BAD_RECORD, OUT_OF_ORDER, data[4])
     refuse_unless(at == len(body), TRAILING)
+    refuse_unless(data[4] <= logs.version_of([op.text()[1] for op in ops]), VERSION_TOO_HIGH)
     return ops
 
 

@@ -72,22 +72,24 @@ class Wave:
         lines += ["%s %s" % (name, escaped(up_to_zero(content[at : at + length]))) for name, (at, length) in TEXTS.items()]
         return lines + ["time-reference %d" % int.from_bytes(content[338:346], "little"), "history " + escaped(up_to_zero(content[602:]))]
 
-    def labels(self):
-        """By name of a cue the first label that it has."""
-        labels = {}
+    def first_by_name(self, wanted, least, value):
+        """By name of a cue what the first chunk of this kind in the lists says of it, of those that have so many bytes."""
+        found = {}
         for name, content in self.chunks:
             if name == b"LIST" and content[:4] == b"adtl":
-                for kind, label in chunks_of(content, 4, len(content))[0]:
-                    if kind == b"labl" and len(label) >= 4:
-                        labels.setdefault(int.from_bytes(label[:4], "little"), up_to_zero(label[4:]))
-        return labels
+                for kind, said in chunks_of(content, 4, len(content))[0]:
+                    if kind == wanted and len(said) >= least:
+                        found.setdefault(int.from_bytes(said[:4], "little"), value(said))
+        return found
 
     def cues(self):
         """The lines on the cues."""
-        content, labels = self.first(b"cue ") or b"", self.labels()
+        content = self.first(b"cue ") or b""
+        labels = self.first_by_name(b"labl", 4, lambda said: " label " + escaped(up_to_zero(said[4:])))
+        lengths = self.first_by_name(b"ltxt", 20, lambda said: " len %d" % int.from_bytes(said[4:8], "little"))
         count = min(int.from_bytes(content[:4], "little"), (len(content) - 4) // 24) if len(content) >= 4 else 0
         points = [struct.unpack("<II4sIII", content[at : at + 24]) for at in range(4, 4 + 24 * count, 24)]
-        return ["cue %d at %d" % (point[0], point[5]) + (" label " + escaped(labels[point[0]]) if point[0] in labels else "") for point in points]
+        return ["cue %d at %d" % (point[0], point[5]) + lengths.get(point[0], "") + labels.get(point[0], "") for point in points]
 
     def info(self):
         return info(self.file, self.rate, self.channels, self.bits, self.frames, self.extension(), self.cues())

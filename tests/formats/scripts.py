@@ -2,7 +2,7 @@
 the operation that an editor makes of the set with those before it."""
 import re
 
-from formats.read_logs import GREATEST, is_title
+from formats.read_logs import GREATEST, LONGEST_FADE, is_title
 from formats.refused import refuse_unless
 from formats.sessions import NAMED, Op, live_tags, place_of, ready_of
 
@@ -23,6 +23,8 @@ FORMS = {
     b"add-marker": ("add_marker", [("at", "frame"), ("title", "title")]),
     b"move-marker": ("move_marker", [("marker", "item"), ("at", "frame")]),
     b"retitle": ("retitle", [("item", "item"), ("title", "title")]),
+    b"fade": ("set_fade", [("clip", "item"), ("fade_in", "fade"), ("fade_out", "fade")]),
+    b"marker-length": ("set_marker_length", [("marker", "item"), ("span", "frame")]),
 }
 
 
@@ -83,6 +85,11 @@ class Line:
 
     def frame(self):
         return decimal(self.word(), 32)
+
+    def fade(self):
+        frames = self.frame()
+        refuse_unless(frames <= LONGEST_FADE, BAD_LINE)
+        return frames
 
     def digest(self):
         word = self.word()

@@ -17,11 +17,11 @@ FITS = {
 # by kind: the role of the item that an operation names first, under `item` or the role's own name
 NAMED = {
     "move_track": "Track", "add_clip": "Track", "move_clip": "Clip", "trim_clip": "Clip", "set_gain": "Mixable", "set_mute": "Mixable",
-    "remove": "Item", "restore": "Item", "move_marker": "Marker", "retitle": "Titled"}
+    "remove": "Item", "restore": "Item", "move_marker": "Marker", "retitle": "Titled", "set_fade": "Clip", "set_marker_length": "Marker"}
 
 Track = namedtuple("Track", "own title gain mute clips")
-Clip = namedtuple("Clip", "own place at offset length source gain mute")
-Marker = namedtuple("Marker", "own at title")
+Clip = namedtuple("Clip", "own place at offset length source gain mute fades")
+Marker = namedtuple("Marker", "own at title span")
 Session = namedtuple("Session", "tracks markers held")
 
 
@@ -52,6 +52,8 @@ class Op:
             "add_marker": lambda: [],
             "move_marker": lambda: [(self.marker, "Marker")],
             "retitle": lambda: [(self.item, "Titled")],
+            "set_fade": lambda: [(self.clip, "Clip")],
+            "set_marker_length": lambda: [(self.marker, "Marker")],
         }[self.kind]()
 
     def fits(self, role):
@@ -118,13 +120,15 @@ def session_of(ops, ready=None):
     for op in present["add_clip"]:
         place, (track, at) = last_write(ready, op.own, lambda op: (op.track, op.at), {"add_clip": "", "move_clip": "clip"})
         offset, length = last_write(ready, op.own, lambda op: (op.offset, op.length), {"add_clip": "", "trim_clip": "clip"})[1]
-        clips.append((track, at, place, Clip(op.own, place, at, offset, length, op.source, *sound(op.own))))
+        fades = last_write(ready, op.own, lambda op: (op.fade_in, op.fade_out) if op.kind == "set_fade" else (0, 0), {"add_clip": "", "set_fade": "clip"})[1]
+        clips.append((track, at, place, Clip(op.own, place, at, offset, length, op.source, *sound(op.own), fades)))
     clips.sort(key=lambda clip: clip[:3])
     path = path_in(ready)
     rising = sorted((op.own for op in present["add_track"]), key=lambda own: path(place_of(ready, own)))
     tracks = [Track(own, title(own), *sound(own), [clip for track, _, _, clip in clips if track == own]) for own in rising]
     at = {op.own: last_write(ready, op.own, lambda op: op.at, {"add_marker": "", "move_marker": "marker"})[1] for op in present["add_marker"]}
-    markers = [Marker(own, at[own], title(own)) for own in sorted(at, key=lambda own: (at[own], own))]
+    span = {own: last_write(ready, own, lambda op: op.span if op.kind == "set_marker_length" else 0, {"add_marker": "", "set_marker_length": "marker"})[1] for own in at}
+    markers = [Marker(own, at[own], title(own), span[own]) for own in sorted(at, key=lambda own: (at[own], own))]
     return Session(tracks, markers, len(ops) - len(ready))
 
 

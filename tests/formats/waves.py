@@ -48,6 +48,11 @@ def labl(name, text):
     return chunk(b"labl", struct.pack("<I", name) + text)
 
 
+def ltxt(name, length, purpose=b"rgn ", places=bytes(8), text=b""):
+    """A length in frames, with what is not looked at: country, language, dialect and code page in eight bytes, and a text."""
+    return chunk(b"ltxt", struct.pack("<II", name, length) + purpose + places + text)
+
+
 def adtl(*chunks):
     return chunk(b"LIST", b"adtl" + b"".join(chunks))
 
@@ -59,13 +64,16 @@ def info(file, rate=48000, channels=1, bits=24, frames=1, extension=("bext none"
 
 
 def rendered(samples, markers=(), rate=48000, bits=24, channels=1, description=b"", originator=b"", reference=b"", date=b"2000-01-01", time=b"00:00:00", reference_time=0):
-    """The file that `radio render` writes of these samples, the channels of a frame side by side, and of the markers (frame and
-    title) before the end."""
+    """The file that `radio render` writes of these samples, the channels of a frame side by side, and of the markers before the end: frame, title
+    and, where it has one, length in frames."""
     history = b"A=PCM,F=%d,W=%d,M=%s\r\n" % (rate, bits, b"mono" if channels == 1 else b"stereo")
     extension = bext(description, originator, reference, date, time, reference_time, history=history)
     sound = b"".join(sample.to_bytes(bits // 8, "little", signed=True) for sample in samples)
     chunks = [chunk(b"bext", extension), fmt(channels, rate, bits), data(sound)]
     if markers:
-        chunks.append(cue(*[point(name, at, at, 0) for name, (at, _) in enumerate(markers, 1)]))
-        chunks.append(adtl(*[labl(name, title.encode() + b"\0") for name, (_, title) in enumerate(markers, 1)]))
+        frames, named = len(samples) // channels, [(name, at, title, *length) for name, (at, title, *length) in enumerate(markers, 1)]
+        labels = [labl(name, title.encode() + b"\0") for name, _, title, *_ in named]
+        lengths = [ltxt(name, min(length, frames - at)) for name, at, _, *some in named for length in some if length]
+        chunks.append(cue(*[point(name, at, at, 0) for name, at, *_ in named]))
+        chunks.append(adtl(*labels, *lengths))
     return riff(*chunks)

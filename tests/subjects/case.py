@@ -7,7 +7,7 @@ from formats.logs import A, B, C, add_marker, head, log, marker_line, retitle, s
 from formats.waves import info
 
 CASES = os.path.join(os.path.dirname(os.path.dirname(os.path.abspath(__file__))), "cases")
-COMMANDS = ("view", "log", "merge", "edit", "render", "have", "lack", "take", "serve", "meet", "info", "explain")
+COMMANDS = ("view", "log", "merge", "pull", "edit", "render", "have", "lack", "take", "serve", "meet", "info", "explain")
 NEWS = add_marker((1, A, 1), 480, "News")
 LATE = retitle((2, B, 1), (1, A, 1), "Late")
 ONE = log([NEWS])
@@ -78,9 +78,9 @@ def both_refuse(name, number, words, **more):
         fault(command + "_" + name, number, [command] + words, **more)
 
 
-def bad_record(name, *records):
-    """A log that is sealed and counted, and one of its records is no operation."""
-    both_refuse(name, 14, ["log"], files={"log": seal(head(len(records)) + b"".join(records))})
+def bad_record(name, *records, version=1):
+    """A log that is sealed and counted, and one of its records is no operation of the version."""
+    both_refuse(name, 14, ["log"], files={"log": seal(head(len(records), version=version) + b"".join(records))})
 
 
 def told(name, file, **facts):

@@ -14,21 +14,22 @@ both_refuse("output_to_a_closed_pipe", 37, ["log"], files={"log": ONE}, output="
 
 # command lines
 STATUS = "\nExit status: 0 done, 1 refused (the line `radio: fault N`; `radio explain N` tells why), 2 the command line does not parse.\n"
-USAGE = "Usage: radio <COMMAND>\n\nFor more information, try '--help'.\n"
-case("no_argument", [], status=2, stderr="error: 'radio' requires a subcommand but one was not provided\n  [subcommands: view, log, merge, edit, render, have, lack, take, serve, meet, info, explain, help]\n\n" + USAGE)
+USAGE = "Usage: radio [OPTIONS] <COMMAND>\n\nFor more information, try '--help'.\n"
+case("no_argument", [], status=2, stderr="error: 'radio' requires a subcommand but one was not provided\n  [subcommands: view, log, pull, merge, edit, render, have, lack, take, serve, meet, info, id, explain, help]\n\n" + USAGE)
 case("frob", ["frob"], status=2, stderr="error: unrecognized subcommand 'frob'\n\n" + USAGE)
 for command in ("view", "log"):
-    case(command + "_unknown_option", [command, "--frob"], status=2, stderr="error: unexpected argument '--frob' found\n\n  tip: to pass '--frob' as a value, use '-- --frob'\n\nUsage: radio %s [LOG]...\n\nFor more information, try '--help'.\n" % command)
+    case(command + "_unknown_option", [command, "--frob"], status=2, stderr="error: unexpected argument '--frob' found\n\n  tip: to pass '--frob' as a value, use '-- --frob'\n\nUsage: radio %s [OPTIONS] [LOG]...\n\nFor more information, try '--help'.\n" % command)
     case(command + "_word_of_no_text", [command, b"\xff\xfe"], status=2, stderr="error: invalid UTF-8 was detected in one or more arguments\n\n" + USAGE)
 case("version", ["--version"], stdout="radio 0.1.0\n")
 case("version_in_short", ["-V"], stdout="radio 0.1.0\n")
 HELP = """A nondestructive multitrack audio editor whose sessions are replicated
 
-Usage: radio <COMMAND>
+Usage: radio [OPTIONS] <COMMAND>
 
 Commands:
   view     Prints the session of the union of the logs
   log      Prints the operations of the union of the logs, a line each by rising stamp
+  pull     Adds the operations of other logs to a log, and tells how many were new
   merge    Writes the union of the logs as one log
   edit     Makes the changes of a script, all or none, and writes the new log
   render   Writes the session of a log as a broadcast wave file, its markers as cue points
@@ -38,14 +39,16 @@ Commands:
   serve    Waits for one editor who meets it, swaps operations, and writes the new log
   meet     Meets an editor who serves, swaps operations, and writes the new log
   info     Prints what a wave file says of itself
+  id       Prints a new name for an editor: a random UUID
   explain  Prints what refusal N means, and what can be done about it; with no N all refusals
   help     Print this message or the help of the given subcommand(s)
 
 Options:
+      --why      Behind a refusal tell in one more line what it is about
   -h, --help     Print help
   -V, --version  Print version
 
-Example: radio merge both.log desk.log home.log
+Example: radio pull desk.log home.log
 
 Exit status: 0 done, 1 refused (the line `radio: fault N`; `radio explain N` tells why), 2 the command line does not parse.
 """
@@ -54,44 +57,51 @@ case("help_in_short", ["-h"], stdout=HELP)
 case("help_command", ["help"], stdout=HELP)
 VIEW = """Prints the session of the union of the logs
 
-Usage: radio view [LOG]...
+Usage: radio view [OPTIONS] [LOG]...
 
 Arguments:
   [LOG]...  Logs, in any order; with none, one log from standard input
 
 Options:
+      --why   Behind a refusal tell in one more line what it is about
   -h, --help  Print help
 
 Example: radio view desk.log home.log
 """ + STATUS
 case("help_of_view", ["view", "--help"], stdout=VIEW)
+# the flags of each command that writes a file
+FLAGS = """      --new      Be refused (37) where OUT is there
+      --no-sync  Do not wait until OUT is on the disk: faster, and lost where the machine stops
+      --why      Behind a refusal tell in one more line what it is about
+  -h, --help     Print help
+"""
 MERGE = """Writes the union of the logs as one log
 
-Usage: radio merge <OUT> [LOG]...
+Usage: radio merge [OPTIONS] <OUT> [LOG]...
 
 Arguments:
   <OUT>     The log to write; one that is there is replaced
   [LOG]...  Logs, in any order; with none, OUT becomes the log of no operation
 
 Options:
-  -h, --help  Print help
-
+""" + FLAGS + """
 Example: radio merge both.log desk.log home.log
 
-OUT is read only where it is one of the LOGs: `radio merge desk.log home.log desk.log` adds home.log to desk.log, and `radio merge desk.log`
-alone replaces desk.log, with all that is in it, by the log of no operation.
+OUT is not read unless it is one of the LOGs: `radio pull desk.log home.log` adds home.log to desk.log. `radio merge desk.log` alone makes desk.log the
+log of no operation, whatever was in it.
 """ + STATUS
 case("help_of_merge", ["merge", "--help"], stdout=MERGE)
 case("merge_of_nothing", ["merge"], status=2, stderr="error: the following required arguments were not provided:\n  <OUT>\n\nUsage: radio merge <OUT> [LOG]...\n\nFor more information, try '--help'.\n")
 fault("help_to_a_full_disk", 37, ["--help"], output="full")
 INFO = """Prints what a wave file says of itself
 
-Usage: radio info <WAVE>
+Usage: radio info [OPTIONS] <WAVE>
 
 Arguments:
   <WAVE>  A wave file
 
 Options:
+      --why   Behind a refusal tell in one more line what it is about
   -h, --help  Print help
 
 Example: radio info jingle.wav
@@ -99,4 +109,4 @@ Example: radio info jingle.wav
 case("help_of_info", ["info", "--help"], stdout=INFO)
 INFO_USAGE = "Usage: radio info <WAVE>\n\nFor more information, try '--help'.\n"
 case("info_of_nothing", ["info"], status=2, stderr="error: the following required arguments were not provided:\n  <WAVE>\n\n" + INFO_USAGE)
-case("info_of_two", ["info", "a", "b"], files={"a": SMALLEST, "b": SMALLEST}, status=2, stderr="error: unexpected argument 'b' found\n\n" + INFO_USAGE)
+case("info_of_two", ["info", "a", "b"], files={"a": SMALLEST, "b": SMALLEST}, status=2, stderr="error: unexpected argument 'b' found\n\n" + INFO_USAGE.replace("radio info", "radio info [OPTIONS]"))

@@ -2,8 +2,8 @@
 from subjects.case import LATE, NEWS, ONE, case, fault
 from subjects.command_lines import STATUS
 from formats.logs import (
-    A, B, C, add_clip, add_marker, add_track, log, move_clip, move_marker, move_track, remove, restore, retitle, set_gain,
-    set_mute, stamp_text, trim_clip)
+    A, B, C, add_clip, add_marker, add_track, log, move_clip, move_marker, move_track, remove, restore, retitle, set_fade, set_gain,
+    set_marker_length, set_mute, stamp_text, trim_clip)
 
 ABC = bytes.fromhex("ba7816bf8f01cfea414140de5dae2223b00361a396177a9cb410ff61f20015ad")
 EMPTY = log([])
@@ -53,13 +53,18 @@ edited(
         "add-track %s R" % TEXT[Q], "move-track %s $1" % TEXT[P], "add-clip %s $1 1 2 3" % ABC.hex(),
         "move-clip %s %s 9" % (TEXT[S], TEXT[Q]), "trim-clip $3 4 1", "gain %s 65535/65535" % TEXT[P], "mute %s on" % TEXT[S],
         "mute %s off" % TEXT[Q], "remove %s" % TEXT[M], "restore %s" % TEXT[M], "add-marker 4294967295 ", "move-marker $11 0",
-        "retitle %s  two  spaces " % TEXT[P]]) + "\n",
+        "retitle %s  two  spaces " % TEXT[P], "fade $3 1048576 0", "marker-length $11 4294967295"]) + "\n",
     ITEMS + [
         add_track((5, B, 1), Q, "R"), move_track((6, B, 2), P, (5, B, 1)), add_clip((7, B, 3), ABC, (5, B, 1), 1, 2, 3),
         move_clip((8, B, 4), S, Q, 9), trim_clip((9, B, 5), (7, B, 3), 4, 1), set_gain((10, B, 6), P, 65535, 65535),
         set_mute((11, B, 7), S, 1), set_mute((12, B, 8), Q, 0), remove((13, B, 9), M, [M]), restore((14, B, 10), M),
-        add_marker((15, B, 11), 4294967295, ""), move_marker((16, B, 12), (15, B, 11), 0), retitle((17, B, 13), P, " two  spaces ")],
-    13, by=B)
+        add_marker((15, B, 11), 4294967295, ""), move_marker((16, B, 12), (15, B, 11), 0), retitle((17, B, 13), P, " two  spaces "),
+        set_fade((18, B, 14), (7, B, 3), 1048576, 0), set_marker_length((19, B, 15), (15, B, 11), 4294967295)],
+    15, by=B)
+edited("edit_fades_to_nothing_and_lengths_of_0", ITEMS, "fade %s 0 0\nmarker-length %s 0\n" % (TEXT[S], TEXT[M]), ITEMS + [set_fade((5, A, 5), S, 0, 0), set_marker_length((6, A, 6), M, 0)], 2)
+not_edited("edit_fades_a_marker", 42, ITEMS, "fade %s 1 1\n" % TEXT[M])
+not_edited("edit_fades_a_track", 42, ITEMS, "fade %s 1 1\n" % TEXT[P])
+not_edited("edit_gives_a_clip_a_marker_length", 42, ITEMS, "marker-length %s 1\n" % TEXT[S])
 # a moved track's current place is named, not the place that it was added at
 edited(
     "edit_after_a_moved_track", ITEMS[:2] + [move_track((3, A, 3), P, Q)], "add-track %s R\n" % TEXT[P],
@@ -95,6 +100,9 @@ BAD = {
     "an_unknown_word": "frob", "a_capital_word": "Remove %s" % M1, "a_short_digest": "add-clip 00 %s 0 0 1" % M1, "a_tab": "remove\t%s" % M1,
     "a_clock_of_0": "remove 0.1.%s" % UUID[A], "a_capital_uuid": "remove %s" % M1.upper(), "a_zero_before_a_line": "retitle $01 x",
     "a_tab_in_a_title": "retitle %s a\tb" % M1, "a_mark": b"\xef\xbb\xbfadd-marker 0 x", "no_utf_8": b"retitle %s \xff" % M1.encode(),
+    "a_fade_in_too_long": "fade %s 1048577 0" % M1, "a_fade_out_too_long": "fade %s 0 1048577" % M1, "a_fade_alone": "fade %s 1" % M1,
+    "a_third_fade": "fade %s 1 2 3" % M1, "a_zero_before_a_fade": "fade %s 01 2" % M1, "no_marker_length": "marker-length %s" % M1,
+    "a_marker_length_too_great": "marker-length %s 4294967296" % M1, "a_space_behind_a_fade": "fade %s 1 2 " % M1,
     "a_long_title": "add-marker 0 " + "x" * 256, "mute_maybe": "mute %s maybe" % M1, "head_for_an_item": "remove head",
 }
 for name, line in BAD.items():
@@ -123,25 +131,28 @@ case(
     "help_of_edit", ["edit", "--help"],
     stdout="""Makes the changes of a script, all or none, and writes the new log
 
-Usage: radio edit <REPLICA> <LOG> <SCRIPT> <OUT>
+Usage: radio edit [OPTIONS] <REPLICA> <LOG> <SCRIPT> <OUT>
 
 Arguments:
   <REPLICA>  The UUID of the editor who makes the changes
   <LOG>      The log to begin with
   <SCRIPT>   The changes, a line each (see below)
-  <OUT>      The log to write, which may be LOG
+  <OUT>      The log to write, which may be LOG; one that is there is replaced, also where it is SCRIPT
 
 Options:
-  -h, --help  Print help
+      --new      Be refused (37) where OUT is there
+      --no-sync  Do not wait until OUT is on the disk: faster, and lost where the machine stops
+      --why      Behind a refusal tell in one more line what it is about
+  -h, --help     Print help
 
 Example: radio edit 00000000-0000-0000-0000-00000000000a desk.log changes.txt desk.log
 
 A line of SCRIPT is one of these, with one space between words (docs/formats.md, Scripts, says all of them):
   add-track AFTER TITLE, add-clip DIGEST TRACK AT OFFSET LEN, add-marker AT TITLE, retitle ITEM TITLE,
   move-track ITEM AFTER, move-clip CLIP TRACK AT, move-marker ITEM AT, trim-clip ITEM OFFSET LEN,
-  gain ITEM NUM/DEN, mute ITEM on, mute ITEM off, remove ITEM, restore ITEM
+  gain ITEM NUM/DEN, mute ITEM on, mute ITEM off, fade ITEM IN OUT, marker-length ITEM LEN, remove ITEM, restore ITEM
 An ITEM, a TRACK or a CLIP is a stamp that `radio view` prints, or $k for what line k adds; AFTER is a track, or `head` for the top;
-AT, OFFSET and LEN are frames; DIGEST is what `radio info` prints. Two lines:
+AT, OFFSET, LEN, IN and OUT are frames; DIGEST is what `radio info` prints. Two lines:
   add-marker 480 Headlines
   move-marker 1.1.00000000-0000-0000-0000-00000000000a 96000
 """

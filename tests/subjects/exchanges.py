@@ -1,8 +1,9 @@
 """Cases of exchange by files, and of addresses: what `have`, `lack` and `take` write, and what is refused."""
+import re
 import struct
 
 from subjects.case import LATE, NEWS, ONE, case, fault
-from subjects.command_lines import STATUS
+from subjects.command_lines import FLAGS, STATUS
 from formats.exchange import BYE, LONGEST, frame, have, ops, ops_body, summary
 from formats.logs import A, B, C, add_marker, log
 
@@ -110,10 +111,23 @@ fault("meet_with_a_damaged_log", 13, ["meet", "127.0.0.1:1", "log", "out"], file
 fault("serve_with_a_damaged_log", 13, ["serve", "nowhere", "log", "out"], files={"log": ONE[:-1]})
 
 # help
+WAIT = "Wait at most N seconds for the other end: to come (46), and then each time for what it says (45) or takes (37)"
+WAITS = {
+    "serve": ["      --wait <N>      " + WAIT, "      --meetings <N>  Serve N editors, one after another, and with 0 all who come; LOG is read for each"],
+    "meet": ["      --wait <N>  " + WAIT],
+}
+
+
+def widened(flags, others):
+    """The lines of these flags, whose texts begin where those of the others do."""
+    at = others[0].index(WAIT)
+    return [re.sub(r"^( *(?:-h, )?\S+) +", lambda found: found.group(1).ljust(at), line) for line in flags.splitlines()]
+
+
 HELPS = {
-    "have": ("Writes which operations a log has, for another editor to see what it lacks", [("LOG", "The log"), ("OUT", "The summary to write")], "radio have home.log home.have"),
-    "lack": ("Writes the operations of a log that another editor lacks", [("LOG", "The log"), ("HAVE", "What the other editor has, as `radio have` wrote it"), ("OUT", "The operations to write")], "radio lack desk.log home.have for-home.ops"),
-    "take": ("Takes the operations that another editor sent, and writes the new log", [("LOG", "The log to begin with"), ("OPS", "The operations, as `radio lack` wrote them"), ("OUT", "The log to write, which may be LOG")], "radio take home.log for-home.ops home.log"),
+    "have": ("Writes which operations a log has, for another editor to see what it lacks", [("LOG", "The log"), ("OUT", "The summary to write; one that is there is replaced")], "radio have home.log home.have"),
+    "lack": ("Writes the operations of a log that another editor lacks", [("LOG", "The log"), ("HAVE", "What the other editor has, as `radio have` wrote it"), ("OUT", "The operations to write; one that is there is replaced, also where it is HAVE")], "radio lack desk.log home.have for-home.ops"),
+    "take": ("Takes the operations that another editor sent, and writes the new log", [("LOG", "The log to begin with"), ("OPS", "The operations, as `radio lack` wrote them"), ("OUT", "The log to write, which may be LOG; one that is there is replaced, also where it is OPS")], "radio take home.log for-home.ops home.log"),
     "serve": ("Waits for one editor who meets it, swaps operations, and writes the new log", [("ADDR", "The address to wait at, as 127.0.0.1:7000"), ("LOG", "The log to begin with"), ("OUT", "The log to write, which may be LOG")], "radio serve 127.0.0.1:7000 desk.log desk.log"),
     "meet": ("Meets an editor who serves, swaps operations, and writes the new log", [("ADDR", "The address of the editor who serves, as 127.0.0.1:7000"), ("LOG", "The log to begin with"), ("OUT", "The log to write, which may be LOG")], "radio meet 127.0.0.1:7000 home.log home.log"),
 }
@@ -121,5 +135,6 @@ for command, (about, words, example) in HELPS.items():
     wide = max(len(word) for word, _ in words) + 2
     arguments = "".join("  %s  %s\n" % (("<%s>" % word).ljust(wide), text) for word, text in words)
     usage = "Usage: radio %s %s" % (command, " ".join("<%s>" % word for word, _ in words))
-    case("help_of_" + command, [command, "--help"], stdout="%s\n\n%s\n\nArguments:\n%s\nOptions:\n  -h, --help  Print help\n\nExample: %s\n" % (about, usage, arguments, example) + STATUS)
+    flags = FLAGS if command not in WAITS else "".join(line + "\n" for line in WAITS[command] + widened(FLAGS, WAITS[command]))
+    case("help_of_" + command, [command, "--help"], stdout="%s\n\n%s\n\nArguments:\n%s\nOptions:\n%s\nExample: %s\n" % (about, usage.replace(command, command + " [OPTIONS]", 1), arguments, flags, example) + STATUS)
     case(command + "_without_words", [command], status=2, stderr="error: the following required arguments were not provided:\n%s\n%s\n\nFor more information, try '--help'.\n" % ("".join("  <%s>\n" % word for word, _ in words), usage))

@@ -3,8 +3,8 @@ of other subjects stands there, beside what `radio view` shows."""
 from subjects.case import M, NEWS, case
 from subjects.merges import CUES, MANY
 from formats.log_text import log_text
-from formats.logs import (A, B, C, add_clip, add_marker, add_track, log, move_clip, move_marker, move_track, remove, restore, retitle, set_gain, set_mute,
-                  stamp_text, trim_clip)
+from formats.logs import (A, B, C, add_clip, add_marker, add_track, log, move_clip, move_marker, move_track, remove, restore, retitle, set_fade, set_gain,
+                  set_marker_length, set_mute, stamp_text, trim_clip)
 
 SOURCE = bytes(range(32))
 TRACK, CLIP, MARKER = (1, A, 1), (2, A, 2), (3, A, 3)
@@ -41,6 +41,8 @@ ALL = [
     (remove((15, C, 3), MARKER, [MARKER, (14, C, 2)]), ["remove", MARKER, "tags", MARKER, (14, C, 2)]),
     (move_marker((16, C, 4), MARKER, 0), ["move-marker", MARKER, 0]),
     (retitle((17, C, 5), MARKER, "Grüße: 新聞"), ["retitle", MARKER, "Grüße: 新聞"]),
+    (set_fade((18, C, 6), CLIP, 1048576, 0), ["fade", CLIP, 1048576, 0]),
+    (set_marker_length((19, C, 7), MARKER, 4294967295), ["marker-length", MARKER, 4294967295]),
 ]
 listing("of_every_act", [op for op, _ in ALL], [[op[0]] + act for op, act in ALL])
 # each act waits for what it names: alone it is held
@@ -59,7 +61,7 @@ listing("of_a_chain_without_its_first", [add_track((2, B, 1), TRACK, "q"), add_t
 NAMED = {}
 for op, act in ALL:
     NAMED.setdefault(act[0], op[0])
-assert len(NAMED) == 12
+assert len(NAMED) == 14
 FITS = {
     "Track": ["add-track"],
     "Place": ["add-track", "move-track"],
@@ -85,6 +87,8 @@ NAMES = {
     "what_is_restored": ("Item", lambda own, name: restore(own, name)),
     "a_marker_that_moves": ("Marker", lambda own, name: move_marker(own, name, 11)),
     "what_has_a_title": ("Titled", lambda own, name: retitle(own, name, "Late")),
+    "a_clip_that_fades": ("Clip", lambda own, name: set_fade(own, name, 12, 13)),
+    "a_marker_that_gets_a_length": ("Marker", lambda own, name: set_marker_length(own, name, 14)),
 }
 for name, (role, naming) in NAMES.items():
     namings = {act: naming((20 + turn, C, 10 + turn), NAMED[act]) for turn, act in enumerate(NAMED)}
@@ -95,12 +99,13 @@ for name, (role, naming) in NAMES.items():
 case("log_of_twelve_logs", ["log"] + [name for name, _ in MANY], files=dict(MANY), stdout=log_text([NEWS] + CUES))
 case("help_of_log", ["log", "--help"], stdout="""Prints the operations of the union of the logs, a line each by rising stamp
 
-Usage: radio log [LOG]...
+Usage: radio log [OPTIONS] [LOG]...
 
 Arguments:
   [LOG]...  Logs, in any order; with none, one log from standard input
 
 Options:
+      --why   Behind a refusal tell in one more line what it is about
   -h, --help  Print help
 
 Example: radio log desk.log home.log

@@ -1,6 +1,8 @@
 """Cases of several logs, and of logs that are refused."""
 from subjects.case import LATE, M, NEWS, ONE, SHOWN, bad_record, both_of, both_refuse
-from formats.logs import A, B, C, add_marker, head, log, marker_line, move_marker, remove, restore, retitle, seal, stamp
+from formats.logs import (
+    A, B, C, add_clip, add_marker, add_track, clip_line, head, log, marker_line, move_marker, remove, restore, retitle, seal, set_fade,
+    set_marker_length, stamp, track_line)
 
 # several logs
 talk = add_marker((1, B, 7), 9, "Talk")
@@ -40,7 +42,7 @@ both_refuse("clock_0", 14, ["log"], files={"log": seal(head(1) + add_marker((0, 
 both_refuse("number_above_2_62", 14, ["log"], files={"log": seal(head(1) + add_marker((1, A, 2**62 + 1), 480, "News")[1])})
 both_refuse("name_not_older", 14, ["log"], files={"log": seal(head(1) + retitle((2, B, 1), (2, A, 1), "Late")[1])})
 bad_record("kind_byte_0", stamp(2, B, 1) + b"\x00" + stamp(1, A, 1))
-bad_record("kind_byte_13", stamp(2, B, 1) + b"\x0d" + stamp(1, A, 1))
+bad_record("kind_byte_15", stamp(2, B, 1) + b"\x0f" + stamp(1, A, 1), version=3)
 bad_record("remove_of_no_tag", remove((2, B, 1), M, [])[1])
 bad_record("equal_tags", remove((2, B, 1), M, [M, M])[1])
 bad_record("falling_tags", remove((4, C, 1), M, [(3, B, 1), (2, B, 2)])[1])
@@ -81,3 +83,47 @@ both_refuse("falling_dots", 15, ["log"], files={"log": seal(head(2) + LATE[1] + 
 both_refuse("count_too_small", 16, ["log"], files={"log": seal(head(0) + NEWS[1])})
 both_refuse("second_log_damaged", 13, ["a", "bad"], files={"a": ONE, "bad": ONE[:-1]})
 both_refuse("damaged_before_conflict", 13, ["a", "other", "bad"], files={"a": ONE, "other": other, "bad": ONE[:-1]})
+
+# versions: a log has the least that has all kinds of its operations, held ones too; in an older one a newer kind is none
+V, ON_V, FADED = add_track((1, A, 1), None, "V"), add_clip((2, A, 2), bytes(32), (1, A, 1), 0, 0, 3), set_fade((3, A, 3), (2, A, 2), 2, 1)
+SPAN = set_marker_length((2, A, 2), M, 96)
+assert [len(op[1]) for op in (V, ON_V, FADED, SPAN)] == [36, 109, 73, 69]
+assert [(len(text), text[4]) for text in (log([V, ON_V, FADED]), log([V, ON_V]), log([NEWS, SPAN]))] == [(263, 2), (190, 1), (156, 3)]
+V_LINE, clip = track_line((1, A, 1), "V"), lambda **how: clip_line((2, A, 2), (2, A, 2), 0, 0, 3, bytes(32), **how)
+both_of("a_fade_in_one_of_two_logs", ["faded", "plain"], [V, ON_V, FADED], V_LINE + clip(fades=(2, 1)) + "held 0\n", files={"faded": log([V, ON_V, FADED]), "plain": log([V, ON_V])})
+both_of("a_fade_that_waits_alone", ["log"], [FADED], "held 1\n", held=[(3, A, 3)], files={"log": log([FADED])})
+both_of("a_length_that_waits_alone", ["log"], [SPAN], "held 1\n", held=[(2, A, 2)], files={"log": log([SPAN])})
+
+
+def in_version(version, *ops):
+    """The bytes of these operations in a log of a version that they may not have."""
+    return seal(head(len(ops), version=version) + b"".join(text for _, text in ops))
+
+
+both_refuse("version_0", 12, ["log"], files={"log": in_version(0, NEWS)})
+both_refuse("version_4", 12, ["log"], files={"log": in_version(4, NEWS, SPAN)})
+both_refuse("version_1_with_a_fade", 14, ["log"], files={"log": in_version(1, V, ON_V, FADED)})
+both_refuse("version_1_with_a_length", 14, ["log"], files={"log": in_version(1, NEWS, SPAN)})
+both_refuse("version_2_with_a_length", 14, ["log"], files={"log": in_version(2, NEWS, SPAN)})
+both_refuse("version_2_without_a_fade", 52, ["log"], files={"log": in_version(2, V, ON_V)})
+both_refuse("version_2_of_the_empty_log", 52, ["log"], files={"log": in_version(2)})
+both_refuse("version_3_without_a_length", 52, ["log"], files={"log": in_version(3, V, ON_V, FADED)})
+both_refuse("version_3_with_markers_alone", 52, ["log"], files={"log": in_version(3, NEWS)})
+both_refuse("version_too_high_and_a_byte_behind", 16, ["log"], files={"log": seal(head(1, version=3) + NEWS[1] + b"\x00")})
+both_refuse("version_too_high_and_out_of_order", 15, ["log"], files={"log": in_version(2, LATE, NEWS)})
+both_refuse("version_too_high_and_damaged", 13, ["log"], files={"log": in_version(2, NEWS)[:-1]})
+# a fade in version 1 is no operation, whatever its fields are; a stamp at fault before it decides
+bad_record("version_1_with_a_fade_cut_short", V[1], ON_V[1], FADED[1][:60])
+bad_record("version_1_with_a_fade_by_clock_0", set_fade((0, A, 1), M, 1, 1)[1])
+for name, fades in (("in", (1048577, 0)), ("out", (0, 1048577)), ("in_and_out", (2**32 - 1, 2**32 - 1))):
+    bad_record("fade_%s_of_over_1048576_frames" % name, set_fade((2, B, 1), M, *fades)[1], version=2)
+FADE = set_fade((2, B, 1), M, 1, 2)[1]
+for name, length in (("behind_the_kind_byte", 33), ("before_the_fade_in", 65), ("in_the_fade_in", 68), ("before_the_fade_out", 69), ("in_the_fade_out", 72)):
+    bad_record("fade_cut_" + name, FADE[:length], version=2)
+bad_record("faded_clip_not_older", set_fade((2, B, 1), (2, A, 1), 1, 1)[1], version=2)
+bad_record("marker_with_a_length_not_older", set_marker_length((2, B, 1), (2, A, 1), 1)[1], version=3)
+bad_record("length_of_a_marker_cut", set_marker_length((2, B, 1), M, 96)[1][:68], version=3)
+both_refuse("byte_behind_a_fade", 16, ["log"], files={"log": seal(head(1, version=2) + FADE + b"\x00")})
+both_refuse("byte_behind_a_length", 16, ["log"], files={"log": seal(head(1, version=3) + SPAN[1] + b"\x00")})
+both_refuse("fades_in_conflict", 17, ["a", "b"], files={"a": log([FADED]), "b": log([set_fade((3, A, 3), (2, A, 2), 1, 2)])})
+both_refuse("lengths_in_conflict", 17, ["a", "b"], files={"a": log([SPAN]), "b": log([set_marker_length((2, A, 2), M, 97)])})

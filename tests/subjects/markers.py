@@ -1,6 +1,6 @@
 """Cases of markers: what `radio view` shows of them, and how `radio log` lists what was done with them."""
 from subjects.case import LATE, M, N, NEWS, ONE, SHOWN, TALK, TALKED, both, both_of, view
-from formats.logs import A, B, C, add_marker, log, marker_line, move_marker, remove, restore, retitle
+from formats.logs import A, B, C, add_marker, log, marker_line, move_marker, remove, restore, retitle, set_marker_length
 
 # what is shown
 both("empty_log", [], "held 0\n")
@@ -104,6 +104,18 @@ both("retitle_of_a_restore", [NEWS, restore((2, B, 1), M), retitle((3, C, 1), (2
 both("held_move_is_no_write", [NEWS, move_marker((2, B, 1), M, 500), move_marker((9, C, 1), (2, A, 1), 960)], marker_line(M, 500, "News") + "held 1\n", held=[(9, C, 1)])
 moved = move_marker((2, B, 1), M, 960)
 both_of("move_meets_its_marker", ["moved", "news"], [NEWS, moved], marker_line(M, 960, "News") + "held 0\n", files={"moved": log([moved]), "news": ONE})
+
+# lengths: that of the greatest stamp that wrote it, where it is not 0
+span = lambda own, length: set_marker_length(own, M, length)
+both("marker_with_a_length", [NEWS, span((2, A, 2), 96)], marker_line(M, 480, "News", 96) + "held 0\n")
+both("marker_with_the_greatest_length", [NEWS, span((2, A, 2), 2**32 - 1)], marker_line(M, 480, "News", 2**32 - 1) + "held 0\n")
+both("marker_that_is_a_point_again", [NEWS, span((2, A, 2), 96), span((3, B, 1), 0)], SHOWN + "held 0\n")
+for order, name in ((1, "lengths_of_one_clock"), (-1, "lengths_of_one_clock_turned")):
+    view(name, [NEWS] + [span((2, A, 2), 3), span((2, B, 1), 2)][::order], marker_line(M, 480, "News", 2) + "held 0\n")
+view("marker_with_a_length_that_moved", [NEWS, span((2, A, 2), 96), move_marker((3, B, 1), M, 5), retitle((4, B, 2), M, "Late")], marker_line(M, 5, "Late", 96) + "held 0\n")
+view("length_set_while_absent", [NEWS, remove((2, A, 2), M, [M]), span((3, B, 1), 96), restore((4, C, 1), M)], marker_line(M, 480, "News", 96) + "held 0\n")
+both("length_of_a_retitle_waits", [NEWS, LATE, set_marker_length((3, C, 1), (2, B, 1), 96)], marker_line(M, 480, "Late") + "held 1\n", held=[(3, C, 1)])
+both("move_of_a_length_waits", [NEWS, span((2, B, 1), 96), move_marker((3, C, 1), (2, B, 1), 5)], marker_line(M, 480, "News", 96) + "held 1\n", held=[(3, C, 1)])
 
 # an operation on an absent item writes its fields
 gone = [NEWS, remove((2, A, 2), M, [M]), move_marker((3, B, 1), M, 960), retitle((4, B, 2), M, "Late")]

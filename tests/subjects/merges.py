@@ -2,8 +2,8 @@
 import os
 
 from subjects.case import LATE, NEWS, ONE, case, fault
-from subjects.tracks import twelve
-from formats.logs import A, B, C, add_marker, log, marker_line, move_marker, retitle
+from subjects.tracks import fourteen
+from formats.logs import A, B, C, add_clip, add_marker, add_track, log, marker_line, move_marker, retitle, set_fade, set_marker_length
 
 X, Y = ONE, log([NEWS, LATE])
 COAST = add_marker((1, B, 7), 960, "Coast")
@@ -30,7 +30,17 @@ merged("merge_a_log_with_itself", [("y", Y), ("again", Y)], Y)
 for order in ("xyz", "xzy", "yxz", "yzx", "zxy", "zyx"):
     merged("merge_" + order, [(name, {"x": X, "y": Y, "z": Z}[name]) for name in order], XYZ)
 merged("merge_held_operations", [("late", log([LATE])), ("z", Z)], log([LATE, COAST]))
-merged("merge_twelve_bodies", [("even", log(twelve[0::2])), ("odd", log(twelve[1::2]))], log(twelve))
+merged("merge_fourteen_bodies", [("even", log(fourteen[0::2])), ("odd", log(fourteen[1::2]))], log(fourteen))
+# the version of what is merged is the greatest that one of them has, in either order
+TRACK, CLIP = add_track((1, A, 1), None, "V"), add_clip((2, A, 2), bytes(32), (1, A, 1), 0, 0, 3)
+PLAIN, FADED = log([TRACK, CLIP]), log([TRACK, CLIP, set_fade((3, A, 3), (2, A, 2), 2, 1)])
+merged("merge_a_fade_behind_none", [("plain", PLAIN), ("faded", FADED)], FADED)
+merged("merge_a_fade_before_none", [("faded", FADED), ("plain", PLAIN)], FADED)
+SPAN = [NEWS, set_marker_length((2, A, 2), (1, A, 1), 96)]
+OF_B = [add_track((1, B, 1), None, "V"), add_clip((2, B, 2), bytes(32), (1, B, 1), 0, 0, 3), set_fade((3, B, 3), (2, B, 2), 2, 1)]
+assert len(log(SPAN + OF_B)) == 45 + 329
+merged("merge_a_length_and_a_fade", [("span", log(SPAN)), ("faded", log(OF_B))], log(SPAN + OF_B))
+merged("merge_a_fade_and_a_length", [("faded", log(OF_B)), ("span", log(SPAN))], log(SPAN + OF_B))
 # more logs than are joined one after another: an operation of each, and one that all have
 CUES = [add_marker((2, C, number), number, "Cue") for number in range(1, 13)]
 MANY = [(str(number), log([NEWS, cue])) for number, cue in enumerate(CUES, 1)]

@@ -2,7 +2,7 @@
 from subjects.case import case
 from subjects.command_lines import STATUS
 
-READ = "45 Read: an input cannot be opened, or reading it failed\nSee that each named file is there, is no folder, and may be read.\n"
+READ = "45 Read: an input cannot be opened, or reading it failed\nSee that each named file is there, is no folder, and may be read; `--why` tells which. Of `serve` and `meet` also: a conversation that broke off or waited too long is 45, 37 or 49; meet again.\n"
 case("explain_a_number", ["explain", "45"], stdout=READ)
 case("explain_the_least", ["explain", "0"], stdout="0 Memory: memory ran out\nClose other programs, or give it fewer or smaller files.\n")
 OF_A_WORLD = "48 SameName: two editors of a world have one name\nNo file causes it alone: a program that makes operations by the library has to mend its call.\n"
@@ -19,9 +19,9 @@ WAVES = {
 }
 for number, text in WAVES.items():
     case("explain_wave_%d" % number, ["explain", str(number)], stdout="%d %s" % (number, text))
-USAGE = "Usage: radio explain [N]\n\nFor more information, try '--help'.\n"
+USAGE = "Usage: radio explain [OPTIONS] [N]\n\nFor more information, try '--help'.\n"
 for name, number in (("explain_no_refusal", 60), ("explain_past_the_last", 255)):
-    case(name, ["explain", str(number)], status=2, stderr="error: no refusal has the number %d\n\n" % number + USAGE)
+    case(name, ["explain", str(number)], status=2, stderr="error: no refusal has the number %d\n\n" % number + USAGE.replace("[OPTIONS] ", ""))
 case("explain_256", ["explain", "256"], status=2, stderr="error: invalid value '256' for '[N]': 256 is not in 0..=255\n\nFor more information, try '--help'.\n")
 case("explain_a_word", ["explain", "Read"], status=2, stderr="error: invalid value 'Read' for '[N]': invalid digit found in string\n\nFor more information, try '--help'.\n")
 case("explain_two", ["explain", "1", "2"], status=2, stderr="error: unexpected argument '2' found\n\n" + USAGE)
@@ -31,15 +31,18 @@ case(
     ["explain", "--help"],
     stdout="""Prints what refusal N means, and what can be done about it; with no N all refusals
 
-Usage: radio explain [N]
+Usage: radio explain [OPTIONS] [N]
 
 Arguments:
   [N]  The number of a refusal, as `radio: fault N` tells it; with none, all refusals
 
 Options:
+      --why   Behind a refusal tell in one more line what it is about
   -h, --help  Print help
 
 Example: radio explain 45
+
+With --why a command tells in one more line which input, record, line, option or output its refusal is about.
 """
     + STATUS,
 )

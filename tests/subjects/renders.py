@@ -3,7 +3,7 @@ import hashlib
 import struct
 
 from subjects.case import case, fault
-from formats.logs import A, B, add_clip, add_marker, add_track, log, move_clip, remove, set_gain, set_mute
+from formats.logs import A, B, add_clip, add_marker, add_track, log, move_clip, remove, set_fade, set_gain, set_marker_length, set_mute
 from formats.waves import data, fmt, info, rendered, riff
 
 TRACK, CLIP, SECOND, OTHER = (1, A, 1), (2, A, 2), (1, B, 1), (6, B, 2)
@@ -50,6 +50,14 @@ renders("a_marker_at_the_end", ONE_CLIP + [add_marker((3, A, 3), 3, "News")], [T
 renders("markers_in_their_order", ONE_CLIP + [add_marker((3, A, 3), 2, "Two"), add_marker((4, A, 4), 0, ""), add_marker((5, A, 5), 4294967295, "Late"), add_marker((6, A, 6), 2, "Köln")],
         [THREE], rendered([1, 2, 3], [(0, ""), (2, "Two"), (2, "Köln")]))
 renders("a_title_of_255_bytes", ONE_CLIP + [add_marker((3, A, 3), 0, "x" * 255)], [THREE], rendered([1, 2, 3], [(0, "x" * 255)]))
+LASTING = rendered([1, 2, 3], [(1, "News", 5)])
+assert struct.unpack("<I", LASTING[4:8])[0] == 778 and LASTING[-28:] == bytes.fromhex("6c747874 14000000 01000000 02000000 72676e20 00000000 00000000")
+LENGTHEN = [add_marker((3, A, 3), 1, "News"), set_marker_length((4, A, 4), (3, A, 3), 5)]
+renders("a_marker_past_the_end", ONE_CLIP + LENGTHEN, [THREE], LASTING)
+renders("a_marker_of_length_0_again", ONE_CLIP + LENGTHEN + [set_marker_length((5, A, 5), (3, A, 3), 0)], [THREE], MARKED)
+renders("some_markers_with_lengths", ONE_CLIP + [add_marker((3, A, 3), 0, "One"), add_marker((4, A, 4), 1, "Two"), add_marker((5, A, 5), 2, "Three"), add_marker((6, A, 6), 3, "Late"),
+        set_marker_length((7, A, 7), (3, A, 3), 4294967295), set_marker_length((8, A, 8), (5, A, 5), 1), set_marker_length((9, A, 9), (6, A, 6), 1)],
+        [THREE], rendered([1, 2, 3], [(0, "One", 3), (1, "Two"), (2, "Three", 1)]))
 SCRIPTS = ["Новости в девять", "九時のニュース", "الأخبار", "Ειδήσεις: ½ ώρα", "𝄞"]
 renders("titles_in_several_scripts", ONE_CLIP + [add_marker((3 + k, A, 3 + k), k // 2, title) for k, title in enumerate(SCRIPTS)], [THREE],
         rendered([1, 2, 3], [(k // 2, title) for k, title in enumerate(SCRIPTS)]))
@@ -88,6 +96,16 @@ for name, gain, samples in (("no_gain", (0, 1), [0, 0]), ("the_greatest_gain", (
     renders("at_" + name, clip(LOUDEST, length=2) + [set_gain((3, A, 3), CLIP, *gain)], [LOUDEST], rendered(samples, bits=16), ["--bits", "16"])
 renders("from_the_last_offset", clip(HALVES, offset=4294967295, length=2), [HALVES], rendered([0, 0], bits=16), ["--bits", "16"])
 renders("a_clip_that_is_muted_alone", clip(THREE, 4294967295, 4294967295, 4294967295) + [set_mute((3, A, 3), CLIP, 1)], [], rendered([]))
+# fades: the first frame of a fade in is silent, the last of a fade out is not, and one that is longer than the clip ends with it
+HUNDREDS = wave([100] * 4, bits=16)
+for name, fades, samples in (("in", (2, 0), [0, 50, 100]), ("out", (0, 2), [100, 100, 50]), ("in_and_out", (2, 2), [0, 50, 50]), ("all_the_time", (4, 4), [0, 13, 13]),
+                             ("longest", (1048576, 1048576), [0, 0, 0])):
+    renders("a_clip_that_fades_" + name, clip(HUNDREDS) + [set_fade((3, A, 3), CLIP, *fades)], [HUNDREDS], rendered(samples, bits=16), ["--bits", "16"])
+# a fade counts over the clip's own frames, also under a clip that lies over it
+renders("a_fade_under_another_clip", clip(HUNDREDS, length=4) + [set_fade((3, A, 3), CLIP, 4, 0), add_clip(OTHER, named(HUNDREDS), TRACK, 0, 4, 2)], [HUNDREDS],
+        rendered([0, 0, 50, 75], bits=16), ["--bits", "16"])
+LOWS = wave([-3, -3], bits=16)
+renders("a_fade_below_zero", clip(LOWS, length=2) + [set_fade((3, A, 3), CLIP, 2, 0)], [LOWS], rendered([0, -1], bits=16), ["--bits", "16"])
 # more than one block of 4,096 frames
 LONG = wave([(index * 37) % 65536 - 32768 for index in range(10000)], bits=16)
 renders("many_frames", clip(LONG, length=10000) + [add_marker((3, A, 3), 9999, "End")], [LONG],
@@ -142,6 +160,7 @@ refused("onto_a_folder", 37, ["folder", "log", "r"], READY, setup="mkdir folder"
 HISTORY = "history A=PCM,F=48000,W=24,M=mono\\x0d\\x0a"
 HEAD = ("bext 0", "description ", "originator ", "reference ", "date 2000-01-01", "time 00:00:00", "time-reference 0", HISTORY)
 case("info_of_a_rendered_file", ["info", "out"], files={"out": MARKED}, stdout=info(MARKED, frames=3, extension=HEAD, cues=("cue 1 at 1 label News",)))
+case("info_of_a_rendered_length", ["info", "out"], files={"out": LASTING}, stdout=info(LASTING, frames=3, extension=HEAD, cues=("cue 1 at 1 len 2 label News",)))
 
 # command lines
 USAGE = "Usage: radio render <OUT> <LOG> [SOURCE]...\n\nFor more information, try '--help'.\n"
@@ -153,7 +172,7 @@ HELP = """Writes the session of a log as a broadcast wave file, its markers as c
 Usage: radio render [OPTIONS] <OUT> <LOG> [SOURCE]...
 
 Arguments:
-  <OUT>        The wave file to write
+  <OUT>        The wave file to write; one that is there is replaced, also where it is a SOURCE
   <LOG>        The log
   [SOURCE]...  The recordings that clips name by their digests, in any order
 
@@ -167,6 +186,9 @@ Options:
       --date <TEXT>         The date, as dddd-dd-dd [default: 2000-01-01]
       --time <TEXT>         The time, as dd:dd:dd [default: 00:00:00]
       --time-reference <N>  Frames from midnight to the first [default: 0]
+      --new                 Be refused (37) where OUT is there
+      --no-sync             Do not wait until OUT is on the disk: faster, and lost where the machine stops
+      --why                 Behind a refusal tell in one more line what it is about
   -h, --help                Print help
 
 Example: radio render news.wav desk.log jingle.wav interview.wav --bits 16 --description 'Morning news'

@@ -5,7 +5,7 @@ import hashlib
 from subjects.case import M, NEWS, SHOWN, bad_record, both, both_of, both_refuse, view
 from formats.logs import (
     A, B, C, add_clip, add_marker, add_track, clip_line, head, log, marker_line, move_clip, move_marker, move_track, remove, restore,
-    retitle, seal, set_gain, set_mute, stamp, track_line, trim_clip)
+    retitle, seal, set_fade, set_gain, set_marker_length, set_mute, stamp, track_line, trim_clip)
 
 # tracks: four places, z and a at the head and x and y after a, are shown by falling stamp, each before those after it
 D = hashlib.sha256(b"abc").digest()
@@ -104,20 +104,35 @@ both("greatest_replica", [add_track((1, 2**128 - 1, 1), None, "")], track_line((
 for name, text in [("greek", "Ειδήσεις"), ("arabic", "أخبار"), ("han", "新聞"), ("emoji", "🎙️ live"), ("empty", ""), ("spaces", "  two  "), ("like_a_line", "held 9")]:
     both("track_with_a_title_" + name, [add_track((1, A, 1), None, text), retitle((2, A, 2), (1, A, 1), text)], track_line((1, A, 1), text) + "held 0\n")
 
-# all twelve bodies, by three replicas, with four that wait: a clip and a gain of nothing, a mute of a marker, a track after a marker
-twelve = [
+# fades: of two that were set the one of the greater stamp is shown, and none where both are 0
+fade = lambda own, fade_in, fade_out: set_fade(own, (2, A, 2), fade_in, fade_out)
+for order, name in ((1, "faded_clip"), (-1, "faded_clip_turned")):
+    view(name, [p, clip] + [fade((3, A, 3), 1, 0), fade((3, B, 1), 5, 0)][::order], shown((2, A, 2), 1, fades=(5, 0)))
+both("clip_that_fades_out", [p, clip, fade((3, B, 1), 0, 7)], shown((2, A, 2), 1, fades=(0, 7)))
+both("clip_that_fades_longest", [p, clip, fade((3, B, 1), 1048576, 1048576)], shown((2, A, 2), 1, fades=(1048576, 1048576)))
+both("clip_that_fades_no_more", [p, clip, fade((3, B, 1), 5, 6), fade((4, A, 3), 0, 0)], shown((2, A, 2), 1))
+both("clip_that_is_muted_and_fades", [p, clip, fade((3, B, 1), 5, 6), set_mute((4, A, 3), (2, A, 2), 1)], shown((2, A, 2), 1, mute=True, fades=(5, 6)))
+view("clip_that_faded_while_absent", [p, clip, remove((3, A, 3), (2, A, 2), [(2, A, 2)]), fade((4, B, 1), 5, 6), restore((5, A, 4), (2, A, 2))], shown((2, A, 2), 1, fades=(5, 6)))
+both("fade_of_a_track_waits", [p, set_fade((2, A, 2), T, 1, 1)], PT + "held 1\n", held=[(2, A, 2)])
+both("fade_of_a_marker_waits", [NEWS, set_fade((2, B, 1), M, 1, 1)], SHOWN + "held 1\n", held=[(2, B, 1)])
+both("fade_of_a_trim_waits", [p, clip, trim_clip((4, A, 4), (2, A, 2), 2, 3), set_fade((5, A, 5), (4, A, 4), 1, 1)], shown((2, A, 2), 1).replace("held 0", "held 1"), held=[(5, A, 5)])
+both("title_of_a_fade_waits", [p, clip, fade((3, B, 1), 5, 6), retitle((4, A, 3), (3, B, 1), "x")], shown((2, A, 2), 1, fades=(5, 6)).replace("held 0", "held 1"), held=[(4, A, 3)])
+
+# all fourteen bodies, by three replicas, with four that wait: a clip and a gain of nothing, a mute of a marker, a track after a marker
+fourteen = [
     add_track((1, A, 1), None, "Voice"), add_track((2, A, 2), (1, A, 1), "Music"), add_clip((3, A, 3), D, (1, A, 1), 0, 10, 20), set_gain((4, A, 4), (3, A, 3), 1, 2), add_marker((5, A, 5), 480, "News"),
     add_track((3, B, 1), (1, A, 1), ""), add_clip((4, B, 2), D, (2, A, 2), 7, 0, 5), move_track((5, B, 3), (2, A, 2), None), trim_clip((6, B, 4), (3, A, 3), 11, 9), set_mute((7, B, 5), (2, A, 2), 1),
     remove((8, B, 6), (4, B, 2), [(4, B, 2)]), move_marker((9, B, 7), (5, A, 5), 960), set_mute((10, B, 8), (5, A, 5), 1), add_clip((11, B, 9), D, (9, A, 9), 0, 0, 1),
     move_clip((6, C, 1), (3, A, 3), (2, A, 2), 100), restore((9, C, 2), (4, B, 2)), retitle((10, C, 3), (3, B, 1), "Musik für später"), set_gain((11, C, 4), (9, A, 8), 1, 3), add_track((12, C, 5), (5, A, 5), "lost"),
+    set_fade((13, C, 6), (3, A, 3), 48, 96), set_marker_length((14, C, 7), (5, A, 5), 24),
 ]
-wanted = (track_line((2, A, 2), "Music", mute=True) + clip_line((4, B, 2), (4, B, 2), 7, 0, 5, D) + clip_line((3, A, 3), (6, C, 1), 100, 11, 9, D, gain=(1, 2))
-          + track_line((1, A, 1), "Voice") + track_line((3, B, 1), "Musik für später") + marker_line((5, A, 5), 960, "News") + "held 4\n")
+wanted = (track_line((2, A, 2), "Music", mute=True) + clip_line((4, B, 2), (4, B, 2), 7, 0, 5, D) + clip_line((3, A, 3), (6, C, 1), 100, 11, 9, D, gain=(1, 2), fades=(48, 96))
+          + track_line((1, A, 1), "Voice") + track_line((3, B, 1), "Musik für später") + marker_line((5, A, 5), 960, "News", 24) + "held 4\n")
 held = [(10, B, 8), (11, B, 9), (11, C, 4), (12, C, 5)]
-both("twelve_bodies", twelve, wanted, held=held)
-parts = {"a": log(twelve[0::3]), "b": log(twelve[1::3]), "c": log(twelve[2::3])}
+both("fourteen_bodies", fourteen, wanted, held=held)
+parts = {"a": log(fourteen[0::3]), "b": log(fourteen[1::3]), "c": log(fourteen[2::3])}
 for order in ["abc", "cba", "bacab"]:
-    both_of("twelve_bodies_in_logs_" + order, list(order), twelve, wanted, held=held, files=parts)
+    both_of("fourteen_bodies_in_logs_" + order, list(order), fourteen, wanted, held=held, files=parts)
 
 # records of tracks and clips that are none
 bad_record("place_flag_2", stamp(2, B, 1) + b"\x01\x02" + stamp(1, A, 1) + b"\x00")

@@ -1,6 +1,6 @@
 """Cases of wave files: what `radio info` tells of them, the examples, and what is refused."""
 from subjects.case import case, fault, not_told, told
-from formats.waves import FLOAT, adtl, bext, chunk, cue, data, extensible, fmt, info, labl, point, riff
+from formats.waves import FLOAT, adtl, bext, chunk, cue, data, extensible, fmt, info, labl, ltxt, point, riff
 
 # what wave files say of themselves
 SMALLEST = riff(fmt(rate=44100, bits=8), data(b"\0", pad=False))
@@ -49,6 +49,12 @@ told("label_ends_at_its_zero", riff(fmt(), FRAME, cue(point(1, 5)), adtl(labl(1,
 told("label_of_three_bytes", riff(fmt(), FRAME, cue(point(1, 5)), adtl(chunk(b"labl", b"\x01\0\0"), labl(1, b"News\0"))), cues=["cue 1 at 5 label News"])
 told("bad_list_ends_by_itself", riff(fmt(), FRAME, cue(point(1, 5), point(2, 6)), adtl(labl(1, b"News\0"), b"labl\xff\0\0\0\x02\0\0\0"), adtl(labl(2, b"Late\0"))), cues=["cue 1 at 5 label News", "cue 2 at 6 label Late"])
 told("other_lists_and_notes", riff(fmt(), FRAME, cue(point(1, 5)), chunk(b"LIST", b"INFO" + labl(1, b"Info\0")), adtl(chunk(b"note", b"\x01\0\0\0Note\0"), labl(1, b"News\0"))), cues=["cue 1 at 5 label News"])
+told("length_and_label", riff(fmt(), FRAME, cue(point(1, 5), point(2, 6), point(3, 7)), adtl(labl(1, b"News\0"), ltxt(2, 0), ltxt(1, 96))), cues=["cue 1 at 5 len 96 label News", "cue 2 at 6 len 0", "cue 3 at 7"])
+told("length_before_its_label", riff(adtl(ltxt(1, 2**32 - 1), labl(1, b"News\0")), fmt(), cue(point(1, 5)), FRAME), cues=["cue 1 at 5 len 4294967295 label News"])
+told("length_of_any_purpose", riff(fmt(), FRAME, cue(point(1, 5), point(2, 6)), adtl(ltxt(1, 3, b"beat", b"\xff" * 8), ltxt(2, 4, bytes(4), text=b"Weather\0"))), cues=["cue 1 at 5 len 3", "cue 2 at 6 len 4"])
+told("length_of_19_bytes", riff(fmt(), FRAME, cue(point(1, 5)), adtl(chunk(b"ltxt", ltxt(1, 9)[8:27]), labl(1, b"News\0"))), cues=["cue 1 at 5 label News"])
+told("the_first_length_counts", riff(fmt(), FRAME, cue(point(1, 5), point(1, 6)), adtl(chunk(b"ltxt", ltxt(1, 9)[8:27]), ltxt(2, 7)), adtl(ltxt(1, 3), ltxt(1, 4))), cues=["cue 1 at 5 len 3", "cue 1 at 6 len 3"])
+told("lengths_of_other_lists", riff(fmt(), FRAME, cue(point(1, 5)), chunk(b"LIST", b"INFO" + ltxt(1, 3)), ltxt(1, 4), adtl(b"ltxt\xff\0\0\0" + ltxt(1, 5)[8:])), cues=["cue 1 at 5"])
 told("list_of_two_bytes", riff(fmt(), FRAME, cue(point(1, 5)), chunk(b"LIST", b"ad")), cues=["cue 1 at 5"])
 case("wave_called_dash", ["info", "-"], files={"-": SMALLEST}, stdout=info(SMALLEST, **EIGHT))
 

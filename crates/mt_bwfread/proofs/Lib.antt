@@ -6,7 +6,9 @@ pub mod Extensions
 pub mod Reading
 pub mod Refusals
 pub mod Samples
-pub mod Labelling
+pub mod Sides
+pub mod Listing
+pub mod Naming
 pub mod Pointing
 pub mod Filling
 pub mod Sizes

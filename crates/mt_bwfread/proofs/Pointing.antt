@@ -8,7 +8,7 @@ use Rattle.byteorder.specs.Endian.{little_number}
 use Rattle.mt_bwfread.specs.declared.cue.Point.{Point}
 use Rattle.mt_bwfread.specs.declared.wave.Wave.TheInside.{Inside}
 use Rattle.mt_bwfread.specs.Riff.{u32_at}
-use Rattle.mt_bwfread.specs.Cues.{points_in, point_count, cue_chunk, points_of, cues_of, cue_of, labels_of, label_for}
+use Rattle.mt_bwfread.specs.Cues.{points_in, point_count, cue_chunk, points_of, cues_of, cue_of, lengths_of, labels_of, first_for}
 use Rattle.mt_bwfread.specs.Kept.{IsKept}
 
 length-points_in : (n : ℕ) (bytes : List ℕ) → length (points_in n bytes) ≡ n
@@ -55,18 +55,18 @@ points_counted w text kept is = rw (points_are w text kept is, length-points_in 
 
 pub cues_counted : (w : Inside) (text : List ℕ) → IsKept w → w.text.now ≡ text → w.point_count ≡ length (cues_of text)
 unfolding cues_of
-cues_counted w text kept is = points_counted w text kept is ∙ sym (length-map (points_of text) (cue_of (labels_of text)))
+cues_counted w text kept is = points_counted w text kept is ∙ sym (length-map (points_of text) (cue_of (lengths_of text) (labels_of text)))
 
 -- ---- cues
 
-cue_at : (text : List ℕ) (i : ℕ) → slice_get (cues_of text) i ≡ option_map (cue_of (labels_of text)) (slice_get (points_of text) i)
+cue_at : (text : List ℕ) (i : ℕ) → slice_get (cues_of text) i ≡ option_map (cue_of (lengths_of text) (labels_of text)) (slice_get (points_of text) i)
 unfolding cues_of
-cue_at text i = slice_get-map (cue_of (labels_of text)) (points_of text) i
+cue_at text i = slice_get-map (cue_of (lengths_of text) (labels_of text)) (points_of text) i
 
-pub cue_is : (text : List ℕ) (i : ℕ) (p : Point) (label : Option (List ℕ)) → Some p ≡ slice_get (points_of text) i → label ≡ label_for p.name (labels_of text)
-    → Some (record { name = p.name; at = p.at; label = label }) ≡ slice_get (cues_of text) i
+pub cue_is : (text : List ℕ) (i : ℕ) (p : Point) (len : Option ℕ) (label : Option (List ℕ)) → Some p ≡ slice_get (points_of text) i → len ≡ first_for p.name (lengths_of text) → label ≡ first_for p.name (labels_of text)
+    → Some (record { name = p.name; at = p.at; length = len; label = label }) ≡ slice_get (cues_of text) i
 unfolding cue_of
-cue_is text i p label found is = rw (cue_at text i, ← found, is) refl
+cue_is text i p len label found is_len is_label = rw (cue_at text i, ← found, is_len, is_label) refl
 
 pub no_cue : (text : List ℕ) (i : ℕ) → None ≡ slice_get (points_of text) i → None ≡ slice_get (cues_of text) i
 no_cue text i none = rw (cue_at text i, ← none) refl

@@ -1,7 +1,7 @@
--- Cue points, and their labels: the chunks "cue " and LIST of type adtl of Microsoft, "Multimedia Programming
--- Interface and Data Specifications 1.0", chapter 3.
-use Rattle.std.specs.Prelude.{ℕ, zero, suc, ◌-◌, ◌/◌, min, ◌&&◌, ◌==◌, nat_lt, nat_le, if◌then◌else◌, List, [], ◌∷◌, ◌++◌, length, take, drop, map, find, codes, Option, unwrap_or}
-use Rattle.std.specs.List.{flat_map}
+-- Cue points, their lengths and their labels: the chunks "cue " and LIST of type adtl of Microsoft, "Multimedia
+-- Programming Interface and Data Specifications 1.0", chapter 3.
+use Rattle.std.specs.Prelude.{ℕ, zero, suc, ◌-◌, ◌/◌, min, Bool, ◌&&◌, ◌==◌, nat_lt, nat_le, if◌then◌else◌, List, [], ◌∷◌, ◌++◌, length, take, drop, map, find, codes, Option, unwrap_or}
+use Rattle.std.specs.List.{filter, flat_map}
 use Rattle.std.specs.Option.{option_map, option_copied}
 use Rattle.std.specs.Str.{bytes_eq}
 use Rattle.mt_bwfread.specs.Riff.{u32_at, Chunk, chunks_of, content_of}
@@ -10,6 +10,7 @@ use Rattle.mt_bwfread.specs.Extension.{text_of}
 use Rattle.mt_bwfread.specs.declared.cue.Point.{Point}
 use Rattle.mt_bwfread.specs.declared.cue.Cue.{Cue}
 use Rattle.mt_bwfread.specs.declared.label.Label.{Label}
+use Rattle.mt_bwfread.specs.declared.length.Length.{Length}
 
 -- ---- points
 
@@ -31,63 +32,94 @@ cue_chunk text = unwrap_or (content_of (codes "cue ") (chunks_in text)) []
 unfoldable pub points_of : List ℕ → List Point
 points_of text = points_in (point_count (cue_chunk text)) (drop 4 (cue_chunk text))
 
--- ---- labels
-
--- a text for the cue of this name
-pub record Named : Type 0 where
-  pub name : ℕ
-  pub text : List ℕ
-
--- the label that a chunk labl of four bytes or more is; another chunk, and a shorter one, is none (profile)
-unfoldable pub label_in : Chunk → List Named
-label_in c =
-    if bytes_eq c.id (codes "labl") && nat_le 4 (length c.content)
-    then (record { name = u32_at 0 c.content; text = text_of (drop 4 c.content) } ∷ [])
-    else []
+-- ---- the lists of type adtl
 
 -- the bytes of the chunks in a list of type adtl; another chunk has none
 unfoldable pub adtl_in : Chunk → List ℕ
 adtl_in c = if bytes_eq c.id (codes "LIST") && bytes_eq (take 4 c.content) (codes "adtl") then drop 4 c.content else []
 
--- the labels among chunks, up to one that is not whole (profile)
-unfoldable pub labels_among : List ℕ → List Named
-labels_among bytes = flat_map label_in (chunks_of bytes)
+-- the chunks of the lists among chunks: of each list those up to one that is not whole (profile)
+unfoldable pub listed_in : List Chunk → List Chunk
+listed_in cs = flat_map (λ c. chunks_of (adtl_in c)) cs
 
--- the labels of all lists among chunks
-unfoldable pub labels_in : List Chunk → List Named
-labels_in cs = flat_map (λ c. labels_among (adtl_in c)) cs
+-- the same in the rest of a list, and behind it in the rest of the file
+unfoldable pub listed_left : List ℕ → List ℕ → List Chunk
+listed_left list file = chunks_of list ++ listed_in (chunks_of file)
 
--- the labels that are left in the rest of a list, and behind it in the rest of the file
-unfoldable pub labels_left : List ℕ → List ℕ → List Named
-labels_left list file = labels_among list ++ labels_in (chunks_of file)
+-- a chunk of this id with a fixed part of so many bytes; one that is too short for it is passed over (profile)
+unfoldable pub is_entry : List ℕ → ℕ → Chunk → Bool
+is_entry id fixed c = bytes_eq c.id id && nat_le fixed (length c.content)
+
+-- such chunks in the lists of a wave file, in file order
+unfoldable pub entries_of : List ℕ → ℕ → List ℕ → List Chunk
+entries_of id fixed text = filter (is_entry id fixed) (listed_in (chunks_in text))
+
+-- and those that are left in the rest of a list, and behind it in the rest of the file
+unfoldable pub entries_left : List ℕ → ℕ → List ℕ → List ℕ → List Chunk
+entries_left id fixed list file = filter (is_entry id fixed) (listed_left list file)
+
+-- what a chunk says of the cue points of a name
+pub record Named (X : Type 0) : Type 0 where
+  pub name : ℕ
+  pub value : X
+
+-- what is said first of this name, which counts where there are several (profile)
+unfoldable pub first_for : {X : Type 0} → ℕ → List (Named X) → Option X
+first_for name all = option_map (λ n. n.value) (find (λ n. n.name == name) all)
+
+-- ---- labels
+
+-- a chunk labl: a name, and a text
+unfoldable pub label_in : Chunk → Named (List ℕ)
+label_in c = record { name = u32_at 0 c.content; value = text_of (drop 4 c.content) }
 
 -- the labels of a wave file, in file order
-unfoldable pub labels_of : List ℕ → List Named
-labels_of text = labels_in (chunks_in text)
+unfoldable pub labels_of : List ℕ → List (Named (List ℕ))
+labels_of text = map label_in (entries_of (codes "labl") 4 text)
 
--- the text of the first label of this name, which counts where there are several (profile)
-unfoldable pub label_for : ℕ → List Named → Option (List ℕ)
-label_for name labels = option_map (λ l. l.text) (find (λ l. l.name == name) labels)
+-- those that are left
+unfoldable pub labels_left : List ℕ → List ℕ → List (Named (List ℕ))
+labels_left list file = map label_in (entries_left (codes "labl") 4 list file)
+
+-- ---- lengths
+
+-- A chunk ltxt: a name, and a number of samples of one channel. The purpose, the country, the language, the dialect and
+-- the code page, which fill its 20 bytes, and a text behind them are not looked at (profile).
+unfoldable pub length_in : Chunk → Named ℕ
+length_in c = record { name = u32_at 0 c.content; value = u32_at 4 c.content }
+
+-- the lengths of a wave file, in file order
+unfoldable pub lengths_of : List ℕ → List (Named ℕ)
+lengths_of text = map length_in (entries_of (codes "ltxt") 20 text)
+
+-- those that are left
+unfoldable pub lengths_left : List ℕ → List ℕ → List (Named ℕ)
+lengths_left list file = map length_in (entries_left (codes "ltxt") 20 list file)
 
 -- ---- cues
 
--- a cue point and its label
+-- a cue point, its length and its label
 pub record CueText : Type 0 where
   pub name : ℕ
   pub at : ℕ
+  pub length : Option ℕ
   pub label : Option (List ℕ)
 
-unfoldable pub cue_of : List Named → Point → CueText
-cue_of labels p = record { name = p.name; at = p.at; label = label_for p.name labels }
+-- with the first length and the first label of its name
+unfoldable pub cue_of : List (Named ℕ) → List (Named (List ℕ)) → Point → CueText
+cue_of lengths labels p = record { name = p.name; at = p.at; length = first_for p.name lengths; label = first_for p.name labels }
 
--- the cues of a wave file: each point with the first label of its name
+-- the cues of a wave file
 unfoldable pub cues_of : List ℕ → List CueText
-cues_of text = map (cue_of (labels_of text)) (points_of text)
+cues_of text = map (cue_of (lengths_of text) (labels_of text)) (points_of text)
 
--- ---- a label and a cue where they stand in the file, seen as texts and numbers
+-- ---- a label, a length and a cue where they stand in the file, seen as texts and numbers
 
-abbrev pub named : Label → Named
-named l = record { name = l.name; text = l.text.now }
+abbrev pub named : Label → Named (List ℕ)
+named l = record { name = l.name; value = l.text.now }
+
+abbrev pub named_length : Length → Named ℕ
+named_length l = record { name = l.name; value = l.len }
 
 abbrev pub cue_text : Cue → CueText
-cue_text c = record { name = c.name; at = c.at; label = option_copied c.label }
+cue_text c = record { name = c.name; at = c.at; length = c.length; label = option_copied c.label }

@@ -1,12 +1,12 @@
 -- What the reader's own types say of the text.
-use Rattle.std.specs.Prelude.{◌≡◌, ℕ, ◌<◌, true, List, [], ◌∷◌, codes, unwrap_or}
+use Rattle.std.specs.Prelude.{◌≡◌, ℕ, ◌<◌, ◌≤◌, true, length, List, [], ◌∷◌, codes, unwrap_or}
 use Rattle.std.specs.Option.{option_copied, option_or}
 use Rattle.mt_bwfread.specs.declared.riff.Part.{Part}
-use Rattle.mt_bwfread.specs.declared.label.Step.{Step}
+use Rattle.mt_bwfread.specs.declared.list.Entry.{Entry}
 use Rattle.mt_bwfread.specs.declared.found.Found.{Found}
 use Rattle.mt_bwfread.specs.declared.format.Format.{Format}
 use Rattle.mt_bwfread.specs.Riff.{Chunk, has_chunk, first_chunk, after_chunk, content_of}
-use Rattle.mt_bwfread.specs.Cues.{named, labels_left}
+use Rattle.mt_bwfread.specs.Cues.{entries_left}
 use Rattle.mt_bwfread.specs.Wave.{rate_in, channels_in, bits_in, is_width}
 
 -- a chunk where it stands in the file, seen as a chunk
@@ -47,6 +47,7 @@ pub record AreContents (f : Found) (format : Format) (bytes : List ℕ) : Type 0
   pub numbers : AreNumbers format (unwrap_or (option_copied f.fmt) [])
   pub samples : bytes ≡ unwrap_or (option_copied f.samples) []
 
--- the first label that is left, and what is left behind it
-abbrev pub IsStep : List ℕ → List ℕ → Step → Type 0
-IsStep list file s = labels_left list file ≡ named s.label ∷ labels_left s.list.now s.file.now
+-- the first chunk of this id and of so many bytes that is left in the lists, and what is left behind it
+pub record IsEntry (id : List ℕ) (fixed : ℕ) (list file : List ℕ) (e : Entry) : Type 0 where
+  pub long : fixed ≤ length e.part.content.now
+  pub first : entries_left id fixed list file ≡ chunk_at e.part ∷ entries_left id fixed e.part.after.now e.file.now

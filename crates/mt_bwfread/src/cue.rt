@@ -6,19 +6,22 @@ use crate::wave::Wave;
 /// A cue point.
 #[derive(Clone, Copy, Debug, PartialEq, Eq)]
 pub struct Point {
-    /// The number by which labels name it.
+    /// The number by which lengths and labels name it.
     pub name: u32,
     /// Its frame, counted from 0. It may lie behind the last frame.
     pub at: u32,
 }
 
-/// A cue point with its label.
+/// A cue point with its length and its label.
 #[derive(Clone, Copy, Debug, PartialEq, Eq)]
 pub struct Cue<'a> {
-    /// The number by which labels name it.
+    /// The number by which lengths and labels name it.
     pub name: u32,
     /// Its frame, counted from 0. It may lie behind the last frame.
     pub at: u32,
+    /// How many frames from there on it means, if a chunk `ltxt` says so: the first length of its name. It may be 0, and they may
+    /// pass the last frame.
+    pub length: Option<u32>,
     /// The text of the first label of its name: a slice of the file, not tested for its characters.
     pub label: Option<&'a [u8]>,
 }
@@ -37,7 +40,7 @@ impl<'a> Wave<'a> {
         self.point_count
     }
 
-    /// The cue point of this index, from 0 on, without its label; none from `cue_count` on. Takes the same
+    /// The cue point of this index, from 0 on, without its length and its label; none from `cue_count` on. Takes the same
     /// short time for each.
     pub fn point(&self, index: u32) -> Option<Point>
         ensures { result ≡ slice_get (points_of self.now) index }
@@ -53,7 +56,8 @@ impl<'a> Wave<'a> {
     }
 
     /// The cue of this index, from 0 on; none from `cue_count` on. Each call walks over the chunks of the
-    /// file and its lists for the label: for all cues take `point` and `labels`, which walk once.
+    /// file and its lists for the length, and once more for the label: for all cues take `point`, `lengths` and `labels`,
+    /// which walk once.
     pub fn cue(&self, index: u32) -> Option<Cue<'a>>
         ensures { option_map cue_text result ≡ slice_get (cues_of self.now) index }
     {
@@ -61,6 +65,7 @@ impl<'a> Wave<'a> {
         Some(Cue {
             name: point.name,
             at: point.at,
+            length: self.length(point.name),
             label: self.label(point.name),
         })
     }

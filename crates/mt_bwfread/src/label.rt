@@ -1,11 +1,7 @@
 //! The labels of cue points.
 
-ghost use Rattle.std.specs.Prelude.{◌≡◌, [], ◌∷◌, MatchOption};
-ghost use Rattle.mt_bwfread.specs.Cues.{label_in, adtl_in, labels_left, named};
-ghost use Rattle.mt_bwfread.specs.Parts.{chunk_at, IsStep};
-
+use crate::list::next_entry;
 use crate::number::u32_at;
-use crate::riff::Part;
 use crate::text::text;
 use crate::wave::Wave;
 use std::marker::Model;
@@ -29,10 +25,10 @@ pub struct Labels<'a> {
 }
 
 impl<'a> Model for Labels<'a> {
-    ghost use Rattle.std.specs.Prelude.{List};
+    ghost use Rattle.std.specs.Prelude.{ℕ, List};
     ghost use Rattle.mt_bwfread.specs.Cues.{Named, labels_left};
 
-    ghost Value = { List Named };
+    ghost Value = { List (Named (List ℕ)) };
 
     ghost view = { λ l. labels_left l.list.now l.file.now };
 }
@@ -48,17 +44,21 @@ impl<'a> Iterator for Labels<'a> {
     ghost remaining = { item_count (λ s. s) };
 
     fn next(&mut self) -> Option<Label<'a>> {
-        let step = next_label(self.list, self.file)?;
-        self.list = step.list;
-        self.file = step.file;
-        Some(step.label)
+        let entry = next_entry(b"labl", 4, self.list, self.file)?;
+        let content = entry.part.content;
+        self.list = entry.part.after;
+        self.file = entry.file;
+        Some(Label {
+            name: u32_at(content, 0),
+            text: text(&content[4..]),
+        })
     }
 }
 
 impl<'a> Wave<'a> {
     ghost use Rattle.std.specs.Prelude.{◌≡◌};
     ghost use Rattle.std.specs.Option.{option_copied};
-    ghost use Rattle.mt_bwfread.specs.Cues.{labels_of, label_for};
+    ghost use Rattle.mt_bwfread.specs.Cues.{labels_of, first_for};
 
     /// The labels of all lists of type `adtl`, in file order; several may have one name, and the first of
     /// them counts. A list ends before a chunk that is not whole. To label many cue points, walk once over
@@ -75,7 +75,7 @@ impl<'a> Wave<'a> {
     /// The text of the first label of this name. Walks over the chunks of the file and its lists up to that
     /// label, and over all of them where there is none.
     pub fn label(&self, name: u32) -> Option<&'a [u8]>
-        ensures { option_copied result ≡ label_for name (labels_of self.now) }
+        ensures { option_copied result ≡ first_for name (labels_of self.now) }
     {
         for label in self.labels() {
             if label.name == name {
@@ -83,67 +83,5 @@ impl<'a> Wave<'a> {
             }
         }
         None
-    }
-}
-
-// The next label, and what is left of its list and of the file.
-#[derive(Clone, Copy)]
-struct Step<'a> {
-    label: Label<'a>,
-    list: &'a [u8],
-    file: &'a [u8],
-}
-
-// The first label that is left in a list, and behind it in the file.
-fn next_label<'a>(list: &'a [u8], file: &'a [u8]) -> Option<Step<'a>>
-    ensures { MatchOption result (labels_left list.now file.now ≡ []) (IsStep list.now file.now) }
-{
-    let mut in_list = list;
-    let mut in_file = file;
-    loop {
-        if let Some(part) = Part::first(in_list) {
-            in_list = part.after;
-            if let Some(label) = label_of(part) {
-                return Some(Step {
-                    label,
-                    list: in_list,
-                    file: in_file,
-                });
-            }
-        } else if let Some(part) = Part::first(in_file) {
-            in_file = part.after;
-            in_list = adtl(part);
-        } else {
-            return None;
-        }
-    }
-}
-
-// The label that a chunk is, if it is one.
-#[tactic(auto, unfolding(crate::specs::Cues::label_in))]
-fn label_of<'a>(part: Part<'a>) -> Option<Label<'a>>
-    ensures { MatchOption result
-        (label_in (chunk_at part.entry) ≡ [])
-        (λ l. label_in (chunk_at part.entry) ≡ named l ∷ []) }
-{
-    if part.id == b"labl".as_slice() && part.content.len() >= 4 {
-        Some(Label {
-            name: u32_at(part.content, 0),
-            text: text(&part.content[4..]),
-        })
-    } else {
-        None
-    }
-}
-
-// The chunks of a list of type `adtl`, and nothing of another chunk.
-#[tactic(auto, unfolding(crate::specs::Cues::adtl_in))]
-fn adtl<'a>(part: Part<'a>) -> &'a [u8]
-    ensures { result.now ≡ adtl_in (chunk_at part.entry) }
-{
-    if part.id == b"LIST".as_slice() && part.content.starts_with(b"adtl") {
-        &part.content[4..]
-    } else {
-        &[]
     }
 }

@@ -25,7 +25,7 @@
 //!
 //! A clause sees a [`Wave`] as its text, and says what is read off it in the words of `specs/`: `Riff` has
 //! the chunks, `Wave` the refusals, the format and the samples, `Extension` the chunk `bext`, and `Cues`
-//! the cue points and their labels.
+//! the cue points, their lengths and their labels.
 #![tactic(auto)]
 
 mod bext;
@@ -33,8 +33,11 @@ mod cue;
 mod fault;
 mod format;
 mod found;
+mod fours;
 mod label;
 pub mod laws;
+mod length;
+mod list;
 mod number;
 mod parts;
 mod riff;
@@ -47,4 +50,5 @@ pub use bext::Bext;
 pub use cue::{Cue, Point};
 pub use fault::WaveFault;
 pub use label::{Label, Labels};
+pub use length::{Length, Lengths};
 pub use wave::Wave;

@@ -4,8 +4,10 @@ ghost use Rattle.std.specs.Prelude.{◌≡◌, ℕ, ◌+◌, ◌-◌, ◌*◌, �
 ghost use Rattle.mt_bwfread.specs.Wave.{is_width, scaled};
 ghost use Rattle.mt_bwfread.specs.Fill.{at, AreRead};
 
+use crate::fours::load_side_by_side;
+
 /// A spelling of samples: of how many bits they are, and in how many bytes.
-trait Width {
+pub(crate) trait Width {
     ghost bits: { ℕ };
 
     ghost wide: { ℕ };
@@ -44,7 +46,7 @@ impl Width for Bits16 {
     }
 }
 
-struct Bits24;
+pub(crate) struct Bits24;
 
 impl Width for Bits24 {
     ghost bits = { 24 };
@@ -83,7 +85,8 @@ fn load_each<W: Width>(samples: &mut [i32], bytes: &[u8], step: usize)
     }
 }
 
-/// The samples of so many bits that stand `step` bytes apart, from the front of the bytes on: one loop for each width.
+/// The samples of so many bits that stand `step` bytes apart, from the front of the bytes on: one loop for each width, and one for
+/// 24 bits side by side.
 pub(crate) fn load(samples: &mut [i32], bits: u16, bytes: &[u8], step: usize)
     requires width { IsTrue (is_width bits) }
     requires room { length samples.old * step ≤ length bytes.now + step - bits / 8 }
@@ -94,6 +97,8 @@ pub(crate) fn load(samples: &mut [i32], bits: u16, bytes: &[u8], step: usize)
         load_each::<Bits8>(samples, bytes, step);
     } else if bits == 16 {
         load_each::<Bits16>(samples, bytes, step);
+    } else if bits == 24 && step == 3 {
+        load_side_by_side(samples, bytes);
     } else if bits == 24 {
         load_each::<Bits24>(samples, bytes, step);
     } else {

@@ -1,10 +1,12 @@
 pub mod Readers
 pub mod Writing
-pub mod Labels
+pub mod Firsts
 pub mod Recordings
 pub mod SameSources
 pub mod Rendering
 pub mod Headline
 mod Making
 mod Editing
-mod Telling
+pub mod Telling
+pub mod Stopping
+mod Pulling

@@ -1,5 +1,5 @@
 -- Only what is found under digests counts of the recordings.
-use Rattle.std.proofs.Common.{◌≡◌, ℕ, zero, suc, Bool, List, [], ◌∷◌, ◌++◌, Option, Some, None, refl, sym, ap, ◌∙◌, ℤ, pos, ◌+ℤ◌}
+use Rattle.std.proofs.Common.{◌≡◌, ℕ, zero, suc, ◌-◌, Bool, List, [], ◌∷◌, ◌++◌, Option, Some, None, refl, sym, ap, ◌∙◌, ℤ, pos, ◌+ℤ◌}
 use Rattle.std.specs.Prelude.{codes, if◌then◌else◌, unwrap_or}
 use Rattle.std.specs.List.{flat_map}
 use Rattle.mt_op.specs.Gain.{Ratio}
@@ -25,7 +25,7 @@ module _ (a b : Sources) (same : (d : Digest) → found a d ≡ found b d) (trac
 
   clip_same : (gain : Ratio) (f c : ℕ) (o : Option Clip) → clip_sample a gain f c o ≡ clip_sample b gain f c o
   clip_same gain f c None = refl
-  clip_same gain f c (Some clip) = ap (λ (o : Option (List ℕ)). contribution clip.gain gain (heard (unwrap_or o []) clip f c)) (same clip.source)
+  clip_same gain f c (Some clip) = ap (λ (o : Option (List ℕ)). contribution clip gain (f - clip.at) (heard (unwrap_or o []) clip f c)) (same clip.source)
 
   track_same : (f c : ℕ) (t : Track) → track_sample a f c t ≡ track_sample b f c t
   track_same f c t = ap (λ (z : ℤ). if t.mute then pos 0 else z) (clip_same t.gain f c (sounding t.clips f))
@@ -51,7 +51,7 @@ module _ (a b : Sources) (same : (d : Digest) → found a d ≡ found b d) (trac
   pub riff_same : (ms : List Marker) (h : HeadText) → riff (record { tracks = tracks; sources = a; layout = layout }) ms h ≡ riff (record { tracks = tracks; sources = b; layout = layout }) ms h
   unfolding riff
   riff_same ms h =
-      ap (λ (l : List ℕ). codes "WAVE" ++ flat_map padded (record { id = codes "bext"; content = bext layout h } ∷ record { id = codes "fmt "; content = format layout } ∷ record { id = codes "data"; content = l } ∷ marker_chunks (before (length_of tracks) ms)))
+      ap (λ (l : List ℕ). codes "WAVE" ++ flat_map padded (record { id = codes "bext"; content = bext layout h } ∷ record { id = codes "fmt "; content = format layout } ∷ record { id = codes "data"; content = l } ∷ marker_chunks (length_of tracks) (before (length_of tracks) ms)))
       (frames_same 0 (length_of tracks))
 
   pub file_same : (ms : List Marker) (h : HeadText) → file (record { tracks = tracks; sources = a; layout = layout }) ms h ≡ file (record { tracks = tracks; sources = b; layout = layout }) ms h

@@ -18,7 +18,7 @@ use Rattle.mt_sync.specs.declared.fault.TalkFault.TheVariants as talk
 use Rattle.mt_sync.specs.declared.fault.SyncFault.{SyncFault}
 use Rattle.mt_sync.specs.declared.fault.SyncFault.TheVariants as sync
 use Rattle.mt_cli.specs.declared.fault.CliFault.{CliFault}
-use Rattle.mt_cli.specs.declared.fault.CliFault.TheVariants.{Memory, Read, Log, Merge, Source, Mix, Write, Print, Name, Head, Format, Script, Message, Sync, Net}
+use Rattle.mt_cli.specs.declared.fault.CliFault.TheVariants.{Memory, Read, Log, Merge, Source, Mix, Write, Part, Print, Name, Head, Format, Script, Message, Sync, Net}
 
 -- of a refusal inside another the inner one's
 abbrev pub number_of : CliFault → ℕ
@@ -29,6 +29,7 @@ number_of (Merge dot) = 17
 number_of (Source index fault) = wave_fault_number fault
 number_of (Mix fault) = mix_number fault
 number_of Write = 37
+number_of (Part fault) = 37
 number_of Print = 37
 number_of (Name fault) = stamp_number fault
 number_of (Head fault) = 36
@@ -56,3 +57,9 @@ message_fault fault = Message fault
 abbrev pub sync_fault : SyncFault → CliFault
 sync_fault (sync.Talk talk.Memory) = Memory
 sync_fault fault = Sync fault
+
+-- the output failed, or its file cannot be made or does not get its name
+abbrev pub IsOfOutput : CliFault → Type 0
+IsOfOutput Write = Unit {0}
+IsOfOutput (Part fault) = Unit {0}
+IsOfOutput _ = ⊥

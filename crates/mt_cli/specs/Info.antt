@@ -40,6 +40,11 @@ extension_lines (Some e) =
     ++ (line (codes "time-reference") (decimal e.time_reference)
     ++ line (codes "history") (shown e.history)))))))
 
+-- the length of a cue in frames, where it has one
+abbrev pub length_text : Option ℕ → List ℕ
+length_text None = []
+length_text (Some frames) = codes " len " ++ decimal frames
+
 -- the end of a cue's line: its label, where it has one
 abbrev pub label_text : Option (List ℕ) → List ℕ
 label_text None = []
@@ -47,7 +52,7 @@ label_text (Some text) = codes " label " ++ shown text
 
 -- a cue's line
 abbrev pub cue_line : CueText → List ℕ
-cue_line c = codes "cue " ++ (decimal c.name ++ (codes " at " ++ (decimal c.at ++ (label_text c.label ++ (newline ∷ [])))))
+cue_line c = codes "cue " ++ (decimal c.name ++ (codes " at " ++ (decimal c.at ++ (length_text c.length ++ (label_text c.label ++ (newline ∷ []))))))
 
 -- the lines of the sound: frames a second, channels, bits of a sample, and frames
 abbrev pub sound_lines : List ℕ → List ℕ

@@ -2,7 +2,7 @@
 use Rattle.std.specs.Prelude.{ℕ, List, Option, ◌⊎◌}
 use Rattle.mt_latch.specs.Latch.{Latched}
 use Rattle.mt_opcodec.specs.LogValue.{LogMap}
-use Rattle.mt_opcodec.specs.Union.{FirstClash}
+use Rattle.mt_opcodec.specs.Union.{IsFirstClash, FirstClash}
 use Rattle.mt_cli.specs.declared.fault.CliFault.{CliFault}
 use Rattle.mt_cli.specs.declared.fault.CliFault.TheVariants.{Memory, Merge}
 use Rattle.mt_cli.specs.Reading.{GaveLogs, AreRead, HasCause}
@@ -17,3 +17,9 @@ AllFail logs _ = ⊥
 abbrev pub UnionFails : {R : Type 0} → (R → Option (List ℕ)) → List (Latched R) → List (Latched R) → CliFault → Type 0
 UnionFails remaining before after fault =
     HasCause remaining 0 before after fault ⊎ ((logs : List LogMap) × (GaveLogs remaining before logs × (AreRead remaining after × AllFail logs fault)))
+
+-- of two logs
+abbrev pub JoinFails : LogMap → LogMap → CliFault → Type 0
+JoinFails all log Memory = Unit {0}
+JoinFails all log (Merge dot) = IsFirstClash all log dot
+JoinFails all log _ = ⊥

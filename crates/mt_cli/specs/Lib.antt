@@ -12,5 +12,6 @@ pub mod OneLog
 pub mod Swapping
 pub mod Editing
 pub mod Telling
+pub mod Pulling
 pub mod Working
 pub mod Mistakes

@@ -5,5 +5,5 @@ use Rattle.mt_cli.specs.declared.stop.Stop.TheVariants.{Refused, Told}
 
 -- the words do not parse
 abbrev pub IsMistake : Stop → Type 0
-IsMistake (Refused fault) = ⊥
+IsMistake (Refused fault why) = ⊥
 IsMistake (Told text is_mistake) = is_mistake ≡ true

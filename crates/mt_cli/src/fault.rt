@@ -14,6 +14,38 @@ use mt_sync::{MessageFault, SyncFault};
 use std::alloc::{AllocError, AllocFailed};
 use thiserror::Error;
 
+/// Why OUT is not made, or does not get its name. OUT is then as it was.
+#[derive(Clone, Copy, Debug, PartialEq, Eq, Error)]
+pub enum PartFault {
+    /// OUT is there, and was to be new.
+    #[error("is there")]
+    OutThere,
+    /// There is an `OUT.part`, which is not touched.
+    #[error("has a part that is there")]
+    PartThere,
+    /// `OUT.part` cannot be made, or cannot have the permissions of OUT.
+    #[error("cannot be made")]
+    NotMade,
+    /// What was written cannot get the name OUT: the system does not give it, or OUT is a log that was read, and another program has replaced
+    /// it since, or holds its lock.
+    #[error("cannot get its name")]
+    NotNamed,
+}
+
+impl PartFault {
+    /// The refusal's number: 37.
+    pub fn number(&self) -> u8
+        ensures { result ≡ 37 }
+    {
+        match self {
+            PartFault::OutThere => 37,
+            PartFault::PartThere => 37,
+            PartFault::NotMade => 37,
+            PartFault::NotNamed => 37,
+        }
+    }
+}
+
 /// Why a command was refused. Inputs are counted from 0. It tells all that is known of the cause: which input, record, line or output.
 #[derive(Clone, Copy, Debug, PartialEq, Eq, Error)]
 pub enum CliFault {
@@ -34,9 +66,12 @@ pub enum CliFault {
     /// The programme cannot be mixed, or its file is too long.
     #[error("the programme cannot be rendered: {0}")]
     Mix(MixFault),
-    /// The output failed, or cannot be made or get its name.
+    /// The output failed.
     #[error("the output cannot be written")]
     Write,
+    /// The file that is to be written cannot be made, or does not get its name.
+    #[error("the output {0}")]
+    Part(PartFault),
     /// The output failed on which a count or a text is told beside a file that is written.
     #[error("what was done cannot be told")]
     Print,
@@ -76,6 +111,7 @@ impl CliFault {
             CliFault::Source(_, fault) => fault.number(),
             CliFault::Mix(fault) => fault.number(),
             CliFault::Write | CliFault::Print => 37,
+            CliFault::Part(fault) => fault.number(),
             CliFault::Name(fault) => fault.number(),
             CliFault::Head(fault) => fault.number(),
             CliFault::Format(fault) => fault.number(),

@@ -7,12 +7,12 @@ ghost use Rattle.std.specs.BTreeMap.{get};
 ghost use Rattle.std.specs.Ordering.{nat_cmp};
 ghost use Rattle.mt_bwfread.specs.Wave.{IsWave};
 ghost use Rattle.mt_bwfread.specs.Extension.{extension, bext_of};
-ghost use Rattle.mt_bwfread.specs.Cues.{CueText, cues_of, labels_of, label_for};
+ghost use Rattle.mt_bwfread.specs.Cues.{CueText, cues_of, lengths_of, labels_of, first_for};
 ghost use Rattle.hex.specs.Hex.{encode_lower};
 ghost use Rattle.sha2.specs.Sha256.{sha256};
 ghost use Rattle.mt_latch.specs.Latch.{AppendsPrefix};
 ghost use Rattle.mt_latch.specs.Buffered.{Puts};
-ghost use Rattle.mt_cli.specs.Info.{info_text, line, shown_byte, shown, sound_lines, extension_lines, label_text, cue_line, InfoFails};
+ghost use Rattle.mt_cli.specs.Info.{info_text, line, shown_byte, shown, sound_lines, extension_lines, length_text, label_text, cue_line, InfoFails};
 ghost use Rattle.std.specs.Fmt.{decimal};
 ghost use Rattle.std.specs.List.{flat_map};
 
@@ -107,6 +107,17 @@ fn put_extension<W: Write>(output: &mut BufferedLatch<'_, W>, bext: Option<Bext<
     put_text_line(output, "history", bext.history);
 }
 
+// Puts the length of a cue.
+#[tactic(auto, using(mt_latch::proofs::Putting::then_puts, mt_latch::proofs::Putting::puts_none))]
+fn put_length<W: Write>(output: &mut BufferedLatch<'_, W>, frames: Option<u32>)
+    ensures { Puts W.contents output.old output.new (length_text frames) }
+{
+    if let Some(frames) = frames {
+        output.put(b" len ");
+        output.put_decimal(u64::from(frames));
+    }
+}
+
 // Puts the end of a cue's line.
 #[tactic(auto, using(mt_latch::proofs::Putting::then_puts, mt_latch::proofs::Putting::puts_none))]
 fn put_label<W: Write>(output: &mut BufferedLatch<'_, W>, label: Option<&[u8]>)
@@ -119,15 +130,38 @@ fn put_label<W: Write>(output: &mut BufferedLatch<'_, W>, label: Option<&[u8]>)
 }
 
 // Puts a cue's line.
-fn put_cue<W: Write>(output: &mut BufferedLatch<'_, W>, name: u32, at: u32, label: Option<&[u8]>)
-    ensures { Puts W.contents output.old output.new (cue_line (record { name = name; at = at; label = option_copied label.entry })) }
+fn put_cue<W: Write>(
+    output: &mut BufferedLatch<'_, W>,
+    name: u32,
+    at: u32,
+    frames: Option<u32>,
+    label: Option<&[u8]>,
+)
+    ensures { Puts W.contents output.old output.new (cue_line (record { name = name; at = at; length = frames; label = option_copied label.entry })) }
 {
     output.put(b"cue ");
     output.put_decimal(u64::from(name));
     output.put(b" at ");
     output.put_decimal(u64::from(at));
+    put_length(output, frames);
     put_label(output, label);
     output.put(b"\n");
+}
+
+// The first length of each name.
+fn first_lengths<A: Allocator + Clone>(
+    alloc: A,
+    wave: &Wave<'_>,
+) -> Result<BTreeMap<u32, u32, A>, AllocError>
+    ensures ok { IfOk result (λ lengths. (name : ℕ) → get nat_cmp lengths name ≡ first_for name (lengths_of wave.now)) }
+{
+    let mut lengths = BTreeMap::new(alloc);
+    for said in wave.lengths() {
+        if !lengths.contains_key(&said.name) {
+            lengths.insert(said.name, said.len)?;
+        }
+    }
+    Ok(lengths)
 }
 
 // The first label of each name.
@@ -135,7 +169,7 @@ fn first_labels<'a, A: Allocator + Clone>(
     alloc: A,
     wave: &Wave<'a>,
 ) -> Result<BTreeMap<u32, &'a [u8], A>, AllocError>
-    ensures ok { IfOk result (λ labels. (name : ℕ) → option_copied (get nat_cmp labels name) ≡ label_for name (labels_of wave.now)) }
+    ensures ok { IfOk result (λ labels. (name : ℕ) → option_copied (get nat_cmp labels name) ≡ first_for name (labels_of wave.now)) }
 {
     let mut labels = BTreeMap::new(alloc);
     for label in wave.labels() {
@@ -151,15 +185,18 @@ fn first_labels<'a, A: Allocator + Clone>(
 fn put_cues<A: Allocator, W: Write>(
     output: &mut BufferedLatch<'_, W>,
     wave: &Wave<'_>,
+    lengths: &BTreeMap<u32, u32, A>,
     labels: &BTreeMap<u32, &[u8], A>,
 )
-    requires labels { (name : ℕ) → option_copied (get nat_cmp labels.now name) ≡ label_for name (labels_of wave.now) }
+    requires lengths { (name : ℕ) → get nat_cmp lengths.now name ≡ first_for name (lengths_of wave.now) }
+    requires labels { (name : ℕ) → option_copied (get nat_cmp labels.now name) ≡ first_for name (labels_of wave.now) }
     ensures { Puts W.contents output.old output.new (flat_map cue_line (cues_of wave.now)) }
 {
     for index in 0..wave.cue_count() {
         if let Some(point) = wave.point(index) {
+            let frames = lengths.get(&point.name).copied();
             let label = labels.get(&point.name).copied();
-            put_cue(output, point.name, point.at, label);
+            put_cue(output, point.name, point.at, frames, label);
         }
     }
 }
@@ -167,16 +204,16 @@ fn put_cues<A: Allocator, W: Write>(
 /// Writes what a wave file says of itself, a line each: `digest` (its SHA-256), `rate` (frames a second), `channels`,
 /// `bits` (of a sample), `frames`; then `bext none`, or `bext` with the version of the broadcast extension and its
 /// `description`, `originator`, `reference`, `date`, `time`, `time-reference` (frames from midnight to the first) and
-/// `history`; then `cue NAME at FRAME` for each cue point, and ` label TEXT` on its line where it has a label. In a
-/// file's text each byte from 0x20 to 0x7E but the backslash stands for itself, and every other byte is `\x` and two
-/// hex digits.
+/// `history`; then `cue NAME at FRAME` for each cue point, and on its line ` len FRAMES` where it has a length, and then
+/// ` label TEXT` where it has a label. In a file's text each byte from 0x20 to 0x7E but the backslash stands for itself,
+/// and every other byte is `\x` and two hex digits.
 ///
 /// Refused as `Source` (26 to 32) with place 0 where the bytes are no wave file, by the first of its faults, and as
 /// `Memory` (0) where a growth was refused, each with nothing written; as `Write` (37) where the output's latch has
 /// failed, which then holds a prefix of the text.
 ///
-/// The time is that of hashing the bytes, of one walk over the chunks and the labels, and of the text: a label stands
-/// in it once for each cue point of its name. The memory is that of the labels' map.
+/// The time is that of hashing the bytes, of a walk each over the chunks for the lengths and the labels, and of the
+/// text: a label stands in it once for each cue point of its name. The memory is that of a map of each.
 pub fn write_info<A: Allocator + Clone, W: Write>(
     alloc: A,
     bytes: &[u8],
@@ -191,22 +228,25 @@ pub fn write_info<A: Allocator + Clone, W: Write>(
         Ok(wave) => wave,
         Err(fault) => return Err(CliFault::Source(0, fault)),
     };
+    let lengths = first_lengths(alloc.clone()?, &wave)?;
     let labels = first_labels(alloc.clone()?, &wave)?;
     let Ok(digest) = Digest::of(bytes).text(alloc) else {
         return Err(CliFault::Memory);
     };
-    write_lines(&wave, digest.as_str(), &labels, output)
+    write_lines(&wave, digest.as_str(), &lengths, &labels, output)
 }
 
-// Writes the text of a wave file whose digest has this text, and whose labels are these.
+// Writes the text of a wave file whose digest has this text, and whose lengths and labels are these.
 #[tactic(auto, unfolding(mt_latch::specs::Buffered::Puts))]
 fn write_lines<A: Allocator, W: Write>(
     wave: &Wave<'_>,
     digest: &str,
+    lengths: &BTreeMap<u32, u32, A>,
     labels: &BTreeMap<u32, &[u8], A>,
     output: &mut Latch<W>,
 ) -> Result<(), CliFault>
-    requires labels { (name : ℕ) → option_copied (get nat_cmp labels.now name) ≡ label_for name (labels_of wave.now) }
+    requires lengths { (name : ℕ) → get nat_cmp lengths.now name ≡ first_for name (lengths_of wave.now) }
+    requires labels { (name : ℕ) → option_copied (get nat_cmp labels.now name) ≡ first_for name (labels_of wave.now) }
     requires digest { digest.now ≡ encode_lower (sha256 wave.now) }
     ensures ok { OnOk result (Appends (W.contents output.old.inner) (W.contents output.new.inner) (info_text wave.now)) }
     ensures err { IfErr result (λ fault. (fault ≡ CliFault.Write) × (output.new.failed ≡ true) × AppendsPrefix (W.contents output.old.inner) (W.contents output.new.inner) (info_text wave.now)) }
@@ -214,7 +254,7 @@ fn write_lines<A: Allocator, W: Write>(
     ensures stays_failed { output.old.failed ≡ true → output.new ≡ output.old }
 {
     let mut lines = BufferedLatch::new(output);
-    put_lines(&mut lines, wave, digest, labels);
+    put_lines(&mut lines, wave, digest, lengths, labels);
     if lines.flush().is_err() {
         return Err(CliFault::Write);
     }
@@ -226,14 +266,16 @@ fn put_lines<A: Allocator, W: Write>(
     output: &mut BufferedLatch<'_, W>,
     wave: &Wave<'_>,
     digest: &str,
+    lengths: &BTreeMap<u32, u32, A>,
     labels: &BTreeMap<u32, &[u8], A>,
 )
-    requires labels { (name : ℕ) → option_copied (get nat_cmp labels.now name) ≡ label_for name (labels_of wave.now) }
+    requires lengths { (name : ℕ) → get nat_cmp lengths.now name ≡ first_for name (lengths_of wave.now) }
+    requires labels { (name : ℕ) → option_copied (get nat_cmp labels.now name) ≡ first_for name (labels_of wave.now) }
     requires digest { digest.now ≡ encode_lower (sha256 wave.now) }
     ensures { Puts W.contents output.old output.new (info_text wave.now) }
 {
     put_line(output, "digest", digest);
     put_sound(output, wave);
     put_extension(output, wave.bext());
-    put_cues(output, wave, labels);
+    put_cues(output, wave, lengths, labels);
 }

@@ -1,6 +1,6 @@
 //! The commands of `radio`.
 //!
-//! `view_logs`, `list_logs`, `merge_logs`, `bounce_logs`, `write_info`, `edit_log`, `have_log`, `lack_log`, `take_log` and `swap_log` do the
+//! `view_logs`, `list_logs`, `merge_logs`, `pull_logs`, `bounce_logs`, `write_info`, `edit_log`, `have_log`, `lack_log`, `take_log` and `swap_log` do the
 //! work of commands over any readers and writers, of which each is in a latch:
 //!
 //! ```rust
@@ -40,6 +40,7 @@
 //! ```
 #![tactic(auto)]
 
+mod base;
 mod both;
 mod commands;
 mod edit;
@@ -53,8 +54,10 @@ mod list;
 mod merge;
 mod part;
 mod program;
+mod pull;
 mod put;
 mod read;
+mod refusal_lines;
 mod refusals;
 mod render;
 mod sources;
@@ -64,17 +67,19 @@ mod take;
 mod tell;
 mod union;
 mod view;
+mod why;
 mod words;
 
 pub use both::read_editor;
 pub use edit::edit_log;
-pub use fault::CliFault;
+pub use fault::{CliFault, PartFault};
 pub use have::have_log;
 pub use info::write_info;
 pub use lack::lack_log;
 pub use list::{list_log, list_logs};
 pub use merge::merge_logs;
 pub use program::command;
+pub use pull::pull_logs;
 pub use refusals::{Refusal, find_refusal};
 pub use render::bounce_logs;
 pub use swap::swap_log;

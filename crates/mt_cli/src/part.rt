@@ -1,20 +1,105 @@
 //! The file that a command writes.
 
-ghost use Rattle.std.specs.Prelude.{◌≡◌, false, Ok, Err, IfErr, OnOk, ◌⊎◌};
+ghost use Rattle.std.specs.Prelude.{◌≡◌, ◌≢◌, true, false, Ok, Err, is_err, IfErr, OnOk, ◌⊎◌};
+ghost use Rattle.mt_cli.specs.Faults.{IsOfOutput};
 
-use crate::fault::CliFault;
+use crate::base::Base;
+use crate::fault::{CliFault, PartFault};
+use clap::ArgMatches;
 use mt_opcodec::Latch;
-use std::alloc::Global;
-use std::fs::{self, File};
-use std::io::{self, Write};
+use std::alloc::{AllocError, Global};
+use std::fs::{self, File, OpenFile, Permissions};
+use std::io::{self, ErrorKind, Write};
+use std::path::Path;
 use std::rt::Files;
 
-/// A file that is made by the first write at the latest. One of its name that is there already is not touched, and the write fails.
+/// How what is written gets its name.
+#[derive(Clone, Copy)]
+pub(crate) struct Naming {
+    /// OUT may not be there.
+    is_new: bool,
+    /// It is on the disk before it gets its name, and its name before the command is done.
+    is_synced: bool,
+}
+
+impl Naming {
+    /// As the flags of a command say.
+    pub(crate) fn of(words: &ArgMatches<'_>) -> Naming {
+        Naming {
+            is_new: words.get_flag("new"),
+            is_synced: !words.get_flag("no-sync"),
+        }
+    }
+
+    /// As the flags of a command say that writes a file which is there.
+    pub(crate) fn in_place(words: &ArgMatches<'_>) -> Naming {
+        Naming {
+            is_new: false,
+            is_synced: !words.get_flag("no-sync"),
+        }
+    }
+}
+
+/// A file that is made by the first write at the latest. One of its name that is there already is not touched, and the write fails; so does it
+/// where OUT is there and may not be.
 #[derive(Drop)]
 pub(crate) struct PartFile<'a, F: Files> {
     rt: &'a F,
     name: String,
+    out: String,
+    naming: Naming,
     made: Option<F::File>,
+    /// Why it could not be made.
+    refused: Option<PartFault>,
+}
+
+impl<'a, F: Files> PartFile<'a, F> {
+    // One that is not made yet.
+    fn unmade(
+        alloc: Global,
+        rt: &'a F,
+        out: &str,
+        naming: Naming,
+    ) -> Result<PartFile<'a, F>, AllocError> {
+        Ok(PartFile {
+            rt,
+            name: part_name(alloc, out)?,
+            out: String::from_str(alloc, out)?,
+            naming,
+            made: None,
+            refused: None,
+        })
+    }
+
+    // Makes it, with the permissions of the file OUT, if there is one.
+    fn make(&self) -> Result<F::File, PartFault> {
+        match fs::metadata(self.rt, self.out.as_str()) {
+            Ok(_) if self.naming.is_new => Err(PartFault::OutThere),
+            Ok(there) if there.is_file() => self.kept(self.created()?, there.permissions()),
+            Err(error) if error.kind() != ErrorKind::NotFound => Err(PartFault::NotMade),
+            _ => self.created(),
+        }
+    }
+
+    // A new file of its name.
+    fn created(&self) -> Result<F::File, PartFault> {
+        match File::create_new(self.rt, self.name.as_str()) {
+            Ok(file) => Ok(file),
+            Err(error) if error.kind() == ErrorKind::AlreadyExists => Err(PartFault::PartThere),
+            Err(_) => Err(PartFault::NotMade),
+        }
+    }
+
+    // The file that was made, with these permissions; it is taken away where it cannot have them.
+    fn kept(&self, file: F::File, permissions: Permissions) -> Result<F::File, PartFault> {
+        match file.set_permissions(permissions) {
+            Ok(()) => Ok(file),
+            Err(_) => {
+                let _ = fs::remove_file(self.rt, self.name.as_str());
+                Err(PartFault::NotMade)
+            }
+        }
+    }
 }
 
 impl<F: Files> Write for PartFile<'_, F> {
@@ -22,10 +107,17 @@ impl<F: Files> Write for PartFile<'_, F> {
         if let Some(file) = &mut self.made {
             return file.write(bytes);
         }
-        let mut file = File::create_new(self.rt, self.name.as_str())?;
-        let written = file.write(bytes);
-        self.made = Some(file);
-        written
+        match self.make() {
+            Ok(mut file) => {
+                let written = file.write(bytes);
+                self.made = Some(file);
+                written
+            }
+            Err(fault) => {
+                self.refused = Some(fault);
+                Err(io::Error::from(ErrorKind::Other))
+            }
+        }
     }
 
     fn flush(&mut self) -> io::Result<()> {
@@ -45,30 +137,33 @@ pub(crate) struct Part<'a, F: Files> {
 impl<'a, F: Files> Part<'a, F> {
     /// The part of this file, which is made by the first byte that is written into it: then nothing is made before all that a
     /// command reads was read and accepted. Where it cannot be made the output fails.
-    pub(crate) fn later(alloc: Global, rt: &'a F, out: &str) -> Result<Part<'a, F>, CliFault> {
+    pub(crate) fn later(
+        alloc: Global,
+        rt: &'a F,
+        out: &str,
+        naming: Naming,
+    ) -> Result<Part<'a, F>, CliFault> {
         Ok(Part {
-            output: Latch::new(PartFile {
-                rt,
-                name: part_name(alloc, out)?,
-                made: None,
-            }),
+            output: Latch::new(PartFile::unmade(alloc, rt, out, naming)?),
         })
     }
 
-    /// Makes the part of this file at once. Refused as `Write` where it cannot be made, and where there is something of its
-    /// name, which is not touched: it may be a log, or the part of another program that is at work.
-    pub(crate) fn create(alloc: Global, rt: &'a F, out: &str) -> Result<Part<'a, F>, CliFault> {
-        let name = part_name(alloc, out)?;
-        match File::create_new(rt, name.as_str()) {
-            Ok(file) => Ok(Part {
-                output: Latch::new(PartFile {
-                    rt,
-                    name,
-                    made: Some(file),
-                }),
-            }),
-            Err(_) => Err(CliFault::Write),
+    /// Makes the part of this file at once. Refused as `Part` where it cannot be made, where there is something of its name, which is not
+    /// touched: it may be a log, or the part of another program that is at work; and where OUT is there and may not be.
+    pub(crate) fn create(
+        alloc: Global,
+        rt: &'a F,
+        out: &str,
+        naming: Naming,
+    ) -> Result<Part<'a, F>, CliFault> {
+        let mut part = PartFile::unmade(alloc, rt, out, naming)?;
+        match part.make() {
+            Ok(file) => part.made = Some(file),
+            Err(fault) => return Err(CliFault::Part(fault)),
         }
+        Ok(Part {
+            output: Latch::new(part),
+        })
     }
 
     /// Where it is written.
@@ -76,29 +171,121 @@ impl<'a, F: Files> Part<'a, F> {
         &mut self.output
     }
 
-    /// Gives it the name OUT where it was written whole: what wrote it says so, its latch has not failed, and it was made. Takes it
-    /// away where it was not, if it was made. Refused as what wrote it was; else as `Write`, also where it cannot get its name.
-    pub(crate) fn finish(self, out: &str, written: Result<(), CliFault>) -> Result<(), CliFault>
+    /// Gives it the name OUT where it was written whole: what wrote it says so, its latch has not failed, it was made, and, unless that is not asked,
+    /// it is on the disk. Where OUT is a log that was read it gets the name in that file's place alone (`Base`). Takes it away where it does not get its
+    /// name, if it was made. Refused as what wrote it was, but that `Write` is told as `Part` where the file could not be made; else as `Part` where it does
+    /// not get its name, and as `Write`.
+    pub(crate) fn finish(
+        self,
+        base: Option<Base>,
+        written: Result<(), CliFault>,
+    ) -> Result<(), CliFault>
+    where
+        F: Files<File = File>,
         ensures whole { OnOk result ((written ≡ Ok tt) × (self.entry.output.failed ≡ false)) }
-        ensures kept { IfErr written (λ fault. result ≡ Err fault) }
-        ensures refused { IfErr result (λ fault. (written ≡ Err fault) ⊎ (fault ≡ CliFault.Write)) }
+        ensures kept { IfErr written (λ fault. fault ≢ CliFault.Write → result ≡ Err fault) }
+        ensures refused { IfErr result (λ fault. (written ≡ Err fault) ⊎ IsOfOutput fault) }
     {
         let failed = self.output.failed();
-        let PartFile { rt, name, made } = self.output.into_inner();
-        let named = match written {
-            Ok(()) if failed || made.is_none() => Err(CliFault::Write),
-            Ok(()) => fs::rename(rt, name.as_str(), out).map_err(|_| CliFault::Write),
-            Err(fault) => Err(fault),
-        };
-        if named.is_err() && made.is_some() {
-            let _ = fs::remove_file(rt, name.as_str());
+        let part = self.output.into_inner();
+        match written {
+            Ok(()) if failed => unwritten(part),
+            Ok(()) => named(part, base),
+            Err(CliFault::Write) => unwritten(part),
+            Err(fault) => taken_away(part, fault),
         }
-        named
+    }
+}
+
+// A part whose output has failed is taken away: it could not be made, or not be written.
+fn unwritten<F: Files>(part: PartFile<'_, F>) -> Result<(), CliFault>
+    ensures refused { is_err result ≡ true }
+    ensures of_output { IfErr result (λ fault. IsOfOutput fault) }
+{
+    match part.refused {
+        Some(fault) => taken_away(part, CliFault::Part(fault)),
+        None => taken_away(part, CliFault::Write),
+    }
+}
+
+// A part that was made is taken away, for this cause.
+fn taken_away<F: Files>(part: PartFile<'_, F>, fault: CliFault) -> Result<(), CliFault>
+    ensures { result ≡ Err fault }
+{
+    if part.made.is_some() {
+        let _ = fs::remove_file(part.rt, part.name.as_str());
+    }
+    Err(fault)
+}
+
+// A part that was written gets its name.
+fn named<F: Files<File = File>>(part: PartFile<'_, F>, base: Option<Base>) -> Result<(), CliFault>
+    ensures { IfErr result (λ fault. IsOfOutput fault) }
+{
+    let PartFile {
+        rt,
+        name,
+        out,
+        naming,
+        made,
+        ..
+    } = part;
+    let Some(file) = made else {
+        return Err(CliFault::Write);
+    };
+    let is_kept = !naming.is_synced || file.sync_all().is_ok();
+    drop(file);
+    if is_kept && gets_name(rt, &name, &out, naming, base) {
+        return Ok(());
+    }
+    let _ = fs::remove_file(rt, name.as_str());
+    if is_kept {
+        return Err(CliFault::Part(PartFault::NotNamed));
+    }
+    Err(CliFault::Write)
+}
+
+// Whether a part gets the name OUT: no other's, where OUT may not be there; that of the log that was read, where OUT is one.
+fn gets_name<F: Files<File = File>>(
+    rt: &F,
+    name: &str,
+    out: &str,
+    naming: Naming,
+    base: Option<Base>,
+) -> bool {
+    let is_given = match base {
+        Some(base) => base.give_way(rt, name, out),
+        None if naming.is_new => is_linked(rt, name, out),
+        None => fs::rename(rt, name, out).is_ok(),
+    };
+    if is_given && naming.is_synced {
+        sync_folder(rt, out);
+    }
+    is_given
+}
+
+// Whether a part gets the name OUT, where nothing has it.
+fn is_linked<F: Files>(rt: &F, name: &str, out: &str) -> bool {
+    if rt.hard_link(name, out).is_err() {
+        return false;
+    }
+    let _ = fs::remove_file(rt, name);
+    true
+}
+
+// Has the name OUT be on the disk. That a folder cannot be synced is not told: OUT has what was done.
+fn sync_folder<F: Files>(rt: &F, out: &str) {
+    let folder = match Path::new(out).parent() {
+        Some(folder) if !folder.as_str().is_empty() => folder.as_str(),
+        _ => ".",
+    };
+    if let Ok(folder) = fs::open(rt, folder) {
+        let _ = folder.sync_all();
     }
 }
 
 // What the part of this file is called.
-fn part_name(alloc: Global, out: &str) -> Result<String, CliFault> {
+fn part_name(alloc: Global, out: &str) -> Result<String, AllocError> {
     let mut name = String::from_str(alloc, out)?;
     name.push_str(".part")?;
     Ok(name)

@@ -1,29 +1,41 @@
 //! The command line.
 
 ghost use Rattle.std.specs.Prelude.{◌≡◌, ◌≤◌, IfErr};
-ghost use Rattle.mt_cli.specs.Telling.{fault_line, HasTold, TellsRefusal, TellsText};
+ghost use Rattle.mt_cli.specs.Telling.{asks_why, TellsCauses, TellsFault, TellsRefusal, TellsText};
 ghost use Rattle.mt_cli.specs.Mistakes.{IsMistake};
 
 use crate::commands::{
-    edit, explain, have, info, lack, log, meet, merge, render, serve, take, view,
+    edit, explain, have, id, info, lack, log, meet, merge, pull, render, serve, take, view,
 };
 use crate::fault::CliFault;
-use crate::put::put_number_line;
-use crate::stop::{Stop, stopped_by};
-use crate::words::{Words, bare, with_all};
+use crate::refusal_lines::{asks_why, put_cause, put_refusal, put_text};
+use crate::stop::{Stop, refused, stopped_by};
+use crate::why::explained;
+use crate::words::{Words, bare, why_flag, with_all};
 use clap::{ArgMatches, Command};
 use mt_opcodec::Latch;
 use std::alloc::{AllocError, Global};
+use std::fs::File;
 use std::io::{Read, Write};
-use std::net::Net;
+use std::net::{Net, TcpListener, TcpStream};
+use std::random::RandomSource;
 use std::rt::Files;
 
 /// Runs the words after the program's name over standard input, output and error, and answers the exit
-/// status: 0 where it is done, and nothing is told on `errors` then; 1 where it is refused, and standard error has then the line
-/// `radio: fault N` of the refusal's number, or a prefix of it where `errors` has failed; 2 where the words do not parse, and standard
+/// status: 0 where it is done; 1 where it is refused, and `errors` has then the line `radio: fault N` of the refusal's number, or a prefix of it where
+/// it has failed. Where `--why` is among the words before a `--`, one more line follows it, which begins with `radio: why: ` and tells the cause; and only
+/// then something may stand before it, or be told with status 0: of the meetings of `serve` that were refused, two such lines each. 2 where the words do not parse, and standard
 /// error has then the parser's text, or a prefix of it, and neither the input nor the output was asked. Help and the version go to the output with status 0. A failure of `errors` is not
 /// told.
-pub fn command<F: Files + Net + AllocGlobal, R: Read, W: Write, E: Write>(
+pub fn command<
+    F: Files<File = File>
+        + Net<Listener = TcpListener, Stream = TcpStream>
+        + RandomSource
+        + AllocGlobal,
+    R: Read,
+    W: Write,
+    E: Write,
+>(
     rt: &F,
     words: &[String],
     input: &mut Latch<R>,
@@ -31,53 +43,91 @@ pub fn command<F: Files + Net + AllocGlobal, R: Read, W: Write, E: Write>(
     errors: &mut Latch<E>,
 ) -> u8
     ensures status { result ≤ 2 }
-    ensures done { result ≡ 0 → errors.new ≡ errors.old }
-    ensures refused { result ≡ 1 → TellsRefusal E.contents errors.old errors.new }
+    ensures done { result ≡ 0 → TellsCauses E.contents (asks_why words.now) errors.old errors.new }
+    ensures refused { result ≡ 1 → TellsRefusal E.contents (asks_why words.now) errors.old errors.new }
     ensures mistaken { result ≡ 2 → TellsText E.contents errors.old errors.new }
     ensures mistaken_input { result ≡ 2 → input.new ≡ input.old }
     ensures mistaken_output { result ≡ 2 → output.new ≡ output.old }
 {
-    match run(rt, words, input, output) {
+    match run(rt, words, input, output, errors) {
         Ok(()) => 0,
         Err(Stop::Told { text, is_mistake }) if is_mistake => {
-            let _ = errors.put(text.as_bytes());
+            put_text(&text, errors);
             2
         }
         Err(Stop::Told { text, .. }) => match output.put(text.as_bytes()) {
             Ok(()) => 0,
-            Err(_) => refused(CliFault::Print, errors),
+            Err(_) => not_printed(words, errors),
         },
-        Err(Stop::Refused(fault)) => refused(fault, errors),
+        Err(Stop::Refused { fault, why }) => status_of(words, fault, known(&why), errors),
     }
 }
 
-// Tells a refusal, and answers its status.
-fn refused<E: Write>(fault: CliFault, errors: &mut Latch<E>) -> u8
+// Tells that a text of the parser's cannot be printed, and answers the status.
+fn not_printed<E: Write>(words: &[String], errors: &mut Latch<E>) -> u8
     ensures status { result ≡ 1 }
-    ensures told { HasTold E.contents errors.old errors.new (fault_line fault) }
+    ensures told { TellsFault E.contents (asks_why words.now) CliFault.Print errors.old errors.new }
 {
-    let _ = put_number_line(b"radio: fault ", u64::from(fault.number()), errors);
+    status_of(words, CliFault::Print, NOT_PRINTED, errors)
+}
+
+// What is told where a text of the parser's cannot be printed.
+const NOT_PRINTED: &str = "output standard output cannot be written";
+
+// What is known of a cause; where there was no memory to tell it, this.
+fn known(why: &Option<String>) -> &str {
+    match why {
+        Some(text) => text.as_str(),
+        None => "memory",
+    }
+}
+
+// Tells a refusal, with what is known of its cause, where the words ask for it, and answers its status.
+fn status_of<E: Write>(words: &[String], fault: CliFault, why: &str, errors: &mut Latch<E>) -> u8
+    ensures status { result ≡ 1 }
+    ensures told { TellsFault E.contents (asks_why words.now) fault errors.old errors.new }
+{
+    if asks_why(words) {
+        put_cause(fault, why, errors);
+    } else {
+        put_refusal(fault, errors);
+    }
     1
 }
 
-fn run<F: Files + Net + AllocGlobal, R: Read, W: Write>(
+#[tactic(auto, using(crate::proofs::Telling::no_cause))]
+fn run<
+    F: Files<File = File>
+        + Net<Listener = TcpListener, Stream = TcpStream>
+        + RandomSource
+        + AllocGlobal,
+    R: Read,
+    W: Write,
+    E: Write,
+>(
     rt: &F,
     words: &[String],
     input: &mut Latch<R>,
     output: &mut Latch<W>,
+    errors: &mut Latch<E>,
 ) -> Result<(), Stop>
+    ensures told { TellsCauses E.contents (asks_why words.now) errors.old errors.new }
     ensures untouched_input { IfErr result (λ stop. IsMistake stop → input.new ≡ input.old) }
     ensures untouched_output { IfErr result (λ stop. IsMistake stop → output.new ≡ output.old) }
 {
     let Ok(command) = radio(rt.alloc()) else {
-        return Err(Stop::Refused(CliFault::Memory));
+        return Err(refused(CliFault::Memory));
     };
     let matches = match command.try_get_matches_from(words) {
         Ok(matches) => matches,
         Err(error) => return Err(Stop::told(rt.alloc(), error)),
     };
     match matches.subcommand() {
-        Some((name, words)) => print(rt, name, words, input, output),
+        Some((name, found)) => {
+            let asked = asks_why(words);
+            let done = print(rt, name, found, input, output, asked, errors);
+            explained(rt, name, found, asked, done)
+        }
         None => Err(nobody(rt.alloc())),
     }
 }
@@ -91,13 +141,25 @@ fn nobody(alloc: Global) -> Stop {
 }
 
 // The commands that write on the output, and all others.
-fn print<F: Files + Net + AllocGlobal, R: Read, W: Write>(
+#[tactic(auto, using(crate::proofs::Telling::no_cause))]
+fn print<
+    F: Files<File = File>
+        + Net<Listener = TcpListener, Stream = TcpStream>
+        + RandomSource
+        + AllocGlobal,
+    R: Read,
+    W: Write,
+    E: Write,
+>(
     rt: &F,
     name: &str,
     words: &ArgMatches<'_>,
     input: &mut Latch<R>,
     output: &mut Latch<W>,
+    asked: bool,
+    errors: &mut Latch<E>,
 ) -> Result<(), Stop>
+    ensures told { TellsCauses E.contents asked errors.old errors.new }
     ensures untouched_input { IfErr result (λ stop. IsMistake stop → input.new ≡ input.old) }
     ensures untouched_output { IfErr result (λ stop. IsMistake stop → output.new ≡ output.old) }
 {
@@ -106,38 +168,56 @@ fn print<F: Files + Net + AllocGlobal, R: Read, W: Write>(
         "log" => stopped_by(log::run(rt, words, input, output)),
         "info" => stopped_by(info::run(rt, words, output)),
         "explain" => explain::run(rt.alloc(), words, output),
-        _ => make(rt, name, words, output),
+        "id" => stopped_by(id::run(rt, output)),
+        _ => make(rt, name, words, output, asked, errors),
     }
 }
 
 // The commands that make a file of files, and all others.
-fn make<F: Files + Net + AllocGlobal, W: Write>(
+#[tactic(auto, using(crate::proofs::Telling::no_cause))]
+fn make<
+    F: Files<File = File> + Net<Listener = TcpListener, Stream = TcpStream> + AllocGlobal,
+    W: Write,
+    E: Write,
+>(
     rt: &F,
     name: &str,
     words: &ArgMatches<'_>,
     output: &mut Latch<W>,
+    asked: bool,
+    errors: &mut Latch<E>,
 ) -> Result<(), Stop>
+    ensures told { TellsCauses E.contents asked errors.old errors.new }
     ensures untouched_output { IfErr result (λ stop. IsMistake stop → output.new ≡ output.old) }
 {
     match name {
         "merge" => stopped_by(merge::run(rt, words)),
+        "pull" => stopped_by(pull::run(rt, words, output)),
         "edit" => stopped_by(edit::run(rt, words, output)),
         "render" => stopped_by(render::run(rt, words)),
-        _ => swap(rt, name, words),
+        _ => swap(rt, name, words, asked, errors),
     }
 }
 
 // The commands by which editors swap operations.
-fn swap<F: Files + Net + AllocGlobal>(
+#[tactic(auto, using(crate::proofs::Telling::no_cause))]
+fn swap<
+    F: Files<File = File> + Net<Listener = TcpListener, Stream = TcpStream> + AllocGlobal,
+    E: Write,
+>(
     rt: &F,
     name: &str,
     words: &ArgMatches<'_>,
-) -> Result<(), Stop> {
+    asked: bool,
+    errors: &mut Latch<E>,
+) -> Result<(), Stop>
+    ensures told { TellsCauses E.contents asked errors.old errors.new }
+{
     match name {
         "have" => stopped_by(have::run(rt, words)),
         "lack" => stopped_by(lack::run(rt, words)),
         "take" => stopped_by(take::run(rt, words)),
-        "serve" => stopped_by(serve::run(rt, words)),
+        "serve" => stopped_by(serve::run(rt, words, asked, errors)),
         "meet" => stopped_by(meet::run(rt, words)),
         _ => Err(nobody(rt.alloc())),
     }
@@ -155,9 +235,10 @@ fn of_logs() -> &'static [Words] {
     &OF_LOGS
 }
 
-const OF_LOGS: [Words; 5] = [
+const OF_LOGS: [Words; 6] = [
     view::WORDS,
     log::WORDS,
+    pull::WORDS,
     merge::WORDS,
     edit::WORDS,
     render::WORDS,
@@ -181,7 +262,7 @@ fn of_others() -> &'static [Words] {
     &OF_OTHERS
 }
 
-const OF_OTHERS: [Words; 2] = [info::WORDS, explain::WORDS];
+const OF_OTHERS: [Words; 3] = [info::WORDS, id::WORDS, explain::WORDS];
 
 // Its name and what is told of it as a whole.
 fn named<'a>(alloc: Global) -> Result<Command<'a>, AllocError> {
@@ -191,9 +272,10 @@ fn named<'a>(alloc: Global) -> Result<Command<'a>, AllocError> {
         command
             .version("0.1.0")
             .no_binary_name(true)
-            .subcommand_required(true),
+            .subcommand_required(true)
+            .arg(why_flag(alloc))?,
     )
 }
 
 const AFTER_HELP: &str =
-    "Example: radio merge both.log desk.log home.log\n\nExit status: 0 done, 1 refused (the line `radio: fault N`; `radio explain N` tells why), 2 the command line does not parse.";
+    "Example: radio pull desk.log home.log\n\nExit status: 0 done, 1 refused (the line `radio: fault N`; `radio explain N` tells why), 2 the command line does not parse.";

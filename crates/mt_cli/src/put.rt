@@ -59,9 +59,9 @@ pub(crate) fn put_number_line<W: Write>(
     Ok(())
 }
 
-// Hands over a line: these bytes and a number.
+/// Hands over a line: these bytes and a number.
 #[tactic(auto, using(mt_latch::proofs::Putting::then_puts))]
-fn hand_line<W: Write>(line: &mut BufferedLatch<'_, W>, front: &[u8], number: u64)
+pub(crate) fn hand_line<W: Write>(line: &mut BufferedLatch<'_, W>, front: &[u8], number: u64)
     ensures { Puts W.contents line.old line.new (number_line front.now number) }
 {
     line.put(front);

@@ -95,7 +95,7 @@ const OF_LOGS: [Refusal; 10] = [
         number: 11,
         name: "BadMagic",
         meaning: "a file is no log: it does not begin with RMTS",
-        advice: "See that each LOG is a log that radio wrote, and no recording or script.",
+        advice: "See that each LOG is a log that radio wrote, and no recording or script; `--why` tells which is not.",
     },
     Refusal {
         number: 12,
@@ -131,7 +131,7 @@ const OF_LOGS: [Refusal; 10] = [
         number: 17,
         name: "Conflict, Merge",
         meaning: "two different operations have one name",
-        advice: "Two editors used one replica, or one was set back to an older copy: keep one of the two logs, and make the other's edits again under a replica of its own.",
+        advice: "Two editors used one replica, or one was set back to an older copy: keep one of the two logs, and make the other's edits again under a replica of its own. `--why` tells the log and the operation.",
     },
     Refusal {
         number: 18,
@@ -239,13 +239,13 @@ const OF_RENDERING: [Refusal; 4] = [
         number: 33,
         name: "MissingSource",
         meaning: "the recording of a clip that would sound is not given",
-        advice: "Name the recording too: `radio view` prints the digests that clips name, and `radio info` that of a file.",
+        advice: "Name the recording too: `--why` tells its digest, `radio view` prints those that clips name, and `radio info` that of a file.",
     },
     Refusal {
         number: 34,
         name: "RateDiffers",
         meaning: "a recording is of another rate than the programme",
-        advice: "Give the programme that rate, or convert the recording (`sox IN -r RATE OUT`) and place it anew: its digest is another then.",
+        advice: "`--why` tells which. Give the programme that rate, or convert the recording (`sox IN -r RATE OUT`) and place it anew: its digest is another then.",
     },
     Refusal {
         number: 35,
@@ -257,17 +257,17 @@ const OF_RENDERING: [Refusal; 4] = [
         number: 36,
         name: "BadHead",
         meaning: "a text of the head of a wave file cannot be written",
-        advice: "Use printing ASCII, at most 256 bytes for --description and 32 for --originator and --reference, and write --date as dddd-dd-dd and --time as dd:dd:dd.",
+        advice: "`--why` tells which option. Use printing ASCII, at most 256 bytes for --description and 32 for --originator and --reference, and write --date as dddd-dd-dd and --time as dd:dd:dd.",
     },
 ];
 
 /// The refusals of reading and writing, of exchange, of scripts, of worlds, and of the parts of operations.
-const OF_FILES_AND_PARTS: [Refusal; 14] = [
+const OF_FILES_AND_PARTS: [Refusal; 16] = [
     Refusal {
         number: 37,
         name: "Write",
-        meaning: "the output failed, or cannot be made or get its name; or there is an OUT.part already",
-        advice: "See that there is room and that the folder may be written. An OUT.part that no program is writing any more may be deleted.",
+        meaning: "the output failed, or cannot be made or get its name; or there is an OUT.part already; or OUT is there and --new was asked; or OUT is a log that another program has replaced since it was read",
+        advice: "See that there is room and that the folder may be written. If another program was at work on the same log, run the command again. An OUT.part that no program is writing any more may be deleted. `--why` tells which of these it is. A conversation that broke off may be 37 too: meet again.",
     },
     Refusal {
         number: 38,
@@ -279,7 +279,7 @@ const OF_FILES_AND_PARTS: [Refusal; 14] = [
         number: 39,
         name: "OutOfTurn",
         meaning: "another editor sent a message when it was not its turn, or went on after the end",
-        advice: "See that one editor serves and the other meets, and that nothing else is at that address.",
+        advice: "Of files: OPS is what `radio lack` wrote. Of a conversation: see that one editor serves and the other meets, and that nothing else is at that address.",
     },
     Refusal {
         number: 40,
@@ -291,13 +291,13 @@ const OF_FILES_AND_PARTS: [Refusal; 14] = [
         number: 41,
         name: "BadLine",
         meaning: "a line of a script is none of the forms of a change",
-        advice: "Look for a misspelt word, two spaces, a number with a leading zero, a line end with CR, or a `$k` of a line that adds nothing.",
+        advice: "`--why` tells the line. Look for a misspelt word, a digest that is none, a gain that is not NUM/DEN (-6 dB is 501/1000), a time in place of frames, a number with a leading zero, a line end with CR, a byte order mark, or a `$k` of a line that adds nothing.",
     },
     Refusal {
         number: 42,
         name: "Refused",
         meaning: "a line of a script asks for a change that cannot be made (6, or 21 to 25)",
-        advice: "See that the items of that line are there and present, and that a clip has at least one frame.",
+        advice: "`--why` tells the line and the refusal of its change. See that the items of that line are there and present, and that a clip has at least one frame.",
     },
     Refusal {
         number: 43,
@@ -315,7 +315,7 @@ const OF_FILES_AND_PARTS: [Refusal; 14] = [
         number: 45,
         name: "Read",
         meaning: "an input cannot be opened, or reading it failed",
-        advice: "See that each named file is there, is no folder, and may be read.",
+        advice: "See that each named file is there, is no folder, and may be read; `--why` tells which. Of `serve` and `meet` also: a conversation that broke off or waited too long is 45, 37 or 49; meet again.",
     },
     Refusal {
         number: 46,
@@ -339,13 +339,25 @@ const OF_FILES_AND_PARTS: [Refusal; 14] = [
         number: 49,
         name: "Ended",
         meaning: "what another editor sent ends before the end of the exchange",
-        advice: "Nothing was taken into a file: have it sent again, or meet again.",
+        advice: "Nothing was taken into a file: have it sent again, or meet again. A conversation that breaks off may also be 45 or 37.",
     },
     Refusal {
         number: 50,
         name: "BadDigest",
         meaning: "a text is no digest",
         advice: "Write a digest as the 64 hex digits that `radio info` prints.",
+    },
+    Refusal {
+        number: 51,
+        name: "FadeTooLong",
+        meaning: "a fade of a clip lasts over 1,048,576 frames",
+        advice: FROM_A_PROGRAM,
+    },
+    Refusal {
+        number: 52,
+        name: "VersionTooHigh",
+        meaning: "a log names a later version than its operations ask for",
+        advice: "The program that wrote it names a later version than it needs and has to be mended: take another editor's copy.",
     },
 ];
 

@@ -26,6 +26,11 @@ pub(crate) enum Word {
         name: &'static str,
         help: &'static str,
     },
+    /// As many as are named, of which there has to be one.
+    Many {
+        name: &'static str,
+        help: &'static str,
+    },
     /// A number that may be left out.
     Number {
         name: &'static str,
@@ -45,11 +50,43 @@ pub(crate) enum Word {
         greatest: u64,
         help: &'static str,
     },
+    /// An option with a number, which may be left out and then has none.
+    Limit {
+        name: &'static str,
+        least: u64,
+        greatest: u64,
+        help: &'static str,
+    },
+    /// An option that is there or not.
+    Flag {
+        name: &'static str,
+        help: &'static str,
+    },
 }
+
+/// OUT may not be there yet.
+pub(crate) const NEW: Word = Word::Flag {
+    name: "new",
+    help: "Be refused (37) where OUT is there",
+};
+
+/// OUT need not be on the disk when the command is done.
+pub(crate) const NO_SYNC: Word = Word::Flag {
+    name: "no-sync",
+    help: "Do not wait until OUT is on the disk: faster, and lost where the machine stops",
+};
+
+/// How long is waited for the other end.
+pub(crate) const WAIT: Word = Word::Limit {
+    name: "wait",
+    least: 1,
+    greatest: u32::MAX as u64,
+    help: "Wait at most N seconds for the other end: to come (46), and then each time for what it says (45) or takes (37)",
+};
 
 fn command_of<'a>(alloc: Global, words: &Words) -> Result<Command<'a>, AllocError> {
     let command = bare(alloc, words.name, words.about, words.after);
-    with_words(alloc, command, words.words)
+    with_words(alloc, command, words.words)?.arg(why_flag(alloc))
 }
 
 /// A command with no words.
@@ -102,6 +139,7 @@ fn word_of<'a>(alloc: Global, word: &Word) -> Arg<'a> {
     match word {
         Word::Needed { name, help } => needed(alloc, name, help),
         Word::Any { name, help } => any(alloc, name, help),
+        Word::Many { name, help } => many(alloc, name, help),
         Word::Number {
             name,
             greatest,
@@ -118,6 +156,13 @@ fn word_of<'a>(alloc: Global, word: &Word) -> Arg<'a> {
             greatest,
             help,
         } => count(alloc, name, default, *greatest, help),
+        Word::Limit {
+            name,
+            least,
+            greatest,
+            help,
+        } => limit(alloc, name, *least, *greatest, help),
+        Word::Flag { name, help } => flag(alloc, name, help),
     }
 }
 
@@ -129,6 +174,14 @@ fn any<'a>(alloc: Global, name: &'a str, help: &'a str) -> Arg<'a> {
     Arg::new(alloc, name)
         .action(ArgAction::Append)
         .num_args(0..)
+        .help(help)
+}
+
+fn many<'a>(alloc: Global, name: &'a str, help: &'a str) -> Arg<'a> {
+    Arg::new(alloc, name)
+        .action(ArgAction::Append)
+        .num_args(1..)
+        .required(true)
         .help(help)
 }
 
@@ -159,5 +212,26 @@ fn option<'a>(alloc: Global, name: &'a str, default: &'a str, help: &'a str) -> 
     Arg::new(alloc, name)
         .long(name)
         .default_value(default)
+        .help(help)
+}
+
+fn limit<'a>(alloc: Global, name: &'a str, least: u64, greatest: u64, help: &'a str) -> Arg<'a> {
+    Arg::new(alloc, name)
+        .long(name)
+        .help(help)
+        .value_name("N")
+        .value_parser(ValueParser::Unsigned(least, greatest))
+}
+
+/// The option of all commands, before or behind their names.
+pub(crate) fn why_flag<'a>(alloc: Global) -> Arg<'a> {
+    let help = "Behind a refusal tell in one more line what it is about";
+    flag(alloc, "why", help)
+}
+
+fn flag<'a>(alloc: Global, name: &'a str, help: &'a str) -> Arg<'a> {
+    Arg::new(alloc, name)
+        .long(name)
+        .action(ArgAction::SetTrue)
         .help(help)
 }

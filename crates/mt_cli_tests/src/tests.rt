@@ -3,6 +3,7 @@
 mod headline;
 mod infos;
 mod merges;
+mod pulls;
 mod refused_growth;
 mod renders;
 mod swaps;

@@ -31,7 +31,7 @@ module _ (tracks : List Track) (layout : Layout) (a b : Sources) (same : FindAli
   riff_alike : (ms : List Marker) (h : HeadText) → riff (over tracks layout a) ms h ≡ riff (over tracks layout b) ms h
   unfolding riff
   riff_alike ms h =
-      ap (λ (l : List ℕ). codes "WAVE" ++ flat_map padded (record { id = codes "bext"; content = bext layout h } ∷ record { id = codes "fmt "; content = format layout } ∷ record { id = codes "data"; content = l } ∷ marker_chunks (before (length_of tracks) ms)))
+      ap (λ (l : List ℕ). codes "WAVE" ++ flat_map padded (record { id = codes "bext"; content = bext layout h } ∷ record { id = codes "fmt "; content = format layout } ∷ record { id = codes "data"; content = l } ∷ marker_chunks (length_of tracks) (before (length_of tracks) ms)))
       (frames_alike 0 (length_of tracks))
 
   file_alike : (ms : List Marker) (h : HeadText) → file (over tracks layout a) ms h ≡ file (over tracks layout b) ms h

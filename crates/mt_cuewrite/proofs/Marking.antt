@@ -1,16 +1,17 @@
 -- Markers before the end, one after another.
-use Rattle.std.proofs.Common.{arith, ◌≡◌, ℕ, suc, ◌<◌, ◌≤◌, ◌+◌, ◌^◌, true, false, List, [], ◌∷◌, ◌++◌, length, take, drop, get_or, refl, sym, ap, ◌∙◌, append_assoc, length-append}
-use Rattle.std.specs.Prelude.{nat_lt, min, codes, Option}
+use Rattle.std.proofs.Common.{arith, ◌≡◌, ℕ, suc, ◌<◌, ◌≤◌, ◌+◌, ◌^◌, true, false, List, [], ◌∷◌, ◌++◌, length, take, drop, get_or, refl, sym, ap, ◌∙◌, append_assoc, length-append, Bool, cond}
+use Rattle.std.specs.Prelude.{nat_lt, ◌==◌, min, codes, Option}
+use Rattle.std.proofs.lemmas.Bool.{ne_eqb}
 use Rattle.std.proofs.lemmas.List.{take_more, take-append-drop, append-nil, length-take-le}
 use Rattle.std.proofs.lemmas.List.Elements.{filter-append}
 use Rattle.std.proofs.lemmas.List.Sums.{length-filter, count_by-le-length}
 use Rattle.mt_latch.specs.declared.buffered.BufferedLatch.{BufferedLatch}
 use Rattle.mt_sessionview.specs.Content.{Marker}
-use Rattle.mt_cuewrite.specs.File.{before, named, label_content, label, labels}
+use Rattle.mt_cuewrite.specs.File.{padded, before, named, label_content, label, region_content, region, list_content}
 use Rattle.mt_latch.specs.Buffered.{Handed}
 use Rattle.mt_cuewrite.specs.Sizes.{padded_size}
 use Rattle.mt_latch.proofs.Putting.{then_handed, same_handed}
-use Rattle.mt_cuewrite.proofs.Sizing.{length-padded, length-label_content}
+use Rattle.mt_cuewrite.proofs.Sizing.{length-padded, length-label_content, length-region_content}
 
 -- ---- which are before the end
 
@@ -85,18 +86,55 @@ next_name end ms i name x lt is shown count =
 pub same_name : (end : ℕ) (ms : List Marker) (i name : ℕ) (x : Marker) → i < length ms → x ≡ get_or ms i x → nat_lt x.at end ≡ false → name ≡ 1 + length (before end (take i ms)) → name ≡ 1 + length (before end (take (i + 1) ms))
 same_name end ms i name x lt is hidden count = count ∙ ap (λ (l : List Marker). 1 + length l) (sym (hidden_more end ms i x lt is hidden))
 
--- ---- how long the labels are
+-- ---- how long the list is
 
 length-label : (n : ℕ) (m : Marker) → length (label n m) ≡ padded_size (length m.title + 5)
 unfolding label
 length-label n m = length-padded (record { id = codes "labl"; content = label_content n m }) refl ∙ ap padded_size (length-label_content n m)
 
-pub length-labels-more : (ms : List Marker) (m : Marker) → length (labels (ms ++ m ∷ [])) ≡ length (labels ms) + padded_size (length m.title + 5)
-unfolding labels
-length-labels-more ms m =
-    ap (λ (l : List ℕ). length (codes "adtl" ++ l)) (named-more label 1 ms m)
-    ∙ ap length (sym (append_assoc (codes "adtl") (named label 1 ms) (label (1 + length ms) m)))
-    ∙ length-append (codes "adtl" ++ named label 1 ms) (label (1 + length ms) m) ∙ ap (λ (k : ℕ). length (codes "adtl" ++ named label 1 ms) + k) (length-label (1 + length ms) m)
+sized : (b : Bool) (bytes : List ℕ) → length bytes ≡ 28 → length (cond b [] bytes) ≡ cond b 0 28
+sized true bytes is = refl
+sized false bytes is = is
+
+length-region : (end n : ℕ) (m : Marker) → length (region end n m) ≡ cond (m.len == 0) 0 28
+unfolding region
+length-region end n m =
+    sized (m.len == 0) (padded (record { id = codes "ltxt"; content = region_content end n m }))
+    (length-padded (record { id = codes "ltxt"; content = region_content end n m }) refl ∙ ap padded_size (length-region_content end n m))
+
+-- what is written of a marker with a length, and of one without
+pub no_region : (end n : ℕ) (m : Marker) → m.len ≡ 0 → [] ≡ region end n m
+unfolding region
+no_region end n m none = rw none refl
+
+pub some_region : (end n : ℕ) (m : Marker) → (m.len ≡ 0 → ⊥) → padded (record { id = codes "ltxt"; content = region_content end n m }) ≡ region end n m
+unfolding region
+some_region end n m some = rw (ne_eqb m.len 0 some) refl
+
+pub no_region_size : (end n : ℕ) (m : Marker) → m.len ≡ 0 → 0 ≡ length (region end n m)
+no_region_size end n m none = sym (length-region end n m ∙ rw none refl)
+
+pub some_region_size : (end n : ℕ) (m : Marker) → (m.len ≡ 0 → ⊥) → 28 ≡ length (region end n m)
+some_region_size end n m some = sym (length-region end n m ∙ rw (ne_eqb m.len 0 some) refl)
+
+length-named-more : (text : ℕ → Marker → List ℕ) (n : ℕ) (ms : List Marker) (m : Marker) → length (named text n (ms ++ m ∷ [])) ≡ length (named text n ms) + length (text (n + length ms) m)
+length-named-more text n ms m = ap length (named-more text n ms m) ∙ length-append (named text n ms) (text (n + length ms) m)
+
+length-list : (end : ℕ) (ms : List Marker) → length (list_content end ms) ≡ 4 + length (named label 1 ms) + length (named (region end) 1 ms)
+unfolding list_content
+length-list end ms =
+    let front = length-append (codes "adtl") (named label 1 ms) in
+    let all = length-append (codes "adtl" ++ named label 1 ms) (named (region end) 1 ms) in
+    omega arith
+
+length-list-more : (end : ℕ) (ms : List Marker) (m : Marker) (l r : ℕ) → length (label (1 + length ms) m) ≡ l → length (region end (1 + length ms) m) ≡ r
+    → length (list_content end (ms ++ m ∷ [])) ≡ length (list_content end ms) + (l + r)
+length-list-more end ms m l r is_label is_region =
+    let new = length-list end (ms ++ m ∷ []) in
+    let old = length-list end ms in
+    let labels = length-named-more label 1 ms m in
+    let regions = length-named-more (region end) 1 ms m in
+    omega arith
 
 -- there are no more markers than their labels have bytes
 many_labels : (n : ℕ) (ms : List Marker) → length ms ≤ length (named label n ms)
@@ -108,16 +146,15 @@ many_labels n (m ∷ ms) =
     let sum = length-append (label n m) (named label (suc n) ms) in
     omega arith
 
-pub fewer_than_bytes : (ms : List Marker) → length ms ≤ length (labels ms)
-unfolding labels
-fewer_than_bytes ms =
+pub fewer_than_bytes : (end : ℕ) (ms : List Marker) → length ms ≤ length (list_content end ms)
+fewer_than_bytes end ms =
     let some = many_labels 1 ms in
-    let sum = length-append (codes "adtl") (named label 1 ms) in
+    let all = length-list end ms in
     omega arith
 
 -- adding up to a limit
-pub up_to_limit : (limit a b c s : ℕ) → s ≡ min limit a → c ≡ a + b → min (s + b) limit ≡ min limit c
-up_to_limit limit a b c s so sum = omega arith
+pub up_to_limit : (limit a b d c s : ℕ) → s ≡ min limit a → c ≡ a + (b + d) → min (s + b + d) limit ≡ min limit c
+up_to_limit limit a b d c s so sum = omega arith
 
 -- ---- counting
 
@@ -129,13 +166,17 @@ count_more end ms i n x lt is shown count =
 pub count_as_before : (end : ℕ) (ms : List Marker) (i n : ℕ) (x : Marker) → i < length ms → x ≡ get_or ms i x → nat_lt x.at end ≡ false → n ≡ length (before end (take i ms)) → n ≡ length (before end (take (i + 1) ms))
 count_as_before end ms i n x lt is hidden count = count ∙ ap length (sym (hidden_more end ms i x lt is hidden))
 
-pub labels_so_far : (end : ℕ) (ms : List Marker) (i l size : ℕ) (x : Marker) → i < length ms → x ≡ get_or ms i x → nat_lt x.at end ≡ true → l ≡ min (2 ^ 32) (length (labels (before end (take i ms))))
-    → size ≡ padded_size (length (label_content 1 x)) → min (l + size) (2 ^ 32) ≡ min (2 ^ 32) (length (labels (before end (take (i + 1) ms))))
-labels_so_far end ms i l size x lt is shown so_far size_is =
-    let more : length (labels (before end (take (i + 1) ms))) ≡ length (labels (before end (take i ms))) + size =
-    ap (λ (s : List Marker). length (labels s)) (shown_more end ms i x lt is shown) ∙ length-labels-more (before end (take i ms)) x ∙ ap (λ (k : ℕ). length (labels (before end (take i ms))) + k) (sym (size_is ∙ ap padded_size (length-label_content 1 x))) in
-    up_to_limit (2 ^ 32) (length (labels (before end (take i ms)))) size (length (labels (before end (take (i + 1) ms)))) l so_far more
+pub list_so_far : (end : ℕ) (ms : List Marker) (i l size region_size : ℕ) (x : Marker) → i < length ms → x ≡ get_or ms i x → nat_lt x.at end ≡ true
+    → l ≡ min (2 ^ 32) (length (list_content end (before end (take i ms)))) → size ≡ padded_size (length (label_content 1 x)) → region_size ≡ length (region end 1 x)
+    → min (l + size + region_size) (2 ^ 32) ≡ min (2 ^ 32) (length (list_content end (before end (take (i + 1) ms))))
+list_so_far end ms i l size region_size x lt is shown so_far size_is region_is =
+    let seen = before end (take i ms) in
+    let label_is : length (label (1 + length seen) x) ≡ size = length-label (1 + length seen) x ∙ sym (size_is ∙ ap padded_size (length-label_content 1 x)) in
+    let region_same : length (region end (1 + length seen) x) ≡ region_size = length-region end (1 + length seen) x ∙ sym (region_is ∙ length-region end 1 x) in
+    let more : length (list_content end (before end (take (i + 1) ms))) ≡ length (list_content end seen) + (size + region_size) =
+    ap (λ (s : List Marker). length (list_content end s)) (shown_more end ms i x lt is shown) ∙ length-list-more end seen x size region_size label_is region_same in
+    up_to_limit (2 ^ 32) (length (list_content end seen)) size region_size (length (list_content end (before end (take (i + 1) ms)))) l so_far more
 
-pub labels_as_before : (end : ℕ) (ms : List Marker) (i l : ℕ) (x : Marker) → i < length ms → x ≡ get_or ms i x → nat_lt x.at end ≡ false → l ≡ min (2 ^ 32) (length (labels (before end (take i ms))))
-    → l ≡ min (2 ^ 32) (length (labels (before end (take (i + 1) ms))))
-labels_as_before end ms i l x lt is hidden so_far = so_far ∙ ap (λ (s : List Marker). min (2 ^ 32) (length (labels s))) (sym (hidden_more end ms i x lt is hidden))
+pub list_as_before : (end : ℕ) (ms : List Marker) (i l : ℕ) (x : Marker) → i < length ms → x ≡ get_or ms i x → nat_lt x.at end ≡ false
+    → l ≡ min (2 ^ 32) (length (list_content end (before end (take i ms)))) → l ≡ min (2 ^ 32) (length (list_content end (before end (take (i + 1) ms))))
+list_as_before end ms i l x lt is hidden so_far = so_far ∙ ap (λ (s : List Marker). min (2 ^ 32) (length (list_content end s))) (sym (hidden_more end ms i x lt is hidden))

@@ -8,7 +8,7 @@ use Rattle.mt_sessionview.specs.Content.{Marker}
 use Rattle.mt_bwfread.specs.Riff.{Chunk, chunk_text}
 use Rattle.mt_render.specs.Layout.{Layout}
 use Rattle.mt_cuewrite.specs.Head.{HeadText, bad_text}
-use Rattle.mt_cuewrite.specs.File.{zeros, padded, filled, history, channels_word, texts, bext, format, label_content}
+use Rattle.mt_cuewrite.specs.File.{zeros, padded, filled, history, channels_word, texts, bext, format, label_content, region_content}
 use Rattle.mt_cuewrite.specs.Sizes.{padded_size}
 use Rattle.mt_cuewrite.proofs.Heads.{description_within, originator_within, reference_within, length-date, length-time}
 
@@ -75,3 +75,7 @@ unfolding label_content
 length-label_content n m =
     let a = length-two (little_bytes 4 n) m.title 4 (length m.title) refl refl in
     length-two (little_bytes 4 n ++ m.title) (zeros 1) (4 + length m.title) 1 a refl ∙ omega arith
+
+pub length-region_content : (end n : ℕ) (m : Marker) → length (region_content end n m) ≡ 20
+unfolding region_content
+length-region_content end n m = refl

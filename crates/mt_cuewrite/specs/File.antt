@@ -1,7 +1,7 @@
 -- The file that is written. Chunks are those of RIFF (Microsoft, "Multimedia Programming Interface and Data Specifications 1.0",
 -- chapters 2 and 3), and `bext` is that of EBU Tech 3285 in version 0. Their order, and what the cue points and the coding
 -- history say, is profile.
-use Rattle.std.specs.Prelude.{ℕ, zero, suc, ◌*◌, ◌-◌, ◌/◌, ◌%◌, ◌==◌, nat_lt, if◌then◌else◌, List, [], ◌∷◌, ◌++◌, length, replicate, codes, ℤ}
+use Rattle.std.specs.Prelude.{ℕ, zero, suc, ◌*◌, ◌-◌, ◌/◌, ◌%◌, ◌==◌, min, nat_lt, if◌then◌else◌, List, [], ◌∷◌, ◌++◌, length, replicate, codes, ℤ}
 use Rattle.std.specs.Int.{w64}
 use Rattle.std.specs.Fmt.{decimal}
 use Rattle.std.specs.List.{filter, flat_map}
@@ -75,7 +75,7 @@ frames_from p f (suc n) = channels_from p f 0 p.layout.channels ++ frames_from p
 abbrev pub samples : Programme → List ℕ
 samples p = frames_from p 0 (length_of p.tracks)
 
--- ---- cue points and their labels
+-- ---- cue points, their labels and their regions
 
 -- Only markers before the end are written, in their order.
 abbrev pub before : ℕ → List Marker → List Marker
@@ -101,14 +101,23 @@ label_content n m = little_bytes 4 n ++ m.title ++ zeros 1
 unfoldable pub label : ℕ → Marker → List ℕ
 label n m = padded (record { id = codes "labl"; content = label_content n m })
 
--- the type of the list, and a chunk `labl` for each point
-unfoldable pub labels : List Marker → List ℕ
-labels ms = codes "adtl" ++ named label 1 ms
+-- The content of a region: its cue point's name, the marker's length, which is cut at the end, in samples of one channel,
+-- the purpose, and zeros for the country, the language, the dialect and the code page (profile).
+unfoldable pub region_content : ℕ → ℕ → Marker → List ℕ
+region_content end n m = little_bytes 4 n ++ little_bytes 4 (min m.len (end - m.at)) ++ codes "rgn " ++ zeros 8
+
+-- a marker of length 0 has none
+unfoldable pub region : ℕ → ℕ → Marker → List ℕ
+region end n m = if m.len == 0 then [] else padded (record { id = codes "ltxt"; content = region_content end n m })
+
+-- the type of the list, a chunk `labl` for each point, and behind them a chunk `ltxt` for each that has a length
+unfoldable pub list_content : ℕ → List Marker → List ℕ
+list_content end ms = codes "adtl" ++ named label 1 ms ++ named (region end) 1 ms
 
 -- with no marker neither of the two chunks is written
-abbrev pub marker_chunks : List Marker → List Chunk
-marker_chunks [] = []
-marker_chunks (m ∷ ms) = record { id = codes "cue "; content = points (m ∷ ms) } ∷ record { id = codes "LIST"; content = labels (m ∷ ms) } ∷ []
+abbrev pub marker_chunks : ℕ → List Marker → List Chunk
+marker_chunks end [] = []
+marker_chunks end (m ∷ ms) = record { id = codes "cue "; content = points (m ∷ ms) } ∷ record { id = codes "LIST"; content = list_content end (m ∷ ms) } ∷ []
 
 -- ---- the file
 
@@ -117,7 +126,7 @@ chunks p ms h =
     record { id = codes "bext"; content = bext p.layout h }
     ∷ record { id = codes "fmt "; content = format p.layout }
     ∷ record { id = codes "data"; content = samples p }
-    ∷ marker_chunks (before (length_of p.tracks) ms)
+    ∷ marker_chunks (length_of p.tracks) (before (length_of p.tracks) ms)
 
 -- the content of the RIFF chunk: its type, and the chunks, each with its pad byte
 unfoldable pub riff : Programme → List Marker → HeadText → List ℕ

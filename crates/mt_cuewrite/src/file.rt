@@ -4,7 +4,7 @@ ghost use Rattle.std.specs.Prelude.{◌≡◌, ◌+◌, ◌*◌, ◌^◌, ◌<�
 ghost use Rattle.std.specs.Io.KnownBytes.{Appends};
 ghost use Rattle.mt_render.specs.Mix.{length_of};
 ghost use Rattle.mt_cuewrite.specs.Faults.{Fits, BounceFails};
-ghost use Rattle.mt_cuewrite.specs.File.{before, labels, marker_chunks, padded, samples as all_samples, file};
+ghost use Rattle.mt_cuewrite.specs.File.{before, list_content, marker_chunks, padded, samples as all_samples, file};
 ghost use Rattle.mt_latch.specs.Buffered.{Puts};
 ghost use Rattle.mt_cuewrite.specs.Sizes.{AreSizes};
 ghost use Rattle.std.specs.List.{flat_map};
@@ -47,12 +47,12 @@ fn put_marks<A: Allocator, W: Write>(
 )
     requires few { 4 + 24 * length (before end markers.now) < 2 ^ 32 }
     requires count { sizes.markers ≡ length (before end markers.now) }
-    requires size { sizes.labels ≡ length (labels (before end markers.now)) }
-    ensures { Puts W.contents output.old output.new (flat_map padded (marker_chunks (before end markers.now))) }
+    requires size { sizes.list ≡ length (list_content end (before end markers.now)) }
+    ensures { Puts W.contents output.old output.new (flat_map padded (marker_chunks end (before end markers.now))) }
 {
     if sizes.markers > 0 {
         put_cue(output, end, markers, sizes.markers);
-        put_list(output, end, markers, sizes.labels);
+        put_list(output, end, markers, sizes.list);
     }
 }
 
@@ -78,14 +78,16 @@ fn put_file<A: Allocator, B: Allocator, W: Write>(
 }
 
 /// Writes the file of a mix, of markers and of a head, and nothing else. Markers that stand at the programme's end or behind it
-/// are left out; the others are cue points in the order of the slice, named 1, 2 and so on.
+/// are left out; the others are cue points in the order of the slice, named 1, 2 and so on. One of a length that is not 0 is a
+/// region too, whose length is cut at the programme's end.
 ///
 /// Refused, in this order: `TooLong` (35) where the size of the RIFF chunk is over 4,294,967,295 bytes, and `Memory` (0) where the
 /// room for a block of samples, its one growth, was refused, each with nothing written; then `Write` (37) where the output's latch
 /// has failed, which then holds a prefix of the file.
 ///
 /// The output is given pieces of at most 24,576 bytes, a block of 4,096 frames at a time. The memory is 32,768 bytes, whatever the
-/// length is; the time is that of the mix, and of one walk over the markers for each of their two chunks and for their sizes.
+/// length is; the time is that of the mix, and of one walk over the markers for their points, their labels, their regions and their
+/// sizes each.
 #[tactic(auto, unfolding(mt_latch::specs::Buffered::Puts))]
 pub fn bounce<A: Allocator, B: Allocator, W: Write>(
     alloc: A,

@@ -36,7 +36,8 @@
 //!
 //! Chunks stand in this order, each with a zero byte behind it where its size is odd: `bext` (the head in version 0, and the coding
 //! history), `fmt ` (PCM), `data`, and, where a marker stands before the programme's end, `cue ` and `LIST` of type `adtl` with a
-//! `labl` for each of those markers, named 1, 2 and so on. `specs/File.antt` is that file in one definition.
+//! `labl` for each of those markers, named 1, 2 and so on, and behind these a `ltxt` for each of them that has a length.
+//! `specs/File.antt` is that file in one definition.
 #![tactic(auto)]
 
 mod block;

@@ -1,8 +1,8 @@
-//! The cue points and their labels.
+//! The cue points, their labels and their regions.
 
-ghost use Rattle.std.specs.Prelude.{◌≡◌, ℕ, nat_lt, ◌+◌, ◌*◌, ◌<◌, ◌≤◌, ◌^◌, min, length, codes};
+ghost use Rattle.std.specs.Prelude.{◌≡◌, ℕ, nat_lt, ◌+◌, ◌-◌, ◌*◌, ◌<◌, ◌≤◌, ◌^◌, min, length, codes};
 ghost use Rattle.mt_latch.specs.Buffered.{Puts};
-ghost use Rattle.mt_cuewrite.specs.File.{padded, before, point, points, label_content, label, labels, named};
+ghost use Rattle.mt_cuewrite.specs.File.{padded, before, point, points, label_content, label, region_content, region, list_content, named};
 
 use crate::put::{put_chunk_head, put_pad, put_u32, put_zeros};
 use mt_opcodec::BufferedLatch;
@@ -12,6 +12,9 @@ use std::io::Write;
 
 /// The name of the first cue point.
 const FIRST: u32 = 1;
+
+/// How long the content of a region is.
+const REGION: u32 = 20;
 
 /// Whether a marker stands before the end, so that it is written.
 pub(crate) fn is_before<A: Allocator>(marker: &MarkerView<A>, end: u64) -> bool
@@ -109,6 +112,72 @@ fn put_labels<A: Allocator, W: Write>(
     }
 }
 
+/// How long the chunk of a marker's region is, if it has one.
+pub(crate) fn region_size<A: Allocator>(marker: &MarkerView<A>) -> u32
+    ensures value { (end name : ℕ) → result ≡ length (region end name marker.now) }
+    ensures small { result ≤ 28 }
+{
+    if marker.len == 0 { 0 } else { 8 + REGION }
+}
+
+// How many frames the region of a marker before the end has.
+fn region_length<A: Allocator>(end: u64, marker: &MarkerView<A>) -> u32
+    requires before { marker.now.at < end }
+    ensures { result ≡ min marker.now.len (end - marker.now.at) }
+{
+    u64::from(marker.len).min(end - u64::from(marker.at)) as u32
+}
+
+// Puts the content of the region of this name.
+fn put_region_content<A: Allocator, W: Write>(
+    output: &mut BufferedLatch<'_, W>,
+    end: u64,
+    name: u32,
+    marker: &MarkerView<A>,
+)
+    requires before { marker.now.at < end }
+    ensures { Puts W.contents output.old output.new (region_content end name marker.now) }
+{
+    put_u32(output, name);
+    put_u32(output, region_length(end, marker));
+    output.put(b"rgn ");
+    put_zeros(output, 8);
+}
+
+// Puts the region of this name, if the marker has a length.
+fn put_region<A: Allocator, W: Write>(
+    output: &mut BufferedLatch<'_, W>,
+    end: u64,
+    name: u32,
+    marker: &MarkerView<A>,
+)
+    requires before { marker.now.at < end }
+    ensures { Puts W.contents output.old output.new (region end name marker.now) }
+{
+    if marker.len > 0 {
+        put_chunk_head(output, b"ltxt", REGION);
+        put_region_content(output, end, name, marker);
+    }
+}
+
+// Puts the region of each marker before the end that has a length.
+fn put_regions<A: Allocator, W: Write>(
+    output: &mut BufferedLatch<'_, W>,
+    end: u64,
+    markers: &[MarkerView<A>],
+)
+    requires few { length (before end markers.now) < 2 ^ 31 }
+    ensures { Puts W.contents output.old output.new (named (region end) 1 (before end markers.now)) }
+{
+    let mut name = FIRST;
+    for marker in markers {
+        if is_before(marker, end) {
+            put_region(output, end, name, marker);
+            name += 1;
+        }
+    }
+}
+
 /// Puts the chunk `cue ` of so many points.
 pub(crate) fn put_cue<A: Allocator, W: Write>(
     output: &mut BufferedLatch<'_, W>,
@@ -125,19 +194,20 @@ pub(crate) fn put_cue<A: Allocator, W: Write>(
     put_points(output, end, markers);
 }
 
-/// Puts the chunk `LIST` of the labels, of a content of this size.
+/// Puts the chunk `LIST` of the labels and the regions, of a content of this size.
 pub(crate) fn put_list<A: Allocator, W: Write>(
     output: &mut BufferedLatch<'_, W>,
     end: u64,
     markers: &[MarkerView<A>],
     size: u32,
 )
-    requires size { size ≡ length (labels (before end markers.now)) }
+    requires size { size ≡ length (list_content end (before end markers.now)) }
     requires few { length (before end markers.now) < 2 ^ 31 }
-    ensures { Puts W.contents output.old output.new (padded (record { id = codes "LIST"; content = labels (before end markers.now) })) }
+    ensures { Puts W.contents output.old output.new (padded (record { id = codes "LIST"; content = list_content end (before end markers.now) })) }
 {
     put_chunk_head(output, b"LIST", size);
     output.put(b"adtl");
     put_labels(output, end, markers);
+    put_regions(output, end, markers);
     put_pad(output, size);
 }

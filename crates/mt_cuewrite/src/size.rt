@@ -3,12 +3,12 @@
 ghost use Rattle.std.specs.Prelude.{◌≡◌, ℕ, ◌+◌, ◌*◌, ◌<◌, ◌≤◌, ◌^◌, min, length, IfSome, IfNone};
 ghost use Rattle.mt_render.specs.Mix.{length_of};
 ghost use Rattle.mt_cuewrite.specs.Faults.{Fits};
-ghost use Rattle.mt_cuewrite.specs.File.{before, labels, marker_chunks, riff};
+ghost use Rattle.mt_cuewrite.specs.File.{before, list_content, marker_chunks, riff};
 ghost use Rattle.mt_cuewrite.specs.Sizes.{padded_size, marks_size, AreSizes};
 
 use crate::chunks::bext_size;
 use crate::head::Head;
-use crate::marks::{is_before, label_size};
+use crate::marks::{is_before, label_size, region_size};
 use mt_render::Mix;
 use mt_sessionview::MarkerView;
 use std::alloc::Allocator;
@@ -24,7 +24,7 @@ pub(crate) struct Sizes {
     /// The markers before the end.
     pub(crate) markers: u32,
     /// The content of `LIST`.
-    pub(crate) labels: u32,
+    pub(crate) list: u32,
     /// The content of `RIFF`.
     pub(crate) riff: u32,
 }
@@ -33,7 +33,7 @@ pub(crate) struct Sizes {
 #[derive(Clone, Copy)]
 struct Marks {
     markers: u64,
-    labels: u64,
+    list: u64,
 }
 
 // How long a chunk is whose content has so many bytes, its pad byte too.
@@ -47,18 +47,19 @@ fn padded_size(size: u64) -> u64
 // Counts the markers before the end.
 fn count_marks<A: Allocator>(end: u64, markers: &[MarkerView<A>]) -> Marks
     ensures markers { result.markers ≡ length (before end markers.now) }
-    ensures labels { result.labels ≡ min (2 ^ 32) (length (labels (before end markers.now))) }
-    ensures few { result.labels < 2 ^ 32 → result.markers < 2 ^ 32 }
+    ensures list { result.list ≡ min (2 ^ 32) (length (list_content end (before end markers.now))) }
+    ensures few { result.list < 2 ^ 32 → result.markers < 2 ^ 32 }
 {
     let mut marks = Marks {
         markers: 0,
-        labels: 4,
+        list: 4,
     };
     for marker in markers {
         if is_before(marker, end) {
             let label = padded_size(u64::from(label_size(marker)));
+            let region = u64::from(region_size(marker));
             marks.markers += 1;
-            marks.labels = (marks.labels + label).min(LIMIT);
+            marks.list = (marks.list + label + region).min(LIMIT);
         }
     }
     marks
@@ -66,17 +67,17 @@ fn count_marks<A: Allocator>(end: u64, markers: &[MarkerView<A>]) -> Marks
 
 // How long the chunks `cue ` and `LIST` are together, or the limit where that is less.
 fn marks_size(marks: Marks) -> u64
-    requires few { marks.labels < 2 ^ 32 → marks.markers < 2 ^ 32 }
-    requires limit { marks.labels ≤ 2 ^ 32 }
-    ensures { result ≡ marks_size marks.markers marks.labels }
+    requires few { marks.list < 2 ^ 32 → marks.markers < 2 ^ 32 }
+    requires limit { marks.list ≤ 2 ^ 32 }
+    ensures { result ≡ marks_size marks.markers marks.list }
 {
     if marks.markers == 0 {
         return 0;
     }
-    if marks.labels == LIMIT {
+    if marks.list == LIMIT {
         return LIMIT;
     }
-    (padded_size(4 + 24 * marks.markers) + padded_size(marks.labels)).min(LIMIT)
+    (padded_size(4 + 24 * marks.markers) + padded_size(marks.list)).min(LIMIT)
 }
 
 /// The sizes of a file, or `None` where the size of its RIFF chunk does not fit in four bytes.
@@ -99,7 +100,7 @@ pub(crate) fn sizes_of<A: Allocator, B: Allocator>(
     Some(Sizes {
         samples: samples as u32,
         markers: marks.markers as u32,
-        labels: marks.labels as u32,
+        list: marks.list as u32,
         riff: riff as u32,
     })
 }

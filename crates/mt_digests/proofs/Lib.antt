@@ -1,3 +1,6 @@
 pub mod After
+pub mod Choosing
+pub mod Fours
 pub mod Kept
 pub mod Last
+pub mod Rotating

@@ -16,7 +16,7 @@ use Rattle.mt_op.specs.Operation.{Operation}
 use Rattle.mt_op.specs.ByStamp.{stamp_of}
 use Rattle.mt_op.specs.Needs.{fits, meets, is_tag_of}
 use Rattle.mt_op.specs.Presence.{is_listed, tags_removed, tags, removed_tags, live_tags}
-use Rattle.mt_op.specs.Writes.{title_written, gain_written, mute_written, track_place_written, clip_place_written, trim_written, source_written, position_written}
+use Rattle.mt_op.specs.Writes.{title_written, gain_written, mute_written, track_place_written, clip_place_written, trim_written, source_written, position_written, fades_written, marker_length_written}
 use Rattle.mt_op.proofs.SameWrites.{last_write_same, present_same}
 use Rattle.mt_items.specs.Noting.{AreNoted, is_noted}
 use Rattle.mt_items.specs.Cells.{items_of, rising_items}
@@ -80,6 +80,8 @@ module _ (P : Operation → Type 0) (one : (a b : Operation) → P a → P b →
     trims = last_write_same P one r u same all_r all_u trim_written;
     sources = last_write_same P one r u same all_r all_u source_written;
     positions = last_write_same P one r u same all_r all_u position_written;
+    fades = last_write_same P one r u same all_r all_u fades_written;
+    marker_lengths = last_write_same P one r u same all_r all_u marker_length_written;
   }
 
 abbrev IsIn : List Operation → Operation → Type 0

@@ -3,7 +3,7 @@ use Rattle.std.proofs.Common.{◌≡◌, true, List, ◌∷◌, None, refl, sym,
 use Rattle.mt_stamp.specs.Moment.{Moment}
 use Rattle.mt_op.specs.Operation.{Act, AddTrack, AddClip, AddMarker, Operation}
 use Rattle.mt_op.specs.Needs.{adds_track, adds_clip, adds_marker}
-use Rattle.mt_op.specs.Writes.{title_in, gain_in, mute_in, track_place_in, clip_place_in, trim_in, source_in, position_in, title_written, gain_written, mute_written, track_place_written, clip_place_written, trim_written, source_written, position_written, kept, written_by}
+use Rattle.mt_op.specs.Writes.{title_in, gain_in, mute_in, track_place_in, clip_place_in, trim_in, source_in, position_in, fades_in, marker_length_in, title_written, gain_written, mute_written, track_place_written, clip_place_written, trim_written, source_written, position_written, fades_written, marker_length_written, kept, written_by}
 use Rattle.mt_items.specs.Noting.{subject, Concerns}
 use Rattle.mt_items.specs.Cells.{HoldsMarker, HoldsClip, HoldsTrack}
 use Rattle.mt_items.specs.declared.cells.MarkerCells.{MarkerCells}
@@ -28,6 +28,7 @@ pub other_marker : {A : Type 0} (item : Moment) (o : Operation) (ops : List Oper
 other_marker item o ops c other held = record {
   position = other_held position_written (at_subject position_in) item o ops c.position other held.position;
   title = other_held title_written (at_subject title_in) item o ops c.title other held.title;
+  len = other_held marker_length_written (at_subject marker_length_in) item o ops c.len other held.len;
   presence = other_tags item o ops c.presence other held.presence;
 }
 
@@ -38,6 +39,8 @@ other_clip item o ops c other held = record {
   positive = held.positive;
   gain = other_held gain_written (at_subject gain_in) item o ops c.gain other held.gain;
   mute = other_held mute_written (at_subject mute_in) item o ops c.mute other held.mute;
+  fades = other_held fades_written (at_subject fades_in) item o ops c.fades other held.fades;
+  short = held.short;
   source = other_held source_written (at_subject source_in) item o ops (record { writer = item; value = c.source }) other held.source;
   presence = other_tags item o ops c.presence other held.presence;
 }

@@ -9,10 +9,11 @@ use Rattle.mt_op.specs.declared.need.Role.{Role}
 use Rattle.mt_op.specs.declared.need.Role.TheVariants.{Track, Clip, Marker, Mixable, Titled, Item}
 use Rattle.mt_op.specs.declared.value.Placement.{Placement}
 use Rattle.mt_op.specs.declared.value.TrimRange.{TrimRange}
-use Rattle.mt_op.specs.Operation.{Act, AddTrack, MoveTrack, AddClip, MoveClip, TrimClip, SetGain, SetMute, Remove, Restore, AddMarker, MoveMarker, Retitle, Operation}
+use Rattle.mt_op.specs.declared.value.FadeLengths.{FadeLengths}
+use Rattle.mt_op.specs.Operation.{Act, AddTrack, MoveTrack, AddClip, MoveClip, TrimClip, SetGain, SetMute, Remove, Restore, AddMarker, MoveMarker, Retitle, SetFade, SetMarkerLength, Operation}
 use Rattle.mt_op.specs.Needs.{need_of, needs_of, act_fits, fits, is_tag_of}
 use Rattle.mt_op.specs.Presence.{tags_removed}
-use Rattle.mt_op.specs.Writes.{Write, kept, last_write, title_written, gain_written, mute_written, track_place_written, clip_place_written, trim_written, source_written, position_written}
+use Rattle.mt_op.specs.Writes.{Write, kept, last_write, title_written, gain_written, mute_written, track_place_written, clip_place_written, trim_written, source_written, position_written, fades_written, marker_length_written, no_fades}
 use Rattle.mt_op.proofs.Needs.{and_first}
 use Rattle.mt_cells.specs.Marks.{unmarked}
 use Rattle.mt_items.specs.Noting.{is_need_met, AreNoted}
@@ -158,6 +159,16 @@ pub trims : OfKind Clip trim_written
 trims ops item own (AddClip source track at offset len) met here before = own_item {X = TrimRange} item own (record { offset = offset; len = len }) trim_written here
 trims ops item own (TrimClip i offset len) met here before = other_item {X = TrimRange} item i own (record { offset = offset; len = len }) trim_written (not_needed Clip ops item i _ before met)
 trims ops item own _ met here before = refl
+
+pub fades : OfKind Clip fades_written
+fades ops item own (AddClip source track at offset len) met here before = own_item item own no_fades fades_written here
+fades ops item own (SetFade i fade_in fade_out) met here before = other_item {X = FadeLengths} item i own (record { fade_in = fade_in; fade_out = fade_out }) fades_written (not_needed Clip ops item i _ before met)
+fades ops item own _ met here before = refl
+
+pub marker_lengths : OfKind Marker marker_length_written
+marker_lengths ops item own (AddMarker at title) met here before = own_item item own 0 marker_length_written here
+marker_lengths ops item own (SetMarkerLength i len) met here before = other_item item i own len marker_length_written (not_needed Marker ops item i _ before met)
+marker_lengths ops item own _ met here before = refl
 
 pub sources : OfKind Clip source_written
 sources ops item own (AddClip source track at offset len) met here before = own_item item own source source_written here

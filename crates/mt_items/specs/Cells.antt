@@ -7,7 +7,8 @@ use Rattle.mt_op.specs.declared.need.Role.TheVariants.{Track, Clip, Marker}
 use Rattle.mt_op.specs.Operation.{Operation}
 use Rattle.mt_op.specs.ByStamp.{stamp_of}
 use Rattle.mt_op.specs.Needs.{need_of, fits}
-use Rattle.mt_op.specs.Writes.{position_written, title_written, gain_written, mute_written, trim_written, source_written, clip_place_written, track_place_written}
+use Rattle.mt_op.specs.Valid.{AreShort}
+use Rattle.mt_op.specs.Writes.{position_written, title_written, gain_written, mute_written, trim_written, source_written, clip_place_written, track_place_written, fades_written, marker_length_written}
 use Rattle.mt_stamp.specs.Sorting.{sort_by}
 use Rattle.mt_items.specs.Noting.{is_need_met}
 use Rattle.mt_items.specs.Fields.{HoldsLast}
@@ -20,6 +21,7 @@ use Rattle.mt_items.specs.declared.cells.TrackCells.{TrackCells}
 pub record HoldsMarker {A : Type 0} (item : Moment) (ops : List Operation) (cells : MarkerCells A) : Type 0 where
   pub position : HoldsLast position_written item ops cells.position
   pub title : HoldsLast title_written item ops cells.title
+  pub len : HoldsLast marker_length_written item ops cells.len
   pub presence : HoldsTags item ops cells.presence
 
 -- A working predicate: the cells of a clip.
@@ -29,6 +31,8 @@ pub record HoldsClip {A : Type 0} (item : Moment) (ops : List Operation) (cells 
   pub positive : 1 ≤ cells.trim.value.len
   pub gain : HoldsLast gain_written item ops cells.gain
   pub mute : HoldsLast mute_written item ops cells.mute
+  pub fades : HoldsLast fades_written item ops cells.fades
+  pub short : AreShort cells.fades.value
   pub source : HoldsLast source_written item ops (record { writer = item; value = cells.source })
   pub presence : HoldsTags item ops cells.presence
 

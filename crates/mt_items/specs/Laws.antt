@@ -5,7 +5,7 @@ use Rattle.mt_op.specs.declared.need.Role.{Role}
 use Rattle.mt_op.specs.declared.need.Need.{Need}
 use Rattle.mt_op.specs.Operation.{Operation}
 use Rattle.mt_op.specs.Presence.{is_present, is_listed, live_tags}
-use Rattle.mt_op.specs.Writes.{title_written, gain_written, mute_written, track_place_written, clip_place_written, trim_written, source_written, position_written, last_write}
+use Rattle.mt_op.specs.Writes.{title_written, gain_written, mute_written, track_place_written, clip_place_written, trim_written, source_written, position_written, fades_written, marker_length_written, last_write}
 use Rattle.mt_items.specs.Noting.{is_need_met}
 use Rattle.mt_items.specs.Cells.{rising_items}
 
@@ -23,3 +23,5 @@ pub record AnswerAlike (r u : List Operation) : Type 0 where
   pub trims : (item : Moment) → last_write trim_written item r ≡ last_write trim_written item u
   pub sources : (item : Moment) → last_write source_written item r ≡ last_write source_written item u
   pub positions : (item : Moment) → last_write position_written item r ≡ last_write position_written item u
+  pub fades : (item : Moment) → last_write fades_written item r ≡ last_write fades_written item u
+  pub marker_lengths : (item : Moment) → last_write marker_length_written item r ≡ last_write marker_length_written item u

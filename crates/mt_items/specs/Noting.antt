@@ -3,7 +3,7 @@ use Rattle.std.specs.Prelude.{◌≡◌, Bool, true, false, List, [], ◌∷◌,
 use Rattle.std.specs.List.{list_any, list_all}
 use Rattle.mt_stamp.specs.Moment.{Moment, stamp_eq}
 use Rattle.mt_op.specs.declared.need.Need.{Need}
-use Rattle.mt_op.specs.Operation.{Act, MoveTrack, MoveClip, TrimClip, SetGain, SetMute, Remove, Restore, MoveMarker, Retitle, Operation}
+use Rattle.mt_op.specs.Operation.{Act, MoveTrack, MoveClip, TrimClip, SetGain, SetMute, Remove, Restore, MoveMarker, Retitle, SetFade, SetMarkerLength, Operation}
 use Rattle.mt_op.specs.Needs.{needs, meets}
 
 -- whether an operation of this stamp is among these
@@ -40,6 +40,8 @@ subject own (Remove item tags) = item
 subject own (Restore item) = item
 subject own (MoveMarker marker at) = marker
 subject own (Retitle item title) = item
+subject own (SetFade clip fade_in fade_out) = clip
+subject own (SetMarkerLength marker len) = marker
 subject own _ = own
 
 -- an operation on an item that was noted before it

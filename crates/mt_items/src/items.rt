@@ -11,7 +11,8 @@ ghost use Rattle.mt_op.specs.Operation.{Operation};
 ghost use Rattle.mt_op.specs.Needs.{need_of, needs};
 ghost use Rattle.mt_op.specs.declared.need.Need.{Need as NeedOf};
 ghost use Rattle.mt_op.specs.Presence.{is_present, is_listed, live_tags};
-ghost use Rattle.mt_op.specs.Writes.{title_written, gain_written, mute_written, track_place_written, clip_place_written, trim_written, source_written, position_written, last_write};
+ghost use Rattle.mt_op.specs.Writes.{title_written, gain_written, mute_written, track_place_written, clip_place_written, trim_written, source_written, position_written, fades_written, marker_length_written, last_write};
+ghost use Rattle.mt_op.specs.Valid.{AreShort};
 ghost use Rattle.mt_cells.specs.Marks.{unmarked};
 ghost use Rattle.mt_items.specs.Noting.{MayFollow, AreNoted, is_need_met, are_needs_met};
 ghost use Rattle.mt_items.specs.Cells.{HoldsTrack, HoldsClip, HoldsMarker, items_of, rising_items};
@@ -28,7 +29,7 @@ use crate::place::note as note_place;
 use crate::room::{Room, room_for};
 use crate::track::note as note_track;
 use mt_cells::Register;
-use mt_op::{Digest, Gain, Need, Op, Placement, Role, Title, TrimRange};
+use mt_op::{Digest, FadeLengths, Gain, Need, Op, Placement, Role, Title, TrimRange};
 use mt_stamp::Stamp;
 use mt_stampmap::StampMap;
 use std::alloc::{Allocator, Global};
@@ -93,8 +94,9 @@ impl<A: Allocator> Items<A> {
         Items::with_room(alloc, Room::NONE)
     }
 
-    /// Nothing noted, with memory for the items that these operations add: while they are noted, no item moves. That memory is less
-    /// than 350 bytes for each of them, and what is not used of it is not touched. Refused only as `Memory` (0), where a growth was refused.
+    /// Nothing noted, with memory for the items that these operations add: while they are noted, no item moves. That is memory for one item,
+    /// or a place, for each of them that adds one, and what is not used of it is not touched. Refused only as `Memory` (0), where a growth was
+    /// refused.
     pub fn with_room_for(alloc: A, ops: &[&Op<A>]) -> Result<Self, ItemsFault>
     where
         A: Clone,
@@ -364,6 +366,17 @@ impl<A: Allocator> Items<A> {
         }
     }
 
+    /// The last write of a clip's fades, none longer than 1,048,576 frames. `None` where the stamp names no clip.
+    pub fn fades(&self, clip: Stamp) -> Option<&Register<FadeLengths>>
+        ensures write { option_map (λ r. r.now) result ≡ last_write fades_written clip self.now }
+        ensures short { IfSome result (λ r. AreShort r.now.value) }
+    {
+        match self.clips.get(clip) {
+            Some(cells) => Some(&cells.fades),
+            None => None,
+        }
+    }
+
     /// The recording that a clip plays, which its own AddClip alone writes. `None` where the stamp names no clip.
     pub fn source(&self, clip: Stamp) -> Option<Digest>
         ensures { option_map (λ source. record { writer = clip; value = source }) result ≡ last_write source_written clip self.now }
@@ -380,6 +393,16 @@ impl<A: Allocator> Items<A> {
     {
         match self.markers.get(marker) {
             Some(cells) => Some(&cells.position),
+            None => None,
+        }
+    }
+
+    /// The last write of a marker's length, in frames. `None` where the stamp names no marker.
+    pub fn marker_length(&self, marker: Stamp) -> Option<&Register<u32>>
+        ensures { option_map (λ r. r.now) result ≡ last_write marker_length_written marker self.now }
+    {
+        match self.markers.get(marker) {
+            Some(cells) => Some(&cells.len),
             None => None,
         }
     }

@@ -9,7 +9,7 @@ ghost use Rattle.mt_items.specs.Cells.{HoldsMarker, HoldsMarkers};
 
 use crate::cells::{MarkerCells, mark, subject};
 use crate::fault::ItemsFault;
-use crate::fields::{write, written_position, written_title};
+use crate::fields::{write, written_marker_length, written_position, written_title};
 use crate::marks::ItemMarks;
 use mt_cells::Register;
 use mt_op::{Body, Op};
@@ -33,6 +33,7 @@ fn added<A: Allocator + Clone>(op: &Op<A>) -> Result<Option<MarkerCells<A>>, Ite
     Ok(Some(MarkerCells {
         position: Register::new(own, *at),
         title: Register::new(own, title),
+        len: Register::new(own, 0),
         presence: ItemMarks::new(own),
     }))
 }
@@ -49,6 +50,7 @@ fn change<A: Allocator + Clone>(
     let stamp = op.stamp();
     write(&mut cells.position, stamp, written_position(op))?;
     write(&mut cells.title, stamp, written_title(op)?)?;
+    write(&mut cells.len, stamp, written_marker_length(op))?;
     mark(alloc, &mut cells.presence, op)
 }
 

@@ -1,5 +1,5 @@
-//! Tests of operations and what keeps them: mt_op, mt_opcodec, mt_holdback and mt_summary. Titles, digests, gains, bodies and operations; operations and logs as bytes,
-//! and latches; operations that wait for others; what logs lack, and messages as bytes.
+//! Tests of operations and logs: mt_op, mt_opcodec, mt_holdback and mt_summary. Texts from outside, and what is left where a growth, a read or a write is
+//! refused.
 #![tactic(auto)]
 
 #[cfg(test)]

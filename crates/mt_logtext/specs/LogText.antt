@@ -9,7 +9,7 @@ use Rattle.mt_op.specs.ByStamp.{op_cmp}
 use Rattle.mt_op.specs.Digest.{digest_text}
 use Rattle.mt_op.specs.Gain.{Ratio}
 use Rattle.mt_op.specs.Needs.{needs, meets, clock_of}
-use Rattle.mt_op.specs.Operation.{Act, AddTrack, MoveTrack, AddClip, MoveClip, TrimClip, SetGain, SetMute, Remove, Restore, AddMarker, MoveMarker, Retitle, Operation}
+use Rattle.mt_op.specs.Operation.{Act, AddTrack, MoveTrack, AddClip, MoveClip, TrimClip, SetGain, SetMute, Remove, Restore, AddMarker, MoveMarker, Retitle, SetFade, SetMarkerLength, Operation}
 use Rattle.mt_op.specs.Ready.{is_ready}
 use Rattle.mt_sessionview.specs.SessionText.{newline}
 
@@ -50,6 +50,8 @@ act_text (Restore item) = codes "restore" ++ stamp_word item
 act_text (AddMarker at title) = codes "add-marker" ++ (number_word at ++ word title)
 act_text (MoveMarker marker at) = codes "move-marker" ++ (stamp_word marker ++ number_word at)
 act_text (Retitle item title) = codes "retitle" ++ (stamp_word item ++ word title)
+act_text (SetFade clip fade_in fade_out) = codes "fade" ++ (stamp_word clip ++ (number_word fade_in ++ number_word fade_out))
+act_text (SetMarkerLength marker len) = codes "marker-length" ++ (stamp_word marker ++ number_word len)
 
 -- whether an operation is ready, or held until what it needs is there
 abbrev pub status_text : Bool → List ℕ

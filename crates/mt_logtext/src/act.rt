@@ -6,7 +6,7 @@ ghost use Rattle.std.specs.List.{flat_map};
 ghost use Rattle.std.specs.String.{string_bytes};
 ghost use Rattle.mt_op.specs.Bodies.{act_of};
 ghost use Rattle.mt_op.specs.Digest.{digest_text};
-ghost use Rattle.mt_op.specs.Operation.{AddTrack, MoveTrack, AddClip, MoveClip, TrimClip, SetGain, SetMute, Remove, AddMarker, MoveMarker, Retitle};
+ghost use Rattle.mt_op.specs.Operation.{AddTrack, MoveTrack, AddClip, MoveClip, TrimClip, SetGain, SetMute, Remove, AddMarker, MoveMarker, Retitle, SetFade, SetMarkerLength};
 ghost use Rattle.mt_logtext.specs.LogText.{word, stamp_word, number_word, after_word, gain_word, switch_word, act_text};
 
 use itoa::Buffer;
@@ -236,6 +236,32 @@ fn append_retitle<A: Allocator>(
     append_word(text, title)
 }
 
+fn append_set_fade<A: Allocator>(
+    text: &mut String<A>,
+    clip: Stamp,
+    fade_in: u32,
+    fade_out: u32,
+) -> Result<(), AllocError>
+    ensures { OnOk result (string_bytes text.new ≡ string_bytes text.old ++ act_text (SetFade clip fade_in fade_out)) }
+{
+    text.push_str("fade")?;
+    append_stamp(text, clip)?;
+    append_number(text, fade_in)?;
+    append_number(text, fade_out)
+}
+
+fn append_set_marker_length<A: Allocator>(
+    text: &mut String<A>,
+    marker: Stamp,
+    len: u32,
+) -> Result<(), AllocError>
+    ensures { OnOk result (string_bytes text.new ≡ string_bytes text.old ++ act_text (SetMarkerLength marker len)) }
+{
+    text.push_str("marker-length")?;
+    append_stamp(text, marker)?;
+    append_number(text, len)
+}
+
 /// Writes what an operation does after what `text` holds.
 pub(crate) fn append_act<A: Allocator, B: Allocator, C: Allocator>(
     alloc: &A,
@@ -263,5 +289,11 @@ pub(crate) fn append_act<A: Allocator, B: Allocator, C: Allocator>(
         Body::AddMarker { at, title } => append_add_marker(text, *at, title.text()),
         Body::MoveMarker { marker, at } => append_move_marker(text, *marker, *at),
         Body::Retitle { item, title } => append_retitle(text, *item, title.text()),
+        Body::SetFade {
+            clip,
+            fade_in,
+            fade_out,
+        } => append_set_fade(text, *clip, *fade_in, *fade_out),
+        Body::SetMarkerLength { marker, len } => append_set_marker_length(text, *marker, *len),
     }
 }

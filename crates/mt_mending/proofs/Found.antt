@@ -86,7 +86,7 @@ module _ (r : List Operation) (noted : AreNoted r) where
         (λ x of_x passes.
         let at : x.at ≡ c.at = eqb-true x.at c.at (and_first _ _ passes) in
         let place : c.place ≡ x.place = stamp_eq-true c.place x.place (and_second (eqb x.at c.at) (stamp_eq c.place x.place) passes) in
-        let tied : clip_cmp x c ≡ Equal = (λ i. clip_cmp (record { clip = x.clip; place = sym place i; at = at i; offset = x.offset; len = x.len; gain = x.gain; mute = x.mute; source = x.source }) c) ∙ tied_itself clip_cmp_total c in
+        let tied : clip_cmp x c ≡ Equal = (λ i. clip_cmp (record { clip = x.clip; place = sym place i; at = at i; offset = x.offset; len = x.len; gain = x.gain; mute = x.mute; fade_in = x.fade_in; fade_out = x.fade_out; source = x.source }) c) ∙ tied_itself clip_cmp_total c in
         let adds = and_first _ _ (and_first _ _ of_x.2) in
         let adds_c = and_first _ _ (and_first _ _ of_c.0.2) in
         ap (λ (y : Clip). y.clip) (one_clip r (one_op r noted) x c (of_x.0, of_x.1, adds, of_x.3) (of_c.0.0, of_c.0.1, adds_c, of_c.0.3) tied) ∙ of_c.1)

@@ -14,7 +14,7 @@ use Rattle.mt_op.specs.declared.value.Placement.{Placement}
 use Rattle.mt_op.specs.Operation.{Act, Operation}
 use Rattle.mt_op.specs.Needs.{need_of, meets, fits, is_tag_of, adds_clip}
 use Rattle.mt_op.specs.Presence.{is_listed, is_any, tags, removed_tags, is_present}
-use Rattle.mt_op.specs.Writes.{Write, title_in, gain_in, mute_in, track_place_in as track_place_value, clip_place_in as clip_place_value, trim_in, source_in, position_in, title_written, gain_written, mute_written, track_place_written, clip_place_written, trim_written, source_written, position_written, last_write}
+use Rattle.mt_op.specs.Writes.{Write, title_in, gain_in, mute_in, track_place_in as track_place_value, clip_place_in as clip_place_value, trim_in, source_in, position_in, fades_in, marker_length_in, title_written, gain_written, mute_written, track_place_written, clip_place_written, trim_written, source_written, position_written, fades_written, marker_length_written, no_fades, last_write}
 use Rattle.mt_op.proofs.Needs.{and_first, and_second}
 use Rattle.mt_items.specs.Noting.{AreNoted, is_noted, is_need_met, subject}
 use Rattle.mt_items.proofs.Noting.{either_true, subject_noted, AtSubject, at_subject, last_same, other_write}
@@ -87,7 +87,8 @@ module _ (o : Operation) (r : List Operation) (noted : AreNoted (o ∷ r)) where
     marker_same =
         let at = value_same x.stamp other position_written (at_subject position_in) in
         let title = value_same x.stamp other title_written (at_subject title_in) in
-        λ i. record { marker = x.stamp; at = unwrap_or (at i) 0; title = unwrap_or (title i) [] }
+        let len = value_same x.stamp other marker_length_written (at_subject marker_length_in) in
+        λ i. record { marker = x.stamp; at = unwrap_or (at i) 0; len = unwrap_or (len i) 0; title = unwrap_or (title i) [] }
 
     pub clip_same : clip_in (o ∷ r) x ≡ clip_in r x
     clip_same =
@@ -96,6 +97,7 @@ module _ (o : Operation) (r : List Operation) (noted : AreNoted (o ∷ r)) where
         let source = value_same x.stamp other source_written (at_subject source_in) in
         let gain = value_same x.stamp other gain_written (at_subject gain_in) in
         let mute = value_same x.stamp other mute_written (at_subject mute_in) in
+        let fades = value_same x.stamp other fades_written (at_subject fades_in) in
         λ i. record {
           clip = x.stamp;
           place = (place i).writer;
@@ -104,6 +106,8 @@ module _ (o : Operation) (r : List Operation) (noted : AreNoted (o ∷ r)) where
           len = (unwrap_or (trim i) (record { offset = 0; len = 0 })).len;
           gain = unwrap_or (gain i) unchanged;
           mute = unwrap_or (mute i) false;
+          fade_in = (unwrap_or (fades i) no_fades).fade_in;
+          fade_out = (unwrap_or (fades i) no_fades).fade_out;
           source = unwrap_or (source i) (record { 0 = [] });
         }
 

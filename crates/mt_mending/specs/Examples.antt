@@ -14,10 +14,10 @@ abbrev two : List Operation
 two = weather ∷ news ∷ []
 
 abbrev news_at : ℕ → Marker
-news_at at = record { marker = by 1 10 1; at = at; title = codes "News" }
+news_at at = record { marker = by 1 10 1; at = at; len = 0; title = codes "News" }
 
 abbrev weather_at : ℕ → Marker
-weather_at at = record { marker = by 2 11 1; at = at; title = codes "Weather" }
+weather_at at = record { marker = by 2 11 1; at = at; len = 0; title = codes "Weather" }
 
 abbrev moved_to : ℕ → ℕ → ℕ → ℕ → Operation
 moved_to c r n at = record { stamp = by c r n; act = MoveMarker (by 1 10 1) at }

@@ -4,14 +4,16 @@ ghost use Rattle.std.specs.Prelude.{◌≡◌, false, map, IfOk, IfErr, IfSome, 
 ghost use Rattle.mt_stamp.specs.Sorting.{DifferBy};
 ghost use Rattle.mt_op.specs.declared.need.Role.TheVariants.{Track as TrackRole};
 ghost use Rattle.mt_op.specs.Needs.{need_of};
+ghost use Rattle.mt_op.specs.Valid.{AreShort};
 ghost use Rattle.mt_items.specs.Noting.{is_need_met};
 ghost use Rattle.mt_sessionview.specs.Content.{Track};
 ghost use Rattle.mt_sessionview.specs.Noted.{tracks_in};
+ghost use Rattle.mt_sessionview.specs.Read.{fades_of};
 ghost use Rattle.mt_mending.specs.Before.{ClipsStood, placed_clip, clip_off, clip_to, tracks_without, is_where, IsThere, IsNew};
 
 use crate::read::value_or;
 use mt_items::Items;
-use mt_op::Gain;
+use mt_op::{FadeLengths, Gain};
 use mt_sessionview::{ClipView, Session, SessionFault};
 use mt_stamp::Stamp;
 use std::alloc::Allocator;
@@ -23,6 +25,20 @@ pub struct PlacedClip {
     pub track: Stamp,
     /// The clip.
     pub clip: ClipView,
+}
+
+// The fades of a clip; none where no clip of this stamp was added.
+fn fades_of<A: Allocator>(items: &Items<A>, item: Stamp) -> FadeLengths
+    ensures value { result ≡ fades_of items.now item }
+    ensures short { AreShort result }
+{
+    match items.fades(item) {
+        Some(fades) => *fades.get(),
+        None => FadeLengths {
+            fade_in: 0,
+            fade_out: 0,
+        },
+    }
 }
 
 /// The clip of a stamp, where it is present, with its track, which need not be; `None` where no clip of this stamp is. Takes
@@ -44,6 +60,7 @@ pub fn placed_clip<A: Allocator>(items: &Items<A>, item: Stamp) -> Option<Placed
     };
     let put = *place.get();
     let range = *trim.get();
+    let fades = fades_of(items, item);
     Some(PlacedClip {
         track: put.track,
         clip: ClipView {
@@ -54,6 +71,8 @@ pub fn placed_clip<A: Allocator>(items: &Items<A>, item: Stamp) -> Option<Placed
             len: range.len,
             gain: value_or(items.gain(item), Gain::UNCHANGED),
             mute: value_or(items.mute(item), false),
+            fade_in: fades.fade_in,
+            fade_out: fades.fade_out,
             source,
         },
     })

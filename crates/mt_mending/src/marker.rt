@@ -54,6 +54,7 @@ fn marker_at<A: Allocator + Clone>(
     Ok(Some(MarkerView {
         marker: item,
         at: value_or(items.position(item), 0),
+        len: value_or(items.marker_length(item), 0),
         title,
     }))
 }

@@ -21,6 +21,8 @@ pub fn subject_of<A: Allocator>(op: &Op<A>) -> Stamp
         Body::Restore { item } => *item,
         Body::MoveMarker { marker, .. } => *marker,
         Body::Retitle { item, .. } => *item,
+        Body::SetFade { clip, .. } => *clip,
+        Body::SetMarkerLength { marker, .. } => *marker,
         _ => op.stamp(),
     }
 }

@@ -13,7 +13,7 @@ use Rattle.mt_op.specs.declared.body.Body.TheVariants as body
 use Rattle.mt_op.specs.contracts.body.BodyPartialEq.TheImpl as body_eq
 use Rattle.mt_op.specs.contracts.op.OpPartialEq.TheImpl as op_eq
 use Rattle.mt_op.specs.Gain.{Ratio}
-use Rattle.mt_op.specs.Operation.{Act, AddTrack, MoveTrack, AddClip, MoveClip, TrimClip, SetGain, SetMute, Remove, Restore, AddMarker, MoveMarker, Retitle, Operation}
+use Rattle.mt_op.specs.Operation.{Act, AddTrack, MoveTrack, AddClip, MoveClip, TrimClip, SetGain, SetMute, Remove, Restore, AddMarker, MoveMarker, Retitle, SetFade, SetMarkerLength, Operation}
 use Rattle.mt_op.specs.Bodies.{act_of, body_of}
 use Rattle.mt_op.specs.Needs.{stamp_eq}
 use Rattle.mt_op.proofs.Needs.{and_first, and_second, stamp_eq-true}
@@ -115,6 +115,13 @@ module _ (A : denote.RattleType.RattleType) (alloc : Ghosts A.Denot) (d e : mir.
       let markers = stamp_eq-true marker marker' (and_first _ _ h) in let places = eqb-true at at' (and_second _ _ h) in λ i. MoveMarker (markers i) (places i)
   body_same (body.Retitle item title) (body.Retitle item' title') h =
       let items = stamp_eq-true item item' (and_first _ _ h) in let titles = bytes_same title title' (and_second _ _ h) in λ i. Retitle (items i) (titles i)
+  body_same (body.SetFade clip fade_in fade_out) (body.SetFade clip' fade_in' fade_out') h =
+      let clips = stamp_eq-true clip clip' (and_first _ _ h) in
+      let from_in = and_second _ _ h in let ins = eqb-true fade_in fade_in' (and_first _ _ from_in) in
+      let outs = eqb-true fade_out fade_out' (and_second _ _ from_in) in
+      λ i. SetFade (clips i) (ins i) (outs i)
+  body_same (body.SetMarkerLength marker len) (body.SetMarkerLength marker' len') h =
+      let markers = stamp_eq-true marker marker' (and_first _ _ h) in let lens = eqb-true len len' (and_second _ _ h) in λ i. SetMarkerLength (markers i) (lens i)
   body_same _ _ h = absurd (false≢true h)
 
   body_itself : (a : Body A.Denot) → body_test a a ≡ true
@@ -130,6 +137,8 @@ module _ (A : denote.RattleType.RattleType) (alloc : Ghosts A.Denot) (d e : mir.
   body_itself (body.AddMarker at title) = rw (eq-eqb at at refl, bytes_itself title) refl
   body_itself (body.MoveMarker marker at) = rw (stamp_itself marker, eq-eqb at at refl) refl
   body_itself (body.Retitle item title) = rw (stamp_itself item, bytes_itself title) refl
+  body_itself (body.SetFade clip fade_in fade_out) = rw (stamp_itself clip, eq-eqb fade_in fade_in refl, eq-eqb fade_out fade_out refl) refl
+  body_itself (body.SetMarkerLength marker len) = rw (stamp_itself marker, eq-eqb len len refl) refl
 
   body_back : (a : Body A.Denot) → body_of (act_of a) ≡ a
   body_back (body.AddTrack after title) = refl

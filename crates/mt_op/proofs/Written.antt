@@ -11,8 +11,9 @@ use Rattle.mt_op.specs.Gain.{Ratio}
 use Rattle.mt_op.specs.declared.digest.Digest.{Digest}
 use Rattle.mt_op.specs.declared.value.Placement.{Placement}
 use Rattle.mt_op.specs.declared.value.TrimRange.{TrimRange}
+use Rattle.mt_op.specs.declared.value.FadeLengths.{FadeLengths}
 use Rattle.mt_op.specs.Operation.{Act, AddTrack}
-use Rattle.mt_op.specs.Writes.{Value, Title, Gain, Mute, TrackPlace, ClipPlace, Trim, Source, Position, Write, sets, writes, or_later, first_of, title_in, gain_in, mute_in, track_place_in, clip_place_in, trim_in, source_in, position_in, title_written, gain_written, mute_written, track_place_written, clip_place_written, trim_written, source_written, position_written}
+use Rattle.mt_op.specs.Writes.{Value, Title, Gain, Mute, TrackPlace, ClipPlace, Trim, Source, Position, Fades, MarkerLength, Write, sets, writes, or_later, first_of, title_in, gain_in, mute_in, track_place_in, clip_place_in, trim_in, source_in, position_in, fades_in, marker_length_in, title_written, gain_written, mute_written, track_place_written, clip_place_written, trim_written, source_written, position_written, fades_written, marker_length_written}
 use Rattle.mt_op.specs.Laws.{IsFieldOf}
 use Rattle.mt_op.proofs.Needs.{and_first, and_second}
 
@@ -27,6 +28,8 @@ kind (ClipPlace place) = 4
 kind (Trim trim) = 5
 kind (Source source) = 6
 kind (Position at) = 7
+kind (Fades fades) = 8
+kind (MarkerLength len) = 9
 
 abbrev is_alike : Value → Write Value → Bool
 is_alike v w = kind w.value == kind v
@@ -71,7 +74,7 @@ module _ {X : Type 0} (make : X → Value) (one_of : Value → Option X) (made :
     only = λ own act item value has. first (writes own act) (all_differ own act) has.0 item value (at_place (writes own act) (sets item (make value)) has);
   }
 
--- ---- the eight fields
+-- ---- the fields
 
 title_made : (v : Value) (x : List ℕ) → title_in v ≡ Some x → v ≡ Title x
 title_made (Title y) x e = cc e
@@ -128,3 +131,17 @@ position_made _ x e = absurd cc
 
 pub positions : IsFieldOf Position position_written
 positions = is_field Position position_in position_made (λ x. refl) (λ x y. refl)
+
+fades_made : (v : Value) (x : FadeLengths) → fades_in v ≡ Some x → v ≡ Fades x
+fades_made (Fades y) x e = cc e
+fades_made _ x e = absurd cc
+
+pub fades : IsFieldOf Fades fades_written
+fades = is_field Fades fades_in fades_made (λ x. refl) (λ x y. refl)
+
+marker_length_made : (v : Value) (x : ℕ) → marker_length_in v ≡ Some x → v ≡ MarkerLength x
+marker_length_made (MarkerLength y) x e = cc e
+marker_length_made _ x e = absurd cc
+
+pub marker_lengths : IsFieldOf MarkerLength marker_length_written
+marker_lengths = is_field MarkerLength marker_length_in marker_length_made (λ x. refl) (λ x y. refl)

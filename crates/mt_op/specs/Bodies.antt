@@ -2,7 +2,7 @@
 use Rattle.std.specs.Prelude.{Bool, true, false}
 use Rattle.mt_op.specs.declared.body.Body.{Body}
 use Rattle.mt_op.specs.declared.body.Body.TheVariants as body
-use Rattle.mt_op.specs.Operation.{Act, AddTrack, MoveTrack, AddClip, MoveClip, TrimClip, SetGain, SetMute, Remove, Restore, AddMarker, MoveMarker, Retitle}
+use Rattle.mt_op.specs.Operation.{Act, AddTrack, MoveTrack, AddClip, MoveClip, TrimClip, SetGain, SetMute, Remove, Restore, AddMarker, MoveMarker, Retitle, SetFade, SetMarkerLength}
 
 abbrev pub act_of : {A : Type 0} → Body A → Act
 act_of (body.AddTrack after title) = AddTrack after title
@@ -17,6 +17,8 @@ act_of (body.Restore item) = Restore item
 act_of (body.AddMarker at title) = AddMarker at title
 act_of (body.MoveMarker marker at) = MoveMarker marker at
 act_of (body.Retitle item title) = Retitle item title
+act_of (body.SetFade clip fade_in fade_out) = SetFade clip fade_in fade_out
+act_of (body.SetMarkerLength marker len) = SetMarkerLength marker len
 
 abbrev pub body_of : {A : Type 0} → Act → Body A
 body_of (AddTrack after title) = body.AddTrack after title
@@ -31,6 +33,8 @@ body_of (Restore item) = body.Restore item
 body_of (AddMarker at title) = body.AddMarker at title
 body_of (MoveMarker marker at) = body.MoveMarker marker at
 body_of (Retitle item title) = body.Retitle item title
+body_of (SetFade clip fade_in fade_out) = body.SetFade clip fade_in fade_out
+body_of (SetMarkerLength marker len) = body.SetMarkerLength marker len
 
 -- whether an act's fields are of a fixed size, which all are but titles and tags (profile)
 abbrev pub is_fixed_size : Act → Bool

@@ -6,7 +6,7 @@ use Rattle.mt_stamp.specs.Moment.{Moment}
 use Rattle.mt_stamp.specs.Codes.{moment_code}
 use Rattle.mt_op.specs.Gain.{Ratio}
 use Rattle.mt_op.specs.declared.digest.Digest.{Digest}
-use Rattle.mt_op.specs.Operation.{Act, AddTrack, MoveTrack, AddClip, MoveClip, TrimClip, SetGain, SetMute, Remove, Restore, AddMarker, MoveMarker, Retitle, Operation}
+use Rattle.mt_op.specs.Operation.{Act, AddTrack, MoveTrack, AddClip, MoveClip, TrimClip, SetGain, SetMute, Remove, Restore, AddMarker, MoveMarker, Retitle, SetFade, SetMarkerLength, Operation}
 
 abbrev Text : Type 0
 Text = List ℕ
@@ -31,7 +31,7 @@ abbrev OfSounds : Type 0
 OfSounds = (Moment × Ratio) ⊎ (Moment × Bool)
 
 abbrev OfItems : Type 0
-OfItems = (Moment × List Moment) ⊎ (Moment ⊎ ((ℕ × Text) ⊎ ((Moment × ℕ) ⊎ (Moment × Text))))
+OfItems = (Moment × List Moment) ⊎ (Moment ⊎ ((ℕ × Text) ⊎ ((Moment × ℕ) ⊎ ((Moment × Text) ⊎ ((Moment × (ℕ × ℕ)) ⊎ (Moment × ℕ))))))
 
 -- an act by the place of its case and its fields
 abbrev Fields : Type 0
@@ -49,7 +49,9 @@ fields_of (Remove item tags) = inr (inr (inr (inl (item, tags))))
 fields_of (Restore item) = inr (inr (inr (inr (inl item))))
 fields_of (AddMarker at title) = inr (inr (inr (inr (inr (inl (at, title))))))
 fields_of (MoveMarker marker at) = inr (inr (inr (inr (inr (inr (inl (marker, at)))))))
-fields_of (Retitle item title) = inr (inr (inr (inr (inr (inr (inr (item, title)))))))
+fields_of (Retitle item title) = inr (inr (inr (inr (inr (inr (inr (inl (item, title))))))))
+fields_of (SetFade clip fade_in fade_out) = inr (inr (inr (inr (inr (inr (inr (inr (inl (clip, (fade_in, fade_out))))))))))
+fields_of (SetMarkerLength marker len) = inr (inr (inr (inr (inr (inr (inr (inr (inr (marker, len)))))))))
 
 abbrev act_of_fields : Fields → Act
 act_of_fields (inl (inl p)) = AddTrack p.0 p.1
@@ -63,7 +65,9 @@ act_of_fields (inr (inr (inr (inl p)))) = Remove p.0 p.1
 act_of_fields (inr (inr (inr (inr (inl item))))) = Restore item
 act_of_fields (inr (inr (inr (inr (inr (inl p)))))) = AddMarker p.0 p.1
 act_of_fields (inr (inr (inr (inr (inr (inr (inl p))))))) = MoveMarker p.0 p.1
-act_of_fields (inr (inr (inr (inr (inr (inr (inr p))))))) = Retitle p.0 p.1
+act_of_fields (inr (inr (inr (inr (inr (inr (inr (inl p)))))))) = Retitle p.0 p.1
+act_of_fields (inr (inr (inr (inr (inr (inr (inr (inr (inl p))))))))) = SetFade p.0 p.1.0 p.1.1
+act_of_fields (inr (inr (inr (inr (inr (inr (inr (inr (inr p))))))))) = SetMarkerLength p.0 p.1
 
 abbrev act_of_fields-fields_of : (a : Act) → act_of_fields (fields_of a) ≡ a
 act_of_fields-fields_of (AddTrack after title) = refl
@@ -78,7 +82,9 @@ fields_code =
     (coded⊎ moment_code
     (coded⊎ (coded× coded_ℕ text_code)
     (coded⊎ (coded× moment_code coded_ℕ)
-    (coded× moment_code text_code)))))))
+    (coded⊎ (coded× moment_code text_code)
+    (coded⊎ (coded× moment_code (coded× coded_ℕ coded_ℕ))
+    (coded× moment_code coded_ℕ)))))))))
 
 abbrev pub act_code : Coded Act
 act_code = code_by Fields fields_code fields_of act_of_fields act_of_fields-fields_of

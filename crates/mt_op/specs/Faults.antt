@@ -1,7 +1,7 @@
 -- The number of each refusal.
 use Rattle.std.specs.Prelude.{ℕ}
 use Rattle.mt_op.specs.declared.fault.OpFault.{OpFault}
-use Rattle.mt_op.specs.declared.fault.OpFault.TheVariants.{Memory, NameNotOlder, ZeroLength, BadTags, BadTitle, BadGain, BadDigest}
+use Rattle.mt_op.specs.declared.fault.OpFault.TheVariants.{Memory, NameNotOlder, ZeroLength, BadTags, BadTitle, BadGain, BadDigest, FadeTooLong}
 
 abbrev pub number_of : OpFault → ℕ
 number_of Memory = 0
@@ -11,3 +11,4 @@ number_of BadTags = 7
 number_of BadTitle = 43
 number_of BadGain = 44
 number_of BadDigest = 50
+number_of FadeTooLong = 51

@@ -6,7 +6,7 @@ pub use Rattle.mt_stamp.specs.Moment.{stamp_eq}
 use Rattle.mt_op.specs.declared.need.Role.{Role}
 use Rattle.mt_op.specs.declared.need.Role.TheVariants.{Track, Place, Clip, Marker, Mixable, Titled, Item, TagOf}
 use Rattle.mt_op.specs.declared.need.Need.{Need}
-use Rattle.mt_op.specs.Operation.{Act, AddTrack, MoveTrack, AddClip, MoveClip, TrimClip, SetGain, SetMute, Remove, Restore, AddMarker, MoveMarker, Retitle, Operation}
+use Rattle.mt_op.specs.Operation.{Act, AddTrack, MoveTrack, AddClip, MoveClip, TrimClip, SetGain, SetMute, Remove, Restore, AddMarker, MoveMarker, Retitle, SetFade, SetMarkerLength, Operation}
 
 abbrev pub need_of : Role → Moment → Need
 need_of role stamp = record { stamp = stamp; role = role }
@@ -30,6 +30,8 @@ needs_of (Restore item) = need_of Item item ∷ []
 needs_of (AddMarker at title) = []
 needs_of (MoveMarker marker at) = need_of Marker marker ∷ []
 needs_of (Retitle item title) = need_of Titled item ∷ []
+needs_of (SetFade clip fade_in fade_out) = need_of Clip clip ∷ []
+needs_of (SetMarkerLength marker len) = need_of Marker marker ∷ []
 
 abbrev pub needs : Operation → List Need
 needs o = needs_of o.act

@@ -1,4 +1,4 @@
--- What an operation says, without where its texts lie in memory. Of the table of the twelve acts the fields stand here,
+-- What an operation says, without where its texts lie in memory. Of the table of acts the fields stand here,
 -- what they need, which roles they fit and which tags they give in Needs, what they write in Writes, and which tags they
 -- remove in Presence.
 use Rattle.std.specs.Prelude.{ℕ, Bool, List, Option}
@@ -21,6 +21,8 @@ pub data Act : Type 0 where
   AddMarker : (at : ℕ) (title : List ℕ) → Act
   MoveMarker : (marker : Moment) (at : ℕ) → Act
   Retitle : (item : Moment) (title : List ℕ) → Act
+  SetFade : (clip : Moment) (fade_in fade_out : ℕ) → Act
+  SetMarkerLength : (marker : Moment) (len : ℕ) → Act
 
 -- An operation of an operation-based replicated type (INRIA RR-7506, operation-based objects): who made it when, and what it does.
 pub record Operation : Type 0 where

@@ -1,12 +1,13 @@
 -- Which operations there are: their parts are in range and they name older stamps.
-use Rattle.std.specs.Prelude.{◌<◌, ◌^◌, ℕ, Bool, true, IsTrue, IfSome, nat_le}
+use Rattle.std.specs.Prelude.{◌<◌, ◌≤◌, ◌^◌, ℕ, Bool, true, IsTrue, IfSome, nat_le, ◌&&◌}
 use Rattle.std.specs.List.{AllByRecursion}
 use Rattle.mt_stamp.specs.Moment.{IsMoment}
 use Rattle.mt_op.specs.Title.{is_title}
 use Rattle.mt_op.specs.Gain.{IsRatio}
 use Rattle.mt_op.specs.Digest.{IsDigest}
 use Rattle.mt_op.specs.Tags.{are_tags}
-use Rattle.mt_op.specs.Operation.{Act, AddTrack, MoveTrack, AddClip, MoveClip, TrimClip, SetGain, SetMute, Remove, Restore, AddMarker, MoveMarker, Retitle, Operation}
+use Rattle.mt_op.specs.declared.value.FadeLengths.{FadeLengths}
+use Rattle.mt_op.specs.Operation.{Act, AddTrack, MoveTrack, AddClip, MoveClip, TrimClip, SetGain, SetMute, Remove, Restore, AddMarker, MoveMarker, Retitle, SetFade, SetMarkerLength, Operation}
 use Rattle.mt_op.specs.Needs.{names_are_older}
 
 -- whether a clip keeps at least one frame; no other act gives a length (profile)
@@ -14,6 +15,19 @@ abbrev pub length_is_good : Act → Bool
 length_is_good (AddClip source track at offset len) = nat_le 1 len
 length_is_good (TrimClip clip offset len) = nat_le 1 len
 length_is_good _ = true
+
+-- how many frames a fade may last (profile)
+abbrev pub longest_fade : ℕ
+longest_fade = 1048576
+
+-- whether no fade lasts longer; no other act gives any (profile)
+abbrev pub fades_are_good : Act → Bool
+fades_are_good (SetFade clip fade_in fade_out) = nat_le fade_in longest_fade && nat_le fade_out longest_fade
+fades_are_good _ = true
+
+pub record AreShort (fades : FadeLengths) : Type 0 where
+  pub fade_in : fades.fade_in ≤ longest_fade
+  pub fade_out : fades.fade_out ≤ longest_fade
 
 -- whether the tags of a Remove are in order, from one to the greatest count; no other act has any (profile)
 abbrev pub tags_are_good : Act → Bool
@@ -38,10 +52,13 @@ AreFields (Restore item) = IsMoment item
 AreFields (AddMarker at title) = IsFrame at × IsTrue (is_title title)
 AreFields (MoveMarker marker at) = IsMoment marker × IsFrame at
 AreFields (Retitle item title) = IsMoment item × IsTrue (is_title title)
+AreFields (SetFade clip fade_in fade_out) = IsMoment clip × (IsFrame fade_in × IsFrame fade_out)
+AreFields (SetMarkerLength marker len) = IsMoment marker × IsFrame len
 
 pub record IsOperation (o : Operation) : Type 0 where
   pub stamp : IsMoment o.stamp
   pub fields : AreFields o.act
   pub older : IsTrue (names_are_older o)
   pub length : IsTrue (length_is_good o.act)
+  pub fades : IsTrue (fades_are_good o.act)
   pub tags : IsTrue (tags_are_good o.act)

@@ -7,7 +7,8 @@ use Rattle.mt_op.specs.Gain.{Ratio, unchanged}
 use Rattle.mt_op.specs.declared.digest.Digest.{Digest}
 use Rattle.mt_op.specs.declared.value.Placement.{Placement}
 use Rattle.mt_op.specs.declared.value.TrimRange.{TrimRange}
-use Rattle.mt_op.specs.Operation.{Act, AddTrack, MoveTrack, AddClip, MoveClip, TrimClip, SetGain, SetMute, AddMarker, MoveMarker, Retitle, Operation}
+use Rattle.mt_op.specs.declared.value.FadeLengths.{FadeLengths}
+use Rattle.mt_op.specs.Operation.{Act, AddTrack, MoveTrack, AddClip, MoveClip, TrimClip, SetGain, SetMute, AddMarker, MoveMarker, Retitle, SetFade, SetMarkerLength, Operation}
 use Rattle.mt_op.specs.Needs.{stamp_eq}
 
 -- a value of a field: the fields of tracks, of clips and of markers (profile)
@@ -25,6 +26,10 @@ pub data Value : Type 0 where
   Source : Digest → Value
   -- the frame of the session at which a marker stands
   Position : ℕ → Value
+  -- over how many frames a clip fades in and out
+  Fades : FadeLengths → Value
+  -- how many frames a marker spans, 0 for a point
+  MarkerLength : ℕ → Value
 
 -- a value for one field of an item
 pub record Write (X : Type 0) : Type 0 where
@@ -34,18 +39,24 @@ pub record Write (X : Type 0) : Type 0 where
 abbrev pub sets : Moment → Value → Write Value
 sets item value = record { item = item; value = value }
 
+-- the fades of a clip that is added
+abbrev pub no_fades : FadeLengths
+no_fades = record { fade_in = 0; fade_out = 0 }
+
 -- what each act writes, `own` being the operation's stamp (profile)
 abbrev pub writes : Moment → Act → List (Write Value)
 writes own (AddTrack after title) = sets own (TrackPlace after) ∷ sets own (Title title) ∷ sets own (Gain unchanged) ∷ sets own (Mute false) ∷ []
 writes own (MoveTrack track after) = sets track (TrackPlace after) ∷ []
-writes own (AddClip source track at offset len) = sets own (ClipPlace (record { track = track; at = at })) ∷ sets own (Trim (record { offset = offset; len = len })) ∷ sets own (Source source) ∷ sets own (Gain unchanged) ∷ sets own (Mute false) ∷ []
+writes own (AddClip source track at offset len) = sets own (ClipPlace (record { track = track; at = at })) ∷ sets own (Trim (record { offset = offset; len = len })) ∷ sets own (Source source) ∷ sets own (Gain unchanged) ∷ sets own (Mute false) ∷ sets own (Fades no_fades) ∷ []
 writes own (MoveClip clip track at) = sets clip (ClipPlace (record { track = track; at = at })) ∷ []
 writes own (TrimClip clip offset len) = sets clip (Trim (record { offset = offset; len = len })) ∷ []
 writes own (SetGain item gain) = sets item (Gain gain) ∷ []
 writes own (SetMute item on) = sets item (Mute on) ∷ []
-writes own (AddMarker at title) = sets own (Position at) ∷ sets own (Title title) ∷ []
+writes own (AddMarker at title) = sets own (Position at) ∷ sets own (Title title) ∷ sets own (MarkerLength 0) ∷ []
 writes own (MoveMarker marker at) = sets marker (Position at) ∷ []
 writes own (Retitle item title) = sets item (Title title) ∷ []
+writes own (SetFade clip fade_in fade_out) = sets clip (Fades (record { fade_in = fade_in; fade_out = fade_out })) ∷ []
+writes own (SetMarkerLength marker len) = sets marker (MarkerLength len) ∷ []
 writes own _ = []
 
 -- the first of several values that is one of a field
@@ -90,6 +101,14 @@ abbrev pub position_in : Value → Option ℕ
 position_in (Position at) = Some at
 position_in _ = None
 
+abbrev pub fades_in : Value → Option FadeLengths
+fades_in (Fades fades) = Some fades
+fades_in _ = None
+
+abbrev pub marker_length_in : Value → Option ℕ
+marker_length_in (MarkerLength len) = Some len
+marker_length_in _ = None
+
 -- the item whose field an act writes, and the value
 abbrev pub title_written : Moment → Act → Option (Write (List ℕ))
 title_written own act = first_of title_in (writes own act)
@@ -114,6 +133,12 @@ source_written own act = first_of source_in (writes own act)
 
 abbrev pub position_written : Moment → Act → Option (Write ℕ)
 position_written own act = first_of position_in (writes own act)
+
+abbrev pub fades_written : Moment → Act → Option (Write FadeLengths)
+fades_written own act = first_of fades_in (writes own act)
+
+abbrev pub marker_length_written : Moment → Act → Option (Write ℕ)
+marker_length_written own act = first_of marker_length_in (writes own act)
 
 -- the later of two by their writers, the second where they tie
 abbrev pub later : {X : Type 0} → Written X → Option (Written X) → Option (Written X)

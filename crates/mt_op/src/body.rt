@@ -14,6 +14,9 @@ use crate::title::Title;
 use mt_stamp::{List, Stamp};
 use std::alloc::{Allocator, Global};
 
+/// The longest fade of a clip, in frames.
+pub const LONGEST_FADE: u32 = 1_048_576;
+
 /// What an operation does to the session. Positions and offsets are in frames, counted from 0, and each is any `u32`.
 /// An AddTrack, AddClip or AddMarker adds an item, which the operation's own stamp names from then on, and is its first
 /// tag.
@@ -33,7 +36,8 @@ pub enum Body<A: Allocator = Global> {
         after: Option<Stamp>,
     },
     /// Adds a clip to a track, from frame `at` of the session on: `len` frames, at least 1, of the recording with the
-    /// digest `source`, from its frame `offset` on. The clip's gain is 1/1, and it is not muted.
+    /// digest `source`, from its frame `offset` on. The clip's gain is 1/1, it is not muted, and it has no
+    /// fades.
     AddClip {
         source: Digest,
         track: Stamp,
@@ -73,7 +77,7 @@ pub enum Body<A: Allocator = Global> {
     Restore {
         item: Stamp,
     },
-    /// Adds a marker at frame `at` of the session.
+    /// Adds a marker at frame `at` of the session, a point: its length is 0.
     AddMarker {
         at: u32,
         title: Title<A>,
@@ -87,6 +91,18 @@ pub enum Body<A: Allocator = Global> {
     Retitle {
         item: Stamp,
         title: Title<A>,
+    },
+    /// Lets a clip fade in over its first `fade_in` frames and out over its last `fade_out`, each at most `LONGEST_FADE`; 0 is no fade. Both
+    /// may be longer than the clip, whose end then cuts them.
+    SetFade {
+        clip: Stamp,
+        fade_in: u32,
+        fade_out: u32,
+    },
+    /// Lets a marker span `len` frames from its position on; 0 is a point.
+    SetMarkerLength {
+        marker: Stamp,
+        len: u32,
     },
 }
 
@@ -105,7 +121,7 @@ impl<A: Allocator> Body<A> {
     ghost use Rattle.mt_op.specs.Operation.{Operation};
     ghost use Rattle.mt_op.specs.Bodies.{act_of, is_fixed_size};
     ghost use Rattle.mt_op.specs.Needs.{names_are_older};
-    ghost use Rattle.mt_op.specs.Valid.{AreFields, length_is_good, tags_are_good};
+    ghost use Rattle.mt_op.specs.Valid.{AreFields, length_is_good, fades_are_good, tags_are_good};
     ghost use Rattle.mt_stamp.specs.Moment.{IsMoment};
 
     // Whether every stamp that the body names has a smaller clock than the stamp.
@@ -160,6 +176,18 @@ impl<A: Allocator> Body<A> {
                 let _ = title.text();
                 item.clock() < clock
             }
+            Body::SetFade {
+                clip,
+                fade_in,
+                fade_out,
+            } => {
+                let (_fade_in, _fade_out) = (*fade_in, *fade_out);
+                clip.clock() < clock
+            }
+            Body::SetMarkerLength { marker, len } => {
+                let _len = *len;
+                marker.clock() < clock
+            }
         }
     }
 
@@ -169,6 +197,20 @@ impl<A: Allocator> Body<A> {
     {
         match self {
             Body::AddClip { len, .. } | Body::TrimClip { len, .. } => *len >= 1,
+            _ => true,
+        }
+    }
+
+    // Whether no fade that the body gives a clip lasts too long.
+    pub(crate) fn fades_are_good(&self) -> bool
+        ensures { result ≡ fades_are_good (act_of self.now) }
+    {
+        match self {
+            Body::SetFade {
+                fade_in,
+                fade_out,
+                ..
+            } => *fade_in <= LONGEST_FADE && *fade_out <= LONGEST_FADE,
             _ => true,
         }
     }
@@ -248,6 +290,19 @@ impl<A: Allocator> Body<A> {
             Body::Retitle { item, title } => Body::Retitle {
                 item: *item,
                 title: title.try_clone()?,
+            },
+            Body::SetFade {
+                clip,
+                fade_in,
+                fade_out,
+            } => Body::SetFade {
+                clip: *clip,
+                fade_in: *fade_in,
+                fade_out: *fade_out,
+            },
+            Body::SetMarkerLength { marker, len } => Body::SetMarkerLength {
+                marker: *marker,
+                len: *len,
             },
         })
     }

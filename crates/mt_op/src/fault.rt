@@ -24,10 +24,12 @@ pub enum OpFault {
     BadGain,
     #[error("the text is not 64 hex digits")]
     BadDigest,
+    #[error("a fade lasts over 1,048,576 frames")]
+    FadeTooLong,
 }
 
 impl OpFault {
-    /// The refusal's number: 0, 5, 6, 7, 43, 44 or 50.
+    /// The refusal's number: 0, 5, 6, 7, 43, 44, 50 or 51.
     pub fn number(&self) -> u8
         ensures { result ≡ number_of self.now }
     {
@@ -39,6 +41,7 @@ impl OpFault {
             OpFault::BadTitle => 43,
             OpFault::BadGain => 44,
             OpFault::BadDigest => 50,
+            OpFault::FadeTooLong => 51,
         }
     }
 }

@@ -8,6 +8,7 @@ ghost use Rattle.mt_op.specs.Gain.{Ratio, unchanged};
 ghost use Rattle.mt_op.specs.declared.digest.Digest.{Digest as DigestOf};
 ghost use Rattle.mt_op.specs.declared.value.Placement.{Placement};
 ghost use Rattle.mt_op.specs.declared.value.TrimRange.{TrimRange};
+ghost use Rattle.mt_op.specs.declared.value.FadeLengths.{FadeLengths};
 ghost use Rattle.std.specs.Cmp.Lexicographic.{slice_cmp};
 ghost use Rattle.mt_op.specs.Bodies.{act_of};
 ghost use Rattle.mt_op.specs.Writes as field;
@@ -42,6 +43,8 @@ pub fn writes()
     ensures trims { IsFieldOf field.Trim field.trim_written }
     ensures sources { IsFieldOf field.Source field.source_written }
     ensures positions { IsFieldOf field.Position field.position_written }
+    ensures fades { IsFieldOf field.Fades field.fades_written }
+    ensures marker_lengths { IsFieldOf field.MarkerLength field.marker_length_written }
 {}
 
 /// The last write of each field is the one with the greatest stamp, and there is one where the field was written.
@@ -54,6 +57,8 @@ pub fn last_write()
     ensures trims { LatestIsGreatest TrimRange }
     ensures sources { LatestIsGreatest DigestOf }
     ensures positions { LatestIsGreatest ℕ }
+    ensures fades { LatestIsGreatest FadeLengths }
+    ensures marker_lengths { LatestIsGreatest ℕ }
 {}
 
 /// The last write of an item's field is the value that one of the operations writes there, and no operation that writes
@@ -67,6 +72,8 @@ pub fn last_writer()
     ensures trims { LastWriteIsGreatest field.Trim field.trim_written }
     ensures sources { LastWriteIsGreatest field.Source field.source_written }
     ensures positions { LastWriteIsGreatest field.Position field.position_written }
+    ensures fades { LastWriteIsGreatest field.Fades field.fades_written }
+    ensures marker_lengths { LastWriteIsGreatest field.MarkerLength field.marker_length_written }
 {}
 
 /// The live tags of an item are those that an operation gives it and none removes, and it is present exactly where it has one.

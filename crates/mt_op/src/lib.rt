@@ -37,7 +37,7 @@ mod tags;
 mod title;
 mod value;
 
-pub use body::Body;
+pub use body::{Body, LONGEST_FADE};
 pub use digest::Digest;
 pub use fault::OpFault;
 pub use find::find_op;
@@ -45,4 +45,4 @@ pub use gain::Gain;
 pub use need::{Need, Role};
 pub use op::Op;
 pub use title::Title;
-pub use value::{Placement, TrimRange};
+pub use value::{FadeLengths, Placement, TrimRange};

@@ -4,7 +4,7 @@ ghost use Rattle.std.specs.Prelude.{◌≡◌, ◌↔◌, ◌⊎◌, true, false
 ghost use Rattle.mt_op.specs.Bodies.{act_of, is_fixed_size};
 ghost use Rattle.mt_op.specs.Operation.{MoveTrack, Remove};
 ghost use Rattle.mt_op.specs.Needs.{need_of, place_needs, needs_of, needs, fits, names_are_older};
-ghost use Rattle.mt_op.specs.Valid.{IsOperation, length_is_good, tags_are_good};
+ghost use Rattle.mt_op.specs.Valid.{IsOperation, length_is_good, fades_are_good, tags_are_good};
 ghost use Rattle.mt_op.specs.Dots.{op_dot};
 
 use crate::body::Body;
@@ -15,7 +15,8 @@ use std::alloc::{Allocator, Global};
 use std::marker::Model;
 
 /// An operation: its stamp and what it does. Each stamp that its body names has a smaller clock than its own, the
-/// length that it gives a clip is at least 1, and the tags of a Remove are from 1 to 65,535, rising.
+/// length that it gives a clip is at least 1, the fades that it gives one are at most 1,048,576 frames, and the tags of a Remove
+/// are from 1 to 65,535, rising.
 #[derive(Drop)]
 #[derive_where(PartialEq, Eq)]
 pub struct Op<A: Allocator = Global> {
@@ -98,20 +99,24 @@ impl<A: Allocator> Op<A> {
 
     /// An operation of a stamp and a body. Refused, in this order: `NameNotOlder` (5) where a stamp that the body
     /// names has a clock that is not smaller than this stamp's; `ZeroLength` (6) where an AddClip or a TrimClip gives
-    /// a clip no frame; `BadTags` (7) where a Remove lists no tag, over 65,535, or one that is not greater than the
-    /// one before. The body is then dropped. Takes no memory.
+    /// a clip no frame; `FadeTooLong` (51) where a SetFade gives a clip a fade of over 1,048,576 frames; `BadTags` (7) where a Remove lists
+    /// no tag, over 65,535, or one that is not greater than the one before. The body is then dropped. Takes no memory.
     pub fn new(stamp: Stamp, body: Body<A>) -> Result<Self, OpFault>
         ensures ok { IfOk result (λ op. op ≡ record { stamp = stamp; act = act_of body }) }
         ensures not_older { IsErrOf result OpFault.NameNotOlder ↔ (names_are_older (record { stamp = stamp; act = act_of body }) ≡ false) }
         ensures zero_length { IsErrOf result OpFault.ZeroLength ↔ ((names_are_older (record { stamp = stamp; act = act_of body }) ≡ true) × (length_is_good (act_of body) ≡ false)) }
-        ensures bad_tags { IsErrOf result OpFault.BadTags ↔ ((names_are_older (record { stamp = stamp; act = act_of body }) ≡ true) × (length_is_good (act_of body) ≡ true) × (tags_are_good (act_of body) ≡ false)) }
-        ensures err { IfErr result (λ fault. (fault ≡ OpFault.NameNotOlder) ⊎ ((fault ≡ OpFault.ZeroLength) ⊎ (fault ≡ OpFault.BadTags))) }
+        ensures fade_too_long { IsErrOf result OpFault.FadeTooLong ↔ ((names_are_older (record { stamp = stamp; act = act_of body }) ≡ true) × (length_is_good (act_of body) ≡ true) × (fades_are_good (act_of body) ≡ false)) }
+        ensures bad_tags { IsErrOf result OpFault.BadTags ↔ ((names_are_older (record { stamp = stamp; act = act_of body }) ≡ true) × (length_is_good (act_of body) ≡ true) × (fades_are_good (act_of body) ≡ true) × (tags_are_good (act_of body) ≡ false)) }
+        ensures err { IfErr result (λ fault. (fault ≡ OpFault.NameNotOlder) ⊎ ((fault ≡ OpFault.ZeroLength) ⊎ ((fault ≡ OpFault.FadeTooLong) ⊎ (fault ≡ OpFault.BadTags)))) }
     {
         if !body.names_are_older_than(stamp) {
             return Err(OpFault::NameNotOlder);
         }
         if !body.length_is_good() {
             return Err(OpFault::ZeroLength);
+        }
+        if !body.fades_are_good() {
+            return Err(OpFault::FadeTooLong);
         }
         if !body.tags_are_good() {
             return Err(OpFault::BadTags);
@@ -160,9 +165,10 @@ impl<A: Allocator> Op<A> {
 
     /// The need at place `i`, counted from 0, in the order of the body's fields. `None` where `i` is
     /// `need_count()` or more. An AddTrack or a MoveTrack needs what it is put after as a `Place`; a MoveTrack, an
-    /// AddClip and a MoveClip their track as a `Track`; a MoveClip and a TrimClip their clip as a `Clip`; a SetGain
+    /// AddClip and a MoveClip their track as a `Track`; a MoveClip, a TrimClip and a SetFade their clip as a `Clip`; a SetGain
     /// and a SetMute their item as a `Mixable`; a Remove the item as an `Item`, and then each tag as a `TagOf` that
-    /// item; a Restore its item as an `Item`; a MoveMarker its marker as a `Marker`; a Retitle its item as a `Titled`.
+    /// item; a Restore its item as an `Item`; a MoveMarker and a SetMarkerLength their marker as a `Marker`; a Retitle its item as a
+    /// `Titled`.
     pub fn need(&self, i: usize) -> Option<Need>
         ensures { result ≡ slice_get (needs self.now) i }
     {
@@ -180,6 +186,8 @@ impl<A: Allocator> Op<A> {
             Body::AddMarker { .. } => None,
             Body::MoveMarker { marker, .. } => only_need(*marker, Role::Marker, i),
             Body::Retitle { item, .. } => only_need(*item, Role::Titled, i),
+            Body::SetFade { clip, .. } => only_need(*clip, Role::Clip, i),
+            Body::SetMarkerLength { marker, .. } => only_need(*marker, Role::Marker, i),
         }
     }
 

@@ -16,3 +16,11 @@ pub struct TrimRange {
     pub offset: u32,
     pub len: u32,
 }
+
+/// Over how many frames a clip fades in from its first one on, and out to its last one, each any `u32`; an operation gives at most
+/// `LONGEST_FADE`. 0 for no fade.
+#[derive(Clone, Copy, Debug, PartialEq, Eq, PartialOrd, Ord)]
+pub struct FadeLengths {
+    pub fade_in: u32,
+    pub fade_out: u32,
+}

@@ -3,7 +3,7 @@ use Rattle.std.proofs.Common.{◌≡◌, ℕ, Bool, true, List, ◌∷◌, ap}
 use Rattle.mt_stamp.specs.Moment.{Moment}
 use Rattle.mt_op.specs.Operation.{Act}
 use Rattle.mt_op.specs.Needs.{names_are_older}
-use Rattle.mt_op.specs.Valid.{AreFields, length_is_good, tags_are_good}
+use Rattle.mt_op.specs.Valid.{AreFields, length_is_good, fades_are_good, tags_are_good}
 use Rattle.mt_opcodec.specs.OpText.{act_bytes}
 use Rattle.mt_opcodec.proofs.Fields.{Takes}
 
@@ -17,6 +17,7 @@ pub record Read (stamp : Moment) (bytes : List ℕ) (x : Act × List ℕ) : Type
   pub fields : AreFields x.0
   pub older : act_is_older stamp x.0 ≡ true
   pub length : length_is_good x.0 ≡ true
+  pub fades : fades_are_good x.0 ≡ true
   pub tags : tags_are_good x.0 ≡ true
 
 -- the same of the fields alone, after their kind byte

@@ -26,6 +26,7 @@ Adds-same o a b e (Err fault.Damaged) h = h
 Adds-same o a b e (Err (fault.BadRecord index cause)) h = h
 Adds-same o a b e (Err (fault.OutOfOrder index)) h = h
 Adds-same o a b e (Err fault.Trailing) h = h
+Adds-same o a b e (Err fault.VersionTooHigh) h = h
 
 module _ (log : LogMap) (runs : List RunOf) (is : log_of (run_ops runs) ≡ log) (h : AreRuns runs) (o : Operation) where
   pub run_adds : (i : ℕ) (r : RunOf) → slice_get runs i ≡ Some r → r.replica ≡ o.stamp.replica → (res : Result Bool LogFault) → Adds o (log_of r.ops) res → Adds o log res

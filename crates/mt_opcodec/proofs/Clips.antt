@@ -1,15 +1,16 @@
 -- The acts on clips: what is read is spelled so, and what is spelled so is read.
-use Rattle.std.proofs.Common.{◌≡◌, ℕ, ◌^◌, true, ltb, leb, List, ◌++◌, Result, Ok, refl, ap, subst, ◌∙◌, append_assoc}
+use Rattle.std.proofs.Common.{◌≡◌, ℕ, ◌^◌, true, ltb, leb, ◌&&◌, List, ◌++◌, Result, Ok, refl, ap, subst, ◌∙◌, append_assoc}
 use Rattle.std.specs.Int.{w32}
 use Rattle.mt_stamp.specs.Moment.{Moment, IsMoment}
 use Rattle.mt_op.specs.declared.digest.Digest.{Digest}
 use Rattle.mt_op.specs.Digest.{IsDigest}
-use Rattle.mt_op.specs.Valid.{IsFrame}
-use Rattle.mt_op.specs.Operation.{Act, AddClip, MoveClip, TrimClip}
+use Rattle.mt_op.specs.Valid.{IsFrame, longest_fade}
+use Rattle.mt_op.specs.Operation.{Act, AddClip, MoveClip, TrimClip, SetFade}
 use Rattle.mt_opcodec.specs.declared.fault.ReadFault.{ReadFault}
-use Rattle.mt_opcodec.specs.OpText.{stamp_bytes, frame_bytes, trim_bytes, add_clip_kind, move_clip_kind, trim_clip_kind}
-use Rattle.mt_opcodec.specs.OpReading.{◌>>=◌, number_at, positive_at, older_stamp_at, digest_at, trim_at, add_clip_at, move_clip_at, trim_clip_at}
-use Rattle.mt_opcodec.proofs.Fields.{IsBytes, bind_ok, ok_is, Takes, Takes-then, wide32, number_takes, number_again, positive_takes, positive_again, digest_takes, digest_again}
+use Rattle.mt_opcodec.specs.declared.fault.ReadFault.TheVariants.{BadField}
+use Rattle.mt_opcodec.specs.OpText.{stamp_bytes, frame_bytes, trim_bytes, fades_bytes, add_clip_kind, move_clip_kind, trim_clip_kind, set_fade_kind}
+use Rattle.mt_opcodec.specs.OpReading.{◌>>=◌, number_at, positive_at, older_stamp_at, digest_at, trim_at, fade_at, fades_at, add_clip_at, move_clip_at, trim_clip_at, set_fade_at}
+use Rattle.mt_opcodec.proofs.Fields.{IsBytes, bind_ok, refuses_false, ok_is, Takes, Takes-then, wide32, number_takes, number_again, positive_takes, positive_again, digest_takes, digest_again}
 use Rattle.mt_opcodec.proofs.Stamps.{older_takes, older_again}
 use Rattle.mt_opcodec.proofs.Acts.{act_is_older, Found, with_kind}
 
@@ -37,6 +38,43 @@ trim_again offset len rest offset_fits len_fits from =
     ∙ ap (λ (r : Result (ℕ × List ℕ) ReadFault). r >>= λ offset. positive_at w32 offset.1 >>= λ len. Ok ((offset.0, len.0), len.1)) (number_again w32 (2 ^ 32) wide32 offset (frame_bytes len ++ rest) offset_fits)
     ∙ ap (λ (r : Result (ℕ × List ℕ) ReadFault). r >>= λ len. Ok ((offset, len.0), len.1)) (positive_again w32 (2 ^ 32) wide32 len rest len_fits from)
 
+-- ---- its fades
+
+fade_takes : (bytes : List ℕ) (x : ℕ × List ℕ) → IsBytes bytes → fade_at bytes ≡ Ok x → Takes bytes (frame_bytes x.0) x.1 × IsFrame x.0 × (leb x.0 longest_fade ≡ true)
+unfolding fade_at
+fade_takes bytes x fits e =
+    let a = bind_ok (number_at w32 bytes) _ x e in
+    let t = number_takes w32 (2 ^ 32) wide32 bytes a.0.0 a.0.1 fits a.1 in
+    let g = refuses_false (leb a.0.0 longest_fade) BadField a.0 x a.2 in
+    subst (λ (y : ℕ × List ℕ). Takes bytes (frame_bytes y.0) y.1 × IsFrame y.0 × (leb y.0 longest_fade ≡ true)) g.1 (t.0, t.1, g.0)
+
+fade_again : (n : ℕ) (rest : List ℕ) → IsFrame n → leb n longest_fade ≡ true → fade_at (frame_bytes n ++ rest) ≡ Ok (n, rest)
+unfolding fade_at
+fade_again n rest fits short = rw (number_again w32 (2 ^ 32) wide32 n rest fits, short) refl
+
+-- what reading both fades took from the front
+abbrev Faded : List ℕ → (ℕ × ℕ) × List ℕ → Type 0
+Faded bytes x = Takes bytes (fades_bytes x.0.0 x.0.1) x.1 × IsFrame x.0.0 × IsFrame x.0.1 × ((leb x.0.0 longest_fade && leb x.0.1 longest_fade) ≡ true)
+
+fades_takes : (bytes : List ℕ) (x : (ℕ × ℕ) × List ℕ) → IsBytes bytes → fades_at bytes ≡ Ok x → Faded bytes x
+unfolding fades_at
+fades_takes bytes x fits e =
+    let a = bind_ok (fade_at bytes) _ x e in
+    let b = bind_ok (fade_at a.0.1) _ x a.2 in
+    let t0 = fade_takes bytes a.0 fits a.1 in
+    let t1 = fade_takes a.0.1 b.0 t0.0.rest_fits b.1 in
+    let both = Takes-then bytes (frame_bytes a.0.0) a.0.1 (frame_bytes b.0.0) b.0.1 t0.0 t1.0 in
+    let made : (ℕ × ℕ) × List ℕ = ((a.0.0, b.0.0), b.0.1) in
+    let short : (leb a.0.0 longest_fade && leb b.0.0 longest_fade) ≡ true = rw (t0.2, t1.2) refl in
+    subst (Faded bytes) (ok_is made x b.2) (both, t0.1, t1.1, short)
+
+fades_again : (fade_in fade_out : ℕ) (rest : List ℕ) → IsFrame fade_in → IsFrame fade_out → leb fade_in longest_fade ≡ true → leb fade_out longest_fade ≡ true → fades_at (fades_bytes fade_in fade_out ++ rest) ≡ Ok ((fade_in, fade_out), rest)
+unfolding fades_at
+fades_again fade_in fade_out rest in_fits out_fits in_short out_short =
+    ap fades_at (append_assoc (frame_bytes fade_in) (frame_bytes fade_out) rest)
+    ∙ ap (λ (r : Result (ℕ × List ℕ) ReadFault). r >>= λ fade_in. fade_at fade_in.1 >>= λ fade_out. Ok ((fade_in.0, fade_out.0), fade_out.1)) (fade_again fade_in (frame_bytes fade_out ++ rest) in_fits in_short)
+    ∙ ap (λ (r : Result (ℕ × List ℕ) ReadFault). r >>= λ fade_out. Ok ((fade_in, fade_out.0), fade_out.1)) (fade_again fade_out rest out_fits out_short)
+
 -- ---- what is read is spelled so
 
 pub add_clip_takes : (stamp : Moment) (bytes : List ℕ) (x : Act × List ℕ) → IsBytes bytes → add_clip_at stamp.clock bytes ≡ Ok x → Found stamp add_clip_kind bytes x
@@ -56,7 +94,7 @@ add_clip_takes stamp bytes x fits e =
     let all = Takes-then bytes a.0.0.0 a.0.1 (stamp_bytes b.0.0 ++ (frame_bytes c.0.0 ++ trim)) d.0.1 t0.0 from_track in
     let made : Act × List ℕ = (AddClip a.0.0 b.0.0 c.0.0 d.0.0.0 d.0.0.1, d.0.1) in
     let older : act_is_older stamp (AddClip a.0.0 b.0.0 c.0.0 d.0.0.0 d.0.0.1) ≡ true = rw t1.2 refl in
-    subst (Found stamp add_clip_kind bytes) (ok_is made x d.2) (record { front = with_kind add_clip_kind bytes _ _ all; fields = (t0.1, (t1.1, (t2.1, (t3.1, t3.2)))); older = older; length = t3.3; tags = refl })
+    subst (Found stamp add_clip_kind bytes) (ok_is made x d.2) (record { front = with_kind add_clip_kind bytes _ _ all; fields = (t0.1, (t1.1, (t2.1, (t3.1, t3.2)))); older = older; length = t3.3; fades = refl; tags = refl })
 
 pub move_clip_takes : (stamp : Moment) (bytes : List ℕ) (x : Act × List ℕ) → IsBytes bytes → move_clip_at stamp.clock bytes ≡ Ok x → Found stamp move_clip_kind bytes x
 unfolding move_clip_at
@@ -71,7 +109,7 @@ move_clip_takes stamp bytes x fits e =
     let all = Takes-then bytes (stamp_bytes a.0.0) a.0.1 (stamp_bytes b.0.0 ++ frame_bytes c.0.0) c.0.1 t0.0 from_track in
     let made : Act × List ℕ = (MoveClip a.0.0 b.0.0 c.0.0, c.0.1) in
     let older : act_is_older stamp (MoveClip a.0.0 b.0.0 c.0.0) ≡ true = rw (t0.2, t1.2) refl in
-    subst (Found stamp move_clip_kind bytes) (ok_is made x c.2) (record { front = with_kind move_clip_kind bytes _ _ all; fields = (t0.1, (t1.1, t2.1)); older = older; length = refl; tags = refl })
+    subst (Found stamp move_clip_kind bytes) (ok_is made x c.2) (record { front = with_kind move_clip_kind bytes _ _ all; fields = (t0.1, (t1.1, t2.1)); older = older; length = refl; fades = refl; tags = refl })
 
 pub trim_clip_takes : (stamp : Moment) (bytes : List ℕ) (x : Act × List ℕ) → IsBytes bytes → trim_clip_at stamp.clock bytes ≡ Ok x → Found stamp trim_clip_kind bytes x
 unfolding trim_clip_at
@@ -83,7 +121,19 @@ trim_clip_takes stamp bytes x fits e =
     let both = Takes-then bytes (stamp_bytes a.0.0) a.0.1 (trim_bytes b.0.0.0 b.0.0.1) b.0.1 t0.0 t1.0 in
     let made : Act × List ℕ = (TrimClip a.0.0 b.0.0.0 b.0.0.1, b.0.1) in
     let older : act_is_older stamp (TrimClip a.0.0 b.0.0.0 b.0.0.1) ≡ true = rw t0.2 refl in
-    subst (Found stamp trim_clip_kind bytes) (ok_is made x b.2) (record { front = with_kind trim_clip_kind bytes _ _ both; fields = (t0.1, (t1.1, t1.2)); older = older; length = t1.3; tags = refl })
+    subst (Found stamp trim_clip_kind bytes) (ok_is made x b.2) (record { front = with_kind trim_clip_kind bytes _ _ both; fields = (t0.1, (t1.1, t1.2)); older = older; length = t1.3; fades = refl; tags = refl })
+
+pub set_fade_takes : (stamp : Moment) (bytes : List ℕ) (x : Act × List ℕ) → IsBytes bytes → set_fade_at stamp.clock bytes ≡ Ok x → Found stamp set_fade_kind bytes x
+unfolding set_fade_at
+set_fade_takes stamp bytes x fits e =
+    let a = bind_ok (older_stamp_at stamp.clock bytes) _ x e in
+    let b = bind_ok (fades_at a.0.1) _ x a.2 in
+    let t0 = older_takes stamp.clock bytes a.0 fits a.1 in
+    let t1 = fades_takes a.0.1 b.0 t0.0.rest_fits b.1 in
+    let both = Takes-then bytes (stamp_bytes a.0.0) a.0.1 (fades_bytes b.0.0.0 b.0.0.1) b.0.1 t0.0 t1.0 in
+    let made : Act × List ℕ = (SetFade a.0.0 b.0.0.0 b.0.0.1, b.0.1) in
+    let older : act_is_older stamp (SetFade a.0.0 b.0.0.0 b.0.0.1) ≡ true = rw t0.2 refl in
+    subst (Found stamp set_fade_kind bytes) (ok_is made x b.2) (record { front = with_kind set_fade_kind bytes _ _ both; fields = (t0.1, (t1.1, t1.2)); older = older; length = refl; fades = t1.3; tags = refl })
 
 -- ---- what is spelled so is read
 
@@ -117,3 +167,11 @@ trim_clip_again clock clip offset len rest fits older offset_fits len_fits from 
     ap (trim_clip_at clock) (append_assoc (stamp_bytes clip) (trim_bytes offset len) rest)
     ∙ ap (λ (r : Result (Moment × List ℕ) ReadFault). r >>= λ clip. trim_at clip.1 >>= λ trim. Ok (TrimClip clip.0 trim.0.0 trim.0.1, trim.1)) (older_again clock clip (trim_bytes offset len ++ rest) fits older)
     ∙ ap (λ (r : Result ((ℕ × ℕ) × List ℕ) ReadFault). r >>= λ trim. Ok (TrimClip clip trim.0.0 trim.0.1, trim.1)) (trim_again offset len rest offset_fits len_fits from)
+
+pub set_fade_again : (clock : ℕ) (clip : Moment) (fade_in fade_out : ℕ) (rest : List ℕ) → IsMoment clip → ltb clip.clock clock ≡ true → IsFrame fade_in → IsFrame fade_out → leb fade_in longest_fade ≡ true → leb fade_out longest_fade ≡ true
+    → set_fade_at clock ((stamp_bytes clip ++ fades_bytes fade_in fade_out) ++ rest) ≡ Ok (SetFade clip fade_in fade_out, rest)
+unfolding set_fade_at
+set_fade_again clock clip fade_in fade_out rest fits older in_fits out_fits in_short out_short =
+    ap (set_fade_at clock) (append_assoc (stamp_bytes clip) (fades_bytes fade_in fade_out) rest)
+    ∙ ap (λ (r : Result (Moment × List ℕ) ReadFault). r >>= λ clip. fades_at clip.1 >>= λ fades. Ok (SetFade clip.0 fades.0.0 fades.0.1, fades.1)) (older_again clock clip (fades_bytes fade_in fade_out ++ rest) fits older)
+    ∙ ap (λ (r : Result ((ℕ × ℕ) × List ℕ) ReadFault). r >>= λ fades. Ok (SetFade clip fades.0.0 fades.0.1, fades.1)) (fades_again fade_in fade_out rest in_fits out_fits in_short out_short)

@@ -30,7 +30,7 @@ remove_takes stamp bytes x fits e =
     let both = Takes-then bytes (stamp_bytes a.0.0) a.0.1 (tags_bytes b.0.0) b.0.1 t0.0 t1.0 in
     let made : Act × List ℕ = (Remove a.0.0 b.0.0, b.0.1) in
     let older : act_is_older stamp (Remove a.0.0 b.0.0) ≡ true = remove_is_older stamp a.0.0 b.0.0 ∙ rw (t0.2, t1.2) refl in
-    subst (Found stamp remove_kind bytes) (ok_is made x b.2) (record { front = with_kind remove_kind bytes _ _ both; fields = (t0.1, t1.1); older = older; length = refl; tags = t1.3 })
+    subst (Found stamp remove_kind bytes) (ok_is made x b.2) (record { front = with_kind remove_kind bytes _ _ both; fields = (t0.1, t1.1); older = older; length = refl; fades = refl; tags = t1.3 })
 
 pub restore_takes : (stamp : Moment) (bytes : List ℕ) (x : Act × List ℕ) → IsBytes bytes → restore_at stamp.clock bytes ≡ Ok x → Found stamp restore_kind bytes x
 unfolding restore_at
@@ -39,7 +39,7 @@ restore_takes stamp bytes x fits e =
     let t = older_takes stamp.clock bytes a.0 fits a.1 in
     let made : Act × List ℕ = (Restore a.0.0, a.0.1) in
     let older : act_is_older stamp (Restore a.0.0) ≡ true = rw t.2 refl in
-    subst (Found stamp restore_kind bytes) (ok_is made x a.2) (record { front = with_kind restore_kind bytes _ _ t.0; fields = t.1; older = older; length = refl; tags = refl })
+    subst (Found stamp restore_kind bytes) (ok_is made x a.2) (record { front = with_kind restore_kind bytes _ _ t.0; fields = t.1; older = older; length = refl; fades = refl; tags = refl })
 
 pub retitle_takes : (stamp : Moment) (bytes : List ℕ) (x : Act × List ℕ) → IsBytes bytes → retitle_at stamp.clock bytes ≡ Ok x → Found stamp retitle_kind bytes x
 unfolding retitle_at
@@ -51,7 +51,7 @@ retitle_takes stamp bytes x fits e =
     let both = Takes-then bytes (stamp_bytes a.0.0) a.0.1 (title_bytes b.0.0) b.0.1 t0.0 t1.0 in
     let made : Act × List ℕ = (Retitle a.0.0 b.0.0, b.0.1) in
     let older : act_is_older stamp (Retitle a.0.0 b.0.0) ≡ true = rw t0.2 refl in
-    subst (Found stamp retitle_kind bytes) (ok_is made x b.2) (record { front = with_kind retitle_kind bytes _ _ both; fields = (t0.1, t1.1); older = older; length = refl; tags = refl })
+    subst (Found stamp retitle_kind bytes) (ok_is made x b.2) (record { front = with_kind retitle_kind bytes _ _ both; fields = (t0.1, t1.1); older = older; length = refl; fades = refl; tags = refl })
 
 pub remove_again : (clock : ℕ) (item : Moment) (tags : List Moment) (rest : List ℕ) → IsMoment item → AllByRecursion IsMoment tags → ltb item.clock clock ≡ true → are_older clock tags ≡ true → are_tags tags ≡ true
     → remove_at clock ((stamp_bytes item ++ tags_bytes tags) ++ rest) ≡ Ok (Remove item tags, rest)

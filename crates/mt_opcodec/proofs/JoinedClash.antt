@@ -101,6 +101,7 @@ module _ (left right from_left from_right out : List RunOf) (h : IsJoining left 
   fails_up (fault.BadRecord index cause) f = f
   fails_up (fault.OutOfOrder index) f = f
   fails_up fault.Trailing f = f
+  fails_up fault.VersionTooHigh f = f
 
 pub join_fails : (left right from_left from_right out : List RunOf) → IsJoining left right from_left from_right out → AreRuns left → AreRuns right → RunComes (slice_get from_left 0) (slice_get from_right 0) next.Both → (fault : LogFault)
     → ((r s : RunOf) → slice_get from_left 0 ≡ Some r → slice_get from_right 0 ≡ Some s → MergeFails (log_of r.ops) (log_of s.ops) fault) → MergeFails (log_of (run_ops left)) (log_of (run_ops right)) fault

@@ -8,6 +8,7 @@ pub mod Clips
 pub mod Sounds
 pub mod Items
 pub mod Markers
+pub mod Versions
 pub mod Readers
 pub mod Operations
 pub mod Logs

@@ -4,10 +4,10 @@ use Rattle.std.specs.Prelude.{IsTrue}
 use Rattle.std.specs.Int.{w32}
 use Rattle.mt_stamp.specs.Moment.{Moment, IsMoment}
 use Rattle.mt_op.specs.Title.{is_title}
-use Rattle.mt_op.specs.Operation.{Act, AddMarker, MoveMarker}
+use Rattle.mt_op.specs.Operation.{Act, AddMarker, MoveMarker, SetMarkerLength}
 use Rattle.mt_opcodec.specs.declared.fault.ReadFault.{ReadFault}
-use Rattle.mt_opcodec.specs.OpText.{stamp_bytes, title_bytes, frame_bytes, add_marker_kind, move_marker_kind}
-use Rattle.mt_opcodec.specs.OpReading.{◌>>=◌, number_at, older_stamp_at, title_at, add_marker_at, move_marker_at}
+use Rattle.mt_opcodec.specs.OpText.{stamp_bytes, title_bytes, frame_bytes, add_marker_kind, move_marker_kind, set_marker_length_kind}
+use Rattle.mt_opcodec.specs.OpReading.{◌>>=◌, number_at, older_stamp_at, title_at, add_marker_at, move_marker_at, set_marker_length_at}
 use Rattle.mt_opcodec.proofs.Fields.{IsBytes, bind_ok, ok_is, Takes-then, wide32, number_takes, number_again, title_takes, title_again}
 use Rattle.mt_opcodec.proofs.Stamps.{older_takes, older_again}
 use Rattle.mt_opcodec.proofs.Acts.{act_is_older, Found, with_kind}
@@ -21,7 +21,7 @@ add_marker_takes stamp bytes x fits e =
     let t1 = title_takes a.0.1 b.0.0 b.0.1 t0.0.rest_fits b.1 in
     let both = Takes-then bytes (frame_bytes a.0.0) a.0.1 (title_bytes b.0.0) b.0.1 t0.0 t1.0 in
     let made : Act × List ℕ = (AddMarker a.0.0 b.0.0, b.0.1) in
-    subst (Found stamp add_marker_kind bytes) (ok_is made x b.2) (record { front = with_kind add_marker_kind bytes _ _ both; fields = (t0.1, t1.1); older = refl; length = refl; tags = refl })
+    subst (Found stamp add_marker_kind bytes) (ok_is made x b.2) (record { front = with_kind add_marker_kind bytes _ _ both; fields = (t0.1, t1.1); older = refl; length = refl; fades = refl; tags = refl })
 
 pub move_marker_takes : (stamp : Moment) (bytes : List ℕ) (x : Act × List ℕ) → IsBytes bytes → move_marker_at stamp.clock bytes ≡ Ok x → Found stamp move_marker_kind bytes x
 unfolding move_marker_at
@@ -33,7 +33,19 @@ move_marker_takes stamp bytes x fits e =
     let both = Takes-then bytes (stamp_bytes a.0.0) a.0.1 (frame_bytes b.0.0) b.0.1 t0.0 t1.0 in
     let made : Act × List ℕ = (MoveMarker a.0.0 b.0.0, b.0.1) in
     let older : act_is_older stamp (MoveMarker a.0.0 b.0.0) ≡ true = rw t0.2 refl in
-    subst (Found stamp move_marker_kind bytes) (ok_is made x b.2) (record { front = with_kind move_marker_kind bytes _ _ both; fields = (t0.1, t1.1); older = older; length = refl; tags = refl })
+    subst (Found stamp move_marker_kind bytes) (ok_is made x b.2) (record { front = with_kind move_marker_kind bytes _ _ both; fields = (t0.1, t1.1); older = older; length = refl; fades = refl; tags = refl })
+
+pub set_marker_length_takes : (stamp : Moment) (bytes : List ℕ) (x : Act × List ℕ) → IsBytes bytes → set_marker_length_at stamp.clock bytes ≡ Ok x → Found stamp set_marker_length_kind bytes x
+unfolding set_marker_length_at
+set_marker_length_takes stamp bytes x fits e =
+    let a = bind_ok (older_stamp_at stamp.clock bytes) _ x e in
+    let b = bind_ok (number_at w32 a.0.1) _ x a.2 in
+    let t0 = older_takes stamp.clock bytes a.0 fits a.1 in
+    let t1 = number_takes w32 (2 ^ 32) wide32 a.0.1 b.0.0 b.0.1 t0.0.rest_fits b.1 in
+    let both = Takes-then bytes (stamp_bytes a.0.0) a.0.1 (frame_bytes b.0.0) b.0.1 t0.0 t1.0 in
+    let made : Act × List ℕ = (SetMarkerLength a.0.0 b.0.0, b.0.1) in
+    let older : act_is_older stamp (SetMarkerLength a.0.0 b.0.0) ≡ true = rw t0.2 refl in
+    subst (Found stamp set_marker_length_kind bytes) (ok_is made x b.2) (record { front = with_kind set_marker_length_kind bytes _ _ both; fields = (t0.1, t1.1); older = older; length = refl; fades = refl; tags = refl })
 
 pub add_marker_again : (at : ℕ) (title rest : List ℕ) → at < 2 ^ 32 → IsTrue (is_title title) → add_marker_at ((frame_bytes at ++ title_bytes title) ++ rest) ≡ Ok (AddMarker at title, rest)
 unfolding add_marker_at
@@ -48,3 +60,10 @@ move_marker_again clock marker at rest fits older at_fits =
     ap (move_marker_at clock) (append_assoc (stamp_bytes marker) (frame_bytes at) rest)
     ∙ ap (λ (r : Result (Moment × List ℕ) ReadFault). r >>= λ marker. number_at w32 marker.1 >>= λ at. Ok (MoveMarker marker.0 at.0, at.1)) (older_again clock marker (frame_bytes at ++ rest) fits older)
     ∙ ap (λ (r : Result (ℕ × List ℕ) ReadFault). r >>= λ at. Ok (MoveMarker marker at.0, at.1)) (number_again w32 (2 ^ 32) wide32 at rest at_fits)
+
+pub set_marker_length_again : (clock : ℕ) (marker : Moment) (len : ℕ) (rest : List ℕ) → IsMoment marker → ltb marker.clock clock ≡ true → len < 2 ^ 32 → set_marker_length_at clock ((stamp_bytes marker ++ frame_bytes len) ++ rest) ≡ Ok (SetMarkerLength marker len, rest)
+unfolding set_marker_length_at
+set_marker_length_again clock marker len rest fits older len_fits =
+    ap (set_marker_length_at clock) (append_assoc (stamp_bytes marker) (frame_bytes len) rest)
+    ∙ ap (λ (r : Result (Moment × List ℕ) ReadFault). r >>= λ marker. number_at w32 marker.1 >>= λ len. Ok (SetMarkerLength marker.0 len.0, len.1)) (older_again clock marker (frame_bytes len ++ rest) fits older)
+    ∙ ap (λ (r : Result (ℕ × List ℕ) ReadFault). r >>= λ len. Ok (SetMarkerLength marker len.0, len.1)) (number_again w32 (2 ^ 32) wide32 len rest len_fits)

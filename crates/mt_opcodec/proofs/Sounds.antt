@@ -45,7 +45,7 @@ set_gain_takes stamp bytes x fits e =
     let both = Takes-then bytes (stamp_bytes a.0.0) a.0.1 (gain_bytes b.0.0) b.0.1 t0.0 t1.0 in
     let made : Act × List ℕ = (SetGain a.0.0 b.0.0, b.0.1) in
     let older : act_is_older stamp (SetGain a.0.0 b.0.0) ≡ true = rw t0.2 refl in
-    subst (Found stamp set_gain_kind bytes) (ok_is made x b.2) (record { front = with_kind set_gain_kind bytes _ _ both; fields = (t0.1, t1.1); older = older; length = refl; tags = refl })
+    subst (Found stamp set_gain_kind bytes) (ok_is made x b.2) (record { front = with_kind set_gain_kind bytes _ _ both; fields = (t0.1, t1.1); older = older; length = refl; fades = refl; tags = refl })
 
 pub set_mute_takes : (stamp : Moment) (bytes : List ℕ) (x : Act × List ℕ) → IsBytes bytes → set_mute_at stamp.clock bytes ≡ Ok x → Found stamp set_mute_kind bytes x
 unfolding set_mute_at
@@ -57,7 +57,7 @@ set_mute_takes stamp bytes x fits e =
     let both = Takes-then bytes (stamp_bytes a.0.0) a.0.1 (flag_bytes b.0.0) b.0.1 t0.0 t1 in
     let made : Act × List ℕ = (SetMute a.0.0 b.0.0, b.0.1) in
     let older : act_is_older stamp (SetMute a.0.0 b.0.0) ≡ true = rw t0.2 refl in
-    subst (Found stamp set_mute_kind bytes) (ok_is made x b.2) (record { front = with_kind set_mute_kind bytes _ _ both; fields = t0.1; older = older; length = refl; tags = refl })
+    subst (Found stamp set_mute_kind bytes) (ok_is made x b.2) (record { front = with_kind set_mute_kind bytes _ _ both; fields = t0.1; older = older; length = refl; fades = refl; tags = refl })
 
 -- ---- what is spelled so is read
 

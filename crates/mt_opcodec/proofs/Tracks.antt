@@ -21,7 +21,7 @@ add_track_takes stamp bytes x fits e =
     let t1 = title_takes a.0.1 b.0.0 b.0.1 t0.0.rest_fits b.1 in
     let both = Takes-then bytes (place_bytes a.0.0) a.0.1 (title_bytes b.0.0) b.0.1 t0.0 t1.0 in
     let made : Act × List ℕ = (AddTrack a.0.0 b.0.0, b.0.1) in
-    subst (Found stamp add_track_kind bytes) (ok_is made x b.2) (record { front = with_kind add_track_kind bytes _ _ both; fields = (t0.1, t1.1); older = t0.2; length = refl; tags = refl })
+    subst (Found stamp add_track_kind bytes) (ok_is made x b.2) (record { front = with_kind add_track_kind bytes _ _ both; fields = (t0.1, t1.1); older = t0.2; length = refl; fades = refl; tags = refl })
 
 pub move_track_takes : (stamp : Moment) (bytes : List ℕ) (x : Act × List ℕ) → IsBytes bytes → move_track_at stamp.clock bytes ≡ Ok x → Found stamp move_track_kind bytes x
 unfolding move_track_at
@@ -33,7 +33,7 @@ move_track_takes stamp bytes x fits e =
     let both = Takes-then bytes (stamp_bytes a.0.0) a.0.1 (place_bytes b.0.0) b.0.1 t0.0 t1.0 in
     let made : Act × List ℕ = (MoveTrack a.0.0 b.0.0, b.0.1) in
     let older : act_is_older stamp (MoveTrack a.0.0 b.0.0) ≡ true = rw t0.2 t1.2 in
-    subst (Found stamp move_track_kind bytes) (ok_is made x b.2) (record { front = with_kind move_track_kind bytes _ _ both; fields = (t0.1, t1.1); older = older; length = refl; tags = refl })
+    subst (Found stamp move_track_kind bytes) (ok_is made x b.2) (record { front = with_kind move_track_kind bytes _ _ both; fields = (t0.1, t1.1); older = older; length = refl; fades = refl; tags = refl })
 
 pub add_track_again : (clock : ℕ) (after : Option Moment) (title rest : List ℕ) → IfSome after IsMoment → place_is_older clock after ≡ true → IsTrue (is_title title)
     → add_track_at clock ((place_bytes after ++ title_bytes title) ++ rest) ≡ Ok (AddTrack after title, rest)

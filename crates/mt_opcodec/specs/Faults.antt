@@ -19,4 +19,5 @@ log_fault_number log.Damaged = 13
 log_fault_number (log.BadRecord index cause) = 14
 log_fault_number (log.OutOfOrder index) = 15
 log_fault_number log.Trailing = 16
+log_fault_number log.VersionTooHigh = 52
 log_fault_number (log.Conflict dot) = 17

@@ -1,5 +1,5 @@
 -- What holds of texts and of unions.
-use Rattle.std.specs.Prelude.{◌≡◌, ℕ, ◌<◌, ◌^◌, List, [], ◌∷◌, ◌++◌, length, None, is_some, if◌then◌else◌, ◌↔◌, IsTrue}
+use Rattle.std.specs.Prelude.{◌≡◌, ℕ, ◌<◌, ◌^◌, List, [], ◌∷◌, ◌++◌, length, None, is_some, if◌then◌else◌, ◌↔◌, ◌⊎◌, ◌≤◌, IsTrue}
 use Rattle.std.specs.List.{AllByRecursion, Contains}
 use Rattle.std.specs.FinMap as map
 use Rattle.mt_stamp.specs.declared.name.Dot.{Dot}
@@ -8,6 +8,7 @@ use Rattle.mt_op.specs.Dots.{op_dot}
 use Rattle.mt_op.specs.Needs.{names_are_older}
 use Rattle.mt_op.specs.Valid.{IsOperation}
 use Rattle.mt_opcodec.specs.OpText.{op_text}
+use Rattle.mt_opcodec.specs.Versions.{version_of_act, version_of}
 use Rattle.mt_opcodec.specs.LogText.{log_text}
 use Rattle.mt_opcodec.specs.LogValue.{LogMap, operations, log_of, AreLogged}
 use Rattle.mt_opcodec.specs.Sets.{Has, IsSet, HasJoined, IsReadyIn}
@@ -20,6 +21,12 @@ OpTextsAreApart = (o p : Operation) (rest after : List ℕ) → IsOperation o �
 -- A log's text determines its operations.
 abbrev pub LogTextsAreApart : Type 0
 LogTextsAreApart = (a b : List Operation) → AreLogged a → AreLogged b → length a < 2 ^ 64 → length b < 2 ^ 64 → log_text a ≡ log_text b → a ≡ b
+
+-- The version of a log is the greatest that one of its operations asks for: none asks for a later one, and where it is not 1, some
+-- operation asks for it.
+pub record VersionIsGreatest : Type 0 where
+  pub none_later : (ops : List Operation) (o : Operation) → Contains ops o → version_of_act o.act ≤ version_of ops
+  pub asked_for : (ops : List Operation) → (version_of ops ≡ 1) ⊎ ((o : Operation) × (Contains ops o × (version_of_act o.act ≡ version_of ops)))
 
 -- Union joins sets: it has what either log has, and where the logs agree it is commutative, associative and idempotent.
 pub record IsUnion : Type 0 where

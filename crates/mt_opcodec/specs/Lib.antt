@@ -1,4 +1,5 @@
 pub mod OpText
+pub mod Versions
 pub mod OpReading
 pub mod LogText
 pub mod LogReading

@@ -1,5 +1,5 @@
 -- Reading a log, with its refusals in their order (profile).
-use Rattle.std.specs.Prelude.{◌≡◌, ℕ, zero, suc, ◌+◌, ◌-◌, Bool, List, [], ◌∷◌, ◌++◌, length, take, drop, Option, Some, None, Result, Ok, Err, nat_lt, nat_eq, not, if◌then◌else◌}
+use Rattle.std.specs.Prelude.{◌≡◌, ℕ, zero, suc, ◌+◌, ◌-◌, Bool, List, [], ◌∷◌, length, take, drop, slice_index, Option, Some, None, Result, Ok, Err, nat_lt, nat_eq, not, if◌then◌else◌}
 use Rattle.std.specs.Int.{w64, from_be_bytes}
 use Rattle.std.specs.Cmp.Lexicographic.{pointwise}
 use Rattle.std.specs.List.{starts_with}
@@ -12,9 +12,10 @@ use Rattle.mt_op.specs.Dots.{op_dot}
 use Rattle.mt_opcodec.specs.declared.fault.ReadFault.{ReadFault}
 use Rattle.mt_opcodec.specs.declared.fault.ReadFault.TheVariants as read
 use Rattle.mt_opcodec.specs.declared.fault.LogFault.{LogFault}
-use Rattle.mt_opcodec.specs.declared.fault.LogFault.TheVariants.{Memory, BadMagic, BadVersion, Damaged, BadRecord, OutOfOrder, Trailing, Conflict}
+use Rattle.mt_opcodec.specs.declared.fault.LogFault.TheVariants.{Memory, BadMagic, BadVersion, Damaged, BadRecord, OutOfOrder, Trailing, VersionTooHigh, Conflict}
 use Rattle.mt_opcodec.specs.OpReading.{op_at}
-use Rattle.mt_opcodec.specs.LogText.{magic, version}
+use Rattle.mt_opcodec.specs.Versions.{is_version, version_of}
+use Rattle.mt_opcodec.specs.LogText.{magic}
 
 infixl 10 ◌>>=◌
 abbrev pub ◌>>=◌ : {A B : Type 0} → Result A LogFault → (A → Result B LogFault) → Result B LogFault
@@ -36,14 +37,22 @@ fault_of index read.Truncated = BadRecord index read.Truncated
 fault_of index read.BadTag = BadRecord index read.BadTag
 fault_of index read.BadField = BadRecord index read.BadField
 
--- this many operations from record `index` on, after the dot `last`, and then nothing
-unfoldable pub records_at : ℕ → ℕ → Option Dot → List ℕ → Result (List Operation) LogFault
-records_at zero index last [] = Ok []
-records_at zero index last (b ∷ bytes) = Err Trailing
-records_at (suc count) index last bytes = do
-  first ← record_of index last (op_at bytes)
-  others ← records_at count (index + 1) (Some (op_dot first.0)) first.1
+-- this many operations of a version, from record `index` on, after the dot `last`, and then nothing
+unfoldable pub records_at : (version count index : ℕ) → Option Dot → List ℕ → Result (List Operation) LogFault
+records_at version zero index last [] = Ok []
+records_at version zero index last (b ∷ bytes) = Err Trailing
+records_at version (suc count) index last bytes = do
+  first ← record_of index last (op_at version bytes)
+  others ← records_at version count (index + 1) (Some (op_dot first.0)) first.1
   Ok (first.0 ∷ others)
+
+-- operations, where they ask for no earlier version than this one
+abbrev pub in_version : ℕ → List Operation → Result (List Operation) LogFault
+in_version version ops = if nat_lt (version_of ops) version then Err VersionTooHigh else Ok ops
+
+-- this many operations of a version that they ask for, and then nothing
+abbrev pub log_records_at : (version count : ℕ) → List ℕ → Result (List Operation) LogFault
+log_records_at version count bytes = records_at version count 0 None bytes >>= in_version version
 
 -- how many bytes stand before the records, and how many the digest has
 abbrev pub head_len : ℕ
@@ -51,6 +60,10 @@ head_len = 13
 
 abbrev pub digest_len : ℕ
 digest_len = 32
+
+-- the fifth byte, 0 where there is none
+abbrev pub version_byte : List ℕ → ℕ
+version_byte bytes = slice_index bytes 4
 
 -- the bytes before the digest
 abbrev pub body_of : List ℕ → List ℕ
@@ -64,14 +77,14 @@ is_sealed bytes = pointwise nat_eq (sha256 (body_of bytes)) (drop (length bytes 
 unfoldable pub sealed_at : List ℕ → Result (List ℕ) LogFault
 sealed_at bytes =
     if not (starts_with nat_eq bytes magic) then Err BadMagic
-    else if not (starts_with nat_eq bytes (magic ++ version ∷ [])) then Err BadVersion
+    else if not (is_version (version_byte bytes)) then Err BadVersion
     else if nat_lt (length bytes) (head_len + digest_len) then Err Damaged
     else if is_sealed bytes then Ok (body_of bytes)
     else Err Damaged
 
 -- the count says how many operations stand between it and the digest
 unfoldable pub counted_at : List ℕ → Result (List Operation) LogFault
-counted_at body = records_at (from_be_bytes w64 (take 8 (drop 5 body))) 0 None (drop head_len body)
+counted_at body = log_records_at (version_byte body) (from_be_bytes w64 (take 8 (drop 5 body))) (drop head_len body)
 
 abbrev pub log_at : List ℕ → Result (List Operation) LogFault
 log_at bytes = sealed_at bytes >>= counted_at
@@ -85,6 +98,7 @@ LogFails Damaged read = read ≡ Err Damaged
 LogFails (BadRecord index cause) read = read ≡ Err (BadRecord index cause)
 LogFails (OutOfOrder index) read = read ≡ Err (OutOfOrder index)
 LogFails Trailing read = read ≡ Err Trailing
+LogFails VersionTooHigh read = read ≡ Err VersionTooHigh
 LogFails (Conflict dot) read = ⊥
 
 abbrev pub LogGives : {X Y : Type 0} → (X → Y) → Result X LogFault → Result Y LogFault → Type 0

@@ -5,17 +5,15 @@ use Rattle.std.specs.Int.{w64, to_be_bytes}
 use Rattle.sha2.specs.Sha256.{sha256}
 use Rattle.mt_op.specs.Operation.{Operation}
 use Rattle.mt_opcodec.specs.OpText.{op_text}
+use Rattle.mt_opcodec.specs.Versions.{version_of}
 
--- `RMTS`, and the version
+-- `RMTS`
 abbrev pub magic : List ℕ
 magic = codes "RMTS"
 
-abbrev pub version : ℕ
-version = 1
-
 -- magic, version and how many operations follow
-abbrev pub log_head : ℕ → List ℕ
-log_head count = magic ++ (version ∷ to_be_bytes w64 count)
+abbrev pub log_head : (version count : ℕ) → List ℕ
+log_head version count = magic ++ (version ∷ to_be_bytes w64 count)
 
 -- the texts of operations, one after another
 abbrev pub op_texts : List Operation → List ℕ
@@ -23,7 +21,7 @@ op_texts ops = flat_map op_text ops
 
 -- all that the digest is made of
 abbrev pub log_body : List Operation → List ℕ
-log_body ops = log_head (length ops) ++ op_texts ops
+log_body ops = log_head (version_of ops) (length ops) ++ op_texts ops
 
 -- the text of operations by rising dot
 abbrev pub log_text : List Operation → List ℕ

@@ -6,10 +6,12 @@ use Rattle.mt_op.specs.Title.{is_title}
 use Rattle.mt_op.specs.Rising.{is_after}
 use Rattle.mt_op.specs.Gain.{Ratio}
 use Rattle.mt_op.specs.declared.digest.Digest.{Digest}
-use Rattle.mt_op.specs.Operation.{Act, AddTrack, MoveTrack, AddClip, MoveClip, TrimClip, SetGain, SetMute, Remove, Restore, AddMarker, MoveMarker, Retitle, Operation}
+use Rattle.mt_op.specs.Operation.{Act, AddTrack, MoveTrack, AddClip, MoveClip, TrimClip, SetGain, SetMute, Remove, Restore, AddMarker, MoveMarker, Retitle, SetFade, SetMarkerLength, Operation}
+use Rattle.mt_op.specs.Valid.{longest_fade}
 use Rattle.mt_opcodec.specs.declared.fault.ReadFault.{ReadFault}
 use Rattle.mt_opcodec.specs.declared.fault.ReadFault.TheVariants.{Truncated, BadTag, BadField, Memory}
-use Rattle.mt_opcodec.specs.OpText.{add_track_kind, move_track_kind, add_clip_kind, move_clip_kind, trim_clip_kind, set_gain_kind, set_mute_kind, remove_kind, restore_kind, add_marker_kind, move_marker_kind, retitle_kind}
+use Rattle.mt_opcodec.specs.Versions.{version_of_kind}
+use Rattle.mt_opcodec.specs.OpText.{add_track_kind, move_track_kind, add_clip_kind, move_clip_kind, trim_clip_kind, set_gain_kind, set_mute_kind, remove_kind, restore_kind, add_marker_kind, move_marker_kind, retitle_kind, set_fade_kind, set_marker_length_kind}
 
 -- a value and the bytes after it, or the first fault
 abbrev pub Reads : Type 0 → Type 0
@@ -98,6 +100,19 @@ trim_at bytes = do
   offset ← number_at w32 bytes
   len ← positive_at w32 offset.1
   Ok ((offset.0, len.0), len.1)
+
+-- how many frames a fade lasts, which are not too many
+unfoldable pub fade_at : List ℕ → Reads ℕ
+fade_at bytes = do
+  n ← number_at w32 bytes
+  if nat_le n.0 longest_fade then Ok n else Err BadField
+
+-- over how many frames a clip fades in, and then over how many out
+unfoldable pub fades_at : List ℕ → Reads (ℕ × ℕ)
+fades_at bytes = do
+  fade_in ← fade_at bytes
+  fade_out ← fade_at fade_in.1
+  Ok ((fade_in.0, fade_out.0), fade_out.1)
 
 -- what is multiplied by, and then what is divided by
 unfoldable pub gain_at : List ℕ → Reads Ratio
@@ -202,6 +217,18 @@ retitle_at clock bytes = do
   title ← title_at item.1
   Ok (Retitle item.0 title.0, title.1)
 
+unfoldable pub set_fade_at : ℕ → List ℕ → Reads Act
+set_fade_at clock bytes = do
+  clip ← older_stamp_at clock bytes
+  fades ← fades_at clip.1
+  Ok (SetFade clip.0 fades.0.0 fades.0.1, fades.1)
+
+unfoldable pub set_marker_length_at : ℕ → List ℕ → Reads Act
+set_marker_length_at clock bytes = do
+  marker ← older_stamp_at clock bytes
+  len ← number_at w32 marker.1
+  Ok (SetMarkerLength marker.0 len.0, len.1)
+
 -- a kind byte, and what reads the fields that it calls for, given the operation's clock
 abbrev pub Reader : Type 0
 Reader = ℕ × (ℕ → List ℕ → Reads Act)
@@ -219,7 +246,9 @@ readers =
     (restore_kind, restore_at) ∷
     (add_marker_kind, λ clock. add_marker_at) ∷
     (move_marker_kind, move_marker_at) ∷
-    (retitle_kind, retitle_at) ∷ []
+    (retitle_kind, retitle_at) ∷
+    (set_fade_kind, set_fade_at) ∷
+    (set_marker_length_kind, set_marker_length_at) ∷ []
 
 -- the fields that the first of these readers with this kind byte reads
 abbrev pub fields_at : List Reader → ℕ → ℕ → List ℕ → Reads Act
@@ -231,16 +260,26 @@ unfoldable pub act_at : ℕ → List ℕ → Reads Act
 act_at clock [] = Err Truncated
 act_at clock (kind ∷ rest) = fields_at readers kind clock rest
 
+-- whether the kind byte at the front came with a later version of logs than this one
+abbrev pub is_newer : ℕ → List ℕ → Bool
+is_newer version [] = false
+is_newer version (kind ∷ rest) = nat_lt version (version_of_kind kind)
+
+-- the same in a log of this version, where a kind byte that came later is none of an operation
+unfoldable pub act_in : (version clock : ℕ) → List ℕ → Reads Act
+act_in version clock bytes = if is_newer version bytes then Err BadTag else act_at clock bytes
+
 -- what stands after a stamp, with that stamp
-abbrev pub op_after : Moment → List ℕ → Reads Operation
-op_after stamp bytes = do
-  act ← act_at stamp.clock bytes
+abbrev pub op_after : ℕ → Moment → List ℕ → Reads Operation
+op_after version stamp bytes = do
+  act ← act_in version stamp.clock bytes
   Ok (record { stamp = stamp; act = act.0 }, act.1)
 
-unfoldable pub op_at : List ℕ → Reads Operation
-op_at bytes = do
+-- an operation in a log of this version; the newest has all kinds of them
+unfoldable pub op_at : ℕ → List ℕ → Reads Operation
+op_at version bytes = do
   stamp ← stamp_at bytes
-  op_after stamp.0 stamp.1
+  op_after version stamp.0 stamp.1
 
 -- What a function returned, seen by view, is what reading gives, unless memory ran out.
 abbrev pub Fails : {X : Type 0} → ReadFault → Result X ReadFault → Type 0

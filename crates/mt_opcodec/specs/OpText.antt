@@ -4,7 +4,7 @@ use Rattle.std.specs.Int.{w16, w32, w64, w128, to_be_bytes}
 use Rattle.std.specs.List.{flat_map}
 use Rattle.mt_stamp.specs.Moment.{Moment}
 use Rattle.mt_op.specs.Gain.{Ratio}
-use Rattle.mt_op.specs.Operation.{Act, AddTrack, MoveTrack, AddClip, MoveClip, TrimClip, SetGain, SetMute, Remove, Restore, AddMarker, MoveMarker, Retitle, Operation}
+use Rattle.mt_op.specs.Operation.{Act, AddTrack, MoveTrack, AddClip, MoveClip, TrimClip, SetGain, SetMute, Remove, Restore, AddMarker, MoveMarker, Retitle, SetFade, SetMarkerLength, Operation}
 
 -- clock in 8 bytes, replica in 16, sequence number in 8
 abbrev pub stamp_bytes : Moment → List ℕ
@@ -31,6 +31,10 @@ frame_bytes n = to_be_bytes w32 n
 -- the first frame of the recording that a clip plays, and how many it plays
 abbrev pub trim_bytes : (offset len : ℕ) → List ℕ
 trim_bytes offset len = frame_bytes offset ++ frame_bytes len
+
+-- over how many frames a clip fades in, and over how many out
+abbrev pub fades_bytes : (fade_in fade_out : ℕ) → List ℕ
+fades_bytes fade_in fade_out = frame_bytes fade_in ++ frame_bytes fade_out
 
 -- two numbers of two bytes
 abbrev pub gain_bytes : Ratio → List ℕ
@@ -77,6 +81,12 @@ move_marker_kind = 11
 abbrev pub retitle_kind : ℕ
 retitle_kind = 12
 
+abbrev pub set_fade_kind : ℕ
+set_fade_kind = 13
+
+abbrev pub set_marker_length_kind : ℕ
+set_marker_length_kind = 14
+
 -- the kind byte, and the fields in their order; a digest stands as its bytes
 abbrev pub act_bytes : Act → List ℕ
 act_bytes (AddTrack after title) = add_track_kind ∷ (place_bytes after ++ title_bytes title)
@@ -91,6 +101,8 @@ act_bytes (Restore item) = restore_kind ∷ stamp_bytes item
 act_bytes (AddMarker at title) = add_marker_kind ∷ (frame_bytes at ++ title_bytes title)
 act_bytes (MoveMarker marker at) = move_marker_kind ∷ (stamp_bytes marker ++ frame_bytes at)
 act_bytes (Retitle item title) = retitle_kind ∷ (stamp_bytes item ++ title_bytes title)
+act_bytes (SetFade clip fade_in fade_out) = set_fade_kind ∷ (stamp_bytes clip ++ fades_bytes fade_in fade_out)
+act_bytes (SetMarkerLength marker len) = set_marker_length_kind ∷ (stamp_bytes marker ++ frame_bytes len)
 
 abbrev pub op_text : Operation → List ℕ
 op_text o = stamp_bytes o.stamp ++ act_bytes o.act

@@ -20,13 +20,13 @@ pub enum ReadFault {
     /// The bytes end before the field does.
     #[error("the operation is cut short")]
     Truncated,
-    /// The kind byte is none of 1 to 12.
+    /// The kind byte is none of 1 to 14.
     #[error("no operation has this kind byte")]
     BadTag,
     /// A complete field other than the kind byte is not allowed: a stamp whose clock or sequence number is 0 or
     /// above 2^62, a named stamp whose clock is not smaller than the operation's own, a flag that is neither 0 nor 1,
-    /// a clip's length of 0, a gain's divisor of 0, a Remove's count of 0, a tag of a Remove that is not greater than
-    /// the one before, or a title that is not UTF-8 or holds a character below 0x20 or 0x7F.
+    /// a clip's length of 0, a fade of over 1,048,576 frames, a gain's divisor of 0, a Remove's count of 0, a tag of a
+    /// Remove that is not greater than the one before, or a title that is not UTF-8 or holds a character below 0x20 or 0x7F.
     #[error("a field of the operation is out of range")]
     BadField,
 }
@@ -70,14 +70,14 @@ pub enum LogFault {
     /// The first four bytes are not `RMTS`.
     #[error("not a log")]
     BadMagic,
-    /// The fifth byte, which names the version, is missing or not 1.
+    /// The fifth byte, which names the version, is missing or none of 1 to 3.
     #[error("a log of another version")]
     BadVersion,
     /// There are fewer than 45 bytes, as the empty log has, or the last 32 are not the SHA-256 of those
     /// before them.
     #[error("the log is damaged")]
     Damaged,
-    /// The record of this index, counted from 0, is no operation, for this reason, which is never `Memory`.
+    /// The record of this index, counted from 0, is no operation of the log's version, for this reason, which is never `Memory`.
     #[error("record {0} is no operation: {1}")]
     BadRecord(u64, ReadFault),
     /// The dot of the record of this index is not greater than the one before.
@@ -86,13 +86,16 @@ pub enum LogFault {
     /// Bytes stand between the last record and the digest.
     #[error("bytes stand after the last record")]
     Trailing,
+    /// The version is greater than the operations ask for.
+    #[error("the version is greater than the operations ask for")]
+    VersionTooHigh,
     /// The log has another operation with this dot; of two logs, each has another one.
     #[error("two operations have one name")]
     Conflict(Dot),
 }
 
 impl LogFault {
-    /// The refusal's number: 0 or 11 to 17.
+    /// The refusal's number: 0, 11 to 17 or 52.
     pub fn number(&self) -> u8
         ensures { result ≡ log_fault_number self.now }
     {
@@ -104,6 +107,7 @@ impl LogFault {
             LogFault::BadRecord(..) => 14,
             LogFault::OutOfOrder(_) => 15,
             LogFault::Trailing => 16,
+            LogFault::VersionTooHigh => 52,
             LogFault::Conflict(_) => 17,
         }
     }

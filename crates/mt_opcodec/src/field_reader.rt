@@ -4,10 +4,10 @@ ghost use Rattle.std.specs.Prelude.{◌≡◌, Some, None, ◌==◌, if◌then�
 ghost use Rattle.std.specs.Int.{w16, w32, w64, w128};
 ghost use Rattle.mt_stamp.specs.Moment.{stamp_cmp};
 ghost use Rattle.mt_op.specs.Rising.{is_after};
-ghost use Rattle.mt_opcodec.specs.OpReading.{Gives, number_at, positive_at, flag_at, moment_at, is_stamp, stamp_at, older_stamp_at, after_at, place_at, title_of_bytes, title_at, digest_at, trim_at, gain_at, tag_at, stamps_at, tags_at};
+ghost use Rattle.mt_opcodec.specs.OpReading.{Gives, number_at, positive_at, flag_at, moment_at, is_stamp, stamp_at, older_stamp_at, after_at, place_at, title_of_bytes, title_at, digest_at, trim_at, fade_at, fades_at, gain_at, tag_at, stamps_at, tags_at};
 
 use crate::fault::ReadFault;
-use mt_op::{Digest, Gain, OpFault, Title};
+use mt_op::{Digest, Gain, LONGEST_FADE, OpFault, Title};
 use mt_stamp::{Replica, Stamp};
 use std::alloc::Allocator;
 
@@ -187,6 +187,31 @@ pub(crate) fn trim_of(bytes: &[u8]) -> Result<(Trim, &[u8]), ReadFault>
     let (offset, rest) = u32_at(bytes)?;
     let (len, rest) = positive_u32_at(rest)?;
     Ok(((offset, len), rest))
+}
+
+// How many frames a fade lasts, which are not too many.
+#[tactic(auto, unfolding(crate::specs::OpReading::fade_at))]
+fn fade_of(bytes: &[u8]) -> Result<(u32, &[u8]), ReadFault>
+    ensures { Gives (λ x. (x.0, x.1.now)) result (fade_at bytes.now) }
+{
+    let (frames, rest) = u32_at(bytes)?;
+    if frames <= LONGEST_FADE {
+        Ok((frames, rest))
+    } else {
+        Err(ReadFault::BadField)
+    }
+}
+
+// Over how many frames a clip fades in, and over how many out.
+type Fades = (u32, u32);
+
+#[tactic(auto, unfolding(crate::specs::OpReading::fades_at))]
+pub(crate) fn fades_of(bytes: &[u8]) -> Result<(Fades, &[u8]), ReadFault>
+    ensures { Gives (λ x. (x.0, x.1.now)) result (fades_at bytes.now) }
+{
+    let (fade_in, rest) = fade_of(bytes)?;
+    let (fade_out, rest) = fade_of(rest)?;
+    Ok(((fade_in, fade_out), rest))
 }
 
 // The gain of these parts, where the second is not 0.

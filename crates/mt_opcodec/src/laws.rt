@@ -2,7 +2,7 @@
 //! compares.
 
 ghost use Rattle.std.specs.Prelude.{◌≡◌, ◌↔◌, IsTrue};
-ghost use Rattle.mt_opcodec.specs.Laws.{OpTextsAreApart, LogTextsAreApart, IsUnion, AgreePairwise, AgreeGrouped, LogsAreSets, ReadyStays};
+ghost use Rattle.mt_opcodec.specs.Laws.{OpTextsAreApart, LogTextsAreApart, VersionIsGreatest, IsUnion, AgreePairwise, AgreeGrouped, LogsAreSets, ReadyStays};
 
 use crate::fault::LogFault;
 use crate::log::Log;
@@ -16,6 +16,11 @@ pub fn op_texts()
 /// A log's text determines its operations.
 pub fn log_texts()
     ensures { LogTextsAreApart }
+{}
+
+/// The version of a log is the greatest that one of its operations asks for, and 1 where none asks for a later one.
+pub fn versions()
+    ensures { VersionIsGreatest }
 {}
 
 /// At each dot the union of two logs has what the first has there, and else what the second has. It is associative

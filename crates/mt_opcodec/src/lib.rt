@@ -43,10 +43,13 @@
 //! - 9, a Restore: the item's stamp;
 //! - 10, an AddMarker: the frame, and the title;
 //! - 11, a MoveMarker: the marker's stamp, and the frame;
-//! - 12, a Retitle: the item's stamp, and the title.
+//! - 12, a Retitle: the item's stamp, and the title;
+//! - 13, a SetFade: the clip's stamp, and over how many frames it fades in and out, in 4 bytes each;
+//! - 14, a SetMarkerLength: the marker's stamp, and the length.
 //!
-//! The text of a log is `RMTS`, the byte 1, the number of operations in 8 bytes, their texts by rising
-//! dot, and the 32 bytes of the SHA-256 of all that stands before it.
+//! The text of a log is `RMTS`, its version in one byte, the number of operations in 8 bytes, their texts by rising
+//! dot, and the 32 bytes of the SHA-256 of all that stands before it. The version is 3 where a SetMarkerLength is there, else 2
+//! where a SetFade is, and else 1. In a log of an older version the kind byte of a newer one is none of an operation.
 #![tactic(auto)]
 
 mod agreeing;
@@ -68,6 +71,7 @@ mod run;
 mod run_list;
 mod seen;
 mod turns;
+mod version;
 
 pub use fault::{LogFault, ReadFault};
 pub use log::Log;

@@ -6,6 +6,7 @@ ghost use Rattle.std.specs.FinMap as map;
 ghost use Rattle.mt_op.specs.Dots.{op_dot, IsGapFor};
 ghost use Rattle.mt_opcodec.specs.LogValue.{Adds, AreLogged, log_of, operations};
 ghost use Rattle.mt_opcodec.specs.LogText.{log_body, log_text, op_texts};
+ghost use Rattle.mt_opcodec.specs.Versions.{version_of};
 ghost use Rattle.mt_opcodec.specs.Runs.{AreRuns, run_ops};
 
 use crate::clash::first_other;
@@ -16,6 +17,7 @@ use crate::log_reader::log_of_text;
 use crate::op_writer::put_op;
 use crate::run::Run;
 use crate::run_list::{add_to_runs, copied_runs, count_of, equal_runs, op_of_runs, refs_of_runs};
+use crate::version::version_of_body;
 use mt_op::Op;
 use mt_op::laws::equal_ops;
 use mt_stamp::Dot;
@@ -163,11 +165,12 @@ impl<A: Allocator + Clone> Log<A> {
     ghost use Rattle.mt_opcodec.specs.Union.{Agree, union, MergeFails};
 
     /// Reads the text of a log. Refused, in this order: `BadMagic` (11) where the first four bytes are missing
-    /// or not `RMTS`, `BadVersion` (12) where the fifth is missing or not 1, `Damaged` (13) where there are fewer
-    /// than 45 bytes or the digest does not agree; then record by record, counted from 0, `BadRecord` (14) where
-    /// it is no operation and `OutOfOrder` (15) where its dot is not greater than the one before; last `Trailing`
-    /// (16) where bytes stand between the last record and the digest. `Memory` (0) is answered where a growth was
-    /// refused. Memory is taken record by record, never for the number of them that the text gives.
+    /// or not `RMTS`, `BadVersion` (12) where the fifth is missing or none of 1 to 3, `Damaged` (13) where there are
+    /// fewer than 45 bytes or the digest does not agree; then record by record, counted from 0, `BadRecord` (14) where
+    /// it is no operation, or one that came with a later version, and `OutOfOrder` (15) where its dot is not greater
+    /// than the one before; then `Trailing` (16) where bytes stand between the last record and the digest; last
+    /// `VersionTooHigh` (52) where no operation asks for that version, and it is not 1. `Memory` (0) is answered where a growth
+    /// was refused. Memory is taken record by record, never for the number of them that the text gives.
     pub fn read(alloc: A, bytes: &[u8]) -> Result<Self, LogFault>
         // What is read is the log text of its operations.
         ensures found { IfOk result (λ log. bytes.now ≡ log_text (operations log)) }
@@ -179,7 +182,7 @@ impl<A: Allocator + Clone> Log<A> {
         log_of_text(alloc, bytes)
     }
 
-    /// The log's text: 45 bytes and those of its operations. Refused only as `Memory` (0), where a growth was
+    /// The log's text: 45 bytes and those of its operations, in the least version that has them. Refused only as `Memory` (0), where a growth was
     /// refused.
     pub fn write(&self) -> Result<Vec<u8, A>, LogFault>
         ensures ok { IfOk result (λ text. text.items ≡ log_text (operations self.now)) }
@@ -296,20 +299,26 @@ pub(crate) fn add_last<A: Allocator + Clone>(log: &mut Log<A>, op: Op<A>) -> Res
     }
 }
 
-// Writes the texts of operations.
+// Writes the texts of operations, and tells the version that they ask for.
 fn put_ops<A: Allocator, B: Allocator>(
     out: &mut Vec<u8, A>,
     ops: &[Op<B>],
-) -> Result<(), AllocError>
-    ensures { OnOk result (out.new.items ≡ out.old.items ++ op_texts ops.now) }
+) -> Result<u8, AllocError>
+    ensures texts { OnOk result (out.new.items ≡ out.old.items ++ op_texts ops.now) }
+    ensures version { IfOk result (λ version. version ≡ version_of ops.now) }
 {
+    let mut version = 1u8;
     for op in ops {
         put_op(out, op)?;
+        version = version.max(version_of_body(op.body()));
     }
-    Ok(())
+    Ok(version)
 }
 
-// Writes all that the digest is made of.
+// Where a log's text tells its version.
+const VERSION_PLACE: usize = 4;
+
+// Writes all that the digest is made of. The version is written once all operations were seen.
 fn put_records<A: Allocator, B: Allocator>(
     out: &mut Vec<u8, A>,
     count: usize,
@@ -321,9 +330,12 @@ fn put_records<A: Allocator, B: Allocator>(
 {
     out.extend_from_slice(b"RMTS\x01")?;
     out.extend_from_slice(&(count as u64).to_be_bytes())?;
+    let mut version = 1u8;
     for run in runs {
-        put_ops(out, run.ops())?;
+        let asked = put_ops(out, run.ops())?;
+        version = version.max(asked);
     }
+    out[VERSION_PLACE] = version;
     Ok(())
 }
 

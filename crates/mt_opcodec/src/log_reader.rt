@@ -4,8 +4,8 @@ ghost use Rattle.std.specs.Prelude.{◌≡◌, ◌<◌, ◌≤◌, ℕ, ◌^◌,
 ghost use Rattle.std.specs.Cmp.Lexicographic.{pointwise};
 ghost use Rattle.sha2.specs.Sha256.{sha256};
 ghost use Rattle.mt_opcodec.specs.OpReading.{op_at};
-ghost use Rattle.mt_opcodec.specs.LogText.{log_text};
-ghost use Rattle.mt_opcodec.specs.LogReading.{LogGives, record_of, fault_of, records_at, sealed_at, counted_at, log_at};
+ghost use Rattle.mt_opcodec.specs.Versions.{newest_version, is_version, version_of};
+ghost use Rattle.mt_opcodec.specs.LogReading.{LogGives, record_of, fault_of, records_at, in_version, log_records_at, version_byte, sealed_at, counted_at, log_at};
 ghost use Rattle.mt_stamp.specs.Moment.{dot_cmp};
 ghost use Rattle.mt_op.specs.Operation.{Operation};
 ghost use Rattle.mt_op.specs.Rising.{is_after};
@@ -14,6 +14,7 @@ ghost use Rattle.mt_opcodec.specs.LogValue.{operations};
 use crate::fault::{LogFault, ReadFault};
 use crate::log::{Log, add_last};
 use crate::op_reader::op_of;
+use crate::version::{NEWEST_VERSION, is_version, version_of_body};
 use mt_op::Op;
 use mt_stamp::Dot;
 use sha2::{Digest, Sha256};
@@ -39,16 +40,17 @@ fn fault_of(index: u64, cause: ReadFault) -> LogFault
     }
 }
 
-// The operation at the front of the bytes, as the record of this index after the dot `last`.
+// The operation at the front of the bytes, in a log of this version, as the record of this index after the dot `last`.
 fn record_of<A: Allocator>(
     alloc: A,
+    version: u8,
     index: u64,
     last: Option<Dot>,
     bytes: &[u8],
 ) -> Result<(Op<A>, &[u8]), LogFault>
-    ensures { LogGives (λ x. (x.0, x.1.now)) result (record_of index last (op_at bytes.now)) }
+    ensures { LogGives (λ x. (x.0, x.1.now)) result (record_of index last (op_at version bytes.now)) }
 {
-    match op_of(alloc, bytes) {
+    match op_of(alloc, version, bytes) {
         Ok((op, rest)) => {
             if is_after(last, op.dot()) {
                 Ok((op, rest))
@@ -60,8 +62,8 @@ fn record_of<A: Allocator>(
     }
 }
 
-/// Reads this many operations, by rising dot, and nothing after them. Refused record by record, counted from 0: `BadRecord` (14)
-/// where it is no operation, `OutOfOrder` (15) where its dot is not greater than the one before; last `Trailing` (16) where
+/// Reads this many operations of any kind, by rising dot, and nothing after them. Refused record by record, counted from 0: `BadRecord`
+/// (14) where it is no operation, `OutOfOrder` (15) where its dot is not greater than the one before; last `Trailing` (16) where
 /// bytes stand after them. `Memory` (0) is answered where a growth was refused. Memory is taken record by record, never for
 /// the count.
 pub fn read_ops<A: Allocator + Clone>(
@@ -69,13 +71,13 @@ pub fn read_ops<A: Allocator + Clone>(
     count: u64,
     bytes: &[u8],
 ) -> Result<Vec<Op<A>, A>, LogFault>
-    ensures { LogGives (λ ops. ops.items) result (records_at count 0 None bytes.now) }
+    ensures { LogGives (λ ops. ops.items) result (records_at newest_version count 0 None bytes.now) }
 {
     let mut ops = Vec::new(alloc.clone()?);
     let mut last = None;
     let mut rest = bytes;
     for index in 0..count {
-        match record_of(alloc.clone()?, index, last, rest) {
+        match record_of(alloc.clone()?, NEWEST_VERSION, index, last, rest) {
             Ok((op, after)) => {
                 last = Some(op.dot());
                 rest = after;
@@ -90,6 +92,16 @@ pub fn read_ops<A: Allocator + Clone>(
     Ok(ops)
 }
 
+// Whether the fifth byte is there and names a version.
+fn has_version(bytes: &[u8]) -> bool
+    ensures { result ≡ is_version (version_byte bytes.now) }
+{
+    match bytes.get(4) {
+        Some(byte) => is_version(*byte),
+        None => false,
+    }
+}
+
 // The bytes before the digest, once the frame is seen to be whole.
 #[tactic(auto, unfolding(crate::specs::LogReading::sealed_at))]
 fn sealed_body(bytes: &[u8]) -> Result<&[u8], LogFault>
@@ -99,7 +111,7 @@ fn sealed_body(bytes: &[u8]) -> Result<&[u8], LogFault>
     if !bytes.starts_with(b"RMTS") {
         return Err(LogFault::BadMagic);
     }
-    if !bytes.starts_with(b"RMTS\x01") {
+    if !has_version(bytes) {
         return Err(LogFault::BadVersion);
     }
     if bytes.len() < 45 {
@@ -120,17 +132,36 @@ fn is_digest_of(body: &[u8], digest: &[u8]) -> bool
     made.as_slice() == digest
 }
 
-// Reads this many operations into a log, as `read_ops` does into a vector.
-fn read_log<A: Allocator + Clone>(alloc: A, count: u64, bytes: &[u8]) -> Result<Log<A>, LogFault>
-    ensures { LogGives operations result (records_at count 0 None bytes.now) }
+// The log, where its operations ask for no earlier version than this one.
+fn in_version<A: Allocator>(log: Log<A>, asked: u8, version: u8) -> Result<Log<A>, LogFault>
+    requires { asked ≡ version_of (operations log) }
+    ensures { LogGives operations result (in_version version (operations log)) }
+{
+    if asked < version {
+        Err(LogFault::VersionTooHigh)
+    } else {
+        Ok(log)
+    }
+}
+
+// Reads this many operations into a log of this version.
+fn read_log<A: Allocator + Clone>(
+    alloc: A,
+    version: u8,
+    count: u64,
+    bytes: &[u8],
+) -> Result<Log<A>, LogFault>
+    ensures { LogGives operations result (log_records_at version count bytes.now) }
 {
     let mut log = Log::new(alloc.clone()?);
+    let mut asked = 1u8;
     let mut greatest = None;
     let mut rest = bytes;
     for record in 0..count {
-        match record_of(alloc.clone()?, record, greatest, rest) {
+        match record_of(alloc.clone()?, version, record, greatest, rest) {
             Ok((op, after)) => {
                 greatest = Some(op.dot());
+                asked = asked.max(version_of_body(op.body()));
                 rest = after;
                 add_last(&mut log, op)?;
             }
@@ -138,13 +169,13 @@ fn read_log<A: Allocator + Clone>(alloc: A, count: u64, bytes: &[u8]) -> Result<
         }
     }
     if rest.is_empty() {
-        Ok(log)
+        in_version(log, asked, version)
     } else {
         Err(LogFault::Trailing)
     }
 }
 
-// The operations that a log's head counts.
+// The operations that a log's head counts, in its version.
 #[tactic(auto, unfolding(crate::specs::LogReading::counted_at))]
 fn counted_log<A: Allocator + Clone>(alloc: A, body: &[u8]) -> Result<Log<A>, LogFault>
     requires { 13 ≤ length body.now }
@@ -154,7 +185,7 @@ fn counted_log<A: Allocator + Clone>(alloc: A, body: &[u8]) -> Result<Log<A>, Lo
     let count = u64::from_be_bytes([
         head[5], head[6], head[7], head[8], head[9], head[10], head[11], head[12],
     ]);
-    read_log(alloc, count, records)
+    read_log(alloc, head[4], count, records)
 }
 
 // The log of a text.

@@ -4,14 +4,16 @@ ghost use Rattle.std.specs.Prelude.{◌≡◌, ℕ, ◌++◌, List, length, drop
 ghost use Rattle.mt_op.specs.Bodies.{act_of};
 ghost use Rattle.mt_op.specs.Operation.{Operation};
 ghost use Rattle.mt_op.specs.Valid.{IsOperation};
-ghost use Rattle.mt_opcodec.specs.OpReading.{Gives, add_track_at, move_track_at, add_clip_at, move_clip_at, trim_clip_at, set_gain_at, set_mute_at, remove_at, restore_at, add_marker_at, move_marker_at, retitle_at, act_at, op_after, op_at};
+ghost use Rattle.mt_opcodec.specs.OpReading.{Gives, add_track_at, move_track_at, add_clip_at, move_clip_at, trim_clip_at, set_gain_at, set_mute_at, remove_at, restore_at, add_marker_at, move_marker_at, retitle_at, set_fade_at, set_marker_length_at, act_at, is_newer, act_in, op_after, op_at};
 ghost use Rattle.mt_opcodec.specs.OpText.{op_text};
+ghost use Rattle.mt_opcodec.specs.Versions.{newest_version};
 
 use crate::fault::ReadFault;
 use crate::field_reader::{
-    digest_of, flag_of, gain_of, older_stamp_of, place_of, stamp_of, tags_of, title_of, trim_of,
-    u32_at,
+    digest_of, fades_of, flag_of, gain_of, older_stamp_of, place_of, stamp_of, tags_of, title_of,
+    trim_of, u32_at,
 };
+use crate::version::{NEWEST_VERSION, version_of_kind};
 use mt_op::{Body, Op};
 use mt_stamp::Stamp;
 use std::alloc::Allocator;
@@ -190,6 +192,40 @@ fn retitle_of<A: Allocator>(
     }
 }
 
+#[tactic(auto, unfolding(crate::specs::OpReading::set_fade_at))]
+fn set_fade_of<A: Allocator>(clock: u64, bytes: &[u8]) -> Result<(Body<A>, &[u8]), ReadFault>
+    ensures { Gives (λ x. (act_of x.0, x.1.now)) result (set_fade_at clock bytes.now) }
+{
+    match older_stamp_of(clock, bytes) {
+        Ok((clip, rest)) => {
+            let ((fade_in, fade_out), rest) = fades_of(rest)?;
+            let fade = Body::SetFade {
+                clip,
+                fade_in,
+                fade_out,
+            };
+            Ok((fade, rest))
+        }
+        Err(fault) => Err(fault),
+    }
+}
+
+#[tactic(auto, unfolding(crate::specs::OpReading::set_marker_length_at))]
+fn set_marker_length_of<A: Allocator>(
+    clock: u64,
+    bytes: &[u8],
+) -> Result<(Body<A>, &[u8]), ReadFault>
+    ensures { Gives (λ x. (act_of x.0, x.1.now)) result (set_marker_length_at clock bytes.now) }
+{
+    match older_stamp_of(clock, bytes) {
+        Ok((marker, rest)) => {
+            let (len, rest) = u32_at(rest)?;
+            Ok((Body::SetMarkerLength { marker, len }, rest))
+        }
+        Err(fault) => Err(fault),
+    }
+}
+
 #[tactic(auto, unfolding(crate::specs::OpReading::act_at))]
 fn body_of<A: Allocator>(alloc: A, clock: u64, bytes: &[u8]) -> Result<(Body<A>, &[u8]), ReadFault>
     ensures { Gives (λ x. (act_of x.0, x.1.now)) result (act_at clock bytes.now) }
@@ -208,26 +244,64 @@ fn body_of<A: Allocator>(alloc: A, clock: u64, bytes: &[u8]) -> Result<(Body<A>,
         [10, rest @ ..] => add_marker_of(alloc, rest),
         [11, rest @ ..] => move_marker_of(clock, rest),
         [12, rest @ ..] => retitle_of(alloc, clock, rest),
+        [13, rest @ ..] => set_fade_of(clock, rest),
+        [14, rest @ ..] => set_marker_length_of(clock, rest),
         [_, ..] => Err(ReadFault::BadTag),
     }
 }
 
-fn op_after<A: Allocator>(alloc: A, stamp: Stamp, bytes: &[u8]) -> Result<(Op<A>, &[u8]), ReadFault>
-    ensures { Gives (λ x. (x.0, x.1.now)) result (op_after stamp bytes.now) }
+// Whether the kind byte at the front came with a later version of logs than this one.
+fn is_newer(version: u8, bytes: &[u8]) -> bool
+    ensures { result ≡ is_newer version bytes.now }
 {
-    let (body, rest) = body_of(alloc, stamp.clock(), bytes)?;
+    match bytes {
+        [] => false,
+        [kind, ..] => version < version_of_kind(*kind),
+    }
+}
+
+// The body in a log of this version.
+#[tactic(auto, unfolding(crate::specs::OpReading::act_in))]
+fn body_in<A: Allocator>(
+    alloc: A,
+    version: u8,
+    clock: u64,
+    bytes: &[u8],
+) -> Result<(Body<A>, &[u8]), ReadFault>
+    ensures { Gives (λ x. (act_of x.0, x.1.now)) result (act_in version clock bytes.now) }
+{
+    if is_newer(version, bytes) {
+        return Err(ReadFault::BadTag);
+    }
+    body_of(alloc, clock, bytes)
+}
+
+fn op_after<A: Allocator>(
+    alloc: A,
+    version: u8,
+    stamp: Stamp,
+    bytes: &[u8],
+) -> Result<(Op<A>, &[u8]), ReadFault>
+    ensures { Gives (λ x. (x.0, x.1.now)) result (op_after version stamp bytes.now) }
+{
+    let (body, rest) = body_in(alloc, version, stamp.clock(), bytes)?;
     match Op::new(stamp, body) {
         Ok(op) => Ok((op, rest)),
         Err(_) => Err(ReadFault::BadField),
     }
 }
 
+// The operation at the front of the bytes, in a log of this version.
 #[tactic(auto, unfolding(crate::specs::OpReading::op_at))]
-pub(crate) fn op_of<A: Allocator>(alloc: A, bytes: &[u8]) -> Result<(Op<A>, &[u8]), ReadFault>
-    ensures { Gives (λ x. (x.0, x.1.now)) result (op_at bytes.now) }
+pub(crate) fn op_of<A: Allocator>(
+    alloc: A,
+    version: u8,
+    bytes: &[u8],
+) -> Result<(Op<A>, &[u8]), ReadFault>
+    ensures { Gives (λ x. (x.0, x.1.now)) result (op_at version bytes.now) }
 {
     match stamp_of(bytes) {
-        Ok((stamp, rest)) => op_after(alloc, stamp, rest),
+        Ok((stamp, rest)) => op_after(alloc, version, stamp, rest),
         Err(fault) => Err(fault),
     }
 }
@@ -235,7 +309,7 @@ pub(crate) fn op_of<A: Allocator>(alloc: A, bytes: &[u8]) -> Result<(Op<A>, &[u8
 /// Reads the operation that stands at the front of the bytes, and says how many bytes its text has; what
 /// follows is not looked at. Where the bytes do not begin with one, the first field at fault, from left to
 /// right, is refused: as `Truncated` (8) where the bytes end before it does, as `BadTag` (9) where it is the
-/// kind byte and none of 1 to 12, and as `BadField` (10) where it is another and not allowed. `Memory` (0) is answered
+/// kind byte and none of 1 to 14, and as `BadField` (10) where it is another and not allowed. `Memory` (0) is answered
 /// where the growth of the title or of the tags was refused. Memory is taken tag by tag, never for the number of
 /// them that the bytes give.
 pub fn read_op<A: Allocator>(alloc: A, bytes: &[u8]) -> Result<(Op<A>, usize), ReadFault>
@@ -244,9 +318,9 @@ pub fn read_op<A: Allocator>(alloc: A, bytes: &[u8]) -> Result<(Op<A>, usize), R
     // What stands at the front is read, unless memory ran out.
     ensures only { (o : Operation) (rest : List ℕ) → IsOperation o → bytes.now ≡ op_text o ++ rest → Gives (λ x. x) result (Ok (o, length (op_text o))) }
     // Which fault it is.
-    ensures exact { Gives (λ x. (x.0, drop x.1 bytes.now)) result (op_at bytes.now) }
+    ensures exact { Gives (λ x. (x.0, drop x.1 bytes.now)) result (op_at newest_version bytes.now) }
 {
-    match op_of(alloc, bytes) {
+    match op_of(alloc, NEWEST_VERSION, bytes) {
         Ok((op, rest)) => {
             let len = bytes.len() - rest.len();
             Ok((op, len))

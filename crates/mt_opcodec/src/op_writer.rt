@@ -2,9 +2,9 @@
 
 ghost use Rattle.std.specs.Prelude.{◌≡◌, ◌<◌, ◌^◌, ◌++◌, length, OnOk, OnErr, IsTrue};
 ghost use Rattle.mt_op.specs.Bodies.{act_of};
-ghost use Rattle.mt_op.specs.Operation.{AddTrack, MoveTrack, AddClip, MoveClip, TrimClip, SetGain, SetMute, Remove, Restore, AddMarker, MoveMarker, Retitle};
+ghost use Rattle.mt_op.specs.Operation.{AddTrack, MoveTrack, AddClip, MoveClip, TrimClip, SetGain, SetMute, Remove, Restore, AddMarker, MoveMarker, Retitle, SetFade, SetMarkerLength};
 ghost use Rattle.mt_op.specs.Valid.{tags_are_good};
-ghost use Rattle.mt_opcodec.specs.OpText.{stamp_bytes, flag_bytes, place_bytes, title_bytes, frame_bytes, trim_bytes, gain_bytes, tags_bytes, act_bytes, op_text};
+ghost use Rattle.mt_opcodec.specs.OpText.{stamp_bytes, flag_bytes, place_bytes, title_bytes, frame_bytes, trim_bytes, fades_bytes, gain_bytes, tags_bytes, act_bytes, op_text};
 
 use mt_op::{Body, Digest, Gain, Op, Title};
 use mt_stamp::Stamp;
@@ -68,6 +68,18 @@ fn put_trim<A: Allocator>(out: &mut Vec<u8, A>, offset: u32, len: u32) -> Result
 {
     put_frame(out, offset)?;
     put_frame(out, len)
+}
+
+// Over how many frames a clip fades in and out.
+fn put_fades<A: Allocator>(
+    out: &mut Vec<u8, A>,
+    fade_in: u32,
+    fade_out: u32,
+) -> Result<(), AllocError>
+    ensures { OnOk result (out.new.items ≡ out.old.items ++ fades_bytes fade_in fade_out) }
+{
+    put_frame(out, fade_in)?;
+    put_frame(out, fade_out)
 }
 
 fn put_gain<A: Allocator>(out: &mut Vec<u8, A>, gain: &Gain) -> Result<(), AllocError>
@@ -237,6 +249,31 @@ fn put_retitle<A: Allocator, B: Allocator>(
     put_title(out, title)
 }
 
+fn put_set_fade<A: Allocator>(
+    out: &mut Vec<u8, A>,
+    clip: &Stamp,
+    fade_in: u32,
+    fade_out: u32,
+) -> Result<(), AllocError>
+    ensures { OnOk result (out.new.items ≡ out.old.items ++ act_bytes (SetFade clip.now fade_in fade_out)) }
+{
+    out.push(13)?;
+    put_stamp(out, clip)?;
+    put_fades(out, fade_in, fade_out)
+}
+
+fn put_set_marker_length<A: Allocator>(
+    out: &mut Vec<u8, A>,
+    marker: &Stamp,
+    len: u32,
+) -> Result<(), AllocError>
+    ensures { OnOk result (out.new.items ≡ out.old.items ++ act_bytes (SetMarkerLength marker.now len)) }
+{
+    out.push(14)?;
+    put_stamp(out, marker)?;
+    put_frame(out, len)
+}
+
 fn put_body<A: Allocator, B: Allocator>(
     out: &mut Vec<u8, A>,
     body: &Body<B>,
@@ -263,6 +300,12 @@ fn put_body<A: Allocator, B: Allocator>(
         Body::AddMarker { at, title } => put_add_marker(out, *at, title),
         Body::MoveMarker { marker, at } => put_move_marker(out, marker, *at),
         Body::Retitle { item, title } => put_retitle(out, item, title),
+        Body::SetFade {
+            clip,
+            fade_in,
+            fade_out,
+        } => put_set_fade(out, clip, *fade_in, *fade_out),
+        Body::SetMarkerLength { marker, len } => put_set_marker_length(out, marker, *len),
     }
 }
 

@@ -1,5 +1,5 @@
 -- One part more.
-use Rattle.std.proofs.Common.{◌≡◌, ℕ, ◌+◌, ◌*◌, ◌^◌, ◌<◌, ◌≤◌, List, [], ◌∷◌, ◌++◌, length, take, ℤ, pos, negsuc, ◌+ℤ◌, ◌*ℤ◌, to_z, of_z, FitsSigned, sym, ◌∙◌, ap, arith}
+use Rattle.std.proofs.Common.{◌≡◌, ℕ, ◌+◌, ◌-◌, ◌*◌, ◌^◌, ◌<◌, ◌≤◌, List, [], ◌∷◌, ◌++◌, length, take, ℤ, pos, negsuc, ◌+ℤ◌, ◌*ℤ◌, to_z, of_z, FitsSigned, sym, ◌∙◌, ap, arith}
 use Rattle.std.specs.Prelude.{if◌then◌else◌, unsigned_abs}
 use Rattle.std.proofs.lemmas.List.{take_more}
 use Rattle.std.specs.Int.{w64, w128}
@@ -11,6 +11,7 @@ use Rattle.mt_overlap.specs.declared.span.Segment.{Segment}
 use Rattle.mt_overlap.specs.Overlap.{segment_at}
 use Rattle.mt_render.specs.declared.part.Part.{Part}
 use Rattle.mt_render.specs.Sources.{Sources, source_of}
+use Rattle.mt_render.specs.Fading.{loudness, most}
 use Rattle.mt_render.specs.Mix.{rounded, contribution, heard}
 use Rattle.mt_render.specs.Parts.{gives, all_give}
 use Rattle.mt_render.specs.Lanes.{clip_at, is_in, lane_sum, clip_value}
@@ -32,14 +33,14 @@ lane_push value (r ∷ rs) s f =
 
 -- what the part of a clip gives
 pub part_gives : (s : Segment) (clip : Clip) (gain : Ratio) (p : Part) (text : List ℕ) (f c : ℕ) → p.start ≡ s.start → p.end ≡ s.end → p.at ≡ clip.at → p.offset ≡ clip.offset → p.wave.now ≡ text
-    → ((x : ℤ) → rounded (x *ℤ pos p.scale.num) p.scale.den ≡ contribution clip.gain gain x)
-    → gives f c p ≡ (if is_in s f then contribution clip.gain gain (heard text clip f c) else pos 0)
-part_gives s clip gain p text f c start end at offset wave scaled = rw (start, end, at, offset, wave) (ap (λ z. if is_in s f then z else pos 0) (scaled (heard text clip f c)))
+    → ((x : ℤ) (i : ℕ) → rounded (x *ℤ pos (p.scale.num * loudness p.fades i)) (p.scale.den * most p.fades) ≡ contribution clip gain i x)
+    → gives f c p ≡ (if is_in s f then contribution clip gain (f - clip.at) (heard text clip f c) else pos 0)
+part_gives s clip gain p text f c start end at offset wave scaled = rw (start, end, at, offset, wave) (ap (λ z. if is_in s f then z else pos 0) (scaled (heard text clip f c) (f - clip.at)))
 
 -- one segment more
 pub lane_step : (sources : Sources) (gain : Ratio) (clips : List Clip) (segs : List Segment) (i f c : ℕ) (before after : ℤ) (s : Segment) (clip : Clip) → i < length segs → s ≡ segment_at segs i
     → clip ≡ clip_at clips s.which → before ≡ lane_sum (clip_value sources gain clips f c) (take i segs) f
-    → after ≡ before +ℤ (if is_in s f then contribution clip.gain gain (heard (source_of sources clip.source) clip f c) else pos 0)
+    → after ≡ before +ℤ (if is_in s f then contribution clip gain (f - clip.at) (heard (source_of sources clip.source) clip f c) else pos 0)
     → after ≡ lane_sum (clip_value sources gain clips f c) (take (i + 1) segs) f
 lane_step sources gain clips segs i f c before after s clip within is clip_is had gained =
     let value = clip_value sources gain clips f c in

@@ -1,5 +1,5 @@
 -- A programme depends on the recordings under the digests of audible clips alone.
-use Rattle.std.proofs.Common.{◌≡◌, ◌⊎◌, inl, inr, ℕ, Bool, true, false, List, [], ◌∷◌, ◌++◌, Option, Some, None, refl, sym, ap, ◌∙◌, ℤ, ◌+ℤ◌}
+use Rattle.std.proofs.Common.{◌≡◌, ◌⊎◌, inl, inr, ℕ, ◌-◌, Bool, true, false, List, [], ◌∷◌, ◌++◌, Option, Some, None, refl, sym, ap, ◌∙◌, ℤ, ◌+ℤ◌}
 use Rattle.std.specs.Prelude.{if◌then◌else◌, unwrap_or}
 use Rattle.std.specs.Ordering.{is_lt}
 use Rattle.std.proofs.lemmas.Bool.{cases_Bool, false≢true}
@@ -58,7 +58,7 @@ sounds_among (c ∷ cs) f d e =
 module _ (a b : Sources) where
   clip_alike : (gain : Ratio) (f c : ℕ) (o : Option Clip) → ((d : Clip) → o ≡ Some d → found a d.source ≡ found b d.source) → clip_sample a gain f c o ≡ clip_sample b gain f c o
   clip_alike gain f c None same = refl
-  clip_alike gain f c (Some clip) same = ap (λ (o : Option (List ℕ)). contribution clip.gain gain (heard (unwrap_or o []) clip f c)) (same clip refl)
+  clip_alike gain f c (Some clip) same = ap (λ (o : Option (List ℕ)). contribution clip gain (f - clip.at) (heard (unwrap_or o []) clip f c)) (same clip refl)
 
   track_alike : (f c : ℕ) (t : Track) → ((d : Clip) → IsAmong d (if t.mute then [] else unmuted t.clips) → found a d.source ≡ found b d.source) → track_sample a f c t ≡ track_sample b f c t
   track_alike f c t same =

@@ -1,11 +1,11 @@
 -- Quotients that round down.
-use Rattle.std.proofs.Common.{◌≡◌, ℕ, zero, suc, ◌+◌, ◌*◌, ◌/◌, ◌<◌, ◌≤◌, inl, inr, refl, sym, ◌∙◌, arith, ap, ℤ, pos, negsuc, ◌+ℤ◌, ◌*ℤ◌, FitsSigned, to_z, of_z}
+use Rattle.std.proofs.Common.{◌≡◌, ℕ, zero, suc, ◌+◌, ◌*◌, ◌/◌, ◌^◌, ◌<◌, ◌≤◌, inl, inr, refl, sym, ◌∙◌, arith, ap, ℤ, pos, negsuc, ◌+ℤ◌, ◌*ℤ◌, FitsSigned, to_z, of_z}
 use Rattle.std.proofs.Math.Nat.{mul-le-mul_right, mul-le-mul_left}
 use Rattle.std.proofs.lemmas.Bool.{cases_lt}
 use Rattle.std.proofs.lemmas.Nat.{mul-le, div-mul-add}
 use Rattle.mt_render.specs.Divides.{Divides}
-use Rattle.std.specs.Int.{w64, int_div_euclid}
-use Rattle.std.proofs.lemmas.Int.{to_z-of_z}
+use Rattle.std.specs.Int.{w64, w128, int_div_euclid}
+use Rattle.std.proofs.lemmas.Int.{ints, to_z-of_z}
 use borrow.Author.Differences.{up, down, same_in, sum_is_lem, product_is}
 use Rattle.mt_render.specs.Mix.{floored, rounded}
 
@@ -93,12 +93,23 @@ by_division p den some = sym (rounded_by_half p den some)
 quotient : (n g a : ℕ) → 0 < g → n ≡ g * a → n / g ≡ a
 quotient n g a h e = let f : n ≡ a * g + 0 = omega arith in rw f (div-mul-add a g 0 h)
 
--- both parts over a divisor of both
-pub in_lower_terms : (n d g : ℕ) (x : ℤ) → 0 < g → 0 < d → Divides g n → Divides g d → rounded (x *ℤ pos (n / g)) (d / g) ≡ rounded (x *ℤ pos n) d
-in_lower_terms n d g x hg hd p q =
+-- two fractions that are one
+pub rounded_same : (a b c d : ℕ) (x : ℤ) → 0 < c → 0 < d → a * d ≡ b * c → rounded (x *ℤ pos a) c ≡ rounded (x *ℤ pos b) d
+rounded_same a b c d x hc hd same =
+    let over : d * a ≡ c * b = omega arith in
+    let under : d * c ≡ c * d = omega arith in
+    sym (rounded_reduced d a c x hd hc) ∙ ap (λ (n : ℕ). rounded (x *ℤ pos n) (d * c)) over
+    ∙ ap (λ (n : ℕ). rounded (x *ℤ pos (c * b)) n) under ∙ rounded_reduced c b d x hc hd
+
+-- both parts over a divisor of both, times any others
+pub in_lower_terms : (n d g a b : ℕ) (x : ℤ) → 0 < g → 0 < d → 0 < b → Divides g n → Divides g d → rounded (x *ℤ pos (n / g * a)) (d / g * b) ≡ rounded (x *ℤ pos (n * a)) (d * b)
+in_lower_terms n d g a b x hg hd hb p q =
     let qn = quotient n g p.times hg p.is in
     let qd = quotient d g q.times hg q.is in
-    rw (qn, qd) (sym (rounded_reduced g p.times q.times x hg (some_times g q.times d hd q.is)) ∙ rw (← p.is, ← q.is) refl)
+    let some : 1 * 1 ≤ q.times * b = mul-le 1 1 q.times b (some_times g q.times d hd q.is) hb in
+    let whole : 1 * 1 ≤ d * b = mul-le 1 1 d b hd hb in
+    let same : (p.times * a) * ((g * q.times) * b) ≡ ((g * p.times) * a) * (q.times * b) = omega arith in
+    rw (qn, qd) (rounded_same (p.times * a) (n * a) (q.times * b) (d * b) x (omega arith) (omega arith) (rw (← p.is, ← q.is) at same))
   where
     some_times : (g t d : ℕ) → 0 < d → d ≡ g * t → 0 < t
     some_times g zero d hd e = let z : g * 0 ≡ 0 = omega arith in absurd (omega arith)
@@ -108,3 +119,10 @@ in_lower_terms n d g x hg hd p q =
 pub divided : (r z d : ℤ) → FitsSigned w64 r → FitsSigned w64 z → FitsSigned w64 d
     → r ≡ int_div_euclid (to_z w64 (of_z w64 z)) (to_z w64 (of_z w64 d)) → to_z w64 (of_z w64 r) ≡ int_div_euclid z d
 divided r z d fr fz fd h = to_z-of_z w64 r fr ∙ h ∙ rw (to_z-of_z w64 z fz, to_z-of_z w64 d fd) refl
+
+widened : (n : ℕ) → n < 2 ^ 127 → to_z w128 n ≡ pos n
+widened n small = omega (arith, ints)
+
+-- and of two of 128, with half of the divisor added before
+pub divided_wide : (r z p : ℤ) (n : ℕ) → FitsSigned w128 z → n < 2 ^ 127 → 0 < n → r ≡ int_div_euclid (to_z w128 (of_z w128 z)) (to_z w128 n) → z ≡ p +ℤ pos (n / 2) → r ≡ rounded p n
+divided_wide r z p n fits small some h is = h ∙ rw (to_z-of_z w128 z fits, widened n small, is) (by_division p n some)

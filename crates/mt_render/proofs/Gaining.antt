@@ -1,5 +1,5 @@
 -- Sums that have gained.
-use Rattle.std.proofs.Common.{◌≡◌, ℕ, ◌+◌, ◌-◌, ◌%◌, ◌^◌, ◌<◌, ◌≤◌, ◌∙◌, refl, sym, ap, List, length, length-take, length-drop, take, drop, ℤ, pos, ◌+ℤ◌, ◌*ℤ◌, FitsSigned, to_z, of_z, arith, rules, inl, inr}
+use Rattle.std.proofs.Common.{◌≡◌, ℕ, ◌+◌, ◌-◌, ◌*◌, ◌%◌, ◌^◌, ◌<◌, ◌≤◌, ◌∙◌, refl, sym, ap, List, length, length-take, length-drop, take, drop, ℤ, pos, ◌+ℤ◌, ◌*ℤ◌, FitsSigned, to_z, of_z, arith, rules, inl, inr}
 use Rattle.std.specs.Prelude.{nat_le, nat_lt, true, min}
 use Rattle.std.specs.Int.{w32, w64, int_wrap}
 use Rattle.std.proofs.lemmas.Bool.{cases_lt}
@@ -10,6 +10,7 @@ use borrow.Rule.Slice.PartMut.{put_mid}
 use Rattle.mt_bwfread.specs.Wave.{channels_of}
 use Rattle.mt_bwfread.specs.Fill.{at, sample_or_silence}
 use Rattle.mt_render.specs.declared.part.Part.{Part}
+use Rattle.mt_render.specs.Fading.{loudness, most}
 use Rattle.mt_render.specs.Mix.{rounded}
 use Rattle.mt_render.specs.Parts.{gives}
 use Rattle.mt_render.specs.Sums.{HaveGained, IsNarrow}
@@ -64,7 +65,7 @@ gained_mid xs ys a n g h len room gained inside before after k within =
 
 -- what a part gives in a frame that it holds
 pub inside : (p : Part) (f c : ℕ) → p.start ≤ f → f < p.end
-    → gives f c p ≡ rounded (sample_or_silence p.wave.now (p.offset + (f - p.at)) (min c (channels_of p.wave.now - 1)) *ℤ pos p.scale.num) p.scale.den
+    → gives f c p ≡ rounded (sample_or_silence p.wave.now (p.offset + (f - p.at)) (min c (channels_of p.wave.now - 1)) *ℤ pos (p.scale.num * loudness p.fades (f - p.at))) (p.scale.den * most p.fades)
 inside p f c from to =
     let a : nat_le p.start f ≡ true = grind (arith, nat_tests) in
     let b : nat_lt f p.end ≡ true = grind (arith, nat_tests) in

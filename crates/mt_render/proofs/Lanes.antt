@@ -250,6 +250,7 @@ pub record IsSegmentOf (clips : List Clip) (s : Segment) : Type 0 where
   pub within : s.which < length clips
   pub on : (clip_at clips s.which).mute ≡ false
   pub begun : (clip_at clips s.which).at ≤ s.start
+  pub ended : s.end ≤ (clip_at clips s.which).at + (clip_at clips s.which).len
 
 pub segment_of : (clips : List Clip) (spans : List Span) (segs : List Segment) (k : ℕ) → AreSpans clips spans → AreSegments spans segs → k < length segs → IsSegmentOf clips (segment_at segs k)
 segment_of clips spans segs k are s below =
@@ -259,7 +260,10 @@ segment_of clips spans segs k are s below =
     let within : seg.which < length clips = let w = top.within in let n = are.count in omega arith in
     let covers = covers_of clips spans seg.which seg.start are within top.covers in
     let c = clip_at clips seg.which in
-    record { within = within; on = muted_by c.mute c.at c.len seg.start covers.0 covers.1; begun = covers.0 }
+    let on = muted_by c.mute c.at c.len seg.start covers.0 covers.1 in
+    let last = s.top (seg.end - 1) seg.which (record { index = k; within = below; from = omega arith; to = omega arith; which = refl }) in
+    let held = rw on at (covers_of clips spans seg.which (seg.end - 1) are within last.covers).1 in
+    record { within = within; on = on; begun = covers.0; ended = omega (arith, held, some) }
 
 -- the segments of a track's clips add up to what the clip that sounds contributes
 pub lane_is : (sources : Sources) (gain : Ratio) (clips : List Clip) (spans : List Span) (segs : List Segment) (f c : ℕ) → PlacesApart clips → AreSpans clips spans → AreSegments spans segs

@@ -2,12 +2,15 @@ pub mod Digests
 pub mod Lanes
 pub mod Divisors
 pub mod Floors
+pub mod Fading
+pub mod Cutting
 pub mod Adding
 pub mod Searching
 pub mod Tracks
 pub mod Blocks
 pub mod Gathered
 pub mod Quotients
+pub mod Ramps
 pub mod Gaining
 pub mod Rising
 pub mod Summing

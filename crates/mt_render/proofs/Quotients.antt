@@ -31,7 +31,7 @@ pub lowered_is : (x : ℤ) (num den turns u q : ℕ) → 0 < den → pos u ≡ (
 lowered_is x num den turns u q some is quotient = lower_is (x *ℤ pos num +ℤ pos (den / 2)) u den turns q some is quotient ∙ by_division (x *ℤ pos num) den some
 
 -- the upper part of a product with nearly top / den
-product_quotient : (u den inverse top : ℕ) → 0 < den → top ≤ inverse * den → inverse * den < top + den → u * den < top → u * inverse / top ≡ u / den
+pub product_quotient : (u den inverse top : ℕ) → 0 < den → top ≤ inverse * den → inverse * den < top + den → u * den < top → u * inverse / top ≡ u / den
 product_quotient u den inverse top some above below small =
     let q = u / den in
     let whole : q * den + u % den ≡ u = div-add-mod' u den in

@@ -1,22 +1,27 @@
 -- Parts that rise: at most one holds a frame.
-use Rattle.std.proofs.Common.{◌≡◌, ℕ, zero, suc, ◌+◌, ◌*◌, ◌/◌, ◌^◌, ◌<◌, ◌≤◌, ◌⊎◌, true, List, [], ◌∷◌, ◌++◌, length, take, get_or, Some, ℤ, pos, ◌+ℤ◌, ◌*ℤ◌, refl, sym, ◌∙◌, ap, subst, arith, inl, inr}
+use Rattle.std.proofs.Common.{◌≡◌, ℕ, zero, suc, ◌+◌, ◌-◌, ◌*◌, ◌/◌, ◌^◌, ◌<◌, ◌≤◌, ◌⊎◌, true, false, List, [], ◌∷◌, ◌++◌, length, take, get_or, Some, ℤ, pos, negsuc, ◌+ℤ◌, ◌*ℤ◌, FitsSigned, refl, sym, ◌∙◌, ap, subst, arith, inl, inr}
 use Rattle.std.specs.Prelude.{nat_le, nat_lt, unsigned_abs}
-use Rattle.std.proofs.lemmas.Bool.{cases_lt}
+use Rattle.std.specs.Int.{w32, w64}
+use Rattle.std.proofs.lemmas.Int.{fits_signed_from_abs}
+use Rattle.std.proofs.lemmas.Bool.{cases_Bool, cases_lt}
 use Rattle.std.proofs.lemmas.Bool.Decides.{nat_tests}
 use Rattle.std.proofs.lemmas.List.{take_more, take_all}
 use Rattle.std.proofs.lemmas.Option.{get_or_from_slice_get, slice_get_read}
 use Rattle.std.proofs.Math.Nat.{mul-le-mul_left}
+use Rattle.std.proofs.lemmas.Nat.{mul-le}
 use borrow.Author.Differences.{up, down, sum_is_lem}
 use Rattle.mt_bwfread.proofs.Sizes.{abs_is, abs_times, gap_small}
 use Rattle.mt_bwfread.specs.Fill.{sample_or_silence}
 use Rattle.mt_overlap.specs.declared.span.Segment.{Segment}
 use Rattle.mt_overlap.specs.Overlap.{segment_at, AreTidy}
 use Rattle.mt_render.specs.declared.part.Part.{Part}
+use Rattle.mt_render.specs.Fading.{loudness, most}
 use Rattle.mt_render.specs.Mix.{floored, rounded}
 use Rattle.mt_render.specs.Parts.{gives, all_give, IsAt, AreRising, AreParts}
 use Rattle.mt_render.proofs.Floors.{floored_is, below_next, by_division}
 use Rattle.mt_render.proofs.Lanes.{and_nothing, nothing_and}
 use Rattle.mt_render.proofs.Adding.{all_give_push}
+use Rattle.mt_render.proofs.Fading.{loud_most, most_from}
 
 -- ---- by index
 
@@ -68,10 +73,12 @@ rising_tail p ps r = record {
 -- ---- what they give
 
 pub early : (p : Part) (f c : ℕ) → f < p.start → gives f c p ≡ pos 0
-early p f c h = grind (arith, nat_tests)
+early p f c h = let out : nat_le p.start f ≡ false = grind (arith, nat_tests) in rw out refl
 
 pub late : (p : Part) (f c : ℕ) → p.end ≤ f → gives f c p ≡ pos 0
-late p f c h = grind (arith, nat_tests)
+late p f c h =
+    let out : nat_lt f p.end ≡ false = grind (arith, nat_tests) in
+    elim (cases_Bool (nat_le p.start f)) [ inl y ↦ rw (y, out) refl | inr n ↦ rw n refl ]
 
 pub silent_to : (ps : List Part) (i f c : ℕ) → ((k : ℕ) (p : Part) → k < i → IsAt ps k p → p.end ≤ f) → all_give f c (take i ps) ≡ pos 0
 silent_to [] zero f c ended = refl
@@ -111,7 +118,7 @@ none_held ps i f c all before = sym (silent_to ps i f c before) ∙ ap (all_give
 
 -- ---- how great that is
 
-rounded_small : (x : ℤ) (num den reach top : ℕ) → 0 < den → num ≤ reach * den → unsigned_abs x ≤ top → unsigned_abs (rounded (x *ℤ pos num) den) ≤ top * reach
+pub rounded_small : (x : ℤ) (num den reach top : ℕ) → 0 < den → num ≤ reach * den → unsigned_abs x ≤ top → unsigned_abs (rounded (x *ℤ pos num) den) ≤ top * reach
 rounded_small x num den reach top some enough small =
     let p = x *ℤ pos num in
     let s = p +ℤ pos (den / 2) in
@@ -125,6 +132,19 @@ rounded_small x num den reach top some enough small =
     let below : down c ≤ up c + top * reach = below_next (down c) (up c + top * reach) den (omega (arith, is.most, half, size, product, wide)) in
     rw (← by_division p den some) (gap_small c (up c) (down c) (top * reach) (omega arith) above below)
 
+sample_small : (x : ℤ) → FitsSigned w32 x → unsigned_abs x ≤ 2 ^ 31
+sample_small (pos n) h = omega arith
+sample_small (negsuc n) h = omega arith
+
+-- what a sample gives under a gain and a level of fades is a number of 64 bits
+pub given_fits : (x : ℤ) (num den level full : ℕ) → FitsSigned w32 x → num ≤ 4294836225 → 1 ≤ den → 1 ≤ full → level ≤ full → FitsSigned w64 (rounded (x *ℤ pos (num * level)) (den * full))
+given_fits x num den level full fits small some one within =
+    let a : 1 * 1 ≤ den * full = mul-le 1 1 den full some one in
+    let b : num * level ≤ num * full = mul-le-mul_left num within in
+    let d : num * (1 * full) ≤ num * (den * full) = mul-le-mul_left num (mul-le 1 full den full some (omega arith)) in
+    let e = rounded_small x (num * level) (den * full) num (2 ^ 31) (omega arith) (omega arith) (sample_small x fits) in
+    fits_signed_from_abs w64 (rounded (x *ℤ pos (num * level)) (den * full)) (omega (arith, e))
+
 pub gives_small : (f c : ℕ) (p : Part) (reach : ℕ) → p.scale.num ≤ reach * p.scale.den → ((frame channel : ℕ) → unsigned_abs (sample_or_silence p.wave.now frame channel) ≤ 2 ^ 31)
     → unsigned_abs (gives f c p) ≤ 2 ^ 31 * reach
 gives_small f c p reach enough small =
@@ -135,7 +155,9 @@ gives_small f c p reach enough small =
         | inl to ↦
             let a : nat_le p.start f ≡ true = grind (arith, nat_tests) in
             let b : nat_lt f p.end ≡ true = grind (arith, nat_tests) in
-            rw (a, b) (rounded_small _ p.scale.num p.scale.den reach (2 ^ 31) p.scale.den_from enough (small _ _))
+            let loud : p.scale.num * loudness p.fades (f - p.at) ≤ (reach * p.scale.den) * most p.fades = mul-le p.scale.num (loudness p.fades (f - p.at)) (reach * p.scale.den) (most p.fades) enough (loud_most p.fades (f - p.at)) in
+            let some : 1 * 1 ≤ p.scale.den * most p.fades = mul-le 1 1 p.scale.den (most p.fades) p.scale.den_from (most_from p.fades) in
+            rw (a, b) (rounded_small _ (p.scale.num * loudness p.fades (f - p.at)) (p.scale.den * most p.fades) reach (2 ^ 31) (omega arith) (omega arith) (small _ _))
       ]
     ]
 

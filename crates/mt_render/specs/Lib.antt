@@ -7,6 +7,7 @@ pub mod Refusals
 pub mod Alike
 pub mod Lanes
 pub mod Divides
+pub mod Fading
 pub mod Parts
 pub mod Search
 pub mod Kept

@@ -1,5 +1,5 @@
 -- The mix (profile): each sample of a programme by itself.
-use Rattle.std.specs.Prelude.{ℕ, ◌+◌, ◌*◌, ◌-◌, ◌^◌, min, max, not, ◌&&◌, nat_lt, nat_le, Bool, if◌then◌else◌, List, [], ◌∷◌, Option, Some, None, ℤ, pos, negsuc, ◌+ℤ◌, ◌*ℤ◌}
+use Rattle.std.specs.Prelude.{ℕ, ◌+◌, ◌*◌, ◌-◌, ◌^◌, min, max, not, ◌&&◌, ◌==◌, nat_lt, nat_le, Bool, if◌then◌else◌, List, [], ◌∷◌, Option, Some, None, ℤ, pos, negsuc, ◌+ℤ◌, ◌*ℤ◌}
 use Rattle.std.specs.Int.{int_div_euclid, int_max, int_min}
 use Rattle.std.specs.Ordering.{is_lt}
 use Rattle.mt_stamp.specs.Moment.{stamp_cmp}
@@ -47,13 +47,23 @@ floored z n = int_div_euclid z (pos n)
 abbrev pub rounded : ℤ → ℕ → ℤ
 rounded p q = floored (pos 2 *ℤ p +ℤ pos q) (2 * q)
 
--- a sample under the gains of its clip and of its track
-abbrev pub contribution : Ratio → Ratio → ℤ → ℤ
-contribution clip track x = rounded (x *ℤ pos (clip.num * track.num)) (clip.den * track.den)
+-- A fade is a gain that rises frame by frame: `level` out of `full` at so many frames from its silent end. A fade of no frames is none: 1 out of 1.
+abbrev pub level : ℕ → ℕ → ℕ
+level fade i = if fade == 0 then 1 else min i fade
+
+abbrev pub full : ℕ → ℕ
+full fade = if fade == 0 then 1 else fade
+
+-- A sample of a clip's frame i, counted from its first, under the gains of the clip and of its track and under its fades: it fades in from its first
+-- frame on, which is silent, and out to the frame behind its last, which would be.
+abbrev pub contribution : Clip → Ratio → ℕ → ℤ → ℤ
+contribution clip track i x =
+    rounded (x *ℤ pos ((clip.gain.num * track.num) * (level clip.fade_in i * level clip.fade_out (clip.len - i))))
+    ((clip.gain.den * track.den) * (full clip.fade_in * full clip.fade_out))
 
 abbrev pub clip_sample : Sources → Ratio → ℕ → ℕ → Option Clip → ℤ
 clip_sample sources gain f c None = pos 0
-clip_sample sources gain f c (Some clip) = contribution clip.gain gain (heard (source_of sources clip.source) clip f c)
+clip_sample sources gain f c (Some clip) = contribution clip gain (f - clip.at) (heard (source_of sources clip.source) clip f c)
 
 -- A muted track gives nothing, and neither does one of which no clip sounds.
 abbrev pub track_sample : Sources → ℕ → ℕ → Track → ℤ

@@ -1,17 +1,23 @@
 -- What the parts of a mix give: what the code keeps, and no definition of the subject.
-use Rattle.std.specs.Prelude.{◌≡◌, ℕ, ◌+◌, ◌-◌, ◌<◌, ◌≤◌, min, ◌&&◌, nat_le, nat_lt, if◌then◌else◌, List, [], ◌∷◌, slice_get, Some, ℤ, pos, ◌+ℤ◌, ◌*ℤ◌}
+use Rattle.std.specs.Prelude.{◌≡◌, ℕ, ◌+◌, ◌-◌, ◌*◌, ◌<◌, ◌≤◌, min, ◌&&◌, nat_le, nat_lt, if◌then◌else◌, List, [], ◌∷◌, slice_get, Some, ℤ, pos, ◌+ℤ◌, ◌*ℤ◌}
 use Rattle.mt_bwfread.specs.Wave.{channels_of}
 use Rattle.mt_bwfread.specs.Fill.{sample_or_silence}
 use Rattle.mt_overlap.specs.declared.span.Segment.{Segment}
 use Rattle.mt_overlap.specs.Overlap.{segment_at}
 use Rattle.mt_render.specs.declared.part.Part.{Part}
 use Rattle.mt_render.specs.Mix.{rounded}
+use Rattle.mt_render.specs.Fading.{loudness, most}
 
 -- the contribution of its clip to a frame of the session on a channel, nothing outside of it
 abbrev pub gives : ℕ → ℕ → Part → ℤ
 gives f c p =
-    if nat_le p.start f && nat_lt f p.end then rounded (sample_or_silence p.wave.now (p.offset + (f - p.at)) (min c (channels_of p.wave.now - 1)) *ℤ pos p.scale.num) p.scale.den
+    if nat_le p.start f && nat_lt f p.end then
+    rounded (sample_or_silence p.wave.now (p.offset + (f - p.at)) (min c (channels_of p.wave.now - 1)) *ℤ pos (p.scale.num * loudness p.fades (f - p.at))) (p.scale.den * most p.fades)
     else pos 0
+
+-- a number in the frames from one on and below another, nothing in the others
+abbrev pub within : ℕ → ℕ → ℕ → ℤ → ℤ
+within from to f z = if nat_le from f && nat_lt f to then z else pos 0
 
 -- the sum over the parts of a track: at most one sounds at a frame
 abbrev pub all_give : ℕ → ℕ → List Part → ℤ

@@ -31,8 +31,8 @@
 //! `length()` frames at most, which the caller shows.
 //!
 //! At each frame, on each track that is not muted, the clip that was placed last sounds alone of those that cover the frame and are not
-//! muted. Its sample at 32-bit scale, times the gains of the clip and of the track, is rounded to the nearest whole number,
-//! halves up; the sum over the tracks is rounded to the bits that are put out, and cut to their range. `specs/Mix.antt` says it in a
+//! muted. Its sample at 32-bit scale, times the gains of the clip and of the track and as far as it has faded in and not out, is rounded to
+//! the nearest whole number, halves up; the sum over the tracks is rounded to the bits that are put out, and cut to their range. `specs/Mix.antt` says it in a
 //! line a step, and `laws` which clip it is.
 //!
 //! What a block costs: for each track one search for the first segment that reaches into it, and for each sample of a segment a reading, a
@@ -42,12 +42,15 @@
 
 mod block;
 mod catalogue;
+mod divisor;
+mod fade;
 mod fault;
 mod format;
 mod lane;
 pub mod laws;
 mod mix;
 mod part;
+mod ramp;
 mod scale;
 mod search;
 mod step;

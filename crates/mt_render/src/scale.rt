@@ -1,12 +1,13 @@
 //! The gain of a clip on its track, reduced, with what makes it quick to multiply by.
 
-ghost use Rattle.std.specs.Prelude.{◌≡◌, ◌+◌, ◌*◌, ◌/◌, ◌<◌, ◌≤◌, ◌^◌, length, pos, ◌+ℤ◌, ◌*ℤ◌, ℤ};
+ghost use Rattle.std.specs.Prelude.{◌≡◌, ℕ, ◌+◌, ◌*◌, ◌/◌, ◌<◌, ◌≤◌, ◌^◌, length, pos, ◌+ℤ◌, ◌*ℤ◌, ℤ};
 ghost use Rattle.mt_bwfread.specs.Fill.{at};
 ghost use Rattle.mt_render.specs.Divides.{Divides, Inverts};
-ghost use Rattle.mt_render.specs.Mix.{rounded, contribution};
+ghost use Rattle.mt_render.specs.Mix.{rounded};
 ghost use Rattle.mt_render.specs.Sums.{HaveGained};
 
-use crate::step::{Divided, Multiplied, Same, Shifted, Whole, add_each};
+use crate::divisor::Divisor;
+use crate::step::{Far, Multiplied, Near, Same, Shifted, Whole, add_each};
 use mt_op::Gain;
 
 // A number that divides both: the greatest that does.
@@ -124,7 +125,7 @@ fn scale_of(num: u32, den: u32) -> Scale
 impl Scale {
     /// The gain of a clip times that of its track.
     pub(crate) fn new(clip: Gain, track: Gain) -> Scale
-        ensures { (x : ℤ) → rounded (x *ℤ pos result.num) result.den ≡ contribution clip track x }
+        ensures { (x : ℤ) (level full : ℕ) → 0 < full → rounded (x *ℤ pos (result.num * level)) (result.den * full) ≡ rounded (x *ℤ pos ((clip.num * track.num) * level)) ((clip.den * track.den) * full) }
     {
         let num = u32::from(clip.num()) * u32::from(track.num());
         let den = u32::from(clip.den()) * u32::from(track.den());
@@ -140,7 +141,7 @@ impl Scale {
         lifted(x, self.num, self.den / 2).div_euclid(i64::from(self.den))
     }
 
-    /// Adds what each sample contributes to the sum at its place: five loops to the same numbers, none of which looks at more than
+    /// Adds what each sample contributes to the sum at its place: six loops to the same numbers, none of which looks at more than
     /// its samples.
     pub(crate) fn add(&self, sums: &mut [i64], samples: &[i32])
         requires { length sums.old ≤ length samples.now }
@@ -154,8 +155,20 @@ impl Scale {
             add_each(sums, samples, &Shifted { scale: *self });
         } else if self.inverse > 0 {
             add_each(sums, samples, &Multiplied { scale: *self });
+        } else if self.num <= 1 << 30 {
+            let divisor = Divisor::new(u64::from(self.den));
+            let step = Near {
+                scale: *self,
+                divisor,
+            };
+            add_each(sums, samples, &step);
         } else {
-            add_each(sums, samples, &Divided { scale: *self });
+            let divisor = Divisor::new(u64::from(self.den));
+            let step = Far {
+                scale: *self,
+                divisor,
+            };
+            add_each(sums, samples, &step);
         }
     }
 

@@ -5,6 +5,7 @@ ghost use Rattle.mt_bwfread.specs.Fill.{at};
 ghost use Rattle.mt_render.specs.Mix.{rounded};
 ghost use Rattle.mt_render.specs.Sums.{HaveGained};
 
+use crate::divisor::{Divisor, upper};
 use crate::scale::Scale;
 
 /// A way from a sample to what it adds to a sum.
@@ -54,9 +55,9 @@ fn lifted(x: i32, scale: &Scale) -> u64
     u64::from(from_zero) * u64::from(scale.num) + scale.lift
 }
 
-// A quotient without the turns that were added.
+/// A quotient without the turns that were added.
 #[inline]
-fn lowered(quotient: u64, turns: u64) -> i64
+pub(crate) fn lowered(quotient: u64, turns: u64) -> i64
     requires quotient_to { quotient < 2 ^ 63 }
     requires turns_to { turns < 2 ^ 63 }
     ensures { result ≡ pos quotient -ℤ pos turns }
@@ -81,14 +82,6 @@ impl Step for Shifted {
     }
 }
 
-// The upper half of a product.
-#[inline]
-fn upper(a: u64, b: u64) -> u64
-    ensures { result ≡ a * b / 2 ^ 64 }
-{
-    ((u128::from(a) * u128::from(b)) >> 64) as u64
-}
-
 /// The sample times a fraction, its divisor taken as a product.
 #[derive(Drop)]
 pub(crate) struct Multiplied {
@@ -109,20 +102,42 @@ impl Step for Multiplied {
     }
 }
 
-/// The sample times any fraction.
+/// The sample times a fraction, its divisor taken as a product and a shift.
 #[derive(Drop)]
-pub(crate) struct Divided {
+pub(crate) struct Near {
     pub(crate) scale: Scale,
-    ghost den_from: { 2 ≤ scale.den },
+    pub(crate) divisor: Divisor,
+    ghost num_to: { scale.num ≤ 2 ^ 30 },
+    ghost same: { divisor.den ≡ scale.den },
 }
 
-impl Step for Divided {
+impl Step for Near {
     ghost gives = { λ s x. rounded (x *ℤ pos s.scale.num) s.scale.den };
 
     #[inline]
     fn of(&self, x: i32) -> i64 {
         lowered(
-            lifted(x, &self.scale) / u64::from(self.scale.den),
+            self.divisor.quotient(lifted(x, &self.scale)),
+            self.scale.turns,
+        )
+    }
+}
+
+/// The sample times any fraction, its divisor taken as a product, a sum and a shift.
+#[derive(Drop)]
+pub(crate) struct Far {
+    pub(crate) scale: Scale,
+    pub(crate) divisor: Divisor,
+    ghost same: { divisor.den ≡ scale.den },
+}
+
+impl Step for Far {
+    ghost gives = { λ s x. rounded (x *ℤ pos s.scale.num) s.scale.den };
+
+    #[inline]
+    fn of(&self, x: i32) -> i64 {
+        lowered(
+            self.divisor.quotient_of_any(lifted(x, &self.scale)),
             self.scale.turns,
         )
     }

@@ -1,8 +1,9 @@
 //! The lane of a track: a part for each segment of its clips.
 
-ghost use Rattle.std.specs.Prelude.{◌≡◌, ℕ, ◌<◌, ◌≤◌, false, if◌then◌else◌, length, [], ◌∷◌, ◌++◌, ℤ, pos, ◌+ℤ◌, ◌*ℤ◌, OnOk, IfOk, IfErr};
+ghost use Rattle.std.specs.Prelude.{◌≡◌, ℕ, ◌+◌, ◌-◌, ◌*◌, ◌<◌, ◌≤◌, false, if◌then◌else◌, length, [], ◌∷◌, ◌++◌, ℤ, pos, ◌+ℤ◌, ◌*ℤ◌, OnOk, IfOk, IfErr};
 ghost use Rattle.mt_overlap.specs.Overlap.{segment_at};
 ghost use Rattle.mt_render.specs.Lanes.{clip_at, span_of, AreSpans, is_in, clip_value};
+ghost use Rattle.mt_render.specs.Fading.{loudness, most};
 ghost use Rattle.mt_render.specs.Mix.{rounded, contribution, heard, sounding, clip_sample, track_sample};
 ghost use Rattle.mt_render.specs.Parts.{all_give, lanes_give};
 ghost use Rattle.mt_render.specs.declared.part.Part.{Part as PartOf};
@@ -10,6 +11,7 @@ ghost use Rattle.mt_render.specs.Refusals.{is_missing};
 ghost use Rattle.mt_render.specs.Sources.{source_of};
 
 use crate::catalogue::Catalogue;
+use crate::fade::Fades;
 use crate::fault::MixFault;
 use crate::lane::Lane;
 use crate::part::Part;
@@ -63,18 +65,24 @@ fn spans_of<A: Allocator>(alloc: A, clips: &[ClipView]) -> Result<Vec<Span, A>, 
 // The part of a clip in a segment.
 fn part_of<'c, 'a>(wave: &'c Wave<'a>, clip: ClipView, gain: Gain, segment: Segment) -> Part<'c, 'a>
     requires begun { clip.at ≤ segment.start }
+    requires ended { segment.end ≤ clip.at + clip.len }
     ensures start { result.start ≡ segment.start }
     ensures end { result.end ≡ segment.end }
     ensures at { result.at ≡ clip.at }
     ensures offset { result.offset ≡ clip.offset }
     ensures wave { result.wave.now ≡ wave.now }
-    ensures scaled { (x : ℤ) → rounded (x *ℤ pos result.scale.num) result.scale.den ≡ contribution clip.gain gain x }
+    ensures scaled { (x : ℤ) (i : ℕ) → rounded (x *ℤ pos (result.scale.num * loudness result.fades i)) (result.scale.den * most result.fades) ≡ contribution clip gain i x }
 {
     Part {
         start: segment.start,
         end: segment.end,
         at: clip.at,
         offset: clip.offset,
+        fades: Fades {
+            len: clip.len,
+            fade_in: clip.fade_in,
+            fade_out: clip.fade_out,
+        },
         scale: Scale::new(clip.gain, gain),
         wave,
     }
@@ -90,8 +98,9 @@ fn add_part<'c, 'a, A: Allocator>(
 ) -> Result<(), MixFault>
     requires there { is_missing catalogue.now clip.source ≡ false }
     requires begun { clip.at ≤ segment.start }
+    requires ended { segment.end ≤ clip.at + clip.len }
     ensures ok { OnOk result ((f c : ℕ) → all_give f c parts.new.items ≡ all_give f c parts.old.items
-        +ℤ (if is_in segment f then contribution clip.gain gain (heard (source_of catalogue.now clip.source) clip f c) else pos 0)) }
+        +ℤ (if is_in segment f then contribution clip gain (f - clip.at) (heard (source_of catalogue.now clip.source) clip f c) else pos 0)) }
     ensures pushed { OnOk result ((p : PartOf) × (parts.new.items ≡ parts.old.items ++ p ∷ []) × (p.start ≡ segment.start) × (p.end ≡ segment.end)) }
     ensures err { IfErr result (λ fault. fault ≡ MixFault.Memory) }
 {

@@ -31,8 +31,8 @@ use Rattle.mt_stamp.proofs.Listed.{any_member, member_any}
 use Rattle.mt_replica.proofs.Making.{member_all, all_members}
 use Rattle.mt_replica.proofs.Valid.{apart_stamps, live_differ}
 use Rattle.mt_op.proofs.SameWrites.{present_same}
-use Rattle.mt_replica.specs.Edit.{Edit, AddTrack, MoveTrack, AddClip, MoveClip, TrimClip, SetGain, SetMute, Remove, Restore, AddMarker, MoveMarker, Retitle}
-use Rattle.mt_replica.specs.Made.{plays, names_of, names_present, current_place, rising_tags, made_act, tags_fit, unless, or_else, name_refused, names_refused}
+use Rattle.mt_replica.specs.Edit.{Edit, AddTrack, MoveTrack, AddClip, MoveClip, TrimClip, SetGain, SetMute, Remove, Restore, AddMarker, MoveMarker, Retitle, SetFade, SetMarkerLength}
+use Rattle.mt_replica.specs.Made.{plays, fades_fit, numbers_refused, names_of, names_present, current_place, rising_tags, made_act, tags_fit, unless, or_else, name_refused, names_refused}
 use Rattle.mt_replica.specs.State.{lists_few, body_refused}
 use Rattle.mt_sessionview.specs.Session.{ready_ops}
 use Rattle.mt_replica.specs.declared.fault.EditorFault.{EditorFault}
@@ -158,6 +158,8 @@ module _ (items ready : List Operation) (same : SameItems items ready) where
   act_same (AddMarker at title) = refl
   act_same (MoveMarker marker at) = refl
   act_same (Retitle item title) = refl
+  act_same (SetFade clip fade_in fade_out) = refl
+  act_same (SetMarkerLength marker len) = refl
 
 -- a Remove lists as many tags as there are
 pub few_fit : (ready : List Operation) (edit : Edit) → lists_few (made_act ready edit) ≡ tags_fit ready edit
@@ -173,19 +175,24 @@ few_fit ready (Restore item) = refl
 few_fit ready (AddMarker at title) = refl
 few_fit ready (MoveMarker marker at) = refl
 few_fit ready (Retitle item title) = refl
+few_fit ready (SetFade clip fade_in fade_out) = refl
+few_fit ready (SetMarkerLength marker len) = refl
 
 -- ---- which refusal comes first
 
-module _ (ops : List Operation) (edit : Edit) (plays_is : true ≡ plays edit) where
+pub numbers_pass : (edit : Edit) → true ≡ plays edit → true ≡ fades_fit edit → numbers_refused edit ≡ None
+numbers_pass edit it_plays it_fades = rw (sym it_plays, sym it_fades) refl
+
+module _ (ops : List Operation) (edit : Edit) (numbers : numbers_refused edit ≡ None) where
   pub stopped_by_name : (fault : EditorFault) → names_refused (ready_ops ops) (names_present edit) (names_of edit) ≡ Some fault → body_refused ops edit ≡ Some fault
-  stopped_by_name fault is = rw (sym plays_is, is) refl
+  stopped_by_name fault is = rw (numbers, is) refl
 
   module _ (pass : names_refused (ready_ops ops) (names_present edit) (names_of edit) ≡ None) where
     pub stopped_by_tags : tags_fit (ready_ops ops) edit ≡ false → body_refused ops edit ≡ Some TooManyTags
-    stopped_by_tags is = rw (sym plays_is, pass, is) refl
+    stopped_by_tags is = rw (numbers, pass, is) refl
 
     pub not_stopped : tags_fit (ready_ops ops) edit ≡ true → body_refused ops edit ≡ None
-    not_stopped is = rw (sym plays_is, pass, is) refl
+    not_stopped is = rw (numbers, pass, is) refl
 
 -- a refusal of the body is one of the edit, and one of the stamp is where the body is not refused
 pub refused_in_parts : (a b c d : Option EditorFault) → or_else a (or_else b (or_else c d)) ≡ or_else (or_else a (or_else b c)) d

@@ -37,19 +37,19 @@ use Rattle.mt_replica.specs.Edit.{Edit}
 use Rattle.mt_replica.specs.Holding.{all_offered, with_offered}
 use Rattle.mt_replica.specs.Joins.{joins_of}
 use Rattle.mt_replica.specs.Kept.{with_op, joins_by}
-use Rattle.mt_replica.specs.Made.{is_by, greatest_of, greatest_clock, greatest_seq, plays, names_of, names_present, names_refused, tags_fit, unless, or_else, stamp_refused, refused, or_made, made, made_act, made_stamp, made_op}
+use Rattle.mt_replica.specs.Made.{is_by, greatest_of, greatest_clock, greatest_seq, numbers_refused, names_of, names_present, names_refused, tags_fit, unless, or_else, stamp_refused, refused, or_made, made, made_act, made_stamp, made_op}
 use Rattle.mt_replica.specs.State.{Named, IsState, IsMade, body_refused}
 use Rattle.mt_replica.specs.declared.fault.EditorFault.{EditorFault}
-use Rattle.mt_replica.specs.declared.fault.EditorFault.TheVariants.{ZeroLength, TooManyTags}
+use Rattle.mt_replica.specs.declared.fault.EditorFault.TheVariants.{TooManyTags}
 use Rattle.mt_op.specs.declared.fault.OpFault.{OpFault}
 use Rattle.mt_op.specs.declared.fault.OpFault.TheVariants.{NameNotOlder, BadTags}
 use Rattle.mt_op.specs.declared.fault.OpFault.TheVariants as op
-use Rattle.mt_op.specs.Valid.{length_is_good, tags_are_good}
+use Rattle.mt_op.specs.Valid.{length_is_good, fades_are_good, tags_are_good}
 use Rattle.mt_op.specs.Dots.{dots_rise}
 use Rattle.mt_replica.proofs.Bridging.{refused_in_parts}
 use Rattle.mt_stamp.proofs.Listed.{any_member}
 use Rattle.mt_replica.proofs.Making.{Met, mapped_below, all_members}
-use Rattle.mt_replica.proofs.Valid.{newest, all_met, older, it_plays, same_length, tags_good}
+use Rattle.mt_replica.proofs.Valid.{newest, all_met, older, it_plays, it_fades, same_length, same_fades, tags_good}
 use Rattle.mt_replica.proofs.Gaining.{ready_gains}
 use Rattle.mt_replica.proofs.HeldBack.{offered_same}
 use Rattle.mt_replica.proofs.Inserted.{insert_same}
@@ -156,7 +156,7 @@ pub made_is : (ops : List Operation) (name : Replica) (edit : Edit) (stamp : Mom
     → does ≡ made_act (ready_ops ops) edit → (refused ops name edit ≡ None) × (made_op ops name edit ≡ record { stamp = stamp; act = does })
 made_is ops name edit stamp does body stamped acts =
     let parts = unmade (stamp_refused ops name) (made_stamp ops name) stamp stamped in (
-      refused_in_parts (unless (plays edit) ZeroLength) (names_refused (ready_ops ops) (names_present edit) (names_of edit)) (unless (tags_fit (ready_ops ops) edit) TooManyTags) (stamp_refused ops name)
+      refused_in_parts (numbers_refused edit) (names_refused (ready_ops ops) (names_present edit) (names_of edit)) (unless (tags_fit (ready_ops ops) edit) TooManyTags) (stamp_refused ops name)
           ∙ (λ i. or_else (body i) (parts.0 i)),
       λ i. record { stamp = parts.1 i; act = sym acts i },
     )
@@ -167,7 +167,7 @@ made_as ops name edit o none is = λ i. or_made (none i) (is i)
 -- what has no stamp is refused for that
 pub unstamped : (ops : List Operation) (name : Replica) (edit : Edit) (fault : EditorFault) → body_refused ops edit ≡ None → or_made (stamp_refused ops name) (made_stamp ops name) ≡ Err fault → made ops name edit ≡ Err fault
 unstamped ops name edit fault body stamped =
-    let first = refused_in_parts (unless (plays edit) ZeroLength) (names_refused (ready_ops ops) (names_present edit) (names_of edit)) (unless (tags_fit (ready_ops ops) edit) TooManyTags) (stamp_refused ops name) in
+    let first = refused_in_parts (numbers_refused edit) (names_refused (ready_ops ops) (names_present edit) (names_of edit)) (unless (tags_fit (ready_ops ops) edit) TooManyTags) (stamp_refused ops name) in
     ap (λ (r : Option EditorFault). or_made r (made_op ops name edit)) (first ∙ (λ i. or_else (body i) ((sym (told (stamp_refused ops name)) ∙ ap result_err stamped) i)))
   where
     told : (r : Option EditorFault) → result_err (or_made r (made_stamp ops name)) ≡ r
@@ -176,15 +176,16 @@ unstamped ops name edit fault body stamped =
 
 -- nothing else refuses what was made
 pub it_is_made : {X : Type 0} (ops : List Operation) (name : Replica) (edit : Edit) (o : Operation) (r : Result X OpFault) → dots_rise ops ≡ true → refused ops name edit ≡ None → made_op ops name edit ≡ o
-    → (IsErrOf r NameNotOlder → names_are_older o ≡ false) → (IsErrOf r op.ZeroLength → length_is_good o.act ≡ false) → (IsErrOf r BadTags → tags_are_good o.act ≡ false)
-    → IfErr r (λ fault. (fault ≡ NameNotOlder) ⊎ ((fault ≡ op.ZeroLength) ⊎ (fault ≡ BadTags))) → IsOk r
-it_is_made ops name edit o (Ok x) rise none is not_older zero_length bad_tags err = refl
-it_is_made {X} ops name edit o (Err fault) rise none is not_older zero_length bad_tags err = absurd (by err)
+    → (IsErrOf r NameNotOlder → names_are_older o ≡ false) → (IsErrOf r op.ZeroLength → length_is_good o.act ≡ false) → (IsErrOf r op.FadeTooLong → fades_are_good o.act ≡ false) → (IsErrOf r BadTags → tags_are_good o.act ≡ false)
+    → IfErr r (λ fault. (fault ≡ NameNotOlder) ⊎ ((fault ≡ op.ZeroLength) ⊎ ((fault ≡ op.FadeTooLong) ⊎ (fault ≡ BadTags)))) → IsOk r
+it_is_made ops name edit o (Ok x) rise none is not_older zero_length fade_too_long bad_tags err = refl
+it_is_made {X} ops name edit o (Err fault) rise none is not_older zero_length fade_too_long bad_tags err = absurd (by err)
   where
-    by : (fault ≡ NameNotOlder) ⊎ ((fault ≡ op.ZeroLength) ⊎ (fault ≡ BadTags)) → ⊥
+    by : (fault ≡ NameNotOlder) ⊎ ((fault ≡ op.ZeroLength) ⊎ ((fault ≡ op.FadeTooLong) ⊎ (fault ≡ BadTags))) → ⊥
     by (inl one) = true≢false (sym (older ops name edit none) ∙ ap names_are_older is ∙ not_older (ap Err one))
     by (inr (inl one)) = true≢false (sym (it_plays ops name edit none) ∙ sym (same_length ops edit) ∙ ap (λ (p : Operation). length_is_good p.act) is ∙ zero_length (ap Err one))
-    by (inr (inr one)) = true≢false (sym (tags_good ops rise name edit none) ∙ ap (λ (p : Operation). tags_are_good p.act) is ∙ bad_tags (ap Err one))
+    by (inr (inr (inl one))) = true≢false (sym (it_fades ops name edit none) ∙ sym (same_fades ops edit) ∙ ap (λ (p : Operation). fades_are_good p.act) is ∙ fade_too_long (ap Err one))
+    by (inr (inr (inr one))) = true≢false (sym (tags_good ops rise name edit none) ∙ ap (λ (p : Operation). tags_are_good p.act) is ∙ bad_tags (ap Err one))
 
 -- ---- the state with an operation that a change made
 

@@ -25,7 +25,7 @@ use Rattle.mt_sessionview.specs.Session.{ready_ops}
 use Rattle.mt_stamp.proofs.Listed.{any_member, member_any}
 use Rattle.mt_stamp.proofs.Members.{IsMember, member_of_kept, member_unsorted}
 use Rattle.mt_stamp.proofs.SameItems.{all_filter_map, all_here, all_map, GivenBy}
-use Rattle.mt_replica.specs.Edit.{Edit, AddTrack, MoveTrack, AddClip, MoveClip, TrimClip, SetGain, SetMute, Remove, Restore, AddMarker, MoveMarker, Retitle}
+use Rattle.mt_replica.specs.Edit.{Edit, AddTrack, MoveTrack, AddClip, MoveClip, TrimClip, SetGain, SetMute, Remove, Restore, AddMarker, MoveMarker, Retitle, SetFade, SetMarkerLength}
 use Rattle.mt_replica.specs.Made.{greatest_of, greatest_clock, current_place, rising_tags, made_act, named_track, names_of, unless, or_else, name_refused, names_refused}
 use Rattle.mt_replica.specs.declared.fault.EditorFault.{EditorFault}
 
@@ -138,6 +138,8 @@ module _ (ops : List Operation) where
   needs_met (AddMarker at title) met = met
   needs_met (MoveMarker marker at) met = met
   needs_met (Retitle item title) met = met
+  needs_met (SetFade clip fade_in fade_out) met = met
+  needs_met (SetMarkerLength marker len) met = met
 
   -- ---- clocks
 

@@ -17,16 +17,16 @@ use Rattle.mt_op.specs.Dots.{dots_rise}
 use Rattle.mt_op.specs.Presence.{is_present, is_any, is_listed, live_tags, removed_tags, tags}
 use Rattle.mt_op.specs.Rising.{rises_from}
 use Rattle.mt_op.specs.Tags.{stamps_rise}
-use Rattle.mt_op.specs.Valid.{length_is_good, tags_are_good}
+use Rattle.mt_op.specs.Valid.{length_is_good, fades_are_good, tags_are_good}
 use Rattle.mt_sessionview.specs.Session.{ready_ops}
 use Rattle.mt_stamp.specs.Sorting.{sort_by, RisesStrictly, DifferBy}
 use Rattle.mt_stamp.proofs.Differing.{differ_kept, differ_mapped}
 use Rattle.mt_op.specs.ByStamp.{stamp_of}
 use Rattle.mt_stamp.proofs.Members.{IsMember, AreApart, sort_strict, member_sorted}
 use Rattle.mt_sessionview.proofs.TrackSorting.{every_stamp}
-use Rattle.mt_replica.specs.Edit.{Edit, AddTrack, MoveTrack, AddClip, MoveClip, TrimClip, SetGain, SetMute, Remove, Restore, AddMarker, MoveMarker, Retitle}
-use Rattle.mt_replica.specs.Made.{greatest_clock, greatest_seq, rising_tags, made_act, made_op, plays, names_of, names_present, unless, or_else, name_refused, names_refused, tags_fit, refused}
-use Rattle.mt_replica.specs.declared.fault.EditorFault.TheVariants.{ZeroLength, NoSuchItem, Absent, TooManyTags, ClockFull, SeqFull}
+use Rattle.mt_replica.specs.Edit.{Edit, AddTrack, MoveTrack, AddClip, MoveClip, TrimClip, SetGain, SetMute, Remove, Restore, AddMarker, MoveMarker, Retitle, SetFade, SetMarkerLength}
+use Rattle.mt_replica.specs.Made.{greatest_clock, greatest_seq, rising_tags, made_act, made_op, plays, fades_fit, numbers_refused, names_of, names_present, unless, or_else, name_refused, names_refused, tags_fit, refused}
+use Rattle.mt_replica.specs.declared.fault.EditorFault.TheVariants.{ZeroLength, FadeTooLong, NoSuchItem, Absent, TooManyTags, ClockFull, SeqFull}
 use Rattle.mt_replica.proofs.Making.{Met, neither, passed, names_met, needs_met, met_older, mapped_below, all_members}
 
 -- ---- tags in order
@@ -80,7 +80,7 @@ module _ (ops : List Operation) where
 
   module _ (name : Replica) (edit : Edit) (none : refused ops name edit ≡ None) where
     after_length : or_else (names_refused (ready_ops ops) (names_present edit) (names_of edit)) (or_else (unless (tags_fit (ready_ops ops) edit) TooManyTags) (or_else (unless (not (nat_le greatest (greatest_clock ops))) ClockFull) (unless (not (nat_le greatest (greatest_seq name ops))) SeqFull))) ≡ None
-    after_length = (neither (unless (plays edit) ZeroLength) _ none).1
+    after_length = (neither (numbers_refused edit) _ none).1
 
     after_names : or_else (unless (tags_fit (ready_ops ops) edit) TooManyTags) (or_else (unless (not (nat_le greatest (greatest_clock ops))) ClockFull) (unless (not (nat_le greatest (greatest_seq name ops))) SeqFull)) ≡ None
     after_names = (neither (names_refused (ready_ops ops) (names_present edit) (names_of edit)) _ after_length).1
@@ -88,8 +88,14 @@ module _ (ops : List Operation) where
     after_tags : or_else (unless (not (nat_le greatest (greatest_clock ops))) ClockFull) (unless (not (nat_le greatest (greatest_seq name ops))) SeqFull) ≡ None
     after_tags = (neither (unless (tags_fit (ready_ops ops) edit) TooManyTags) _ after_names).1
 
+    numbers_pass : numbers_refused edit ≡ None
+    numbers_pass = (neither (numbers_refused edit) _ none).0
+
     pub it_plays : plays edit ≡ true
-    it_plays = passed (plays edit) ZeroLength (neither (unless (plays edit) ZeroLength) _ none).0
+    it_plays = passed (plays edit) ZeroLength (neither (unless (plays edit) ZeroLength) _ numbers_pass).0
+
+    pub it_fades : fades_fit edit ≡ true
+    it_fades = passed (fades_fit edit) FadeTooLong (neither (unless (plays edit) ZeroLength) _ numbers_pass).1
 
     pub names_pass : names_refused (ready_ops ops) (names_present edit) (names_of edit) ≡ None
     names_pass = (neither (names_refused (ready_ops ops) (names_present edit) (names_of edit)) _ after_length).0
@@ -129,6 +135,14 @@ same_length ops (Restore item) = refl
 same_length ops (AddMarker at title) = refl
 same_length ops (MoveMarker marker at) = refl
 same_length ops (Retitle item title) = refl
+same_length ops (SetFade clip fade_in fade_out) = refl
+same_length ops (SetMarkerLength marker len) = refl
+
+-- and its fades
+pub same_fades : (ops : List Operation) (edit : Edit) → fades_are_good (made_act (ready_ops ops) edit) ≡ fades_fit edit
+same_fades ops (SetFade clip fade_in fade_out) = refl
+same_fades ops (AddTrack after title) = refl
+same_fades ops _ = refl
 
 -- the tags that an act lists are in order
 pub tags_good : (ops : List Operation) → dots_rise ops ≡ true → (name : Replica) (edit : Edit) → refused ops name edit ≡ None → tags_are_good (made_act (ready_ops ops) edit) ≡ true
@@ -148,3 +162,5 @@ tags_good ops rise name (Restore item) none = refl
 tags_good ops rise name (AddMarker at title) none = refl
 tags_good ops rise name (MoveMarker marker at) none = refl
 tags_good ops rise name (Retitle item title) none = refl
+tags_good ops rise name (SetFade clip fade_in fade_out) none = refl
+tags_good ops rise name (SetMarkerLength marker len) none = refl

@@ -19,3 +19,5 @@ pub data Edit : Type 0 where
   AddMarker : (at : ℕ) (title : List ℕ) → Edit
   MoveMarker : (marker : Moment) (at : ℕ) → Edit
   Retitle : (item : Moment) (title : List ℕ) → Edit
+  SetFade : (clip : Moment) (fade_in fade_out : ℕ) → Edit
+  SetMarkerLength : (marker : Moment) (len : ℕ) → Edit

@@ -11,12 +11,12 @@ use Rattle.mt_op.specs.Operation.{Act, Operation}
 use Rattle.mt_opcodec.specs.LogValue.{LogMap, operations}
 use Rattle.mt_sessionview.specs.Session.{ready_ops}
 use Rattle.mt_sessionview.specs.Examples.{by, news, late, remove_by, restore_by, moves, none, clip_on, p_q, p_q_r}
-use Rattle.mt_replica.specs.Edit.{Edit, AddTrack, MoveTrack, AddClip, MoveClip, TrimClip, SetGain, SetMute, Remove, Restore, AddMarker, MoveMarker, Retitle}
+use Rattle.mt_replica.specs.Edit.{Edit, AddTrack, MoveTrack, AddClip, MoveClip, TrimClip, SetGain, SetMute, Remove, Restore, AddMarker, MoveMarker, Retitle, SetFade, SetMarkerLength}
 use Rattle.mt_replica.specs.Made.{made, refused, names_refused, tags_fit}
 use Rattle.mt_replica.specs.Joins.{joins_of, raised}
 use Rattle.mt_replica.specs.Kept.{edited, with_op, joins_by, newly_ready}
 use Rattle.mt_replica.specs.declared.fault.EditorFault.{EditorFault}
-use Rattle.mt_replica.specs.declared.fault.EditorFault.TheVariants.{Failed, ZeroLength, NoSuchItem, Absent, TooManyTags, ClockFull, SeqFull}
+use Rattle.mt_replica.specs.declared.fault.EditorFault.TheVariants.{Failed, ZeroLength, FadeTooLong, NoSuchItem, Absent, TooManyTags, ClockFull, SeqFull}
 
 -- the editor that edits is replica 11; the operations of others are mostly 10's
 abbrev home : Replica
@@ -88,6 +88,25 @@ length_before_item = refl
 
 pub length_before_absent_track : made_of (remove_by 4 10 4 (by 1 10 1 ∷ []) ∷ p_q) (AddClip none (by 1 10 1) 0 0 0) ≡ Err ZeroLength
 length_before_absent_track = refl
+
+-- 20 before 51, and 51 before 21 and before 22
+pub failed_before_fade : edited (record { name = home; log = None; joins = 0 }) (SetFade nowhere 1048577 0) ≡ Err Failed
+failed_before_fade = refl
+
+pub fade_before_item : made_of (news ∷ []) (SetFade nowhere 0 1048577) ≡ Err FadeTooLong
+fade_before_item = refl
+
+pub longest_fade_is_made : made_of p_q (SetFade (by 2 11 1) 1048576 1048576) ≡ op_by 3 11 2 (act.SetFade (by 2 11 1) 1048576 1048576)
+longest_fade_is_made = refl
+
+pub fade_of_a_marker : made_of (news ∷ []) (SetFade marker 1 0) ≡ Err (NoSuchItem marker)
+fade_of_a_marker = refl
+
+pub length_of_a_clip : made_of p_q (SetMarkerLength (by 2 11 1) 1) ≡ Err (NoSuchItem (by 2 11 1))
+length_of_a_clip = refl
+
+pub length_of_a_marker : made_of (news ∷ []) (SetMarkerLength marker 0) ≡ op_by 2 11 1 (act.SetMarkerLength marker 0)
+length_of_a_marker = refl
 
 -- by fields: what is wrong with the first comes first, be it 21 or 22
 abbrev p_removed : List Operation
@@ -205,13 +224,13 @@ nothing_becomes_ready log was is = rw (was, is) refl
 abbrev joins : Act → ℕ
 joins a = joins_of (record { stamp = by 5 11 5; act = a })
 
-pub joins_of_adds : map joins (act.AddTrack None (codes "a") ∷ act.AddClip none marker 1 2 3 ∷ act.AddMarker 1 (codes "a") ∷ []) ≡ 5 ∷ 6 ∷ 3 ∷ []
+pub joins_of_adds : map joins (act.AddTrack None (codes "a") ∷ act.AddClip none marker 1 2 3 ∷ act.AddMarker 1 (codes "a") ∷ []) ≡ 5 ∷ 7 ∷ 4 ∷ []
 joins_of_adds = refl
 
 pub joins_of_moves : map joins (act.MoveTrack marker None ∷ act.MoveClip marker marker 1 ∷ act.TrimClip marker 1 2 ∷ act.MoveMarker marker 1 ∷ []) ≡ 1 ∷ 1 ∷ 1 ∷ 1 ∷ []
 joins_of_moves = refl
 
-pub joins_of_values : map joins (act.SetGain marker unchanged ∷ act.SetMute marker true ∷ act.Retitle marker (codes "a") ∷ []) ≡ 1 ∷ 1 ∷ 1 ∷ []
+pub joins_of_values : map joins (act.SetGain marker unchanged ∷ act.SetMute marker true ∷ act.Retitle marker (codes "a") ∷ act.SetFade marker 1 2 ∷ act.SetMarkerLength marker 1 ∷ []) ≡ 1 ∷ 1 ∷ 1 ∷ 1 ∷ 1 ∷ []
 joins_of_values = refl
 
 -- one for each tag
@@ -219,7 +238,7 @@ pub joins_of_tags : map joins (act.Restore marker ∷ act.Remove marker (marker 
 joins_of_tags = refl
 
 -- of all that became ready, and of nothing that waits
-pub joins_of_both : (log : LogMap) → operations log ≡ late ∷ [] → operations (with_op log news) ≡ news ∷ late ∷ [] → joins_by (Some log) news ≡ 4
+pub joins_of_both : (log : LogMap) → operations log ≡ late ∷ [] → operations (with_op log news) ≡ news ∷ late ∷ [] → joins_by (Some log) news ≡ 5
 joins_of_both log was is = rw (was, is) refl
 
 pub joins_of_what_waits : (log : LogMap) → operations log ≡ [] → operations (with_op log late) ≡ late ∷ [] → joins_by (Some log) late ≡ 0

@@ -1,7 +1,7 @@
 -- The number of each refusal.
 use Rattle.std.specs.Prelude.{ℕ}
 use Rattle.mt_replica.specs.declared.fault.EditorFault.{EditorFault}
-use Rattle.mt_replica.specs.declared.fault.EditorFault.TheVariants.{Memory, Failed, Conflict, ZeroLength, NoSuchItem, Absent, TooManyTags, ClockFull, SeqFull}
+use Rattle.mt_replica.specs.declared.fault.EditorFault.TheVariants.{Memory, Failed, Conflict, ZeroLength, NoSuchItem, Absent, TooManyTags, ClockFull, SeqFull, FadeTooLong}
 
 abbrev pub number_of : EditorFault → ℕ
 number_of Memory = 0
@@ -13,3 +13,4 @@ number_of (Absent item) = 22
 number_of ClockFull = 23
 number_of SeqFull = 24
 number_of TooManyTags = 25
+number_of FadeTooLong = 51

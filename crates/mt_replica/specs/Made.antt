@@ -1,5 +1,5 @@
 -- What an edit makes of a set of operations.
-use Rattle.std.specs.Prelude.{ℕ, suc, Bool, true, false, not, ◌==◌, ◌||◌, List, [], ◌∷◌, map, filter, length, Option, Some, None, option_map, unwrap_or, Result, Ok, Err, nat_le, max}
+use Rattle.std.specs.Prelude.{ℕ, suc, Bool, true, false, not, ◌==◌, ◌||◌, ◌&&◌, List, [], ◌∷◌, map, filter, length, Option, Some, None, option_map, unwrap_or, Result, Ok, Err, nat_le, max}
 use Rattle.std.specs.List.{list_any}
 use Rattle.mt_stamp.specs.declared.name.Replica.{Replica}
 use Rattle.mt_stamp.specs.Moment.{Moment, greatest, stamp_cmp}
@@ -12,11 +12,12 @@ use Rattle.mt_op.specs.Operation.{Act, Operation}
 use Rattle.mt_op.specs.Presence.{is_present, live_tags}
 use Rattle.mt_op.specs.Writes.{track_place_written, last_write}
 use Rattle.mt_op.specs.Tags.{greatest_tag_count}
+use Rattle.mt_op.specs.Valid.{longest_fade}
 use Rattle.mt_sessionview.specs.Session.{ready_ops}
 use Rattle.mt_stamp.specs.Sorting.{sort_by}
-use Rattle.mt_replica.specs.Edit.{Edit, AddTrack, MoveTrack, AddClip, MoveClip, TrimClip, SetGain, SetMute, Remove, Restore, AddMarker, MoveMarker, Retitle}
+use Rattle.mt_replica.specs.Edit.{Edit, AddTrack, MoveTrack, AddClip, MoveClip, TrimClip, SetGain, SetMute, Remove, Restore, AddMarker, MoveMarker, Retitle, SetFade, SetMarkerLength}
 use Rattle.mt_replica.specs.declared.fault.EditorFault.{EditorFault}
-use Rattle.mt_replica.specs.declared.fault.EditorFault.TheVariants.{ZeroLength, NoSuchItem, Absent, TooManyTags, ClockFull, SeqFull}
+use Rattle.mt_replica.specs.declared.fault.EditorFault.TheVariants.{ZeroLength, FadeTooLong, NoSuchItem, Absent, TooManyTags, ClockFull, SeqFull}
 
 -- ---- its stamp
 
@@ -68,6 +69,8 @@ module _ (ready : List Operation) where
   made_act (AddMarker at title) = act.AddMarker at title
   made_act (MoveMarker marker at) = act.MoveMarker marker at
   made_act (Retitle item title) = act.Retitle item title
+  made_act (SetFade clip fade_in fade_out) = act.SetFade clip fade_in fade_out
+  made_act (SetMarkerLength marker len) = act.SetMarkerLength marker len
 
   -- whether a Remove could list all live tags
   abbrev pub tags_fit : Edit → Bool
@@ -81,6 +84,11 @@ abbrev pub plays : Edit → Bool
 plays (AddClip source track at offset len) = nat_le 1 len
 plays (TrimClip clip offset len) = nat_le 1 len
 plays _ = true
+
+-- whether no fade would last too long
+abbrev pub fades_fit : Edit → Bool
+fades_fit (SetFade clip fade_in fade_out) = nat_le fade_in longest_fade && nat_le fade_out longest_fade
+fades_fit _ = true
 
 -- a track that an edit may name
 abbrev pub named_track : Option Moment → List Need
@@ -101,6 +109,8 @@ names_of (Restore item) = need_of Item item ∷ []
 names_of (AddMarker at title) = []
 names_of (MoveMarker marker at) = need_of Marker marker ∷ []
 names_of (Retitle item title) = need_of Titled item ∷ []
+names_of (SetFade clip fade_in fade_out) = need_of Clip clip ∷ []
+names_of (SetMarkerLength marker len) = need_of Marker marker ∷ []
 
 -- A Restore is there for items that were removed; what any other edit names has to be present.
 abbrev pub names_present : Edit → Bool
@@ -116,6 +126,10 @@ unless false fault = Some fault
 abbrev pub or_else : Option EditorFault → Option EditorFault → Option EditorFault
 or_else None second = second
 or_else (Some fault) second = Some fault
+
+-- the first refusal of the numbers of an edit
+abbrev pub numbers_refused : Edit → Option EditorFault
+numbers_refused edit = or_else (unless (plays edit) ZeroLength) (unless (fades_fit edit) FadeTooLong)
 
 -- A named item has to be added by one of the ready operations in its role, and to be present where the edit asks that.
 abbrev pub name_refused : List Operation → Bool → Need → Option EditorFault
@@ -134,7 +148,7 @@ stamp_refused ops name = or_else (unless (not (nat_le greatest (greatest_clock o
 -- The first refusal of an edit of a set, in this order.
 abbrev pub refused : List Operation → Replica → Edit → Option EditorFault
 refused ops name edit =
-    or_else (unless (plays edit) ZeroLength)
+    or_else (numbers_refused edit)
     (or_else (names_refused (ready_ops ops) (names_present edit) (names_of edit))
     (or_else (unless (tags_fit (ready_ops ops) edit) TooManyTags)
     (stamp_refused ops name)))

@@ -12,9 +12,9 @@ use Rattle.mt_sessionview.specs.Session.{ready_ops, held_ops}
 use Rattle.mt_replica.specs.Edit.{Edit}
 use Rattle.mt_replica.specs.Holding.{all_offered}
 use Rattle.mt_replica.specs.Kept.{Kept}
-use Rattle.mt_replica.specs.Made.{is_by, greatest_clock, greatest_seq, plays, names_of, names_present, names_refused, tags_fit, unless, or_else, made}
+use Rattle.mt_replica.specs.Made.{is_by, greatest_clock, greatest_seq, numbers_refused, names_of, names_present, names_refused, tags_fit, unless, or_else, made}
 use Rattle.mt_replica.specs.declared.fault.EditorFault.{EditorFault}
-use Rattle.mt_replica.specs.declared.fault.EditorFault.TheVariants.{ZeroLength, TooManyTags}
+use Rattle.mt_replica.specs.declared.fault.EditorFault.TheVariants.{TooManyTags}
 
 -- a log and the name of its editor
 pub record Named : Type 0 where
@@ -55,7 +55,7 @@ IsMadeOf kept op = IsMadeIn kept.name kept.log op
 -- why a change has no body
 abbrev pub body_refused : List Operation → Edit → Option EditorFault
 body_refused ops edit =
-    or_else (unless (plays edit) ZeroLength)
+    or_else (numbers_refused edit)
     (or_else (names_refused (ready_ops ops) (names_present edit) (names_of edit))
     (unless (tags_fit (ready_ops ops) edit) TooManyTags))
 

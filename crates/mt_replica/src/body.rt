@@ -3,13 +3,13 @@
 ghost use Rattle.std.specs.Prelude.{◌≡◌, option_map, IfOk, IfErr};
 ghost use Rattle.mt_op.specs.Bodies.{act_of};
 ghost use Rattle.mt_replica.specs.Changes.{edit_of};
-ghost use Rattle.mt_replica.specs.Made.{plays, current_place, rising_tags, made_act};
+ghost use Rattle.mt_replica.specs.Made.{plays, fades_fit, current_place, rising_tags, made_act};
 ghost use Rattle.mt_replica.specs.State.{lists_few};
 
 use crate::change::Change;
 use crate::fault::EditorFault;
 use mt_items::Items;
-use mt_op::{Body, Title};
+use mt_op::{Body, LONGEST_FADE, Title};
 use mt_stamp::{List, Stamp};
 use std::alloc::Allocator;
 
@@ -19,6 +19,20 @@ pub(crate) fn plays<A: Allocator>(change: &Change<A>) -> bool
 {
     match change {
         Change::AddClip { len, .. } | Change::TrimClip { len, .. } => *len >= 1,
+        _ => true,
+    }
+}
+
+/// Whether no fade that a change gives a clip lasts too long.
+pub(crate) fn fades_fit<A: Allocator>(change: &Change<A>) -> bool
+    ensures { result ≡ fades_fit (edit_of change.now) }
+{
+    match change {
+        Change::SetFade {
+            fade_in,
+            fade_out,
+            ..
+        } => *fade_in <= LONGEST_FADE && *fade_out <= LONGEST_FADE,
         _ => true,
     }
 }
@@ -121,6 +135,19 @@ pub(crate) fn body_of<A: Allocator + Clone>(
         Change::Retitle { item, title } => Body::Retitle {
             item: *item,
             title: copied(title)?,
+        },
+        Change::SetFade {
+            clip,
+            fade_in,
+            fade_out,
+        } => Body::SetFade {
+            clip: *clip,
+            fade_in: *fade_in,
+            fade_out: *fade_out,
+        },
+        Change::SetMarkerLength { marker, len } => Body::SetMarkerLength {
+            marker: *marker,
+            len: *len,
         },
     })
 }

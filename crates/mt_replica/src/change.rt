@@ -20,7 +20,7 @@ pub enum Change<A: Allocator = Global> {
         after: Option<Stamp>,
     },
     /// Adds a clip to a track, from frame `at` of the session on: `len` frames, at least 1, of the recording with the digest
-    /// `source`, from its frame `offset` on. The clip's gain is 1/1, and it is not muted.
+    /// `source`, from its frame `offset` on. The clip's gain is 1/1, it is not muted, and it has no fades.
     AddClip {
         source: Digest,
         track: Stamp,
@@ -58,7 +58,7 @@ pub enum Change<A: Allocator = Global> {
     Restore {
         item: Stamp,
     },
-    /// Adds a marker at frame `at` of the session.
+    /// Adds a marker at frame `at` of the session, a point: its length is 0.
     AddMarker {
         at: u32,
         title: Title<A>,
@@ -72,5 +72,16 @@ pub enum Change<A: Allocator = Global> {
     Retitle {
         item: Stamp,
         title: Title<A>,
+    },
+    /// Lets a clip fade in over its first `fade_in` frames and out over its last `fade_out`, each at most 1,048,576; 0 is no fade.
+    SetFade {
+        clip: Stamp,
+        fade_in: u32,
+        fade_out: u32,
+    },
+    /// Lets a marker span `len` frames from its position on; 0 is a point.
+    SetMarkerLength {
+        marker: Stamp,
+        len: u32,
     },
 }

@@ -125,8 +125,8 @@ impl<A: Allocator + Clone> Editor<A> {
     /// included, and its number 1 above the greatest of this replica there. A Remove lists all live tags of its item, and a track
     /// is put after the current place of the one that is named.
     ///
-    /// Refused, in this order: `Failed` (20) where the editor has failed; `ZeroLength` (6) where a clip would play no frame; then
-    /// for each item that the change names, in the order of its fields, `NoSuchItem` (21) where no ready operation of that stamp
+    /// Refused, in this order: `Failed` (20) where the editor has failed; `ZeroLength` (6) where a clip would play no frame; `FadeTooLong` (51)
+    /// where it would fade over more than 1,048,576 frames; then for each item that the change names, in the order of its fields, `NoSuchItem` (21) where no ready operation of that stamp
     /// adds such an item and `Absent` (22) where it is not present, which a Restore does not ask; `TooManyTags` (25) where a
     /// Remove would list over 65,535; `ClockFull` (23) and `SeqFull` (24) where the greatest clock or number is 2^62. All these
     /// change nothing. `Memory` (0) where a growth was refused: then the editor has failed.

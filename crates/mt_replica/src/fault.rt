@@ -38,10 +38,13 @@ pub enum EditorFault {
     /// The replica's greatest number, 2^62, is in use.
     #[error("the replica's numbers are used up")]
     SeqFull,
+    /// A clip would fade over more than 1,048,576 frames.
+    #[error("a fade lasts over 1,048,576 frames")]
+    FadeTooLong,
 }
 
 impl EditorFault {
-    /// The refusal's number: 0, 6, 17, or 20 to 25.
+    /// The refusal's number: 0, 6, 17, 20 to 25, or 51.
     pub fn number(&self) -> u8
         ensures { result ≡ number_of self.now }
     {
@@ -55,6 +58,7 @@ impl EditorFault {
             EditorFault::ClockFull => 23,
             EditorFault::SeqFull => 24,
             EditorFault::TooManyTags => 25,
+            EditorFault::FadeTooLong => 51,
         }
     }
 }

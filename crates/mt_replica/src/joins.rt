@@ -13,12 +13,12 @@ pub(crate) fn joins_of<A: Allocator>(op: &Op<A>) -> u64
     ensures { result ≡ joins_of op.now }
 {
     match op.body() {
-        // place, trim, source, gain, mute, and a tag
-        Body::AddClip { .. } => 6,
+        // place, trim, source, gain, mute, fades, and a tag
+        Body::AddClip { .. } => 7,
         // place, title, gain, mute, and a tag
         Body::AddTrack { .. } => 5,
-        // position, title, and a tag
-        Body::AddMarker { .. } => 3,
+        // position, title, length, and a tag
+        Body::AddMarker { .. } => 4,
         Body::Remove { tags, .. } => tags.items().len() as u64,
         _ => 1,
     }

@@ -72,6 +72,20 @@ fn move_refused<A: Allocator>(
     )
 }
 
+// Why a clip cannot be moved to a track.
+fn clip_move_refused<A: Allocator>(
+    items: &Items<A>,
+    clip: Stamp,
+    track: Stamp,
+) -> Option<EditorFault>
+    ensures { result ≡ names_refused items.now true (need_of Role.Clip clip ∷ need_of Role.Track track ∷ []) }
+{
+    first_of(
+        item_refused(items, clip, Role::Clip),
+        item_refused(items, track, Role::Track),
+    )
+}
+
 /// The first refusal of the items that a change names, in the order of its fields.
 pub(crate) fn names_refused<A: Allocator>(
     items: &Items<A>,
@@ -83,10 +97,7 @@ pub(crate) fn names_refused<A: Allocator>(
         Change::AddTrack { after, .. } => after_refused(items, *after),
         Change::MoveTrack { track, after } => move_refused(items, *track, *after),
         Change::AddClip { track, .. } => item_refused(items, *track, Role::Track),
-        Change::MoveClip { clip, track, .. } => first_of(
-            item_refused(items, *clip, Role::Clip),
-            item_refused(items, *track, Role::Track),
-        ),
+        Change::MoveClip { clip, track, .. } => clip_move_refused(items, *clip, *track),
         Change::TrimClip { clip, .. } => item_refused(items, *clip, Role::Clip),
         Change::SetGain { item, .. } | Change::SetMute { item, .. } => {
             item_refused(items, *item, Role::Mixable)
@@ -96,5 +107,7 @@ pub(crate) fn names_refused<A: Allocator>(
         Change::AddMarker { .. } => None,
         Change::MoveMarker { marker, .. } => item_refused(items, *marker, Role::Marker),
         Change::Retitle { item, .. } => item_refused(items, *item, Role::Titled),
+        Change::SetFade { clip, .. } => item_refused(items, *clip, Role::Clip),
+        Change::SetMarkerLength { marker, .. } => item_refused(items, *marker, Role::Marker),
     }
 }

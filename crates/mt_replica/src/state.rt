@@ -20,7 +20,7 @@ ghost use Rattle.mt_replica.specs.Kept.{with_op, joins_by, TakeOf};
 ghost use Rattle.mt_replica.specs.State.{IsMade, Found, body_refused};
 ghost use Rattle.mt_sessionview.specs.Session.{ready_ops, session_of};
 
-use crate::body::{body_of, lists_few, plays};
+use crate::body::{body_of, fades_fit, lists_few, plays};
 use crate::by_stamp::beside_log;
 use crate::change::Change;
 use crate::fault::EditorFault;
@@ -160,6 +160,9 @@ impl<A: Allocator + Clone> State<A> {
         let _ = self.log.runs();
         if !plays(change) {
             return Err(EditorFault::ZeroLength);
+        }
+        if !fades_fit(change) {
+            return Err(EditorFault::FadeTooLong);
         }
         if let Some(fault) = names_refused(self.view.items(), change) {
             return Err(fault);

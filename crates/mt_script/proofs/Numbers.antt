@@ -37,15 +37,15 @@ pub parsed_number : {E : Type 0} (n : ℕ) (text : List ℕ) (r : Result ℕ E) 
 parsed_number n text r small is parses = parse-decimal 32 n text r small (omega (arith, small)) is parses
 
 -- below a lower limit
-pub below_none : (text : List ℕ) → number text ≡ None → None ≡ number_below (2 ^ 16) text
-below_none text none = not_spelled (2 ^ 16) text (λ n small is. let more = spelled (2 ^ 32) n text (omega (arith, small)) (omega (arith, small)) is in absurd cc)
+pub below_none : (limit : ℕ) (text : List ℕ) → limit ≤ 2 ^ 32 → number text ≡ None → None ≡ number_below limit text
+below_none limit text low none = not_spelled limit text (λ n small is. let more = spelled (2 ^ 32) n text (omega (arith, low, small)) (omega (arith, low, small)) is in absurd cc)
 
-pub below_some : (text : List ℕ) (n : ℕ) → number text ≡ Some n → n < 2 ^ 16 → Some n ≡ number_below (2 ^ 16) text
-below_some text n is small = sym (spelled (2 ^ 16) n text small (omega (arith, small)) (read_so (2 ^ 32) n text is).1)
+pub below_some : (limit : ℕ) (text : List ℕ) (n : ℕ) → number text ≡ Some n → n < limit → limit ≤ 2 ^ 32 → Some n ≡ number_below limit text
+below_some limit text n is small low = sym (spelled limit n text small (omega (arith, small, low)) (read_so (2 ^ 32) n text is).1)
 
-pub below_not : (text : List ℕ) (n : ℕ) → number text ≡ Some n → 2 ^ 16 ≤ n → None ≡ number_below (2 ^ 16) text
-below_not text n is large = not_spelled (2 ^ 16) text (λ m small so.
-    let more = spelled (2 ^ 32) m text (omega (arith, small)) (omega (arith, small)) so in
+pub below_not : (limit : ℕ) (text : List ℕ) (n : ℕ) → number text ≡ Some n → limit ≤ n → limit ≤ 2 ^ 32 → None ≡ number_below limit text
+below_not limit text n is large low = not_spelled limit text (λ m small so.
+    let more = spelled (2 ^ 32) m text (omega (arith, small, low)) (omega (arith, small, low)) so in
     let same : m ≡ n = cc in
     absurd (omega arith))
 

@@ -2,10 +2,10 @@
 use Rattle.std.specs.Prelude.{◌≡◌, [], ◌∷◌, ◌++◌, Some, None, refl, codes}
 use Rattle.std.specs.Fmt.{digits}
 use Rattle.mt_stamp.specs.Moment.{Moment}
-use Rattle.mt_replica.specs.Edit.{TrimClip, SetGain}
+use Rattle.mt_replica.specs.Edit.{TrimClip, SetGain, SetFade, SetMarkerLength}
 use Rattle.mt_script.specs.Lines.{newline, lines}
 use Rattle.mt_script.specs.Words.{number_below, gain, stamp, item}
-use Rattle.mt_script.specs.Forms.{Items, said, trim_clip, set_gain, set_mute, remove}
+use Rattle.mt_script.specs.Forms.{Items, said, trim_clip, set_gain, set_mute, remove, set_fade, set_marker_length}
 
 pub empty_text : lines [] ≡ []
 empty_text = refl
@@ -52,3 +52,17 @@ leading_zero = refl
 pub length_zero : said one_item (codes "trim-clip $2 7 0") ≡ Some (TrimClip track 7 0)
 unfolding said trim_clip item stamp number_below digits
 length_zero = refl
+
+-- the longest fade, and one that is longer
+pub longest : said one_item (codes "fade $2 1048576 0") ≡ Some (SetFade track 1048576 0)
+unfolding said set_fade item stamp number_below digits
+longest = refl
+
+pub too_long : said one_item (codes "fade $2 0 1048577") ≡ None
+unfolding said set_fade item stamp number_below digits
+too_long = refl
+
+-- a marker's length of 0 is one
+pub point : said one_item (codes "marker-length $2 0") ≡ Some (SetMarkerLength track 0)
+unfolding said set_marker_length item stamp number_below digits
+point = refl

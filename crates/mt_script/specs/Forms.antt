@@ -1,11 +1,11 @@
--- The twelve forms of a line that asks for a change (profile). The word that a line begins with, up to its first space, says which
+-- The fourteen forms of a line that asks for a change (profile). The word that a line begins with, up to its first space, says which
 -- form it has; of the fields after it each but the last is a word that one space ends, and the last is all up to the end of the
 -- line.
 use Rattle.std.specs.Prelude.{ℕ, List, [], ◌∷◌, Option, Some, None, if◌then◌else◌, codes}
 use Rattle.std.specs.Str.{bytes_eq, is_utf8}
 use Rattle.mt_stamp.specs.Moment.{Moment}
-use Rattle.mt_replica.specs.Edit.{Edit, AddTrack, MoveTrack, AddClip, MoveClip, TrimClip, SetGain, SetMute, Remove, Restore, AddMarker, MoveMarker, Retitle}
-use Rattle.mt_script.specs.Words.{◌>>=◌, space, cut, number, gain, item, after, digest, switch, title}
+use Rattle.mt_replica.specs.Edit.{Edit, AddTrack, MoveTrack, AddClip, MoveClip, TrimClip, SetGain, SetMute, Remove, Restore, AddMarker, MoveMarker, Retitle, SetFade, SetMarkerLength}
+use Rattle.mt_script.specs.Words.{◌>>=◌, space, cut, number, fade_length, gain, item, after, digest, switch, title}
 
 -- a word that a space ends, read, and what follows the space
 abbrev pub field : {X : Type 0} → (List ℕ → Option X) → List ℕ → Option (X × List ℕ)
@@ -105,6 +105,21 @@ retitle items text = do
   name ← title changed.1
   Some (Retitle changed.0 name)
 
+-- ITEM IN OUT
+unfoldable pub set_fade : Items → List ℕ → Option Edit
+set_fade items text = do
+  clip ← field (item items) text
+  fade_in ← field fade_length clip.1
+  fade_out ← fade_length fade_in.1
+  Some (SetFade clip.0 fade_in.0 fade_out)
+
+-- ITEM LEN
+unfoldable pub set_marker_length : Items → List ℕ → Option Edit
+set_marker_length items text = do
+  marker ← field (item items) text
+  len ← number marker.1
+  Some (SetMarkerLength marker.0 len)
+
 -- a form: the word that a line begins with, and how what follows it is read
 abbrev pub Form : Type 0
 Form = List ℕ × (Items → List ℕ → Option Edit)
@@ -122,7 +137,9 @@ forms =
     (codes "restore", restore) ∷
     (codes "add-marker", add_marker) ∷
     (codes "move-marker", move_marker) ∷
-    (codes "retitle", retitle) ∷ []
+    (codes "retitle", retitle) ∷
+    (codes "fade", set_fade) ∷
+    (codes "marker-length", set_marker_length) ∷ []
 
 -- what the text says by the form whose word this is
 abbrev pub said_by : List Form → List ℕ → Items → List ℕ → Option Edit

@@ -1,5 +1,5 @@
 -- The words of a script's lines, and what each says (profile): none where it says nothing of its kind.
-use Rattle.std.specs.Prelude.{ℕ, ◌-◌, ◌^◌, Bool, true, false, ◌==◌, ◌&&◌, nat_lt, List, [], ◌∷◌, drop, slice_get, slice_index, Option, Some, None, if◌then◌else◌, codes}
+use Rattle.std.specs.Prelude.{ℕ, ◌+◌, ◌-◌, ◌^◌, Bool, true, false, ◌==◌, ◌&&◌, nat_lt, List, [], ◌∷◌, drop, slice_get, slice_index, Option, Some, None, if◌then◌else◌, codes}
 use Rattle.std.specs.Option.{option_map, option_flatten}
 use Rattle.std.specs.Result.{result_ok}
 use Rattle.std.specs.Fmt.{decimal}
@@ -14,6 +14,7 @@ use Rattle.mt_op.specs.declared.digest.Digest.{Digest}
 use Rattle.mt_op.specs.Digest.{is_digest_text}
 use Rattle.mt_op.specs.Gain.{Ratio}
 use Rattle.mt_op.specs.Title.{is_title}
+use Rattle.mt_op.specs.Valid.{longest_fade}
 use Rattle.mt_opcodec.specs.OpReading.{is_stamp}
 
 -- the second step, where the first says something
@@ -56,6 +57,10 @@ number_below limit text =
 -- positions, offsets, lengths and numbers of lines
 abbrev pub number : List ℕ → Option ℕ
 number text = number_below (2 ^ 32) text
+
+-- how many frames a fade lasts, which are not too many
+abbrev pub fade_length : List ℕ → Option ℕ
+fade_length text = number_below (longest_fade + 1) text
 
 abbrev pub ratio : ℕ → ℕ → Option Ratio
 ratio num den = if den == 0 then None else Some (record { num = num; den = den })

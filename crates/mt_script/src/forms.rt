@@ -4,9 +4,11 @@ ghost use Rattle.std.specs.Prelude.{◌≡◌, IfOk};
 ghost use Rattle.std.specs.Option.{option_map};
 ghost use Rattle.mt_replica.specs.Changes.{edit_of};
 ghost use Rattle.mt_script.specs.Words.{title};
-ghost use Rattle.mt_script.specs.Forms.{forms, said_by, said, asked, add_track, move_track, add_clip, move_clip, trim_clip, set_gain, set_mute, remove, restore, add_marker, move_marker, retitle};
+ghost use Rattle.mt_script.specs.Forms.{forms, said_by, said, asked, add_track, move_track, add_clip, move_clip, trim_clip, set_gain, set_mute, remove, restore, add_marker, move_marker, retitle, set_fade, set_marker_length};
 
-use crate::words::{after_of, cut_word, digest_of, gain_of, item_of, number_of, switch_of};
+use crate::words::{
+    after_of, cut_word, digest_of, fade_length_of, gain_of, item_of, number_of, switch_of,
+};
 use mt_op::{OpFault, Title};
 use mt_replica::Change;
 use mt_stamp::Stamp;
@@ -186,6 +188,32 @@ fn retitle<A: Allocator>(
     Ok(Some(Change::Retitle { item, title }))
 }
 
+#[tactic(auto, unfolding(crate::specs::Forms::set_fade))]
+fn set_fade<A: Allocator>(items: &[Option<Stamp>], text: &str) -> Option<Change<A>>
+    ensures { option_map edit_of result ≡ set_fade items.now text.now }
+{
+    let (clip, rest) = cut_word(text)?;
+    let clip = item_of(items, clip)?;
+    let (fade_in, fade_out) = cut_word(rest)?;
+    let fade_in = fade_length_of(fade_in)?;
+    let fade_out = fade_length_of(fade_out)?;
+    Some(Change::SetFade {
+        clip,
+        fade_in,
+        fade_out,
+    })
+}
+
+#[tactic(auto, unfolding(crate::specs::Forms::set_marker_length))]
+fn set_marker_length<A: Allocator>(items: &[Option<Stamp>], text: &str) -> Option<Change<A>>
+    ensures { option_map edit_of result ≡ set_marker_length items.now text.now }
+{
+    let (marker, len) = cut_word(text)?;
+    let marker = item_of(items, marker)?;
+    let len = number_of(len)?;
+    Some(Change::SetMarkerLength { marker, len })
+}
+
 // What the rest of a line asks for whose first word this is.
 fn change_by<A: Allocator>(
     alloc: A,
@@ -219,6 +247,10 @@ fn change_by<A: Allocator>(
         Ok(move_marker(items, text))
     } else if word == "retitle" {
         retitle(alloc, items, text)
+    } else if word == "fade" {
+        Ok(set_fade(items, text))
+    } else if word == "marker-length" {
+        Ok(set_marker_length(items, text))
     } else {
         Ok(None)
     }

@@ -33,7 +33,7 @@
 //! frame 10 on; the gain 1/2 for the clip that line 3 made; and a marker at frame 480. The first line is a remark: it makes nothing,
 //! but is counted, as an empty line is.
 //!
-//! All or none: at the first line that has none of the twelve forms (`BadLine`), or whose change the editor refuses (`Refused`),
+//! All or none: at the first line that has none of the fourteen forms (`BadLine`), or whose change the editor refuses (`Refused`),
 //! the editor is as it was, and the fault tells the line, counted from 1. `specs/Forms.antt` and `specs/Words.antt` are the grammar,
 //! `specs/Lines.antt` how a text is cut, `specs/Script.antt` what is made.
 //!

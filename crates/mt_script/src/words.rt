@@ -2,10 +2,10 @@
 
 ghost use Rattle.std.specs.Prelude.{◌≡◌, ◌^◌};
 ghost use Rattle.std.specs.Option.{option_map};
-ghost use Rattle.mt_script.specs.Words.{space, stroke, cut, number_below, number, gain, stamp, item_of_line, item, after, digest, switch};
+ghost use Rattle.mt_script.specs.Words.{space, stroke, cut, number_below, number, fade_length, gain, stamp, item_of_line, item, after, digest, switch};
 
 use itoa::Buffer;
-use mt_op::{Digest, Gain};
+use mt_op::{Digest, Gain, LONGEST_FADE};
 use mt_stamp::Stamp;
 
 // The word before the first space, and what follows the space.
@@ -41,6 +41,19 @@ fn small_number_of(text: &str) -> Option<u16>
         return None;
     }
     Some(number as u16)
+}
+
+// The same of at most as many frames as a fade may last.
+pub(crate) fn fade_length_of(text: &str) -> Option<u32>
+    ensures { result ≡ fade_length text.now }
+{
+    let Some(number) = number_of(text) else {
+        return None;
+    };
+    if number > LONGEST_FADE {
+        return None;
+    }
+    Some(number)
 }
 
 // What stands before the first `/`, and what follows it.

@@ -1,5 +1,5 @@
-//! Tests of sessions: mt_items, mt_sessionview and mt_mending. What noted operations leave of each item; sessions of a few operations, their texts, and one entry of a session
-//! changed; a session that is mended operation by operation, beside the one that is made from nothing.
+//! Tests of sessions: mt_items and mt_sessionview. What is left where a growth or a write is refused, and one session's text. The tests of editors note
+//! operations one by one and mend sessions by them, which is mt_mending.
 #![tactic(auto)]
 
 #[cfg(test)]

@@ -1,3 +1,2 @@
 mod items;
-mod mending;
 mod sessionview;

@@ -23,18 +23,20 @@ found_in clip cells = record {
     len = cells.trim.value.len;
     gain = cells.gain.value;
     mute = cells.mute.value;
+    fade_in = cells.fades.value.fade_in;
+    fade_out = cells.fades.value.fade_out;
     source = cells.source;
   };
 }
 
 -- a clip is read of its cells, where it is present
 pub clip_is : {A : Type 0} (ops : List Operation) (clip : Moment) (cells : ClipCells A) (here : Bool) → HoldsClip clip ops cells → here ≡ is_present ops clip → cond here (Some (found_in clip cells)) None ≡ clip_read ops clip
-clip_is ops clip cells here holds there = rw (← there, holds.place, holds.trim, holds.source, holds.gain, holds.mute) refl
+clip_is ops clip cells here holds there = rw (← there, holds.place, holds.trim, holds.source, holds.gain, holds.mute, holds.fades) refl
 
 -- a marker
 pub marker_is : {A : Type 0} (ops : List Operation) (marker : Moment) (cells : MarkerCells A) (here : Bool) → HoldsMarker marker ops cells → here ≡ is_present ops marker
-    → cond here (Some (record { marker = marker; at = cells.position.value; title = cells.title.value })) None ≡ marker_read ops marker
-marker_is ops marker cells here holds there = rw (← there, holds.title, holds.position) refl
+    → cond here (Some (record { marker = marker; at = cells.position.value; len = cells.len.value; title = cells.title.value })) None ≡ marker_read ops marker
+marker_is ops marker cells here holds there = rw (← there, holds.title, holds.position, holds.len) refl
 
 -- ---- entries that are taken one after another
 

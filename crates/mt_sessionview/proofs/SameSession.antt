@@ -8,7 +8,7 @@ use Rattle.mt_stamp.specs.Tree.{tree_cmp}
 use Rattle.mt_op.specs.Operation.{Act, Operation}
 use Rattle.mt_op.specs.Needs.{needs, meets, clock_of, adds_track, adds_marker}
 use Rattle.mt_op.specs.Ready.{is_ready}
-use Rattle.mt_op.specs.Writes.{Write, title_written, gain_written, mute_written, track_place_written, clip_place_written, trim_written, source_written, position_written, last_write}
+use Rattle.mt_op.specs.Writes.{Write, title_written, gain_written, mute_written, track_place_written, clip_place_written, trim_written, source_written, position_written, fades_written, marker_length_written, last_write}
 use Rattle.mt_sessionview.specs.Content.{clip_cmp, marker_cmp}
 use Rattle.mt_sessionview.specs.Session.{ready_ops, place_added, session_of}
 use Rattle.mt_stamp.specs.Sorting.{sort_by}
@@ -41,7 +41,7 @@ module _ (r u : List Operation) (same : SameItems r u) (all_u : AllByRecursion (
   -- ---- markers
 
   marker_same : (o : Operation) → marker_in r o ≡ marker_in u o
-  marker_same o = rw (write_same position_written o.stamp, write_same title_written o.stamp) refl
+  marker_same o = rw (write_same position_written o.stamp, write_same title_written o.stamp, write_same marker_length_written o.stamp) refl
 
   pub markers_same : markers_in r ≡ markers_in u
   markers_same =
@@ -52,7 +52,7 @@ module _ (r u : List Operation) (same : SameItems r u) (all_u : AllByRecursion (
   -- ---- clips
 
   clip_same : (o : Operation) → clip_in r o ≡ clip_in u o
-  clip_same o = rw (write_same clip_place_written o.stamp, write_same trim_written o.stamp, write_same source_written o.stamp, write_same gain_written o.stamp, write_same mute_written o.stamp) refl
+  clip_same o = rw (write_same clip_place_written o.stamp, write_same trim_written o.stamp, write_same source_written o.stamp, write_same gain_written o.stamp, write_same mute_written o.stamp, write_same fades_written o.stamp) refl
 
   on_same : (track : Moment) (o : Operation) → is_clip_on_in r track o ≡ is_clip_on_in u track o
   on_same track o = rw (write_same clip_place_written o.stamp, present_same r u same o.stamp) refl

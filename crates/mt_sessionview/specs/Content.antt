@@ -5,10 +5,12 @@ use Rattle.std.specs.Ordering.{nat_cmp, ordering_then}
 use Rattle.mt_stamp.specs.Moment.{Moment, stamp_cmp}
 use Rattle.mt_op.specs.Gain.{Ratio}
 use Rattle.mt_op.specs.declared.digest.Digest.{Digest}
+use Rattle.mt_op.specs.Valid.{longest_fade}
 use Rattle.mt_stamp.specs.Sorting.{RisesStrictly, DifferBy}
 
 -- a clip: the stamp that names it, the stamp of the operation that gave its place, where it begins in the session, the
--- first frame of its recording that it plays and how many, in frames, and how it sounds
+-- first frame of its recording that it plays and how many, in frames, how it sounds, and over how many frames it fades in and
+-- out
 pub record Clip : Type 0 where
   pub clip : Moment
   pub place : Moment
@@ -17,6 +19,8 @@ pub record Clip : Type 0 where
   pub len : ℕ
   pub gain : Ratio
   pub mute : Bool
+  pub fade_in : ℕ
+  pub fade_out : ℕ
   pub source : Digest
 
 -- a track: the stamp that names it, its title, how it sounds, and its clips in order
@@ -27,10 +31,11 @@ pub record Track : Type 0 where
   pub mute : Bool
   pub clips : List Clip
 
--- a marker: the stamp that names it, where it stands, in frames, and its title
+-- a marker: the stamp that names it, where it stands and how many frames it spans, 0 for a point, and its title
 pub record Marker : Type 0 where
   pub marker : Moment
   pub at : ℕ
+  pub len : ℕ
   pub title : List ℕ
 
 -- the present tracks and markers in order, and how many operations are held
@@ -47,9 +52,11 @@ clip_cmp a b = ordering_then (nat_cmp a.at b.at) (stamp_cmp a.place b.place)
 abbrev pub marker_cmp : Marker → Marker → Ordering
 marker_cmp a b = ordering_then (nat_cmp a.at b.at) (stamp_cmp a.marker b.marker)
 
--- a clip plays at least one frame
-abbrev pub IsClip : Clip → Type 0
-IsClip c = 1 ≤ c.len
+-- a clip plays at least one frame, and no fade of it lasts too long
+pub record IsClip (c : Clip) : Type 0 where
+  pub len : 1 ≤ c.len
+  pub fade_in : c.fade_in ≤ longest_fade
+  pub fade_out : c.fade_out ≤ longest_fade
 
 -- the clips of a track rise by position and by the stamp of their place, and no two have the same place
 pub record AreClips (clips : List Clip) : Type 0 where

@@ -2,7 +2,7 @@ use Rattle.std.specs.Prelude.{◌≡◌, ℕ, false, List, [], ◌∷◌, Option
 use Rattle.mt_stamp.specs.Moment.{Moment}
 use Rattle.mt_op.specs.Gain.{unchanged}
 use Rattle.mt_op.specs.declared.digest.Digest.{Digest}
-use Rattle.mt_op.specs.Operation.{AddTrack, MoveTrack, AddClip, MoveClip, Remove, Restore, AddMarker, MoveMarker, Retitle, Operation}
+use Rattle.mt_op.specs.Operation.{AddTrack, MoveTrack, AddClip, MoveClip, Remove, Restore, AddMarker, MoveMarker, Retitle, SetFade, SetMarkerLength, Operation}
 use Rattle.mt_sessionview.specs.Content.{Clip, Track}
 use Rattle.mt_sessionview.specs.Session.{session_of}
 
@@ -21,19 +21,19 @@ retitle c r n t = record { stamp = by c r n; act = Retitle (by 1 10 1) t }
 pub empty : session_of [] ≡ record { tracks = []; markers = []; held = 0 }
 empty = refl
 
-pub one_marker : session_of (news ∷ []) ≡ record { tracks = []; markers = record { marker = by 1 10 1; at = 480; title = codes "News" } ∷ []; held = 0 }
+pub one_marker : session_of (news ∷ []) ≡ record { tracks = []; markers = record { marker = by 1 10 1; at = 480; len = 0; title = codes "News" } ∷ []; held = 0 }
 one_marker = refl
 
 pub early_retitle : session_of (late ∷ []) ≡ record { tracks = []; markers = []; held = 1 }
 early_retitle = refl
 
-pub met_retitle : session_of (news ∷ late ∷ []) ≡ record { tracks = []; markers = record { marker = by 1 10 1; at = 480; title = codes "Late" } ∷ []; held = 0 }
+pub met_retitle : session_of (news ∷ late ∷ []) ≡ record { tracks = []; markers = record { marker = by 1 10 1; at = 480; len = 0; title = codes "Late" } ∷ []; held = 0 }
 met_retitle = refl
 
-pub two_retitles : session_of (news ∷ retitle 2 10 2 (codes "X") ∷ retitle 2 11 1 (codes "Y") ∷ []) ≡ record { tracks = []; markers = record { marker = by 1 10 1; at = 480; title = codes "Y" } ∷ []; held = 0 }
+pub two_retitles : session_of (news ∷ retitle 2 10 2 (codes "X") ∷ retitle 2 11 1 (codes "Y") ∷ []) ≡ record { tracks = []; markers = record { marker = by 1 10 1; at = 480; len = 0; title = codes "Y" } ∷ []; held = 0 }
 two_retitles = refl
 
-pub two_retitles_turned : session_of (retitle 2 11 1 (codes "Y") ∷ retitle 2 10 2 (codes "X") ∷ news ∷ []) ≡ record { tracks = []; markers = record { marker = by 1 10 1; at = 480; title = codes "Y" } ∷ []; held = 0 }
+pub two_retitles_turned : session_of (retitle 2 11 1 (codes "Y") ∷ retitle 2 10 2 (codes "X") ∷ news ∷ []) ≡ record { tracks = []; markers = record { marker = by 1 10 1; at = 480; len = 0; title = codes "Y" } ∷ []; held = 0 }
 two_retitles_turned = refl
 
 abbrev pub remove_by : ℕ → ℕ → ℕ → List Moment → Operation
@@ -45,10 +45,10 @@ restore_by c r n = record { stamp = by c r n; act = Restore (by 1 10 1) }
 pub removed : session_of (news ∷ remove_by 2 10 2 (by 1 10 1 ∷ []) ∷ []) ≡ record { tracks = []; markers = []; held = 0 }
 removed = refl
 
-pub removed_and_restored : session_of (news ∷ remove_by 2 10 2 (by 1 10 1 ∷ []) ∷ restore_by 2 11 1 ∷ []) ≡ record { tracks = []; markers = record { marker = by 1 10 1; at = 480; title = codes "News" } ∷ []; held = 0 }
+pub removed_and_restored : session_of (news ∷ remove_by 2 10 2 (by 1 10 1 ∷ []) ∷ restore_by 2 11 1 ∷ []) ≡ record { tracks = []; markers = record { marker = by 1 10 1; at = 480; len = 0; title = codes "News" } ∷ []; held = 0 }
 removed_and_restored = refl
 
-pub restored_and_removed : session_of (restore_by 2 11 1 ∷ remove_by 2 10 2 (by 1 10 1 ∷ []) ∷ news ∷ []) ≡ record { tracks = []; markers = record { marker = by 1 10 1; at = 480; title = codes "News" } ∷ []; held = 0 }
+pub restored_and_removed : session_of (restore_by 2 11 1 ∷ remove_by 2 10 2 (by 1 10 1 ∷ []) ∷ news ∷ []) ≡ record { tracks = []; markers = record { marker = by 1 10 1; at = 480; len = 0; title = codes "News" } ∷ []; held = 0 }
 restored_and_removed = refl
 
 pub removed_again : session_of (news ∷ remove_by 2 10 2 (by 1 10 1 ∷ []) ∷ restore_by 2 11 1 ∷ remove_by 3 10 3 (by 1 10 1 ∷ by 2 11 1 ∷ []) ∷ []) ≡ record { tracks = []; markers = []; held = 0 }
@@ -56,12 +56,12 @@ removed_again = refl
 
 -- a Remove that lists the tag of another marker waits
 pub wrong_role : session_of (news ∷ record { stamp = by 1 11 1; act = AddMarker 7 (codes "Sport") } ∷ remove_by 2 10 2 (by 1 11 1 ∷ []) ∷ [])
-    ≡ record { tracks = []; markers = record { marker = by 1 11 1; at = 7; title = codes "Sport" } ∷ record { marker = by 1 10 1; at = 480; title = codes "News" } ∷ []; held = 1 }
+    ≡ record { tracks = []; markers = record { marker = by 1 11 1; at = 7; len = 0; title = codes "Sport" } ∷ record { marker = by 1 10 1; at = 480; len = 0; title = codes "News" } ∷ []; held = 1 }
 wrong_role = refl
 
 -- a marker that is moved while it is removed comes back where it was moved to
 pub moved_and_removed : session_of (news ∷ record { stamp = by 5 11 1; act = MoveMarker (by 1 10 1) 70 } ∷ remove_by 5 10 5 (by 1 10 1 ∷ []) ∷ restore_by 6 10 6 ∷ [])
-    ≡ record { tracks = []; markers = record { marker = by 1 10 1; at = 70; title = codes "News" } ∷ []; held = 0 }
+    ≡ record { tracks = []; markers = record { marker = by 1 10 1; at = 70; len = 0; title = codes "News" } ∷ []; held = 0 }
 moved_and_removed = refl
 
 -- ---- tracks
@@ -103,7 +103,7 @@ abbrev pub clip_on : Moment → Operation
 clip_on which = record { stamp = by 2 11 1; act = AddClip none which 5 6 7 }
 
 abbrev pub seen : Moment → ℕ → Clip
-seen place at = record { clip = by 2 11 1; place = place; at = at; offset = 6; len = 7; gain = unchanged; mute = false; source = none }
+seen place at = record { clip = by 2 11 1; place = place; at = at; offset = 6; len = 7; gain = unchanged; mute = false; fade_in = 0; fade_out = 0; source = none }
 
 abbrev pub clips_of : List Operation → List (List Clip)
 clips_of s = map (λ (t : Track). t.clips) (session_of s).tracks
@@ -130,3 +130,24 @@ moved_and_removed_clip = refl
 
 pub moved_removed_and_restored_clip : clips_of (record { stamp = by 6 10 6; act = Restore (by 2 11 1) } ∷ clip_removed ∷ moved_to_70 ∷ p_q) ≡ (seen (by 5 11 2) 70 ∷ []) ∷ [] ∷ []
 moved_removed_and_restored_clip = refl
+
+-- ---- fades and lengths
+
+abbrev pub fades : ℕ → ℕ → ℕ → ℕ → ℕ → Operation
+fades c r n fade_in fade_out = record { stamp = by c r n; act = SetFade (by 2 11 1) fade_in fade_out }
+
+-- of two fades the one with the greater stamp counts, in whatever order they stand
+pub two_fades : clips_of (fades 3 10 3 1 0 ∷ fades 3 11 2 5 0 ∷ p_q) ≡ (record (seen (by 2 11 1) 5) { fade_in = 5 } ∷ []) ∷ [] ∷ []
+two_fades = refl
+
+pub two_fades_turned : clips_of (fades 3 11 2 5 0 ∷ fades 3 10 3 1 0 ∷ p_q) ≡ (record (seen (by 2 11 1) 5) { fade_in = 5 } ∷ []) ∷ [] ∷ []
+two_fades_turned = refl
+
+-- a fade of what is no clip waits
+pub faded_marker : session_of (news ∷ record { stamp = by 2 10 2; act = SetFade (by 1 10 1) 1 1 } ∷ [])
+    ≡ record { tracks = []; markers = record { marker = by 1 10 1; at = 480; len = 0; title = codes "News" } ∷ []; held = 1 }
+faded_marker = refl
+
+pub marker_with_a_length : session_of (record { stamp = by 2 10 2; act = SetMarkerLength (by 1 10 1) 96 } ∷ news ∷ [])
+    ≡ record { tracks = []; markers = record { marker = by 1 10 1; at = 480; len = 96; title = codes "News" } ∷ []; held = 0 }
+marker_with_a_length = refl

@@ -9,10 +9,11 @@ use Rattle.mt_op.specs.Gain.{unchanged}
 use Rattle.mt_op.specs.declared.digest.Digest.{Digest}
 use Rattle.mt_op.specs.declared.value.Placement.{Placement}
 use Rattle.mt_op.specs.declared.value.TrimRange.{TrimRange}
+use Rattle.mt_op.specs.declared.value.FadeLengths.{FadeLengths}
 use Rattle.mt_op.specs.Operation.{Act, Operation}
 use Rattle.mt_op.specs.declared.need.Role.TheVariants.{Place}
 use Rattle.mt_op.specs.Needs.{stamp_eq, adds_track, adds_clip, adds_marker, fits}
-use Rattle.mt_op.specs.Writes.{Write, title_written, gain_written, mute_written, track_place_written, clip_place_written, trim_written, source_written, position_written, last_write}
+use Rattle.mt_op.specs.Writes.{Write, title_written, gain_written, mute_written, track_place_written, clip_place_written, trim_written, source_written, position_written, fades_written, marker_length_written, no_fades, last_write}
 use Rattle.mt_op.specs.Presence.{is_present}
 use Rattle.mt_sessionview.specs.Content.{Clip, Track, Marker, clip_cmp, marker_cmp}
 use Rattle.mt_sessionview.specs.Session.{place_added}
@@ -33,6 +34,7 @@ module _ (r : List Operation) where
   marker_in o = record {
     marker = o.stamp;
     at = unwrap_or (value_in position_written o.stamp) 0;
+    len = unwrap_or (value_in marker_length_written o.stamp) 0;
     title = unwrap_or (value_in title_written o.stamp) [];
   }
 
@@ -44,6 +46,9 @@ module _ (r : List Operation) where
 
   abbrev pub clip_trim_in : Moment → TrimRange
   clip_trim_in clip = unwrap_or (value_in trim_written clip) (record { offset = 0; len = 0 })
+
+  abbrev pub clip_fades_in : Moment → FadeLengths
+  clip_fades_in clip = unwrap_or (value_in fades_written clip) no_fades
 
   abbrev pub clip_source_in : Moment → Digest
   clip_source_in clip = unwrap_or (value_in source_written clip) (record { 0 = [] })
@@ -57,6 +62,8 @@ module _ (r : List Operation) where
     len = (clip_trim_in o.stamp).len;
     gain = unwrap_or (value_in gain_written o.stamp) unchanged;
     mute = unwrap_or (value_in mute_written o.stamp) false;
+    fade_in = (clip_fades_in o.stamp).fade_in;
+    fade_out = (clip_fades_in o.stamp).fade_out;
     source = clip_source_in o.stamp;
   }
 

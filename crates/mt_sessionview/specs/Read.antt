@@ -9,10 +9,11 @@ use Rattle.mt_op.specs.Gain.{unchanged}
 use Rattle.mt_op.specs.declared.digest.Digest.{Digest}
 use Rattle.mt_op.specs.declared.value.Placement.{Placement}
 use Rattle.mt_op.specs.declared.value.TrimRange.{TrimRange}
+use Rattle.mt_op.specs.declared.value.FadeLengths.{FadeLengths}
 use Rattle.mt_op.specs.declared.need.Role.TheVariants.{Clip as ClipRole}
 use Rattle.mt_op.specs.Operation.{Act, AddTrack, MoveTrack, AddMarker, Operation}
 use Rattle.mt_op.specs.Presence.{is_present}
-use Rattle.mt_op.specs.Writes.{title_written, gain_written, mute_written, track_place_written, clip_place_written, trim_written, source_written, position_written, last_write}
+use Rattle.mt_op.specs.Writes.{title_written, gain_written, mute_written, track_place_written, clip_place_written, trim_written, source_written, position_written, fades_written, marker_length_written, no_fades, last_write}
 use Rattle.mt_sessionview.specs.Content.{Clip, Track, Marker}
 use Rattle.mt_items.specs.Cells.{items_of}
 use Rattle.mt_sessionview.specs.Noted.{value_in, clips_in}
@@ -22,10 +23,19 @@ module _ (noted : List Operation) where
   -- a marker that is present
   abbrev pub marker_from : Moment → Option (Written (List ℕ)) → Option Marker
   marker_from marker None = None
-  marker_from marker (Some title) = Some (record { marker = marker; at = unwrap_or (value_in noted position_written marker) 0; title = title.value })
+  marker_from marker (Some title) = Some (record {
+    marker = marker;
+    at = unwrap_or (value_in noted position_written marker) 0;
+    len = unwrap_or (value_in noted marker_length_written marker) 0;
+    title = title.value;
+  })
 
   abbrev pub marker_read : Moment → Option Marker
   marker_read marker = if is_present noted marker then marker_from marker (last_write title_written marker noted) else None
+
+  -- the fades of a clip
+  abbrev pub fades_of : Moment → FadeLengths
+  fades_of clip = unwrap_or (value_in noted fades_written clip) no_fades
 
   -- a clip that is present, with the track that it is on
   abbrev pub clip_from : Moment → Option (Written Placement) → Option (Written TrimRange) → Option (Written Digest) → Option OnTrack
@@ -39,6 +49,8 @@ module _ (noted : List Operation) where
       len = trim.value.len;
       gain = unwrap_or (value_in noted gain_written clip) unchanged;
       mute = unwrap_or (value_in noted mute_written clip) false;
+      fade_in = (fades_of clip).fade_in;
+      fade_out = (fades_of clip).fade_out;
       source = source.value;
     };
   })

@@ -9,10 +9,11 @@ use Rattle.mt_op.specs.Gain.{unchanged}
 use Rattle.mt_op.specs.declared.digest.Digest.{Digest}
 use Rattle.mt_op.specs.declared.value.Placement.{Placement}
 use Rattle.mt_op.specs.declared.value.TrimRange.{TrimRange}
+use Rattle.mt_op.specs.declared.value.FadeLengths.{FadeLengths}
 use Rattle.mt_op.specs.Operation.{Act, Operation}
 use Rattle.mt_op.specs.Needs.{needs, meets, clock_of, stamp_eq, adds_track, adds_clip, adds_marker}
 use Rattle.mt_op.specs.Ready.{ready, held}
-use Rattle.mt_op.specs.Writes.{Write, title_written, gain_written, mute_written, track_place_written, clip_place_written, trim_written, source_written, position_written, last_write}
+use Rattle.mt_op.specs.Writes.{Write, title_written, gain_written, mute_written, track_place_written, clip_place_written, trim_written, source_written, position_written, fades_written, marker_length_written, no_fades, last_write}
 use Rattle.mt_op.specs.Presence.{is_present}
 use Rattle.mt_stamp.specs.Sorting.{sort_by}
 use Rattle.mt_sessionview.specs.Content.{Clip, Track, Marker, Content, clip_cmp, marker_cmp}
@@ -52,6 +53,7 @@ abbrev pub marker_of : List Operation → Operation → Marker
 marker_of s o = record {
   marker = o.stamp;
   at = unwrap_or (field_value position_written s o.stamp) 0;
+  len = unwrap_or (field_value marker_length_written s o.stamp) 0;
   title = unwrap_or (field_value title_written s o.stamp) [];
 }
 
@@ -64,6 +66,10 @@ clip_place s clip = unwrap_or (field_write clip_place_written s clip) (record { 
 -- what a clip plays of its recording
 abbrev pub clip_trim : List Operation → Moment → TrimRange
 clip_trim s clip = unwrap_or (field_value trim_written s clip) (record { offset = 0; len = 0 })
+
+-- over how many frames a clip fades in and out
+abbrev pub clip_fades : List Operation → Moment → FadeLengths
+clip_fades s clip = unwrap_or (field_value fades_written s clip) no_fades
 
 -- the recording that a clip plays
 abbrev pub clip_source : List Operation → Moment → Digest
@@ -79,6 +85,8 @@ clip_of s o = record {
   len = (clip_trim s o.stamp).len;
   gain = unwrap_or (field_value gain_written s o.stamp) unchanged;
   mute = unwrap_or (field_value mute_written s o.stamp) false;
+  fade_in = (clip_fades s o.stamp).fade_in;
+  fade_out = (clip_fades s o.stamp).fade_out;
   source = clip_source s o.stamp;
 }
 

@@ -5,6 +5,7 @@ ghost use Rattle.std.specs.BTreeMap.{get};
 ghost use Rattle.std.specs.List.Sorted.{IsPermutation, IsSorted};
 ghost use Rattle.mt_stamp.specs.Moment.{Moment, stamp_cmp, stamp_eq};
 ghost use Rattle.mt_op.specs.Operation.{Operation};
+ghost use Rattle.mt_op.specs.Valid.{AreShort};
 ghost use Rattle.mt_items.specs.Cells.{HoldsClip};
 ghost use Rattle.mt_sessionview.specs.Content.{clip_cmp};
 ghost use Rattle.mt_sessionview.specs.Read.{clip_read, AreTheClips};
@@ -26,6 +27,7 @@ struct OnTrack {
 // A clip with its track, from its cells, where it is present.
 fn clip_at<A: Allocator>(clip: Stamp, cells: &ClipCells<A>) -> Option<OnTrack>
     requires positive { 1 ≤ cells.now.trim.value.len }
+    requires short { AreShort cells.now.fades.value }
     ensures { (ops : ListOf Operation) → HoldsClip clip ops cells.now → result ≡ clip_read ops clip }
 {
     if !cells.presence.is_present() {
@@ -33,6 +35,7 @@ fn clip_at<A: Allocator>(clip: Stamp, cells: &ClipCells<A>) -> Option<OnTrack>
     }
     let put = *cells.place.get();
     let range = *cells.trim.get();
+    let fades = *cells.fades.get();
     Some(OnTrack {
         track: put.track,
         clip: ClipView {
@@ -43,6 +46,8 @@ fn clip_at<A: Allocator>(clip: Stamp, cells: &ClipCells<A>) -> Option<OnTrack>
             len: range.len,
             gain: *cells.gain.get(),
             mute: *cells.mute.get(),
+            fade_in: fades.fade_in,
+            fade_out: fades.fade_out,
             source: cells.source,
         },
     })

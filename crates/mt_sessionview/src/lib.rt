@@ -48,9 +48,9 @@
 //!     let news = Title::new(rt.alloc(), "News")?;
 //!     let weather = Title::new(rt.alloc(), "Weather")?;
 //!     let mut session = from_scratch(rt.alloc(), &Log::new(rt.alloc()))?;
-//!     session.put_marker(MarkerView { marker, at: 480, title: news })?;
+//!     session.put_marker(MarkerView { marker, at: 480, len: 0, title: news })?;
 //!     // it has the place that its position and its stamp say, and keeps it where only its title is another
-//!     session.set_marker(MarkerView { marker, at: 480, title: weather });
+//!     session.set_marker(MarkerView { marker, at: 480, len: 0, title: weather });
 //!     // to move it, it is taken out where it stands and put in elsewhere
 //!     if let Some(taken) = session.take_marker(480, marker) {
 //!         session.put_marker(MarkerView { at: 960, ..taken })?;

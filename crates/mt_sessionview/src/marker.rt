@@ -32,6 +32,7 @@ fn marker_at<A: Allocator + Clone>(
     Ok(Some(MarkerView {
         marker,
         at: *cells.position.get(),
+        len: *cells.len.get(),
         title,
     }))
 }
@@ -61,6 +62,7 @@ fn marker_from<A: Allocator>(marker: Stamp, cells: MarkerCells<A>) -> Option<Mar
     let MarkerCells {
         position,
         title,
+        len,
         presence,
     } = cells;
     if !presence.is_present() {
@@ -69,6 +71,7 @@ fn marker_from<A: Allocator>(marker: Stamp, cells: MarkerCells<A>) -> Option<Mar
     Some(MarkerView {
         marker,
         at: *position.get(),
+        len: *len.get(),
         title: title.into_value(),
     })
 }

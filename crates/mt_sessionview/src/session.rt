@@ -5,7 +5,7 @@ use mt_stamp::{List, Stamp};
 use std::alloc::{Allocator, Global};
 use std::marker::Model;
 
-/// A clip that is present, on a track that is. Its length is at least 1.
+/// A clip that is present, on a track that is. Its length is at least 1, and its fades are at most 1,048,576 frames.
 #[derive(Clone, Copy, Debug, PartialEq, Eq)]
 pub struct ClipView {
     /// The stamp of the operation that added it, which names it.
@@ -22,6 +22,10 @@ pub struct ClipView {
     pub gain: Gain,
     /// Whether it is muted.
     pub mute: bool,
+    /// Over how many of its first frames it fades in, at most 1,048,576; 0 for no fade. It may be more than it plays.
+    pub fade_in: u32,
+    /// Over how many of its last frames it fades out, as `fade_in`.
+    pub fade_out: u32,
     /// The recording that it plays, by the digest of its file.
     pub source: Digest,
 }
@@ -31,11 +35,11 @@ impl Model for ClipView {
 
     ghost Value = { Clip };
 
-    ghost view = { λ c. record { clip = c.clip; place = c.place; at = c.at; offset = c.offset; len = c.len; gain = c.gain; mute = c.mute; source = c.source } };
+    ghost view = { λ c. record { clip = c.clip; place = c.place; at = c.at; offset = c.offset; len = c.len; gain = c.gain; mute = c.mute; fade_in = c.fade_in; fade_out = c.fade_out; source = c.source } };
 
-    ghost invariant = { λ c. IsClip (record { clip = c.clip; place = c.place; at = c.at; offset = c.offset; len = c.len; gain = c.gain; mute = c.mute; source = c.source }) };
+    ghost invariant = { λ c. IsClip (record { clip = c.clip; place = c.place; at = c.at; offset = c.offset; len = c.len; gain = c.gain; mute = c.mute; fade_in = c.fade_in; fade_out = c.fade_out; source = c.source }) };
 
-    ghost inverse = { λ c. record { clip = c.clip; place = c.place; at = c.at; offset = c.offset; len = c.len; gain = c.gain; mute = c.mute; source = c.source } };
+    ghost inverse = { λ c. record { clip = c.clip; place = c.place; at = c.at; offset = c.offset; len = c.len; gain = c.gain; mute = c.mute; fade_in = c.fade_in; fade_out = c.fade_out; source = c.source } };
 }
 
 /// A track that is present. Its clips are in order, and no two of them have the same place.
@@ -74,6 +78,8 @@ pub struct MarkerView<A: Allocator = Global> {
     pub marker: Stamp,
     /// Where it stands, in frames.
     pub at: u32,
+    /// How many frames it spans, 0 for a point.
+    pub len: u32,
     /// The title that its last writer gave it, of at most 255 bytes.
     pub title: Title<A>,
 }
@@ -83,9 +89,9 @@ impl<A: Allocator> Model for MarkerView<A> {
 
     ghost Value = { Marker };
 
-    ghost view = { λ m. record { marker = m.marker; at = m.at; title = m.title } };
+    ghost view = { λ m. record { marker = m.marker; at = m.at; len = m.len; title = m.title } };
 
-    ghost inverse = { λ m. record { marker = m.marker; at = m.at; title = m.title } };
+    ghost inverse = { λ m. record { marker = m.marker; at = m.at; len = m.len; title = m.title } };
 }
 
 /// The session of a set of operations. No track is there twice, and the markers are in order.

@@ -7,7 +7,7 @@ ghost use Rattle.mt_op.specs.Digest.{digest_text};
 ghost use Rattle.std.specs.List.{flat_map};
 ghost use Rattle.std.specs.String.{string_bytes};
 ghost use Rattle.mt_sessionview.specs.Content.{Clip};
-ghost use Rattle.mt_sessionview.specs.SessionText.{newline, sound_text, clip_line, track_line, track_lines, marker_line, held_line, session_text};
+ghost use Rattle.mt_sessionview.specs.SessionText.{newline, sound_text, fade_text, len_text, clip_line, track_line, track_lines, marker_line, held_line, session_text};
 
 use crate::session::{ClipView, MarkerView, Session, TrackView};
 use itoa::Buffer;
@@ -74,6 +74,32 @@ fn append_sound<A: Allocator>(
     Ok(())
 }
 
+// Writes ` fade IN OUT`, in frames, where one of them is not 0.
+fn append_fades<A: Allocator>(
+    text: &mut String<A>,
+    fade_in: u32,
+    fade_out: u32,
+) -> Result<(), AllocError>
+    ensures { OnOk result (string_bytes text.new ≡ string_bytes text.old ++ fade_text fade_in fade_out) }
+{
+    if fade_in == 0 && fade_out == 0 {
+        return Ok(());
+    }
+    append_number(text, " fade ", fade_in)?;
+    append_number(text, " ", fade_out)?;
+    Ok(())
+}
+
+// Writes ` len N`, in frames, where it is not 0.
+fn append_len<A: Allocator>(text: &mut String<A>, len: u32) -> Result<(), AllocError>
+    ensures { OnOk result (string_bytes text.new ≡ string_bytes text.old ++ len_text len) }
+{
+    if len == 0 {
+        return Ok(());
+    }
+    append_number(text, " len ", len)
+}
+
 // Writes a digest in hex digits and a line feed.
 fn append_digest<A: Allocator, B: Allocator>(
     alloc: &A,
@@ -89,8 +115,8 @@ fn append_digest<A: Allocator, B: Allocator>(
     text.push_str("\n")
 }
 
-// Writes `clip STAMP place STAMP at N offset N len N gain NUM/DEN mute on|off source DIGEST` and a line feed: positions
-// and lengths in frames, in decimal.
+// Writes `clip STAMP place STAMP at N offset N len N gain NUM/DEN mute on|off source DIGEST` and a line feed, with the fades before
+// the source: positions and lengths in frames, in decimal.
 fn append_clip_line<A: Allocator, B: Allocator>(
     alloc: &A,
     text: &mut String<B>,
@@ -104,6 +130,7 @@ fn append_clip_line<A: Allocator, B: Allocator>(
     append_number(text, " offset ", view.offset)?;
     append_number(text, " len ", view.len)?;
     append_sound(text, view.gain, view.mute)?;
+    append_fades(text, view.fade_in, view.fade_out)?;
     text.push_str(" source ")?;
     append_digest(alloc, text, view.source)?;
     Ok(())
@@ -153,7 +180,7 @@ fn append_track_lines<A: Allocator, B: Allocator, C: Allocator>(
     Ok(())
 }
 
-/// Writes `marker STAMP at N title TITLE` and a line feed after what `text` holds: the position in frames, in
+/// Writes `marker STAMP at N title TITLE` and a line feed after what `text` holds, with the length after the position: both in frames, in
 /// decimal, and the title as it is.
 pub(crate) fn append_marker_line<A: Allocator, B: Allocator>(
     text: &mut String<A>,
@@ -161,7 +188,7 @@ pub(crate) fn append_marker_line<A: Allocator, B: Allocator>(
 ) -> Result<(), AllocError>
     ensures { OnOk result (string_bytes text.new ≡ string_bytes text.old ++ marker_line view.now) }
 {
-    append_parts(text, view.marker, view.at, view.title.text())
+    append_parts(text, view.marker, view.at, view.len, view.title.text())
 }
 
 // Writes the line of a marker of these parts.
@@ -169,15 +196,14 @@ fn append_parts<A: Allocator>(
     text: &mut String<A>,
     marker: Stamp,
     at: u32,
+    len: u32,
     title: &str,
 ) -> Result<(), AllocError>
-    ensures { OnOk result (string_bytes text.new ≡ string_bytes text.old ++ marker_line (record { marker = marker; at = at; title = title.now })) }
+    ensures { OnOk result (string_bytes text.new ≡ string_bytes text.old ++ marker_line (record { marker = marker; at = at; len = len; title = title.now })) }
 {
-    let mut number = Buffer::new();
-    text.push_str("marker ")?;
-    marker.append_text(text)?;
-    text.push_str(" at ")?;
-    text.push_str(number.format(at))?;
+    append_stamp(text, "marker ", marker)?;
+    append_number(text, " at ", at)?;
+    append_len(text, len)?;
     text.push_str(" title ")?;
     text.push_str(title)?;
     text.push_str("\n")?;

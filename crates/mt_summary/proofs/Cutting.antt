@@ -7,7 +7,7 @@ use Rattle.std.proofs.lemmas.Bool.{lt-ltb, leb-true}
 use Rattle.std.proofs.lemmas.Bool.Decides.{nat_tests}
 use Rattle.std.proofs.lemmas.List.{drop_more, drop_all, length-append, flat_map_more}
 use Rattle.mt_stamp.specs.Moment.{Moment}
-use Rattle.mt_op.specs.Operation.{Act, AddTrack, MoveTrack, AddClip, MoveClip, TrimClip, SetGain, SetMute, Remove, Restore, AddMarker, MoveMarker, Retitle, Operation}
+use Rattle.mt_op.specs.Operation.{Act, AddTrack, MoveTrack, AddClip, MoveClip, TrimClip, SetGain, SetMute, Remove, Restore, AddMarker, MoveMarker, Retitle, SetFade, SetMarkerLength, Operation}
 use Rattle.mt_op.specs.Title.{is_title}
 use Rattle.mt_op.specs.Valid.{IsOperation, AreFields, tags_are_good}
 use Rattle.mt_op.proofs.Needs.{and_first, and_second}
@@ -185,6 +185,8 @@ act_len (Restore item) h tags = omega arith
 act_len (AddMarker at title) h tags = omega (arith, title_len title h.1, length-append (frame_bytes at) (title_bytes title))
 act_len (MoveMarker marker at) h tags = omega arith
 act_len (Retitle item title) h tags = omega (arith, title_len title h.1, length-append (stamp_bytes item) (title_bytes title))
+act_len (SetFade clip fade_in fade_out) h tags = omega arith
+act_len (SetMarkerLength marker len) h tags = omega arith
 
 -- no operation is longer than 2,097,187 bytes
 op_len : (o : Operation) → IsOperation o → length (op_text o) ≤ 2097187

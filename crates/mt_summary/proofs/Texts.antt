@@ -16,10 +16,11 @@ use Rattle.mt_opcodec.specs.declared.fault.LogFault.{LogFault}
 use Rattle.mt_opcodec.specs.OpText.{op_text, stamp_bytes, act_bytes}
 use Rattle.mt_opcodec.specs.LogText.{op_texts}
 use Rattle.mt_opcodec.specs.LogValue.{AreLogged}
+use Rattle.mt_opcodec.specs.Versions.{newest_version}
 use Rattle.mt_opcodec.specs.LogReading.{records_at}
 use Rattle.mt_opcodec.specs.OpReading.{◌>>=◌, number_at}
 use Rattle.mt_opcodec.proofs.Fields.{IsBytes, IsBytes-rest, bind_ok, refuses_false, ok_is, Takes, Takes-then, number_takes, number_again, wide32, wide64, wide128}
-use Rattle.mt_opcodec.proofs.LogTexts.{chain_rises, rises_chain, records_take, records_again}
+use Rattle.mt_opcodec.proofs.LogTexts.{chain_rises, rises_chain, records_take, any_records_again}
 use Rattle.mt_frames.specs.Frames.{longest_body}
 use Rattle.mt_summary.specs.Summary.{Numbers, Summary, ExtrasRise, AreNumbers, SummaryRises, IsSummary}
 use Rattle.mt_summary.specs.Messages.{Message, have, ops, bye, numbers_text, have_text, ops_text, bye_text, message_text, extra_at, extras_at, run_at, has_some, said, numbers_at, next_at, summary_at, counted_at, whole_have, listed, counted_ops, tagged_at, message_at, IsMessage}
@@ -228,9 +229,9 @@ have_is bytes (Ok (summary, [])) fits e =
 have_is bytes (Ok (summary, b ∷ left)) fits e = tt
 have_is bytes (Err fault) fits e = tt
 
-ops_is : (bytes : List ℕ) (count : ℕ) (rest : List ℕ) (r : Result (List Operation) LogFault) → Takes bytes (to_be_bytes w32 count) rest → 0 < count → count < 2 ^ 32 → records_at count 0 None rest ≡ r → IsTextOf (2 ∷ bytes) (listed r)
+ops_is : (bytes : List ℕ) (count : ℕ) (rest : List ℕ) (r : Result (List Operation) LogFault) → Takes bytes (to_be_bytes w32 count) rest → 0 < count → count < 2 ^ 32 → records_at newest_version count 0 None rest ≡ r → IsTextOf (2 ∷ bytes) (listed r)
 ops_is bytes count rest (Ok list) front some small e =
-    let read = records_take count 0 None rest list front.rest_fits e in
+    let read = records_take newest_version count 0 None rest list front.rest_fits e in
     let logged : AreLogged list = record { rise = chain_rises None list read.chain; valid = read.valid } in
     let len = read.counted in
     ((logged, omega arith), ap (λ (l : List ℕ). 2 ∷ l) (front.parts ∙ ap (λ (l : List ℕ). to_be_bytes w32 count ++ l) read.text ∙ ap (λ (n : ℕ). to_be_bytes w32 n ++ op_texts list) (sym len)))
@@ -241,9 +242,9 @@ counted_ops_is bytes (Ok (count, rest)) fits e =
     let t = number_takes w32 (2 ^ 32) wide32 bytes count rest fits e in
     by (eqb count 0) refl t
   where
-    by : (b : Bool) → eqb count 0 ≡ b → Takes bytes (to_be_bytes w32 count) rest × (count < 2 ^ 32) → IsTextOf (2 ∷ bytes) (cond b None (listed (records_at count 0 None rest)))
+    by : (b : Bool) → eqb count 0 ≡ b → Takes bytes (to_be_bytes w32 count) rest × (count < 2 ^ 32) → IsTextOf (2 ∷ bytes) (cond b None (listed (records_at newest_version count 0 None rest)))
     by true is t = tt
-    by false is t = ops_is bytes count rest (records_at count 0 None rest) t.0 (some (eqb-false count 0 is)) t.1 refl
+    by false is t = ops_is bytes count rest (records_at newest_version count 0 None rest) t.0 (some (eqb-false count 0 is)) t.1 refl
       where
         some : (count ≡ 0 → ⊥) → 0 < count
         some h = omega (arith, h)
@@ -291,10 +292,10 @@ message_again (have summary) is short = tagged_again (have summary) 1 _ refl sho
 message_again (ops list) is short =
     let some : eqb (length list) 0 ≡ false = ne_eqb (length list) 0 (λ none. omega (arith, none, is.1)) in
     let count = number_again w32 (2 ^ 32) wide32 (length list) (op_texts list) (few_ops list short) in
-    let read = records_again list 0 None is.0.valid (rises_chain None list is.0.rise (λ o rest e. refl)) in
+    let read = any_records_again list 0 None is.0.valid (rises_chain None list is.0.rise (λ o rest e. refl)) in
     tagged_again (ops list) 2 _ refl short (ap counted_ops count ∙ rw (some, read) refl)
 message_again bye is short = tagged_again bye 3 _ refl short refl
 
 -- operations that were read one after another
-pub ops_read : (bytes rest : List ℕ) (count : ℕ) (list items : List Operation) → number_at w32 bytes ≡ Ok (count, rest) → (count ≡ 0 → ⊥) → records_at count 0 None rest ≡ Ok items → list ≡ items → counted_ops (number_at w32 bytes) ≡ Some (ops list)
+pub ops_read : (bytes rest : List ℕ) (count : ℕ) (list items : List Operation) → number_at w32 bytes ≡ Ok (count, rest) → (count ≡ 0 → ⊥) → records_at newest_version count 0 None rest ≡ Ok items → list ≡ items → counted_ops (number_at w32 bytes) ≡ Some (ops list)
 ops_read bytes rest count list items counted some read is = ap counted_ops counted ∙ rw (ne_eqb count 0 some) (ap listed read ∙ ap (λ (l : List Operation). Some (ops l)) (sym is))

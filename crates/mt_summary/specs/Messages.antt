@@ -9,6 +9,7 @@ use Rattle.mt_op.specs.Operation.{Operation}
 use Rattle.mt_opcodec.specs.LogText.{op_texts}
 use Rattle.mt_opcodec.specs.OpReading.{Reads, ◌>>=◌, number_at}
 use Rattle.mt_opcodec.specs.declared.fault.ReadFault.TheVariants.{BadField}
+use Rattle.mt_opcodec.specs.Versions.{newest_version}
 use Rattle.mt_opcodec.specs.LogReading.{records_at}
 use Rattle.mt_opcodec.specs.LogValue.{AreLogged}
 use Rattle.mt_opcodec.specs.declared.fault.LogFault.{LogFault}
@@ -106,7 +107,7 @@ listed (Ok list) = Some (ops list)
 listed (Err fault) = None
 
 abbrev pub counted_ops : Reads ℕ → Option Message
-counted_ops (Ok (count, bytes)) = if count == 0 then None else listed (records_at count 0 None bytes)
+counted_ops (Ok (count, bytes)) = if count == 0 then None else listed (records_at newest_version count 0 None bytes)
 counted_ops (Err fault) = None
 
 abbrev pub tagged_at : ℕ → List ℕ → Option Message

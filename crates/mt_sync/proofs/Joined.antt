@@ -116,6 +116,7 @@ one_untaken A kept new set o fault at valid all gives holds =
     by editor.TooManyTags h is = absurd h
     by editor.ClockFull h is = absurd h
     by editor.SeqFull h is = absurd h
+    by editor.FadeTooLong h is = absurd h
 
 pub one_more : (log mid new : Option LogMap) (o : Operation) (u : Unit {0}) (list : List Operation) (r : Result (Unit {0}) TalkFault) → TakesIn log (o ∷ []) (Ok u) mid → TakesIn mid list r new → TakesIn log (o ∷ list) r new
 one_more None mid new o u list r h more = absurd cc

@@ -12,3 +12,5 @@ mod Naming
 mod Filtering
 mod Seating
 mod Seated
+mod Listed
+mod Worked

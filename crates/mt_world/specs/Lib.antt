@@ -6,3 +6,4 @@ pub mod Faults
 pub mod Codes
 pub mod Seats
 pub mod Sending
+pub mod Examples

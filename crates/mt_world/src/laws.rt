@@ -1,5 +1,6 @@
-//! What holds of every world, whatever happened in it: the contract of a function that does nothing.
+//! What holds of every world, whatever happened in it, and histories that are worked out: the contracts of functions that do nothing.
 
+ghost use Rattle.mt_world.specs.Examples.{RestartedWorld, LostRemoval, HeldRetitle, MetRetitle, SavedTwice};
 ghost use Rattle.mt_world.specs.Laws.{InEveryWorld, OneUnderEachDot, SentOnce, NoTakeConflicts, MadeIsTaken, StaysUntilRestart, ReadyAtItsAuthor, NothingHeldBack};
 
 /// After every list of events between editors whose names differ, what was sent and all that was taken has one operation under each dot,
@@ -13,4 +14,15 @@ pub fn histories()
     ensures stays_until_restart { InEveryWorld StaysUntilRestart }
     ensures ready_at_its_author { InEveryWorld ReadyAtItsAuthor }
     ensures nothing_held_back { InEveryWorld NothingHeldBack }
+{}
+
+/// Five histories of two editors, with what was sent and what each of them then sees (`specs/Examples.antt`): what was not saved is gone with a
+/// restart, and its number is given again; a restart takes back what was taken and made since the last save; what comes before what it needs
+/// waits, until that comes; what was saved twice was sent once.
+pub fn worked_histories()
+    ensures restarted_world { RestartedWorld }
+    ensures lost_removal { LostRemoval }
+    ensures held_retitle { HeldRetitle }
+    ensures met_retitle { MetRetitle }
+    ensures saved_twice { SavedTwice }
 {}

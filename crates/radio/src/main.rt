@@ -27,7 +27,7 @@ fn main(rt: HostRuntime) -> ExitCode {
 // What the parser's users know of words that are no text.
 const NOT_UTF8: &str = "error: invalid UTF-8 was detected in one or more arguments
 
-Usage: radio <COMMAND>
+Usage: radio [OPTIONS] <COMMAND>
 
 For more information, try '--help'.
 ";

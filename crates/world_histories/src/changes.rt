@@ -36,6 +36,7 @@ fn plain(body: &Body) -> Option<Change> {
         Body::Remove { item, .. } => Some(Change::Remove { item }),
         Body::Restore { item } => Some(Change::Restore { item }),
         Body::MoveMarker { marker, at } => Some(Change::MoveMarker { marker, at }),
+        Body::SetMarkerLength { marker, len } => Some(Change::SetMarkerLength { marker, len }),
         _ => None,
     }
 }
@@ -58,6 +59,15 @@ fn of_clip(body: &Body) -> Option<Change> {
         }),
         Body::MoveClip { clip, track, at } => Some(Change::MoveClip { clip, track, at }),
         Body::TrimClip { clip, offset, len } => Some(Change::TrimClip { clip, offset, len }),
+        Body::SetFade {
+            clip,
+            fade_in,
+            fade_out,
+        } => Some(Change::SetFade {
+            clip,
+            fade_in,
+            fade_out,
+        }),
         _ => None,
     }
 }

@@ -1,6 +1,9 @@
-mod fills;
+//! Wave files. What is a wave file and what it says, and why other bytes are refused, the clauses say of all bytes; the cases of `radio info` and `radio render`
+//! show it. No call takes memory, whatever counts and sizes the bytes tell.
 
-use mt_bwfread::{laws, *};
+mod lengths;
+
+use mt_bwfread::{Wave, WaveFault};
 use std::alloc::{AllocError, Global};
 use std::test::Fail;
 
@@ -48,18 +51,18 @@ fn sample(wave: &Wave<'_>, frame: u64, channel: u16) -> Option<i64> {
     }
 }
 
-// Whether a file has neither an extension nor a cue point nor a label.
+// Whether a file has neither an extension nor a cue point nor a label nor a length.
 fn is_plain(wave: &Wave<'_>) -> bool {
     let has_cue = wave.cue_count() > 0 || wave.point(0).is_some() || wave.cue(0).is_some();
     let has_label = wave.label(0).is_some() || wave.labels().next().is_some();
-    wave.bext().is_none() && !has_cue && !has_label
+    let has_length = wave.length(0).is_some() || wave.lengths().next().is_some();
+    wave.bext().is_none() && !has_cue && !has_label && !has_length
 }
 
 // smallest_wave
 #[test]
 fn smallest(rt: HostRuntime) -> Result<(), Fail> {
     let wave = Wave::read(&SMALLEST).ok().ok_or("a wave file")?;
-    laws::is_wave(&wave);
     let layout = (wave.rate(), wave.channels(), wave.bits());
     assert!(rt; layout == (44100, 1, 8) && wave.frames() == 1);
     assert!(rt; sample(&wave, 0, 0) == Some(-2147483648));
@@ -67,70 +70,40 @@ fn smallest(rt: HostRuntime) -> Result<(), Fail> {
     Ok(())
 }
 
-// A wave file of a format and samples.
-fn with_samples<'a>(
-    alloc: Global,
-    format: &'a [u8],
-    samples: &'a [u8],
-) -> Result<Vec<u8>, AllocError> {
-    file(alloc, &[(b"fmt ", format), (b"data", samples)])
-}
-
-// The samples of two frames of two channels, as a file of this content of its `data` has them.
-fn samples_of(alloc: Global, bits: u8, samples: &[u8]) -> Option<[Option<i64>; 4]> {
-    let text = with_samples(alloc, &pcm(2, bits), samples).ok()?;
-    match Wave::read(&text) {
-        Ok(wave) => Some([
-            sample(&wave, 0, 0),
-            sample(&wave, 0, 1),
-            sample(&wave, 1, 0),
-            sample(&wave, 1, 1),
-        ]),
-        Err(_) => None,
-    }
-}
-
-const SAMPLES: [(u8, &[u8], [i64; 4]); 4] = [
-    (
-        8,
-        &[0, 255, 128, 127],
-        [-2147483648, 2130706432, 0, -16777216],
-    ),
-    (
-        16,
-        &[0, 128, 255, 127, 0, 0, 255, 255],
-        [-2147483648, 2147418112, 0, -65536],
-    ),
-    (
-        24,
-        &[0, 0, 128, 255, 255, 127, 0, 0, 0, 255, 255, 255],
-        [-2147483648, 2147483392, 0, -256],
-    ),
-    (
-        32,
-        &[
-            0, 0, 0, 128, 255, 255, 255, 127, 0, 0, 0, 0, 255, 255, 255, 255,
-        ],
-        [-2147483648, 2147483647, 0, -1],
-    ),
-];
-
-#[test]
-fn widths(rt: HostRuntime) {
-    for (bits, samples, [first, second, third, fourth]) in SAMPLES {
-        let wanted = [Some(first), Some(second), Some(third), Some(fourth)];
-        assert!(rt;
-            samples_of(rt.alloc(), bits, samples) == Some(wanted),
-            "{bits} bits"
-        );
-    }
-}
-
 // The number under which bytes are refused as a wave file; 255 where they are one.
 fn refusal(bytes: &[u8]) -> u8 {
     match Wave::read(bytes) {
         Ok(_) => 255,
         Err(fault) => fault.number(),
+    }
+}
+
+// The smallest file with another byte at a place.
+fn with_byte(place: usize, byte: u8) -> [u8; 45] {
+    let mut bytes = SMALLEST;
+    if let Some(there) = bytes.get_mut(place) {
+        *there = byte;
+    }
+    bytes
+}
+
+// a size of `data` past the end, a format that is not PCM, frames of two bytes
+#[test]
+fn refuses_the_smallest_with_another_byte(rt: HostRuntime) {
+    for (place, byte, number) in [(40, 2, 28), (20, 3, 31), (32, 2, 30)] {
+        assert!(rt; refusal(&with_byte(place, byte)) == number);
+    }
+}
+
+#[test]
+fn numbers_its_refusals(rt: HostRuntime) {
+    for (fault, number) in [
+        (WaveFault::NotRiff, 26),
+        (WaveFault::NotWave, 27),
+        (WaveFault::Truncated, 28),
+        (WaveFault::NoData, 32),
+    ] {
+        assert!(rt; fault.number() == number);
     }
 }
 
@@ -155,31 +128,4 @@ fn refuses_each_cut_file(rt: HostRuntime) {
             "of {len}"
         );
     }
-}
-
-// The smallest file with another byte at a place.
-fn with_byte(place: usize, byte: u8) -> [u8; 45] {
-    let mut bytes = SMALLEST;
-    if let Some(there) = bytes.get_mut(place) {
-        *there = byte;
-    }
-    bytes
-}
-
-// a size of `data` past the end, a format that is not PCM, frames of two bytes
-#[test]
-fn refuses_the_smallest_with_another_byte(rt: HostRuntime) {
-    for (place, byte, number) in [(40, 2, 28), (20, 3, 31), (32, 2, 30)] {
-        assert!(rt; refusal(&with_byte(place, byte)) == number);
-    }
-}
-
-#[test]
-fn faults(rt: HostRuntime) {
-    assert!(rt; WaveFault::NotRiff.number() == 26);
-    assert!(rt; WaveFault::NoData.number() == 32);
-    laws::one_chunk_list();
-    laws::walk_finds();
-    laws::walk_splits(&SMALLEST);
-    laws::smallest_wave();
 }

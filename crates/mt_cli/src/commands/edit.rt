@@ -2,19 +2,20 @@
 
 use crate::edit::edit_log;
 use crate::fault::CliFault;
-use crate::files::open;
-use crate::part::Part;
-use crate::words::{Word, Words};
+use crate::files::{OpenLog, open, open_log};
+use crate::part::{Naming, Part};
+use crate::words::{NEW, NO_SYNC, Word, Words};
 use clap::ArgMatches;
 use mt_opcodec::Latch;
 use mt_stamp::Replica;
+use std::fs::File;
 use std::io::Write;
 use std::rt::Files;
 
 pub(crate) const WORDS: Words = Words {
     name: "edit",
     about: "Makes the changes of a script, all or none, and writes the new log",
-    after: "Example: radio edit 00000000-0000-0000-0000-00000000000a desk.log changes.txt desk.log\n\nA line of SCRIPT is one of these, with one space between words (docs/formats.md, Scripts, says all of them):\n  add-track AFTER TITLE, add-clip DIGEST TRACK AT OFFSET LEN, add-marker AT TITLE, retitle ITEM TITLE,\n  move-track ITEM AFTER, move-clip CLIP TRACK AT, move-marker ITEM AT, trim-clip ITEM OFFSET LEN,\n  gain ITEM NUM/DEN, mute ITEM on, mute ITEM off, remove ITEM, restore ITEM\nAn ITEM, a TRACK or a CLIP is a stamp that `radio view` prints, or $k for what line k adds; AFTER is a track, or `head` for the top;\nAT, OFFSET and LEN are frames; DIGEST is what `radio info` prints. Two lines:\n  add-marker 480 Headlines\n  move-marker 1.1.00000000-0000-0000-0000-00000000000a 96000\n\nExit status: 0 done, 1 refused (the line `radio: fault N`; `radio explain N` tells why), 2 the command line does not parse.",
+    after: "Example: radio edit 00000000-0000-0000-0000-00000000000a desk.log changes.txt desk.log\n\nA line of SCRIPT is one of these, with one space between words (docs/formats.md, Scripts, says all of them):\n  add-track AFTER TITLE, add-clip DIGEST TRACK AT OFFSET LEN, add-marker AT TITLE, retitle ITEM TITLE,\n  move-track ITEM AFTER, move-clip CLIP TRACK AT, move-marker ITEM AT, trim-clip ITEM OFFSET LEN,\n  gain ITEM NUM/DEN, mute ITEM on, mute ITEM off, fade ITEM IN OUT, marker-length ITEM LEN, remove ITEM, restore ITEM\nAn ITEM, a TRACK or a CLIP is a stamp that `radio view` prints, or $k for what line k adds; AFTER is a track, or `head` for the top;\nAT, OFFSET, LEN, IN and OUT are frames; DIGEST is what `radio info` prints. Two lines:\n  add-marker 480 Headlines\n  move-marker 1.1.00000000-0000-0000-0000-00000000000a 96000\n\nExit status: 0 done, 1 refused (the line `radio: fault N`; `radio explain N` tells why), 2 the command line does not parse.",
     words: &[
         Word::Needed {
             name: "REPLICA",
@@ -30,12 +31,14 @@ pub(crate) const WORDS: Words = Words {
         },
         Word::Needed {
             name: "OUT",
-            help: "The log to write, which may be LOG",
+            help: "The log to write, which may be LOG; one that is there is replaced, also where it is SCRIPT",
         },
+        NEW,
+        NO_SYNC,
     ],
 };
 
-pub(crate) fn run<F: Files + AllocGlobal, W: Write>(
+pub(crate) fn run<F: Files<File = File> + AllocGlobal, W: Write>(
     rt: &F,
     words: &ArgMatches<'_>,
     output: &mut Latch<W>,
@@ -46,9 +49,9 @@ pub(crate) fn run<F: Files + AllocGlobal, W: Write>(
         Err(fault) => return Err(CliFault::Name(fault)),
     };
     let out = words.get_str("OUT").unwrap_or("");
-    let mut log = open(rt, 0, words.get_str("LOG").unwrap_or(""))?;
+    let OpenLog { mut log, base } = open_log(rt, 0, words.get_str("LOG").unwrap_or(""), out)?;
     let mut script = open(rt, 1, words.get_str("SCRIPT").unwrap_or(""))?;
-    let mut part = Part::later(alloc, rt, out)?;
+    let mut part = Part::later(alloc, rt, out, Naming::of(words))?;
     let written = edit_log(alloc, name, &mut log, &mut script, part.output(), output);
-    part.finish(out, written)
+    part.finish(base, written)
 }

@@ -5,7 +5,7 @@ ghost use Rattle.mt_cli.specs.Mistakes.{IsMistake};
 
 use crate::fault::CliFault;
 use crate::refusals::{Refusal, find_refusal};
-use crate::stop::{Stop, stopped_by};
+use crate::stop::{Stop, refused, stopped_by};
 use crate::words::{Word, Words};
 use clap::ArgMatches;
 use mt_opcodec::{BufferedLatch, Latch};
@@ -15,7 +15,7 @@ use std::io::Write;
 pub(crate) const WORDS: Words = Words {
     name: "explain",
     about: "Prints what refusal N means, and what can be done about it; with no N all refusals",
-    after: "Example: radio explain 45\n\nExit status: 0 done, 1 refused (the line `radio: fault N`; `radio explain N` tells why), 2 the command line does not parse.",
+    after: "Example: radio explain 45\n\nWith --why a command tells in one more line which input, record, line, option or output its refusal is about.\n\nExit status: 0 done, 1 refused (the line `radio: fault N`; `radio explain N` tells why), 2 the command line does not parse.",
     words: &[Word::Number {
         name: "N",
         greatest: u8::MAX as u64,
@@ -48,7 +48,7 @@ fn unknown(alloc: Global, number: u8) -> Stop {
             text,
             is_mistake: true,
         },
-        Err(_) => Stop::Refused(CliFault::Memory),
+        Err(_) => refused(CliFault::Memory),
     }
 }
 

@@ -3,9 +3,10 @@
 use crate::fault::CliFault;
 use crate::files::open;
 use crate::have::have_log;
-use crate::part::Part;
-use crate::words::{Word, Words};
+use crate::part::{Naming, Part};
+use crate::words::{NEW, NO_SYNC, Word, Words};
 use clap::ArgMatches;
+use std::fs::File;
 use std::rt::Files;
 
 pub(crate) const WORDS: Words = Words {
@@ -19,15 +20,20 @@ pub(crate) const WORDS: Words = Words {
         },
         Word::Needed {
             name: "OUT",
-            help: "The summary to write",
+            help: "The summary to write; one that is there is replaced",
         },
+        NEW,
+        NO_SYNC,
     ],
 };
 
-pub(crate) fn run<F: Files + AllocGlobal>(rt: &F, words: &ArgMatches<'_>) -> Result<(), CliFault> {
+pub(crate) fn run<F: Files<File = File> + AllocGlobal>(
+    rt: &F,
+    words: &ArgMatches<'_>,
+) -> Result<(), CliFault> {
     let out = words.get_str("OUT").unwrap_or("");
     let mut log = open(rt, 0, words.get_str("LOG").unwrap_or(""))?;
-    let mut part = Part::later(rt.alloc(), rt, out)?;
+    let mut part = Part::later(rt.alloc(), rt, out, Naming::of(words))?;
     let written = have_log(rt.alloc(), &mut log, part.output());
-    part.finish(out, written)
+    part.finish(None, written)
 }

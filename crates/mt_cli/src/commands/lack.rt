@@ -3,9 +3,10 @@
 use crate::fault::CliFault;
 use crate::files::open;
 use crate::lack::lack_log;
-use crate::part::Part;
-use crate::words::{Word, Words};
+use crate::part::{Naming, Part};
+use crate::words::{NEW, NO_SYNC, Word, Words};
 use clap::ArgMatches;
+use std::fs::File;
 use std::rt::Files;
 
 pub(crate) const WORDS: Words = Words {
@@ -23,16 +24,21 @@ pub(crate) const WORDS: Words = Words {
         },
         Word::Needed {
             name: "OUT",
-            help: "The operations to write",
+            help: "The operations to write; one that is there is replaced, also where it is HAVE",
         },
+        NEW,
+        NO_SYNC,
     ],
 };
 
-pub(crate) fn run<F: Files + AllocGlobal>(rt: &F, words: &ArgMatches<'_>) -> Result<(), CliFault> {
+pub(crate) fn run<F: Files<File = File> + AllocGlobal>(
+    rt: &F,
+    words: &ArgMatches<'_>,
+) -> Result<(), CliFault> {
     let out = words.get_str("OUT").unwrap_or("");
     let mut log = open(rt, 0, words.get_str("LOG").unwrap_or(""))?;
     let mut have = open(rt, 1, words.get_str("HAVE").unwrap_or(""))?;
-    let mut part = Part::later(rt.alloc(), rt, out)?;
+    let mut part = Part::later(rt.alloc(), rt, out, Naming::of(words))?;
     let written = lack_log(rt.alloc(), &mut log, &mut have, part.output());
-    part.finish(out, written)
+    part.finish(None, written)
 }

@@ -1,12 +1,15 @@
 //! `radio meet`.
 
-use super::{open_editor, swap};
+use super::{limit, open_editor, swap, wait_of};
 use crate::fault::CliFault;
-use crate::words::{Word, Words};
+use crate::part::Naming;
+use crate::words::{NEW, NO_SYNC, WAIT, Word, Words};
 use clap::ArgMatches;
 use mt_sync::Side;
-use std::net::{Net, TcpStream};
+use std::fs::File;
+use std::net::{Net, TcpStream, ToSocketAddrs};
 use std::rt::Files;
+use std::time::Duration;
 
 pub(crate) const WORDS: Words = Words {
     name: "meet",
@@ -25,17 +28,40 @@ pub(crate) const WORDS: Words = Words {
             name: "OUT",
             help: "The log to write, which may be LOG",
         },
+        WAIT,
+        NEW,
+        NO_SYNC,
     ],
 };
 
-pub(crate) fn run<F: Files + Net + AllocGlobal>(
+// A stream to an address, which is waited for no longer than is said.
+fn connected<N: Net>(
+    net: &N,
+    address: &str,
+    wait: Option<Duration>,
+) -> Result<N::Stream, CliFault> {
+    let Some(wait) = wait else {
+        return TcpStream::connect(net, address).map_err(|_| CliFault::Net);
+    };
+    let Ok(addresses) = address.to_socket_addrs(net) else {
+        return Err(CliFault::Net);
+    };
+    for address in addresses {
+        if let Ok(stream) = TcpStream::connect_timeout(net, &address, wait) {
+            return Ok(stream);
+        }
+    }
+    Err(CliFault::Net)
+}
+
+pub(crate) fn run<F: Files<File = File> + Net + AllocGlobal>(
     rt: &F,
     words: &ArgMatches<'_>,
 ) -> Result<(), CliFault> {
     let out = words.get_str("OUT").unwrap_or("");
-    let editor = open_editor(rt, words.get_str("LOG").unwrap_or(""))?;
-    match TcpStream::connect(rt, words.get_str("ADDR").unwrap_or("")) {
-        Ok(stream) => swap(rt, editor, Side::Caller, stream, out),
-        Err(_) => Err(CliFault::Net),
-    }
+    let opened = open_editor(rt, words.get_str("LOG").unwrap_or(""), out)?;
+    let wait = wait_of(words);
+    let stream = connected(rt, words.get_str("ADDR").unwrap_or(""), wait)?;
+    limit(&stream, wait)?;
+    swap(rt, opened, Side::Caller, stream, out, Naming::of(words))
 }

@@ -2,12 +2,13 @@
 
 use crate::fault::CliFault;
 use crate::files::open_all;
-use crate::part::Part;
+use crate::part::{Naming, Part};
 use crate::render::bounce_logs;
-use crate::words::{Word, Words};
+use crate::words::{NEW, NO_SYNC, Word, Words};
 use clap::ArgMatches;
 use mt_cuewrite::Head;
 use mt_render::Format;
+use std::fs::File;
 use std::rt::Files;
 
 pub(crate) const WORDS: Words = Words {
@@ -17,7 +18,7 @@ pub(crate) const WORDS: Words = Words {
     words: &[
         Word::Needed {
             name: "OUT",
-            help: "The wave file to write",
+            help: "The wave file to write; one that is there is replaced, also where it is a SOURCE",
         },
         Word::Needed {
             name: "LOG",
@@ -76,6 +77,8 @@ pub(crate) const WORDS: Words = Words {
             greatest: u64::MAX,
             help: "Frames from midnight to the first",
         },
+        NEW,
+        NO_SYNC,
     ],
 };
 
@@ -107,13 +110,16 @@ fn format_of(words: &ArgMatches<'_>) -> Result<Format, CliFault> {
     .map_err(CliFault::Format)
 }
 
-pub(crate) fn run<F: Files + AllocGlobal>(rt: &F, words: &ArgMatches<'_>) -> Result<(), CliFault> {
+pub(crate) fn run<F: Files<File = File> + AllocGlobal>(
+    rt: &F,
+    words: &ArgMatches<'_>,
+) -> Result<(), CliFault> {
     let head = head_of(words)?;
     let format = format_of(words)?;
     let out = given(words, "OUT");
-    let mut logs = open_all(rt, &[given(words, "LOG")])?;
-    let mut sources = open_all(rt, words.get_strs("SOURCE").unwrap_or(&[]))?;
-    let mut part = Part::create(rt.alloc(), rt, out)?;
+    let mut logs = open_all(rt, 0, &[given(words, "LOG")])?;
+    let mut sources = open_all(rt, logs.len(), words.get_strs("SOURCE").unwrap_or(&[]))?;
+    let mut part = Part::create(rt.alloc(), rt, out, Naming::of(words))?;
     let rendered = bounce_logs(
         rt.alloc(),
         &mut logs,
@@ -122,5 +128,5 @@ pub(crate) fn run<F: Files + AllocGlobal>(rt: &F, words: &ArgMatches<'_>) -> Res
         format,
         part.output(),
     );
-    part.finish(out, rendered)
+    part.finish(None, rendered)
 }

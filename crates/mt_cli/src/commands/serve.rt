@@ -1,12 +1,22 @@
 //! `radio serve`.
 
-use super::{open_editor, swap};
-use crate::fault::CliFault;
-use crate::words::{Word, Words};
+ghost use Rattle.mt_cli.specs.Telling.{TellsCauses};
+
+use super::{limit, open_editor, swap, wait_of};
+use crate::fault::{CliFault, PartFault};
+use crate::part::Naming;
+use crate::refusal_lines::put_cause;
+use crate::why::cause;
+use crate::words::{NEW, NO_SYNC, WAIT, Word, Words};
 use clap::ArgMatches;
+use mt_opcodec::Latch;
 use mt_sync::Side;
-use std::net::{Net, OpenListener, TcpListener};
+use std::fs::File;
+use std::io::Write;
+use std::net::{Net, OpenListener, TcpListener, TcpStream};
+use std::os::fd::OwnedFd;
 use std::rt::Files;
+use std::time::Duration;
 
 pub(crate) const WORDS: Words = Words {
     name: "serve",
@@ -25,28 +35,145 @@ pub(crate) const WORDS: Words = Words {
             name: "OUT",
             help: "The log to write, which may be LOG",
         },
+        WAIT,
+        Word::Limit {
+            name: "meetings",
+            least: 0,
+            greatest: u64::MAX,
+            help: "Serve N editors, one after another, and with 0 all who come; LOG is read for each",
+        },
+        NEW,
+        NO_SYNC,
     ],
 };
 
-// The stream of the first caller at an address.
-fn accepted<N: Net>(net: &N, address: &str) -> Result<N::Stream, CliFault> {
+// A listener at an address, where one is waited for no longer than is said.
+fn listening<N: Net<Listener = TcpListener, Stream = TcpStream>>(
+    net: &N,
+    address: &str,
+    wait: Option<Duration>,
+) -> Result<TcpListener, CliFault> {
     let Ok(listener) = TcpListener::bind(net, address) else {
         return Err(CliFault::Net);
     };
+    if wait.is_some() {
+        // the option of the socket is that of its handles, of which std lets a stream's set it
+        let Ok(handle) = listener.try_clone() else {
+            return Err(CliFault::Net);
+        };
+        limit(&TcpStream::from(OwnedFd::from(handle)), wait)?;
+    }
+    Ok(listener)
+}
+
+// The stream of the next caller.
+fn accepted(listener: &TcpListener, wait: Option<Duration>) -> Result<TcpStream, CliFault> {
     match listener.accept() {
-        Ok((stream, _)) => Ok(stream),
+        Ok((stream, _)) => {
+            limit(&stream, wait)?;
+            Ok(stream)
+        }
         Err(_) => Err(CliFault::Net),
     }
 }
 
-pub(crate) fn run<F: Files + Net + AllocGlobal>(
+// What a command on one log is called with, and at what it listens.
+#[derive(Clone, Copy)]
+struct Serving<'s, 'w> {
+    words: &'s ArgMatches<'w>,
+    listener: &'s TcpListener,
+    wait: Option<Duration>,
+}
+
+// Serves the next caller: LOG is read as it is then, and OUT written.
+fn serve_one<F: Files<File = File> + AllocGlobal>(
+    rt: &F,
+    serving: &Serving<'_, '_>,
+) -> Result<(), CliFault> {
+    let words = serving.words;
+    let out = words.get_str("OUT").unwrap_or("");
+    let stream = accepted(serving.listener, serving.wait)?;
+    let opened = open_editor(rt, words.get_str("LOG").unwrap_or(""), out)?;
+    swap(rt, opened, Side::Answerer, stream, out, Naming::of(words))
+}
+
+// Whether a meeting was refused by what the caller said, or since LOG was changed while it was held: then the next caller is waited for.
+fn is_of_one_meeting(fault: &CliFault) -> bool {
+    match fault {
+        CliFault::Sync(_) | CliFault::Part(PartFault::NotNamed) => true,
+        _ => false,
+    }
+}
+
+// Tells why a meeting was refused, where that is asked for.
+#[tactic(auto, using(crate::proofs::Telling::no_cause))]
+fn tell_meeting<F: Files + AllocGlobal, E: Write>(
     rt: &F,
     words: &ArgMatches<'_>,
-) -> Result<(), CliFault> {
+    fault: CliFault,
+    asked: bool,
+    errors: &mut Latch<E>,
+)
+    ensures { TellsCauses E.contents asked errors.old errors.new }
+{
+    if asked {
+        match cause(rt, "serve", words, &fault) {
+            Some(text) => put_cause(fault, &text, errors),
+            None => put_cause(fault, "memory", errors),
+        }
+    }
+}
+
+// Serves so many meetings that come to their end, one after another; with 0 until it is interrupted.
+#[tactic(auto, using(crate::proofs::Telling::no_cause, crate::proofs::Telling::more_causes))]
+fn serve_all<F: Files<File = File> + AllocGlobal, E: Write>(
+    rt: &F,
+    serving: &Serving<'_, '_>,
+    count: u64,
+    asked: bool,
+    errors: &mut Latch<E>,
+) -> Result<(), CliFault>
+    ensures { TellsCauses E.contents asked errors.old errors.new }
+{
+    let mut left = count;
+    for _ in 0..u64::MAX {
+        match serve_one(rt, serving) {
+            Ok(()) if left == 1 => return Ok(()),
+            Ok(()) => left = left.saturating_sub(1),
+            Err(fault) if is_of_one_meeting(&fault) => {
+                tell_meeting(rt, serving.words, fault, asked, errors);
+            }
+            Err(fault) => return Err(fault),
+        }
+    }
+    Ok(())
+}
+
+#[tactic(auto, using(crate::proofs::Telling::no_cause))]
+pub(crate) fn run<
+    F: Files<File = File> + Net<Listener = TcpListener, Stream = TcpStream> + AllocGlobal,
+    E: Write,
+>(rt: &F, words: &ArgMatches<'_>, asked: bool, errors: &mut Latch<E>) -> Result<(), CliFault>
+    ensures { TellsCauses E.contents asked errors.old errors.new }
+{
     let out = words.get_str("OUT").unwrap_or("");
-    let editor = open_editor(rt, words.get_str("LOG").unwrap_or(""))?;
-    match accepted(rt, words.get_str("ADDR").unwrap_or("")) {
-        Ok(stream) => swap(rt, editor, Side::Answerer, stream, out),
-        Err(fault) => Err(fault),
+    let wait = wait_of(words);
+    let opened = open_editor(rt, words.get_str("LOG").unwrap_or(""), out)?;
+    let listener = listening(rt, words.get_str("ADDR").unwrap_or(""), wait)?;
+    match words.get_one::<u64>("meetings") {
+        None => {
+            let stream = accepted(&listener, wait)?;
+            swap(rt, opened, Side::Answerer, stream, out, Naming::of(words))
+        }
+        Some(count) => {
+            drop(opened);
+            let listener = &listener;
+            let serving = Serving {
+                words,
+                listener,
+                wait,
+            };
+            serve_all(rt, &serving, count, asked, errors)
+        }
     }
 }

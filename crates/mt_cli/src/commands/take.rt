@@ -1,11 +1,12 @@
 //! `radio take`.
 
 use crate::fault::CliFault;
-use crate::files::open;
-use crate::part::Part;
+use crate::files::{OpenLog, open, open_log};
+use crate::part::{Naming, Part};
 use crate::take::take_log;
-use crate::words::{Word, Words};
+use crate::words::{NEW, NO_SYNC, Word, Words};
 use clap::ArgMatches;
+use std::fs::File;
 use std::rt::Files;
 
 pub(crate) const WORDS: Words = Words {
@@ -23,17 +24,22 @@ pub(crate) const WORDS: Words = Words {
         },
         Word::Needed {
             name: "OUT",
-            help: "The log to write, which may be LOG",
+            help: "The log to write, which may be LOG; one that is there is replaced, also where it is OPS",
         },
+        NEW,
+        NO_SYNC,
     ],
 };
 
-pub(crate) fn run<F: Files + AllocGlobal>(rt: &F, words: &ArgMatches<'_>) -> Result<(), CliFault> {
+pub(crate) fn run<F: Files<File = File> + AllocGlobal>(
+    rt: &F,
+    words: &ArgMatches<'_>,
+) -> Result<(), CliFault> {
     let alloc = rt.alloc();
     let out = words.get_str("OUT").unwrap_or("");
-    let mut log = open(rt, 0, words.get_str("LOG").unwrap_or(""))?;
+    let OpenLog { mut log, base } = open_log(rt, 0, words.get_str("LOG").unwrap_or(""), out)?;
     let mut ops = open(rt, 1, words.get_str("OPS").unwrap_or(""))?;
-    let mut part = Part::later(alloc, rt, out)?;
+    let mut part = Part::later(alloc, rt, out, Naming::of(words))?;
     let written = take_log(alloc, alloc, &mut log, &mut ops, part.output());
-    part.finish(out, written)
+    part.finish(base, written)
 }

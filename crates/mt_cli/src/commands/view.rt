@@ -27,7 +27,7 @@ pub(crate) fn run<F: Files + AllocGlobal, R: Read, W: Write>(
 ) -> Result<(), CliFault> {
     match words.get_strs("LOG") {
         Some(names) if !names.is_empty() => {
-            let mut files = open_all(rt, names)?;
+            let mut files = open_all(rt, 0, names)?;
             view_logs(rt.alloc(), &mut files, output)
         }
         _ => view_log(rt.alloc(), input, output),

@@ -20,10 +20,10 @@ frames 1
 bext none
 ";
 
-/// Two frames of 24 bits; three labels, of which two have one name and one that of no cue point; three cue points, of which two have one
-/// name.
+/// Two frames of 24 bits; three labels, of which two have one name and one that of no cue point; a length; three cue points, of which two
+/// have one name.
 const LABELLED: &[u8] =
-    b"RIFF\xc6\0\0\0WAVEfmt \x10\0\0\0\x01\0\x01\0\x80\xbb\0\0\x80\x32\x02\0\x03\0\x18\0data\x06\0\0\0\x01\0\0\xff\xff\xffLIST\x40\0\0\0adtllabl\x0d\0\0\0\x01\0\0\0News\0left\0labl\x0a\0\0\0\x01\0\0\0Later\0labl\x0c\0\0\0\x09\0\0\0Nowhere\0cue \x4c\0\0\0\x03\0\0\0\x01\0\0\0\x07\0\0\0data\0\0\0\0\0\0\0\0\x05\0\0\0\x02\0\0\0\x07\0\0\0data\0\0\0\0\0\0\0\0\xff\xff\xff\xff\x01\0\0\0\x07\0\0\0data\0\0\0\0\0\0\0\0\0\0\0\0";
+    b"RIFF\xe2\0\0\0WAVEfmt \x10\0\0\0\x01\0\x01\0\x80\xbb\0\0\x80\x32\x02\0\x03\0\x18\0data\x06\0\0\0\x01\0\0\xff\xff\xffLIST\x5c\0\0\0adtllabl\x0d\0\0\0\x01\0\0\0News\0left\0labl\x0a\0\0\0\x01\0\0\0Later\0labl\x0c\0\0\0\x09\0\0\0Nowhere\0ltxt\x14\0\0\0\x01\0\0\0\x03\0\0\0rgn \0\0\0\0\0\0\0\0cue \x4c\0\0\0\x03\0\0\0\x01\0\0\0\x07\0\0\0data\0\0\0\0\0\0\0\0\x05\0\0\0\x02\0\0\0\x07\0\0\0data\0\0\0\0\0\0\0\0\xff\xff\xff\xff\x01\0\0\0\x07\0\0\0data\0\0\0\0\0\0\0\0\0\0\0\0";
 
 // What a file says of itself, to memory.
 fn info(alloc: Global, file: &[u8]) -> Result<Vec<u8>, CliFault> {
@@ -64,7 +64,10 @@ fn each_growth_is_refused_in_turn(rt: HostRuntime) -> Result<(), Fail> {
         let shown = info_in(&memory, rt.alloc(), &text);
         if !memory.has_refused() {
             assert!(rt; shown == Ok(true));
-            assert!(rt; at > 1, "the labels and the digest were refused");
+            assert!(rt;
+                at > 2,
+                "the lengths, the labels and the digest were refused"
+            );
             return Ok(());
         }
         assert!(rt; shown == Err(CliFault::Memory), "at {at}");

@@ -123,6 +123,20 @@ fn add_marker(log: &mut Log, alloc: Global, (number, at, title): (u64, u32, &str
     log.add(op).is_ok()
 }
 
+// Sets the length of the marker of another number.
+fn set_length(log: &mut Log, (number, marker, len): (u64, u64, u32)) -> bool {
+    let Ok(stamp) = Stamp::new(number, A, number) else {
+        return false;
+    };
+    let Ok(marker) = Stamp::new(marker, A, marker) else {
+        return false;
+    };
+    let Ok(op) = Op::new(stamp, Body::SetMarkerLength { marker, len }) else {
+        return false;
+    };
+    log.add(op).is_ok()
+}
+
 // Whether the file of a log is of these chunks.
 fn is_written(alloc: Global, log: &Log, size: &[u8], chunks: &[&[u8]]) -> bool {
     match file_of(alloc, log) {
@@ -131,10 +145,11 @@ fn is_written(alloc: Global, log: &Log, size: &[u8], chunks: &[&[u8]]) -> bool {
     }
 }
 
-// Whether the file of a clip of three frames and of these markers is of these chunks.
+// Whether the file of a clip of three frames and of these markers, with these lengths, is of these chunks.
 fn is_of_markers(
     alloc: Global,
     markers: &[(u64, u32, &str)],
+    lengths: &[(u64, u64, u32)],
     size: &[u8],
     chunks: &[&[u8]],
 ) -> Result<bool, Fail> {
@@ -143,6 +158,9 @@ fn is_of_markers(
     for marker in markers {
         added &= add_marker(&mut log, alloc, *marker);
     }
+    for length in lengths {
+        added &= set_length(&mut log, *length);
+    }
     Ok(added && is_written(alloc, &log, size, chunks))
 }
 
@@ -150,19 +168,38 @@ const SAMPLES: &[u8] = b"data\x09\0\0\0\x01\0\0\x02\0\0\x03\0\0\0";
 
 #[test]
 fn three_sample_file(rt: HostRuntime) -> Result<(), Fail> {
-    assert!(rt; is_of_markers(rt.alloc(), &[], b"\xac\x02\0\0", &[SAMPLES])?);
+    assert!(rt; is_of_markers(rt.alloc(), &[], &[], b"\xac\x02\0\0", &[SAMPLES])?);
     Ok(())
 }
 
+const NEWS: (u64, u32, &str) = (3, 1, "News");
+
+const NEWS_CUE: &[u8] =
+    b"cue \x1c\0\0\0\x01\0\0\0\x01\0\0\0\x01\0\0\0data\0\0\0\0\0\0\0\0\x01\0\0\0";
+
+const NEWS_LABEL: &[u8] = b"labl\x09\0\0\0\x01\0\0\0News\0\0";
+
+// a point, and one that was longer
 #[test]
 fn file_with_marker(rt: HostRuntime) -> Result<(), Fail> {
-    let chunks: [&[u8]; 4] = [
+    let chunks: [&[u8]; 4] = [SAMPLES, NEWS_CUE, b"LIST\x16\0\0\0adtl", NEWS_LABEL];
+    let size = b"\xee\x02\0\0";
+    assert!(rt; is_of_markers(rt.alloc(), &[NEWS], &[], size, &chunks)?);
+    assert!(rt; is_of_markers(rt.alloc(), &[NEWS], &[(4, 3, 5), (5, 3, 0)], size, &chunks)?);
+    Ok(())
+}
+
+// the length is cut at the programme's end
+#[test]
+fn file_with_region(rt: HostRuntime) -> Result<(), Fail> {
+    let chunks: [&[u8]; 5] = [
         SAMPLES,
-        b"cue \x1c\0\0\0\x01\0\0\0\x01\0\0\0\x01\0\0\0data\0\0\0\0\0\0\0\0\x01\0\0\0",
-        b"LIST\x16\0\0\0adtl",
-        b"labl\x09\0\0\0\x01\0\0\0News\0\0",
+        NEWS_CUE,
+        b"LIST\x32\0\0\0adtl",
+        NEWS_LABEL,
+        b"ltxt\x14\0\0\0\x01\0\0\0\x02\0\0\0rgn \0\0\0\0\0\0\0\0",
     ];
-    assert!(rt; is_of_markers(rt.alloc(), &[(3, 1, "News")], b"\xee\x02\0\0", &chunks)?);
+    assert!(rt; is_of_markers(rt.alloc(), &[NEWS], &[(4, 3, 5)], b"\x0a\x03\0\0", &chunks)?);
     Ok(())
 }
 

@@ -2,6 +2,7 @@
 //! `radio render` compare whole files; here each call is met once, at the ends of what its arithmetic reaches.
 
 mod blocks;
+mod fades;
 mod refusals;
 
 use mt_op::{Body, Digest, Gain, Op};
@@ -48,6 +49,8 @@ pub enum Act {
     /// The track, the recording, and the frame, the offset and the length.
     Clip(Key, Digest, (u32, u32, u32)),
     Gain(Key, (u16, u16)),
+    /// The clip, and the lengths of its fades in and out.
+    Fade(Key, (u32, u32)),
 }
 
 fn stamp((clock, replica, number): Key) -> Option<Stamp> {
@@ -68,6 +71,11 @@ fn body_of<M: Allocator>(act: Act) -> Option<Body<M>> {
         Act::Gain(item, (num, den)) => Some(Body::SetGain {
             item: stamp(item)?,
             gain: Gain::new(num, den).ok()?,
+        }),
+        Act::Fade(clip, (fade_in, fade_out)) => Some(Body::SetFade {
+            clip: stamp(clip)?,
+            fade_in,
+            fade_out,
         }),
     }
 }

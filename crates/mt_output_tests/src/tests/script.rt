@@ -30,11 +30,13 @@ const SCRIPT: &[u8] = b"add-track head Voice
 add-clip e3b0c44298fc1c149afbf4c8996fb92427ae41e4649b934ca495991b7852b855 $1 0 10 20
 gain $2 1/2
 add-marker 480 News
+fade $2 5 0
+marker-length $4 96
 ";
 
 #[test]
 fn makes_all_lines(rt: HostRuntime) -> Result<(), Fail> {
-    assert!(rt; ran(rt.alloc(), SCRIPT)? == (Ok(4), Some(4)));
+    assert!(rt; ran(rt.alloc(), SCRIPT)? == (Ok(6), Some(6)));
     Ok(())
 }
 

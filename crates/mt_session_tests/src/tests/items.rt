@@ -1,219 +1,72 @@
-//! What noted operations leave of each item.
+//! What the ready ones of some operations leave of each item, with each growth refused in turn. What is answered of whatever was noted, the clauses say; the
+//! cases of `radio view` show the sessions that come of it, and those of `radio log` which act may be named as what. The tests of editors note operations one by one.
 
 ghost use Rattle.std.specs.Prelude.{◌≡◌, ◌<◌, ◌+◌, IsTrue, map, drop, length};
 ghost use Rattle.mt_stamp.specs.Sorting.{RisesStrictly};
 ghost use Rattle.mt_op.specs.ByStamp.{op_cmp};
 
-mod answers;
-mod growth;
-
 use mt_items::{Items, ItemsFault, items_of_ready};
-use mt_op::{Body, Digest, Gain, Op, OpFault, Title};
-use mt_stamp::{List, Stamp, StampFault};
-use mt_testkit::{A, B};
-use std::alloc::{AllocError, AllocFailed, Allocator};
-use std::collections::BTreeSet;
+use mt_op::{Body, Digest, Op, OpFault};
+use mt_stamp::Stamp;
+use mt_testkit::{A, Refusing, add_track, marker, removal, retitle};
+use std::alloc::{Allocator, Global};
 
-// The operations of a test, or what they leave, could not be made.
-#[derive(Clone, Copy, PartialEq, Eq)]
-struct NoFixture;
+// The stamp of an operation, counted from 1: a marker, a new title, its removal and its return, a track, and a clip on it. The last moves the track behind one that is
+// missing, and is not ready.
+fn stamp(number: u64) -> Option<Stamp> {
+    Stamp::new(number, A, number).ok()
+}
 
-impl From<StampFault> for NoFixture {
-    fn from(_error: StampFault) -> NoFixture {
-        NoFixture
+// How many they are.
+const COUNT: u64 = 7;
+
+fn clip_on<M: Allocator>(track: Stamp) -> Body<M> {
+    Body::AddClip {
+        source: Digest([7; 32]),
+        track,
+        at: 100,
+        offset: 0,
+        len: 50,
     }
 }
 
-impl From<OpFault> for NoFixture {
-    fn from(_error: OpFault) -> NoFixture {
-        NoFixture
-    }
-}
-
-impl From<AllocError> for NoFixture {
-    fn from(_error: AllocError) -> NoFixture {
-        NoFixture
-    }
-}
-
-impl<T: Drop> From<AllocFailed<T>> for NoFixture {
-    fn from(_error: AllocFailed<T>) -> NoFixture {
-        NoFixture
-    }
-}
-
-impl From<ItemsFault> for NoFixture {
-    fn from(_error: ItemsFault) -> NoFixture {
-        NoFixture
-    }
-}
-
-// The operations of the tests have a letter each, and this is its stamp.
-fn stamp(name: char) -> Result<Stamp, StampFault> {
-    match name {
-        'm' => Stamp::new(1, A, 1),
-        'x' => Stamp::new(2, A, 2),
-        'y' => Stamp::new(2, B, 1),
-        'p' => Stamp::new(3, A, 3),
-        'r' => Stamp::new(4, A, 4),
-        's' => Stamp::new(5, B, 2),
-        't' => Stamp::new(6, A, 5),
-        'u' => Stamp::new(7, A, 6),
-        'v' => Stamp::new(8, A, 7),
-        'c' => Stamp::new(9, A, 8),
-        'd' => Stamp::new(10, A, 9),
-        'e' => Stamp::new(11, A, 10),
-        'g' => Stamp::new(12, A, 11),
-        'h' => Stamp::new(13, A, 12),
-        _ => Stamp::new(14, A, 13),
-    }
-}
-
-// A Remove of an item that lists its first tag.
-fn removal<M: Allocator>(memory: M, item: Stamp) -> Result<Body<M>, NoFixture> {
-    let mut tags = Vec::new(memory);
-    tags.push(item)?;
-    let tags = List::new(tags);
-    Ok(Body::Remove { item, tags })
-}
-
-// An operation on the marker m: x and y give it titles, p moves it, r removes and s restores it.
-fn on_marker<M: Allocator>(memory: M, name: char, marker: Stamp) -> Result<Body<M>, NoFixture> {
-    match name {
-        'm' => Ok(Body::AddMarker {
-            at: 480,
-            title: Title::new(memory, "News at nine o'clock")?,
-        }),
-        'x' => Ok(Body::Retitle {
-            item: marker,
-            title: Title::new(memory, "Early in the morning")?,
-        }),
-        'y' => Ok(Body::Retitle {
-            item: marker,
-            title: Title::new(memory, "Late in the evening")?,
-        }),
-        'p' => Ok(Body::MoveMarker { marker, at: 960 }),
-        'r' => removal(memory, marker),
-        _ => Ok(Body::Restore { item: marker }),
-    }
-}
-
-// A track, t or u, or the move of t behind u, which is v.
-fn on_track<M: Allocator>(
+// The operation of this number and stamp, where the marker, the track and the missing one have these.
+fn made<M: Allocator>(
     memory: M,
-    name: char,
-    track: Stamp,
-    other: Stamp,
-) -> Result<Body<M>, NoFixture> {
-    match name {
-        't' => Ok(Body::AddTrack {
-            after: None,
-            title: Title::new(memory, "Voice of the speaker")?,
-        }),
-        'u' => Ok(Body::AddTrack {
-            after: None,
-            title: Title::new(memory, "Music of the evening")?,
-        }),
-        _ => Ok(Body::MoveTrack {
-            track,
-            after: Some(other),
-        }),
+    number: u64,
+    own: Stamp,
+    (item, track, missing): (Stamp, Stamp, Stamp),
+) -> Result<Op<M>, OpFault> {
+    match number {
+        1 => marker(memory, own, "News at nine o'clock"),
+        2 => retitle(memory, own, item, "Late in the evening"),
+        3 => removal(memory, own, item, &[item]),
+        4 => Op::new(own, Body::Restore { item }),
+        5 => add_track(memory, own, None),
+        6 => Op::new(own, clip_on(track)),
+        _ => Op::new(own, moved(track, missing)),
     }
 }
 
-// The clip c on track t, its move d to track u, its trim e, its gain g, its mute h, and its removal z.
-fn on_clip<M: Allocator>(
-    memory: M,
-    name: char,
-    clip: Stamp,
-    track: Stamp,
-    other: Stamp,
-) -> Result<Body<M>, NoFixture> {
-    match name {
-        'c' => Ok(Body::AddClip {
-            source: Digest::of("News".as_bytes()),
-            track,
-            at: 100,
-            offset: 0,
-            len: 50,
-        }),
-        'd' => Ok(Body::MoveClip {
-            clip,
-            track: other,
-            at: 200,
-        }),
-        'e' => Ok(Body::TrimClip {
-            clip,
-            offset: 10,
-            len: 20,
-        }),
-        'g' => Ok(Body::SetGain {
-            item: clip,
-            gain: Gain::new(1, 2)?,
-        }),
-        'h' => Ok(Body::SetMute {
-            item: clip,
-            on: true,
-        }),
-        _ => removal(memory, clip),
+fn moved<M: Allocator>(track: Stamp, after: Stamp) -> Body<M> {
+    Body::MoveTrack {
+        track,
+        after: Some(after),
     }
 }
 
-// The body of a letter.
-fn body<M: Allocator>(memory: M, name: char) -> Result<Body<M>, NoFixture> {
-    let track = stamp('t')?;
-    let other = stamp('u')?;
-    match name {
-        'm' | 'x' | 'y' | 'p' | 'r' | 's' => on_marker(memory, name, stamp('m')?),
-        't' | 'u' | 'v' => on_track(memory, name, track, other),
-        _ => on_clip(memory, name, stamp('c')?, track, other),
-    }
+fn op<M: Allocator>(memory: M, number: u64) -> Option<Op<M>> {
+    let missing = Stamp::new(2, A, 99).ok()?;
+    let items = (stamp(1)?, stamp(5)?, missing);
+    made(memory, number, stamp(number)?, items).ok()
 }
 
-// The operation of a letter.
-fn op<M: Allocator>(memory: M, name: char) -> Result<Op<M>, NoFixture> {
-    let stamp = stamp(name)?;
-    Ok(Op::new(stamp, body(memory, name)?)?)
-}
-
-// Adds the operations of these letters to a list.
-fn push_ops<M: Allocator + Copy>(
-    ops: &mut Vec<Op<M>, M>,
-    memory: M,
-    names: &str,
-) -> Result<(), NoFixture> {
-    for name in names.chars() {
-        ops.push(op(memory, name)?)?;
+// Adds them to a list.
+fn push_ops<M: Allocator + Copy>(ops: &mut Vec<Op<M>, M>, memory: M) -> Option<()> {
+    for index in 0..COUNT {
+        ops.push(op(memory, index.saturating_add(1))?).ok()?;
     }
-    Ok(())
-}
-
-// The items that operations leave, noted in this order. None where one of them has no new stamp, or its needs are not met.
-fn noted<M: Allocator + Clone, N: Allocator + Clone>(
-    memory: M,
-    seen: N,
-    ops: &[Op<M>],
-) -> Result<Option<Items<M>>, ItemsFault> {
-    let mut known = BTreeSet::new(seen);
-    let mut items = Items::new(memory)?;
-    for op in ops {
-        if known.contains(&op.stamp()) || !items.are_needs_met(op) {
-            return Ok(None);
-        }
-        known.insert(op.stamp())?;
-        items = items.note(op)?;
-    }
-    Ok(Some(items))
-}
-
-// The items that the operations of these letters leave, noted in this order.
-fn left_by<M: Allocator + Copy>(memory: M, names: &str) -> Result<Items<M>, NoFixture> {
-    let mut ops = Vec::new(memory);
-    push_ops(&mut ops, memory, names)?;
-    match noted(memory, memory, &ops) {
-        Ok(Some(items)) => Ok(items),
-        _ => Err(NoFixture),
-    }
+    Some(())
 }
 
 // Whether an operation's stamp is smaller than the next one's, where there is a next one.
@@ -243,18 +96,6 @@ fn rises<M: Allocator>(ops: &[&Op<M>]) -> bool
     true
 }
 
-// References to operations.
-fn refs_of<M: Allocator, N: Allocator>(
-    memory: N,
-    ops: &[Op<M>],
-) -> Result<Vec<&Op<M>, N>, AllocError> {
-    let mut refs = Vec::new(memory);
-    for op in ops {
-        refs.push(op)?;
-    }
-    Ok(refs)
-}
-
 // The items of the ready ones of these operations. None where they do not rise by stamp.
 fn ready<M: Allocator + Clone>(
     memory: M,
@@ -266,35 +107,59 @@ fn ready<M: Allocator + Clone>(
     Ok(Some(items_of_ready(memory, rising)?))
 }
 
-fn ready_of<M: Allocator + Copy>(memory: M, ops: &[Op<M>]) -> Result<Items<M>, NoFixture> {
+// References to operations.
+fn refs_of<M: Allocator, N: Allocator>(memory: N, ops: &[Op<M>]) -> Option<Vec<&Op<M>, N>> {
+    let mut refs = Vec::new(memory);
+    for op in ops {
+        refs.push(op).ok()?;
+    }
+    Some(refs)
+}
+
+fn ready_of<M: Allocator + Copy>(memory: M, ops: &[Op<M>]) -> Option<Items<M>> {
     let refs = refs_of(memory, ops)?;
     match ready(memory, &refs) {
-        Ok(Some(items)) => Ok(items),
-        _ => Err(NoFixture),
+        Ok(items) => items,
+        Err(_) => None,
     }
 }
 
-// The items of the ready ones of these letters.
-fn ready_by<M: Allocator + Copy>(memory: M, names: &str) -> Result<Items<M>, NoFixture> {
+// How many live tags the marker has, and how many tracks, clips and markers there are.
+fn counts<M: Allocator + Clone>(items: &Items<M>, marker: Stamp) -> Option<[usize; 4]> {
+    let tags = items.live_tags(marker).ok()?.len();
+    let tracks = items.tracks().ok()?.len();
+    let clips = items.clips().ok()?.len();
+    let markers = items.markers().ok()?.len();
+    Some([tags, tracks, clips, markers])
+}
+
+// The same of what the ready ones leave; none where a growth is refused.
+fn ready_counts<M: Allocator + Copy>(memory: M) -> Option<[usize; 4]> {
     let mut ops = Vec::new(memory);
-    push_ops(&mut ops, memory, names)?;
-    ready_of(memory, &ops)
+    push_ops(&mut ops, memory)?;
+    let items = ready_of(memory, &ops)?;
+    counts(&items, stamp(1)?)
 }
 
-fn count_of_tracks<M: Allocator + Clone>(items: &Items<M>) -> Result<usize, ItemsFault> {
-    Ok(items.tracks()?.len())
+// The same where one growth is refused, and whether one was.
+fn refused_at(alloc: Global, at: u64) -> (Option<[usize; 4]>, bool) {
+    let memory = Refusing::new(alloc, at);
+    let counted = ready_counts(&memory);
+    (counted, memory.has_refused())
 }
 
-fn count_of_clips<M: Allocator + Clone>(items: &Items<M>) -> Result<usize, ItemsFault> {
-    Ok(items.clips()?.len())
-}
-
-fn count_of_markers<M: Allocator + Clone>(items: &Items<M>) -> Result<usize, ItemsFault> {
-    Ok(items.markers()?.len())
-}
-
-fn count_of_tags<M: Allocator + Clone>(items: &Items<M>, item: Stamp) -> Result<usize, ItemsFault> {
-    Ok(items.live_tags(item)?.len())
+#[test]
+fn refuses_each_growth(rt: HostRuntime) {
+    for at in 0..60 {
+        let (counted, refused) = refused_at(rt.alloc(), at);
+        if !refused {
+            assert!(rt; at > 11);
+            assert!(rt; counted == Some([1, 1, 1, 1]));
+            return;
+        }
+        assert!(rt; counted.is_none());
+    }
+    assert!(rt; false);
 }
 
 #[test]

@@ -1,22 +1,18 @@
-//! Sessions of a few operations.
+//! Sessions of a few operations. Which session a log has and what its text is, the clauses say of every log; the cases of `radio view` show it.
 
 mod changes;
 mod texts;
 
 use mt_op::{Body, Digest, Op, OpFault};
 use mt_opcodec::Log;
-use mt_sessionview::laws::{
-    any_listing, equal_clips, equal_markers, equal_sessions, equal_tracks, held_operation,
-    places_tree, sorted_clips, sorted_markers, sorted_stamps, sorted_tracks,
-};
 use mt_sessionview::{Session, SessionFault, from_scratch, ready_stamps};
 use mt_stamp::{Replica, Stamp, StampFault};
 use mt_testkit::{A, B, Refusing, add_track, marker, retitle};
 use std::alloc::{Allocator, Global};
 use std::test::Fail;
 
-/// An operation of the tests: a track `Voice` that is moved, its clip, a marker `News`, its title `Late`, a title of a marker that no
-/// test has, and a mute of the track and of the clip.
+/// An operation of the tests: a track `Voice` that is moved, its clip, a marker `News`, its title `Late`, and a title of a marker that no
+/// test has.
 #[derive(Clone, Copy)]
 pub enum Item {
     Voice,
@@ -25,8 +21,6 @@ pub enum Item {
     News,
     Late,
     Early,
-    MutedTrack,
-    MutedClip,
     Absent,
 }
 
@@ -36,8 +30,6 @@ fn stamp_of(item: Item) -> Result<Stamp, StampFault> {
         Item::Voice => Stamp::new(2, A, 2),
         Item::Clip => Stamp::new(3, A, 3),
         Item::Moved => Stamp::new(4, A, 4),
-        Item::MutedTrack => Stamp::new(5, A, 5),
-        Item::MutedClip => Stamp::new(6, A, 6),
         Item::Early => Stamp::new(2, B, 1),
         Item::Late => Stamp::new(3, B, 2),
         Item::Absent => Stamp::new(1, Replica(12), 1),
@@ -49,7 +41,6 @@ fn named_by(item: Item) -> Item {
     match item {
         Item::Late => Item::News,
         Item::Early => Item::Absent,
-        Item::MutedClip => Item::Clip,
         _ => Item::Voice,
     }
 }
@@ -79,7 +70,6 @@ fn made<M: Allocator>(memory: M, which: Item, own: Stamp, item: Stamp) -> Result
         Item::Moved => Op::new(own, moved(item)),
         Item::Clip => Op::new(own, clip_on(item)),
         Item::Late | Item::Early => retitle(memory, own, item, "Late"),
-        Item::MutedTrack | Item::MutedClip => Op::new(own, Body::SetMute { item, on: true }),
         _ => marker(memory, own, "News"),
     }
 }
@@ -122,78 +112,10 @@ pub fn session_of<M: Allocator + Clone>(
     from_scratch(over, &log)
 }
 
-fn same_tracks<M: Allocator>(one: &Session<M>, other: &Session<M>) -> bool {
-    for (track, second) in one.tracks.items().iter().zip(other.tracks.items()) {
-        if !equal_tracks(track, second) {
-            return false;
-        }
-    }
-    true
-}
-
-fn same_clips<M: Allocator>(one: &Session<M>, other: &Session<M>) -> bool {
-    for (track, second) in one.tracks.items().iter().zip(other.tracks.items()) {
-        for (clip, second) in track.clips.items().iter().zip(second.clips.items()) {
-            if !equal_clips(clip, second) {
-                return false;
-            }
-        }
-    }
-    true
-}
-
-fn same_markers<M: Allocator>(one: &Session<M>, other: &Session<M>) -> bool {
-    for (marker, second) in one.markers.items().iter().zip(other.markers.items()) {
-        if !equal_markers(marker, second) {
-            return false;
-        }
-    }
-    true
-}
-
-// Whether two sessions are equal, by `==` and by the law, and whether those of their tracks are, their clips and their markers that stand in the
-// same place.
-fn compared<M: Allocator>(one: &Session<M>, other: &Session<M>) -> [bool; 5] {
-    [
-        one == other,
-        equal_sessions(one, other),
-        same_tracks(one, other),
-        same_clips(one, other),
-        same_markers(one, other),
-    ]
-}
-
-// The same of the session of a track with a clip and a marker, and that with one operation more.
-fn compared_with<M: Allocator + Clone>(memory: &M, more: Item) -> Result<[bool; 5], SessionFault> {
-    let one = session_of(memory, &[Item::Voice, Item::Clip, Item::News])?;
-    let other = session_of(memory, &[Item::Voice, Item::Clip, Item::News, more])?;
-    Ok(compared(&one, &other))
-}
-
-#[test]
-fn tells_sessions_apart(rt: HostRuntime) {
-    for (more, wanted) in [
-        (Item::News, [true, true, true, true, true]),
-        (Item::Early, [false, false, true, true, true]),
-        (Item::Late, [false, false, true, true, false]),
-        (Item::MutedTrack, [false, false, false, true, true]),
-        (Item::MutedClip, [false, false, false, false, true]),
-    ] {
-        assert!(rt; compared_with(&rt.alloc(), more) == Ok(wanted));
-    }
-}
-
 #[test]
 fn numbers_its_refusals(rt: HostRuntime) {
     assert!(rt; SessionFault::Memory.number() == 0);
     assert!(rt; SessionFault::Write.number() == 37);
-    sorted_markers();
-    sorted_clips();
-    sorted_tracks();
-    sorted_stamps();
-    any_listing();
-    held_operation();
-    places_tree();
 }
 
 /// How many growths the log of these operations takes.
@@ -216,28 +138,26 @@ fn are_ready<M: Allocator + Clone>(
 
 const BOTH: [Item; 2] = [Item::Late, Item::News];
 
-// early_retitle
-#[test]
-fn tells_the_stamps_that_are_ready(rt: HostRuntime) -> Result<(), Fail> {
-    let both = [stamp_of(Item::News)?, stamp_of(Item::Late)?];
-    assert!(rt; are_ready(&rt.alloc(), &[Item::Late], &[]) == Ok(true));
-    assert!(rt; are_ready(&rt.alloc(), &BOTH, &both) == Ok(true));
-    Ok(())
+// The same where one growth is refused, and whether one was.
+fn refused_ready(alloc: Global, at: u64, wanted: &[Stamp]) -> (Result<bool, SessionFault>, bool) {
+    let memory = Refusing::new(alloc, at);
+    let ready = are_ready(&&memory, &BOTH, wanted);
+    (ready, memory.has_refused())
 }
 
+// early_retitle
 #[test]
 fn refuses_each_growth_of_ready_stamps(rt: HostRuntime) -> Result<(), Fail> {
     let both = [stamp_of(Item::News)?, stamp_of(Item::Late)?];
     let first = growths_of_log(rt.alloc(), &BOTH)?;
     for at in first..60 {
-        let memory = Refusing::new(rt.alloc(), at);
-        let ready = are_ready(&&memory, &BOTH, &both);
-        if !memory.has_refused() {
+        let (ready, refused) = refused_ready(rt.alloc(), at, &both);
+        if !refused {
             assert!(rt; ready == Ok(true));
-            assert!(rt; at - first > 2, "several growths were refused");
+            assert!(rt; at - first > 2);
             return Ok(());
         }
-        assert!(rt; ready == Err(SessionFault::Memory), "at {at}");
+        assert!(rt; ready == Err(SessionFault::Memory));
     }
     Err(Fail::from("each run met a refusal"))
 }

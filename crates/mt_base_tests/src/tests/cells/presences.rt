@@ -1,15 +1,22 @@
-//! Presences: their tags and removals, and which are equal. What is live, and what joining and copying give, the clauses say of every
-//! presence, and the cases of `radio view` show.
-
-mod growth;
+//! Presences with many marks, and each growth refused in turn.
 
 use super::{A, B};
-use mt_cells::laws::equal_presences;
 use mt_cells::{CellFault, Join, Presence};
-use mt_stamp::{Stamp, StampFault};
-use std::alloc::Allocator;
+use mt_stamp::{Replica, Stamp, StampFault};
+use mt_testalloc::Refusing;
+use std::alloc::{Allocator, Global};
 use std::test::Fail;
 
+// The stamps of a replica, from the greatest on.
+fn falling(replica: Replica) -> Result<[Stamp; 200], StampFault> {
+    let mut stamps = [Stamp::new(1, replica, 1)?; 200];
+    for i in 0..200u8 {
+        stamps[i as usize] = Stamp::new(200u64.saturating_sub(u64::from(i)), replica, 1)?;
+    }
+    Ok(stamps)
+}
+
+// Gives an item these tags.
 fn add_tags<M: Allocator + Copy>(
     presence: &mut Presence<M>,
     stamps: &[Stamp],
@@ -20,179 +27,121 @@ fn add_tags<M: Allocator + Copy>(
     Ok(())
 }
 
-fn remove_tags<M: Allocator + Copy>(
+// Removes these tags of an item, and then adds them.
+fn mark<M: Allocator + Copy>(
     presence: &mut Presence<M>,
     stamps: &[Stamp],
 ) -> Result<(), CellFault> {
     for stamp in stamps {
         presence.remove_tag(*stamp)?;
     }
-    Ok(())
+    add_tags(presence, stamps)
 }
 
-// Removes these tags of a presence, and then adds the first ones.
-fn mark<M: Allocator + Copy>(
-    presence: &mut Presence<M>,
-    (tags, removed): (&[Stamp], &[Stamp]),
-) -> Result<(), CellFault> {
-    remove_tags(presence, removed)?;
-    add_tags(presence, tags)
-}
-
-// Whether these are the live tags, and the item is there exactly where there is one.
-fn is_shown<M: Allocator + Copy>(
+// Whether a presence shows that these are all its live tags, from the greatest on.
+fn has_live<M: Allocator + Copy>(
     presence: &Presence<M>,
-    live: &[Stamp],
+    stamps: &[Stamp],
 ) -> Result<bool, CellFault> {
-    let tags = presence.live_tags()?;
-    Ok(tags.as_slice() == live && presence.is_present() != live.is_empty())
+    let mut tags = presence.live_tags()?;
+    tags.as_mut_slice().reverse();
+    Ok(tags.as_slice() == stamps && presence.is_present() != stamps.is_empty())
 }
 
-// Whether a presence shows these live tags once it has these marks.
-fn shows_marked<M: Allocator + Copy>(
+// The same of one that gets them.
+fn shows_tags<M: Allocator + Copy>(
     presence: &mut Presence<M>,
-    marks: (&[Stamp], &[Stamp]),
-    live: &[Stamp],
+    stamps: &[Stamp],
 ) -> Result<bool, CellFault> {
-    mark(presence, marks)?;
-    is_shown(presence, live)
+    add_tags(presence, stamps)?;
+    has_live(presence, stamps)
 }
 
-// The same of one without other marks.
-fn marked_shows<M: Allocator + Copy>(
-    memory: M,
-    marks: (&[Stamp], &[Stamp]),
-    live: &[Stamp],
+// Whether the copy of a presence with these marks equals it.
+fn is_copied<M: Allocator + Copy>(
+    presence: &mut Presence<M>,
+    stamps: &[Stamp],
 ) -> Result<bool, CellFault> {
-    let mut presence = Presence::new(memory);
-    shows_marked(&mut presence, marks, live)
-}
-
-// The stamps of the tests have a letter each: a, then b.
-fn stamps() -> Result<[Stamp; 2], StampFault> {
-    let first = Stamp::new(1, A, 1)?;
-    Ok([first, Stamp::new(2, B, 1)?])
-}
-
-// The stamps of these letters.
-fn named<'s>(stamps: &'s [Stamp; 2], names: &str) -> &'s [Stamp] {
-    let all = &stamps[..];
-    match names {
-        "a" => &all[..1],
-        "b" => &all[1..2],
-        "ab" => &all[..2],
-        _ => &all[..0],
+    mark(presence, stamps)?;
+    match presence.try_clone() {
+        Ok(copy) => Ok(copy == *presence),
+        Err(fault) => Err(fault),
     }
 }
 
-// The same of tags and of removals.
-fn marks_named<'s>(
-    stamps: &'s [Stamp; 2],
-    (tags, removed): (&str, &str),
-) -> (&'s [Stamp], &'s [Stamp]) {
-    (named(stamps, tags), named(stamps, removed))
-}
-
-// Whether a presence is one that has these marks and no others.
-fn is_marked<M: Allocator + Copy>(
-    presence: &Presence<M>,
-    other: &mut Presence<M>,
-    marks: (&[Stamp], &[Stamp]),
-) -> Result<bool, CellFault> {
-    mark(other, marks)?;
-    Ok(equal_presences(presence, other))
-}
-
-// Whether a presence has these tags and removals and no others.
-fn has_marks<M: Allocator + Copy>(
-    memory: M,
-    presence: &Presence<M>,
-    marks: (&[Stamp], &[Stamp]),
-) -> Result<bool, CellFault> {
-    let mut other = Presence::new(memory);
-    is_marked(presence, &mut other, marks)
-}
-
-// Whether a presence that gets the first tags and removals is one with the others.
-fn is_equal<M: Allocator + Copy>(
-    presence: &mut Presence<M>,
-    memory: M,
-    marks: (&[Stamp], &[Stamp]),
-    others: (&[Stamp], &[Stamp]),
-) -> Result<bool, CellFault> {
-    mark(presence, marks)?;
-    has_marks(memory, presence, others)
-}
-
-fn are_equal<M: Allocator + Copy>(
-    memory: M,
-    stamps: &[Stamp; 2],
-    one: (&str, &str),
-    other: (&str, &str),
-) -> Result<bool, CellFault> {
+fn marked<M: Allocator + Copy>(memory: M, stamps: &[Stamp]) -> Result<Presence<M>, CellFault> {
     let mut presence = Presence::new(memory);
-    let others = marks_named(stamps, other);
-    is_equal(&mut presence, memory, marks_named(stamps, one), others)
-}
-
-// Whether a presence with the tag a and the removal of b is one with these. None where that could not be told.
-fn is_told_equal<M: Allocator + Copy>(memory: M, marks: (&str, &str)) -> Option<bool> {
-    let stamps = stamps().ok()?;
-    are_equal(memory, &stamps, ("a", "b"), marks).ok()
-}
-
-#[test]
-fn tells_presences_apart(rt: HostRuntime) {
-    for (tags, removed, is_equal) in [
-        ("a", "b", true),
-        ("ab", "b", false),
-        ("a", "", false),
-        ("", "", false),
-    ] {
-        let told = is_told_equal(rt.alloc(), (tags, removed));
-        assert!(rt; told == Some(is_equal), "{tags} {removed}");
-    }
-}
-
-fn marked<M: Allocator + Copy>(
-    memory: M,
-    marks: (&[Stamp], &[Stamp]),
-) -> Result<Presence<M>, CellFault> {
-    let mut presence = Presence::new(memory);
-    match mark(&mut presence, marks) {
+    match mark(&mut presence, stamps) {
         Ok(()) => Ok(presence),
         Err(fault) => Err(fault),
     }
 }
 
-// Joins a presence with the second tags and removals to one that gets the first ones.
-fn join_marks<M: Allocator + Copy>(
+// Whether no tag is live once a presence with the second marks is joined to one with the first.
+fn joins_removed<M: Allocator + Copy>(
     presence: &mut Presence<M>,
     memory: M,
-    one: (&[Stamp], &[Stamp]),
-    other: (&[Stamp], &[Stamp]),
-) -> Result<(), CellFault> {
-    mark(presence, one)?;
-    presence.join(marked(memory, other)?)
-}
-
-// Whether a stamp that tags the item and was removed is a tag, and one that was only removed is none.
-fn tells_tags<M: Allocator + Copy>(
-    presence: &mut Presence<M>,
-    tagged: Stamp,
-    removed: Stamp,
+    (ours, theirs): (&[Stamp], &[Stamp]),
 ) -> Result<bool, CellFault> {
-    mark(presence, (&[tagged], &[tagged, removed]))?;
-    Ok(presence.has_tag(tagged) && !presence.has_tag(removed))
+    mark(presence, ours)?;
+    presence.join(marked(memory, theirs)?)?;
+    has_live(presence, &[])
 }
 
-fn tells<M: Allocator + Copy>(memory: M, [tagged, removed]: [Stamp; 2]) -> bool {
+/// What takes memory for presences.
+#[derive(Clone, Copy)]
+enum Work {
+    LiveTags,
+    Copy,
+    Join,
+}
+
+// Whether a presence comes to what it should by this work.
+fn succeeds<M: Allocator + Copy>(
+    memory: M,
+    work: Work,
+    (ours, theirs): (&[Stamp], &[Stamp]),
+) -> Result<bool, CellFault> {
     let mut presence = Presence::new(memory);
-    tells_tags(&mut presence, tagged, removed) == Ok(true)
+    match work {
+        Work::LiveTags => shows_tags(&mut presence, ours),
+        Work::Copy => is_copied(&mut presence, ours),
+        Work::Join => joins_removed(&mut presence, memory, (ours, theirs)),
+    }
 }
 
+// How often memory is asked for, where this succeeds and each growth is refused as that.
+fn refusals(alloc: Global, work: Work, stamps: (&[Stamp], &[Stamp])) -> Option<u64> {
+    let granted = Refusing::new(alloc, u64::MAX);
+    if succeeds(&granted, work, stamps) != Ok(true) {
+        return None;
+    }
+    for at in 0..granted.allocations() {
+        let memory = Refusing::new(alloc, at);
+        if succeeds(&memory, work, stamps) != Err(CellFault::Memory) {
+            return None;
+        }
+    }
+    Some(granted.allocations())
+}
+
+// The first of the stamps.
+fn some_of(stamps: &[Stamp], count: usize) -> &[Stamp] {
+    stamps.get(..count).unwrap_or(stamps)
+}
+
+// Of many tags that are given or copied, and of two sets of each presence that are joined; and none without marks.
 #[test]
-fn tells_tags_from_removals(rt: HostRuntime) -> Result<(), Fail> {
-    assert!(rt; tells(rt.alloc(), stamps()?));
+fn refuses_each_growth(rt: HostRuntime) -> Result<(), Fail> {
+    let (ours, theirs) = (falling(A)?, falling(B)?);
+    for (work, count, least) in [
+        (Work::LiveTags, 200, 6),
+        (Work::Copy, 30, 11),
+        (Work::Join, 11, 6),
+    ] {
+        let stamps = (some_of(&ours, count), some_of(&theirs, count));
+        assert!(rt; refusals(rt.alloc(), work, stamps) >= Some(least));
+        assert!(rt; refusals(rt.alloc(), work, (&[], &[])) == Some(0));
+    }
     Ok(())
 }

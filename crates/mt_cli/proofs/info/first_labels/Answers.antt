@@ -5,7 +5,7 @@ use Rattle.std.specs.Ordering.{nat_cmp}
 use Rattle.std.specs.BTreeMap.{get}
 use Rattle.std.specs.Cmp.{unsigned_tied}
 use Rattle.mt_bwfread.specs.Cues.{named}
-use Rattle.mt_cli.proofs.Labels.{passed_over, stored, copied_if, copied_is_there, copied_is_not, all_seen}
+use Rattle.mt_cli.proofs.Firsts.{passed_over, stored, copied_if, copied_is_there, copied_is_not, all_seen}
 use Rattle.mt_cli.proofs.info.first_labels.Goals as goal
 
 pub loop-label-preserved-in_ok-insert : goal.loop-label-preserved-in_ok-insert

@@ -22,5 +22,5 @@ returns g c =
     let head = same_handed contents (ap (λ (n : ℕ). codes "RIFF" ++ little_bytes 4 n) c.requires.sizes.riff_size) c.put_chunk_head.ensures in
     let extension = same_handed contents (ap (λ (l : Layout). padded (record { id = codes "bext"; content = bext l h })) c.format.ensures) c.put_bext.ensures in
     let numbers = same_handed contents (ap (λ (l : Layout). padded (record { id = codes "fmt "; content = format l })) c.format-2.ensures) c.put_format.ensures in
-    let marks = same_handed contents (ap (λ (e : ℕ). flat_map padded (marker_chunks (before e ms))) c.length.ensures.value) c.put_marks.ensures in
+    let marks = same_handed contents (ap (λ (e : ℕ). flat_map padded (marker_chunks e (before e ms))) c.length.ensures.value) c.put_marks.ensures in
     then_handed contents head (then_handed contents c.put.ensures (then_handed contents extension (then_handed contents numbers (then_handed contents c.put_data.ensures marks))))

@@ -11,7 +11,7 @@ returns-then-sizes-gt0 g c =
     let contents = g.W.Write.contents in
     let count = c.requires.count in
     let more = c.if-sizes-gt0.true in
-    same_handed contents (sym (some_marks (before c.args.end c.args.markers.now) (omega arith))) (then_handed contents c.put_cue.ensures c.put_list.ensures)
+    same_handed contents (sym (some_marks c.args.end (before c.args.end c.args.markers.now) (omega arith))) (then_handed contents c.put_cue.ensures c.put_list.ensures)
 
 pub returns-else-sizes-gt0 : goal.returns-else-sizes-gt0
 unfolding Puts
@@ -19,4 +19,4 @@ returns-else-sizes-gt0 g c =
     let contents = g.W.Write.contents in
     let count = c.requires.count in
     let none = c.if-sizes-gt0.false in
-    same_handed contents (sym (no_marks (before c.args.end c.args.markers.now) (omega arith))) (none_handed contents c.args.output.now)
+    same_handed contents (sym (no_marks c.args.end (before c.args.end c.args.markers.now) (omega arith))) (none_handed contents c.args.output.now)

@@ -1,13 +1,13 @@
 use Rattle.std.proofs.Common.{arith, rules, refl, sym, ap, take, ◌∙◌}
 use Rattle.mt_cuewrite.specs.File.{before}
 use Rattle.mt_cuewrite.specs.Sizes.{padded_size}
-use Rattle.mt_cuewrite.proofs.Marking.{few_of_those, fewer_than_bytes, labels_so_far, labels_as_before, count_more, count_as_before}
-use Rattle.mt_cuewrite.proofs.Totals.{labels_none}
+use Rattle.mt_cuewrite.proofs.Marking.{few_of_those, fewer_than_bytes, list_so_far, list_as_before, count_more, count_as_before}
+use Rattle.mt_cuewrite.proofs.Totals.{list_none}
 use Rattle.mt_cuewrite.proofs.size.count_marks.Goals as goal
 use Rattle.mt_cuewrite.proofs.size.count_marks.Goals.{then-is_before, else-is_before}
 
 pub loop-marker-init : goal.loop-marker-init
-loop-marker-init g c = record { markers = refl; labels = rw labels_none refl }
+loop-marker-init g c = record { markers = refl; list = rw (list_none c.args.end) refl }
 
 pub overflow_add-marks : goal.overflow_add-marks
 overflow_add-marks g c =
@@ -29,19 +29,19 @@ loop-marker-preserved g c =
           let size = w.padded_size-label.ensures ∙ ap padded_size (w.from.ensures ∙ w.label_size.ensures.value 1) in
           rw w.marks-is record {
             markers = count_more end ms i c.loop-marker.marks.markers m lt is shown c.loop-marker.invariant.markers;
-            labels = w.min.ensures ∙ labels_so_far end ms i c.loop-marker.marks.labels w.padded_size-label.result m lt is shown c.loop-marker.invariant.labels size;
+            list = w.min.ensures ∙ list_so_far end ms i c.loop-marker.marks.list w.padded_size-label.result w.from-region.result m lt is shown c.loop-marker.invariant.list size (w.from-region.ensures ∙ w.region_size.ensures.value end 1);
           }
       | else-is_before w ↦
           let hidden = sym c.is_before.ensures ∙ w.if-is_before.false in
           rw w.marks-is record {
             markers = count_as_before end ms i c.loop-marker.marks.markers m lt is hidden c.loop-marker.invariant.markers;
-            labels = labels_as_before end ms i c.loop-marker.marks.labels m lt is hidden c.loop-marker.invariant.labels;
+            list = list_as_before end ms i c.loop-marker.marks.list m lt is hidden c.loop-marker.invariant.list;
           }
     ]
 
 pub returns-clause-few : goal.returns-clause-few
 returns-clause-few g c = λ short.
-    let all = fewer_than_bytes (before c.args.end (take c.loop-marker.marker-index c.args.markers.now)) in
+    let all = fewer_than_bytes c.args.end (before c.args.end (take c.loop-marker.marker-index c.args.markers.now)) in
     let count = c.loop-marker.invariant.markers in
-    let size = c.loop-marker.invariant.labels in
+    let size = c.loop-marker.invariant.list in
     omega arith

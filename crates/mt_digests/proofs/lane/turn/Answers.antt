@@ -1,9 +1,12 @@
-use Rattle.std.proofs.Common.{refl}
-use Rattle.mt_digests.proofs.Kept.{kept_four}
+use Rattle.std.proofs.Common.{map, slice_index, ◌∙◌, arith, length-set}
+use Rattle.mt_digests.proofs.Kept.{kept_here}
 use Rattle.mt_digests.proofs.lane.turn.Goals as goal
 
-pub returns : goal.returns
-returns c =
-    kept_four (λ lane. lane.message.now) c.args.lanes.now c.four.result _ c.args.a c.args.b c.args.c c.args.d
-    c.index-lanes-a-2.result c.index-lanes-b-2.result c.index-lanes-c-2.result c.index-lanes-d-2.result _ _ _ _
-    refl c.four.ensures c.index-lanes-a-2.is c.index-lanes-b-2.is c.index-lanes-c-2.is c.index-lanes-d-2.is
+pub each-preserved : goal.each-preserved
+each-preserved g c =
+    let p = slice_index c.args.places.now c.each.k in
+    let within = c.requires.within c.each.k 0 (omega arith) in (
+      length-set c.each.lanes p c.with.result ∙ c.each.invariant.0,
+      kept_here (λ lane. lane.message.now) c.each.lanes (map (λ lane. lane.message.now) c.args.lanes.now) p c.index-lanes-places.result c.with.result
+          (omega (arith, within, c.each.invariant.0)) c.each.invariant.1 c.index-lanes-places.is c.with.ensures,
+    )

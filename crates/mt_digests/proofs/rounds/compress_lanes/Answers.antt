@@ -6,10 +6,10 @@ use Rattle.mt_digests.proofs.rounds.compress_lanes.Goals as goal
 
 pub lanes-preserved : goal.lanes-preserved
 unfolding rounds compress
-lanes-preserved c =
+lanes-preserved g c =
     let lane : ℕ = c.lanes.lane in
     let states : List (List ℕ) = c.lanes.states in
-    let fits : lane < 4 = c.lanes-test.true in
+    let fits : lane < g.row.N = c.lanes-test.true in
     record {
       size = length-set states lane c.sum.result ∙ c.lanes.invariant.size;
       done = λ k b lt window. elim (cases_lt k lane) [

@@ -1,4 +1,4 @@
-//! Thirteen edits with all bodies: what they make, and the session that the editor keeps.
+//! Fifteen edits with all bodies: what they make, and the session that the editor keeps.
 
 use super::histories::{Answer, edit, is_alike, newcomer};
 use super::operations::{Act, Name};
@@ -38,13 +38,16 @@ fn changing(step: u64) -> Result<Act, StampFault> {
     })
 }
 
-// The last of the thirteen: a marker, which then moves; and two more acts, which are taken alone: a third track, and a clip on it.
+// The last of the fifteen: a marker, which then moves, fades of the clip, and a length of the marker; and two more acts, which are
+// taken alone: a third track, and a clip on it.
 fn adding(step: u64) -> Result<Act, StampFault> {
-    let (marker, third) = (made_at(12)?, made_at(14)?);
+    let (clip, marker, third) = (made_at(3)?, made_at(12)?, made_at(16)?);
     Ok(match step {
         12 => Act::AddMarker(Name::News),
         13 => Act::MoveMarker(marker),
-        14 => Act::AddTrack(None),
+        14 => Act::SetFade(clip),
+        15 => Act::SetMarkerLength(marker),
+        16 => Act::AddTrack(None),
         _ => Act::AddClip(third),
     })
 }
@@ -69,10 +72,10 @@ fn keeps<M: Allocator + Copy>(
     Ok(edit(editor, memory, act) == Ok(made) && is_alike(memory, editor))
 }
 
-// How many of the thirteen steps do.
+// How many of the fifteen steps do.
 fn kept<M: Allocator + Copy>(editor: &mut Editor<M>, memory: M) -> u64 {
     let mut number = 0u64;
-    for step in 0u64..13 {
+    for step in 0u64..15 {
         if keeps(editor, memory, step.saturating_add(1)) == Ok(true) {
             number = number.saturating_add(1);
         }
@@ -88,6 +91,6 @@ fn kept_of_a_newcomer<M: Allocator + Copy>(memory: M) -> Result<u64, EditorFault
 
 #[test]
 fn keeps_the_session_that_is_made_from_nothing(rt: HostRuntime) -> Result<(), Fail> {
-    assert!(rt; kept_of_a_newcomer(rt.alloc()) == Ok(13));
+    assert!(rt; kept_of_a_newcomer(rt.alloc()) == Ok(15));
     Ok(())
 }

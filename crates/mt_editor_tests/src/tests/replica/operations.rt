@@ -40,6 +40,8 @@ pub(crate) enum Act {
     AddMarker(Name),
     MoveMarker(Stamp),
     Retitle(Stamp, Name),
+    SetFade(Stamp),
+    SetMarkerLength(Stamp),
 }
 
 // The change of an act that gives no title.
@@ -67,6 +69,12 @@ fn plain_change<M: Allocator>(act: Act) -> Result<Change<M>, EditorFault> {
         Act::Remove(item) | Act::RemoveBoth(item, _) => Change::Remove { item },
         Act::Restore(item) => Change::Restore { item },
         Act::MoveMarker(marker) => Change::MoveMarker { marker, at: 48 },
+        Act::SetFade(clip) => Change::SetFade {
+            clip,
+            fade_in: 4,
+            fade_out: 1_048_576,
+        },
+        Act::SetMarkerLength(marker) => Change::SetMarkerLength { marker, len: 96 },
         _ => return Err(EditorFault::Memory),
     })
 }
@@ -128,6 +136,12 @@ fn plain_body<M: Allocator>(act: Act) -> Option<Body<M>> {
         Act::SetMute(item) => Some(Body::SetMute { item, on: true }),
         Act::Restore(item) => Some(Body::Restore { item }),
         Act::MoveMarker(marker) => Some(Body::MoveMarker { marker, at: 48 }),
+        Act::SetFade(clip) => Some(Body::SetFade {
+            clip,
+            fade_in: 4,
+            fade_out: 1_048_576,
+        }),
+        Act::SetMarkerLength(marker) => Some(Body::SetMarkerLength { marker, len: 96 }),
         _ => None,
     }
 }

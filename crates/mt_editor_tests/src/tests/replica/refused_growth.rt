@@ -10,10 +10,10 @@ use std::alloc::{Allocator, Global};
 use std::test::Fail;
 
 // How many operations are taken.
-const STEPS: u64 = 15;
+const STEPS: u64 = 17;
 
 // More growths than they and their takes ask for.
-const GROWTHS: u64 = 600;
+const GROWTHS: u64 = 700;
 
 // The steps of A in the order in which their operations are taken: the move of the marker comes before the marker, and the last
 // clip before its track.
@@ -21,8 +21,8 @@ fn step_of(number: u64) -> u64 {
     match number {
         12 => 13,
         13 => 12,
-        14 => 15,
-        15 => 14,
+        16 => 17,
+        17 => 16,
         _ => number,
     }
 }
@@ -79,12 +79,12 @@ fn are_answered<M: Allocator + Copy>(
     for index in 0..STEPS {
         let number = index.saturating_add(1);
         let op = op_at(memory, number)?;
-        let early = number == 12 || number == 14;
+        let early = number == 12 || number == 16;
         if !is_answered(editor, tally, op, early) {
             return Ok(false);
         }
     }
-    Ok(tally.has_refused() || counts(editor) == Some((15, 0, 1)))
+    Ok(tally.has_refused() || counts(editor) == Some((17, 0, 1)))
 }
 
 // The same of an editor that begins with the empty log; a fault where a growth was refused outside of a take.

@@ -146,13 +146,13 @@ fn comes_to(
     Ok(self::joins(&rt.alloc(), rt.alloc(), &before, stamps) == Ok(Some(wanted)))
 }
 
-// A marker joins three cells: two fields and a tag.
+// A marker joins four cells: three fields and a tag.
 #[test]
 fn takes_a_few_that_follow_one_by_one(rt: HostRuntime) -> Result<(), Fail> {
     let of_another = [Stamp::new(34, B, 1)?, Stamp::new(35, B, 2)?];
-    assert!(rt; comes_to(&rt, &of_another, (TAKEN, 34, 6))?);
+    assert!(rt; comes_to(&rt, &of_another, (TAKEN, 34, 8))?);
     let of_its_own = [Stamp::new(34, A, 34)?];
-    assert!(rt; comes_to(&rt, &of_its_own, (TAKEN, 33, 3))?);
+    assert!(rt; comes_to(&rt, &of_its_own, (TAKEN, 33, 4))?);
     Ok(())
 }
 
@@ -204,7 +204,7 @@ fn refuses_each_growth_of_a_few_that_follow(rt: HostRuntime) -> Result<(), Fail>
     let wanted = Joined {
         number: TAKEN,
         held: Some(33),
-        joins: 3,
+        joins: 4,
     };
     for at in 0..1000 {
         let memory = Refusing::new(rt.alloc(), at);

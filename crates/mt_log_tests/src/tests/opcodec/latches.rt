@@ -135,20 +135,6 @@ fn fails_at_the_first_failed_write(rt: HostRuntime) {
     }
 }
 
-// Whether a writer that takes the whole text byte by byte is answered as sound, and has the text.
-fn writes_all(alloc: Global, kind: ErrorKind) -> bool {
-    let mut output = Latch::new(FailingWriter::new(alloc, TEXT.len(), kind));
-    let is_put = output.put(TEXT).is_ok() && !output.failed();
-    is_put && output.into_inner().written() == TEXT
-}
-
-#[test]
-fn writes_byte_by_byte(rt: HostRuntime) {
-    for kind in [ErrorKind::Other, ErrorKind::Interrupted] {
-        assert!(rt; writes_all(rt.alloc(), kind));
-    }
-}
-
 // What a writer that takes nothing is answered as, at nothing and at the text, twice, whether the latch has failed after
 // each of the first two, and how often the writer was asked.
 fn choked() -> ([Result<(), LatchFault>; 3], [bool; 2], usize) {

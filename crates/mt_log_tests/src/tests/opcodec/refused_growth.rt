@@ -1,12 +1,11 @@
 //! Each growth refused in turn.
 use super::tags::put_removal_of;
-use super::text_of;
-use super::texts::NEWS;
 use mt_op::{Op, OpFault};
 use mt_opcodec::{Log, LogFault, ReadFault, read_op, write_op};
 use mt_stamp::Stamp;
 use mt_testkit::{A, Refusing, marker};
-use std::alloc::{Allocator, Global};
+use sha2::{Digest, Sha256};
+use std::alloc::{AllocError, Allocator, Global};
 use std::test::Fail;
 
 /// How many operations the logs have: enough that the vector of them grows more than once.
@@ -38,8 +37,11 @@ fn written_as<M: Allocator + Copy>(
     Ok(if out.as_slice() == text { out.len() } else { 0 })
 }
 
-// The same of the operation of a text.
-fn written_op_len<M: Allocator + Copy>(memory: M, text: &[u8]) -> Result<usize, LogFault> {
+/// The same of the operation of a text.
+pub(crate) fn written_op_len<M: Allocator + Copy>(
+    memory: M,
+    text: &[u8],
+) -> Result<usize, LogFault> {
     match op_of(memory, text) {
         Ok((op, _)) => written_as(&mut Vec::new(memory), &op, text),
         Err(fault) => Err(fault),
@@ -237,10 +239,21 @@ fn refused_read(alloc: Global, text: &[u8]) -> (Option<LogFault>, u64) {
     (fault, memory.allocations())
 }
 
+// The text of a log of the first version, with this count and this record, and with the digest that belongs to them.
+fn text_of(alloc: Global, count: u64, record: &[u8]) -> Result<Vec<u8>, AllocError> {
+    let mut bytes = Vec::new(alloc);
+    bytes.extend_from_slice(b"RMTS\x01")?;
+    bytes.extend_from_slice(&count.to_be_bytes())?;
+    bytes.extend_from_slice(record)?;
+    let digest = Sha256::digest(bytes.as_slice());
+    bytes.extend_from_slice(&digest)?;
+    Ok(bytes)
+}
+
 /// A count that no log can have is no reason to ask for memory: it is asked for one title, one operation in its run, and one run in the log.
 #[test]
 fn of_a_log_with_too_great_a_count(rt: HostRuntime) -> Result<(), Fail> {
-    let text = text_of(rt.alloc(), u64::MAX, &[&NEWS])?;
+    let text = text_of(rt.alloc(), u64::MAX, &text_of_numbered(rt.alloc(), 1)?)?;
     let truncated = LogFault::BadRecord(1, ReadFault::Truncated);
     assert!(rt; refused_read(rt.alloc(), &text) == (Some(truncated), 3));
     Ok(())

@@ -1,36 +1,21 @@
-//! Logs as runs: what adding, joining and walking them leave.
+//! What takes memory to add to logs and to join them, with each growth refused in turn. Which log comes of it, and at which dot two clash, the clauses say of every log.
 use mt_op::{Op, OpFault};
 use mt_opcodec::{Log, LogFault};
-use mt_stamp::{Dot, Replica, Stamp};
+use mt_stamp::{Replica, Stamp};
 use mt_testkit::{A, B, Refusing, marker};
 use std::alloc::{Allocator, Global};
 
-/// A replica between the two others' neighbours.
+/// A third replica.
 const C: Replica = Replica(12);
 
-/// A marker of this dot at this clock. `Trailing` stands for what no marker here is refused as.
-fn op_at<M: Allocator>(
-    memory: M,
-    clock: u64,
-    replica: Replica,
-    seq: u64,
-) -> Result<Op<M>, LogFault> {
-    let stamp = Stamp::new(clock, replica, seq).map_err(|_| LogFault::Trailing)?;
+/// A marker of this dot at a clock that follows its number. `Trailing` stands for what no marker here is refused as.
+fn op_of<M: Allocator>(memory: M, replica: Replica, seq: u64) -> Result<Op<M>, LogFault> {
+    let stamp = Stamp::new(seq, replica, seq).map_err(|_| LogFault::Trailing)?;
     match marker(memory, stamp, "News at nine o'clock") {
         Ok(op) => Ok(op),
         Err(OpFault::Memory) => Err(LogFault::Memory),
         Err(_) => Err(LogFault::Trailing),
     }
-}
-
-/// A marker of this dot at a clock that follows its number.
-fn op_of<M: Allocator>(memory: M, replica: Replica, seq: u64) -> Result<Op<M>, LogFault> {
-    op_at(memory, seq, replica, seq)
-}
-
-/// Another operation of that dot.
-fn other_of<M: Allocator>(memory: M, replica: Replica, seq: u64) -> Result<Op<M>, LogFault> {
-    op_at(memory, seq.saturating_add(1), replica, seq)
 }
 
 /// Adds the marker of a dot.
@@ -63,125 +48,6 @@ fn log_with<M: Allocator + Copy>(memory: M, dots: &[(Replica, u64)]) -> Result<L
         Err(fault) => Err(fault),
     }
 }
-
-/// The dots of a log, by place.
-fn has_dots<M: Allocator>(log: &Log<M>, dots: &[(Replica, u64)]) -> bool {
-    for i in 0..dots.len() {
-        let (replica, seq) = dots[i];
-        match log.op_at(i) {
-            Some(op) if op.dot() == (Dot { replica, seq }) => {}
-            _ => return false,
-        }
-    }
-    log.len() == dots.len() && log.op_at(dots.len()).is_none()
-}
-
-const ADDED: [(Replica, u64); 7] = [(B, 2), (B, 1), (C, 1), (A, 3), (B, 4), (A, 1), (B, 3)];
-
-const RISING: [(Replica, u64); 7] = [(A, 1), (A, 3), (B, 1), (B, 2), (B, 3), (B, 4), (C, 1)];
-
-// Whether these dots are kept as those, and in how many runs.
-fn are_kept_as(
-    alloc: Global,
-    added: &[(Replica, u64)],
-    dots: &[(Replica, u64)],
-) -> Result<(bool, usize), LogFault> {
-    let log = log_with(alloc, added)?;
-    Ok((has_dots(&log, dots), log.runs().len()))
-}
-
-// What is answered where an operation is there, and where another one of its dot is, and how many there then are.
-fn answers(
-    log: &mut Log,
-    alloc: Global,
-    dots: &[(Replica, u64)],
-) -> Result<(Result<bool, LogFault>, Result<bool, LogFault>, usize), LogFault> {
-    add_dots(log, alloc, dots)?;
-    let again = add_dot(log, alloc, B, 3);
-    let other = log.add(other_of(alloc, B, 4)?);
-    Ok((again, other, log.len()))
-}
-
-#[test]
-fn adds_before_between_and_after(rt: HostRuntime) {
-    assert!(rt; are_kept_as(rt.alloc(), &ADDED, &RISING) == Ok((true, 3)));
-    let conflict = Err(LogFault::Conflict(Dot { replica: B, seq: 4 }));
-    let told = answers(&mut Log::new(rt.alloc()), rt.alloc(), &ADDED);
-    assert!(rt; told == Ok((Ok(false), conflict, 7)));
-}
-
-/// A log, and one that has other operations of B with these numbers.
-fn add_left(log: &mut Log, alloc: Global) -> Result<(), LogFault> {
-    add_dots(log, alloc, &[(A, 1), (B, 1), (B, 2), (B, 3), (C, 1)])
-}
-
-fn add_right(log: &mut Log, alloc: Global, seqs: &[u64]) -> Result<(), LogFault> {
-    add_dots(log, alloc, &[(A, 1), (A, 2), (C, 1), (C, 2)])?;
-    for seq in seqs {
-        let _new = log.add(other_of(alloc, B, *seq)?)?;
-    }
-    Ok(())
-}
-
-// The first dots that the two clash at, told by either.
-fn told(
-    left: &mut Log,
-    right: &mut Log,
-    alloc: Global,
-    seqs: &[u64],
-) -> Result<[Option<Dot>; 2], LogFault> {
-    add_left(left, alloc)?;
-    add_right(right, alloc, seqs)?;
-    Ok([left.clash(right), right.clash(left)])
-}
-
-// Those, and the refusal of their joining.
-fn clashes(alloc: Global, seqs: &[u64]) -> (Result<[Option<Dot>; 2], LogFault>, Option<LogFault>) {
-    let mut left = Log::new(alloc);
-    let mut right = Log::new(alloc);
-    let told = told(&mut left, &mut right, alloc, seqs);
-    (told, left.join(right).err())
-}
-
-#[test]
-fn tells_the_least_clash(rt: HostRuntime) {
-    for (seqs, seq) in [([3, 4], 3), ([2, 3], 2)] {
-        let dot = Dot { replica: B, seq };
-        let refused = Some(LogFault::Conflict(dot));
-        assert!(rt; clashes(rt.alloc(), &seqs) == (Ok([Some(dot); 2]), refused));
-    }
-}
-
-// How many references a log gives, or the first that is not to the operation at its place.
-fn count_in_place<M: Allocator>(log: &Log<M>, refs: &[&Op<M>]) -> usize {
-    for i in 0..refs.len() {
-        if log.op_at(i) != Some(refs[i]) {
-            return i;
-        }
-    }
-    refs.len()
-}
-
-// The same of a log that gets these dots.
-fn references<M: Allocator + Copy>(
-    log: &mut Log<M>,
-    memory: M,
-    dots: &[(Replica, u64)],
-) -> Result<usize, LogFault> {
-    add_dots(log, memory, dots)?;
-    let refs = log.refs(memory)?;
-    Ok(count_in_place(log, &refs))
-}
-
-fn count_of_references<M: Allocator + Copy>(
-    memory: M,
-    dots: &[(Replica, u64)],
-) -> Result<usize, LogFault> {
-    let mut log = Log::new(memory);
-    references(&mut log, memory, dots)
-}
-
-// ---- each growth refused in turn
 
 /// The dots that are added one by one: of two replicas, in turn.
 const DOTS: [(Replica, u64); 8] = [
@@ -262,23 +128,10 @@ fn agreeing_len<M: Allocator + Copy>(memory: M) -> Result<usize, LogFault> {
     }
 }
 
-fn merge_left_and_right<M: Allocator + Copy>(
-    left: &mut Log<M>,
-    right: &mut Log<M>,
-    memory: M,
-) -> Result<usize, LogFault> {
-    add_dots(left, memory, &LEFT)?;
-    add_dots(right, memory, &RIGHT)?;
-    match Log::merge(memory, left, right) {
-        Ok(log) => Ok(log.len()),
-        Err(fault) => Err(fault),
-    }
-}
-
-fn merged_len<M: Allocator + Copy>(memory: M) -> Result<usize, LogFault> {
-    let mut left = Log::new(memory);
-    let mut right = Log::new(memory);
-    merge_left_and_right(&mut left, &mut right, memory)
+// How many operations a log refers to.
+fn count_of_references<M: Allocator + Copy>(memory: M) -> Result<usize, LogFault> {
+    let log = log_with(memory, &LEFT)?;
+    Ok(log.refs(memory)?.len())
 }
 
 /// The dots of the two.
@@ -286,60 +139,29 @@ const LEFT: [(Replica, u64); 3] = [(A, 1), (A, 3), (B, 1)];
 
 const RIGHT: [(Replica, u64); 3] = [(A, 2), (B, 2), (C, 1)];
 
-// Adds so many logs to a list, each with one operation of its own and one that all have.
+// Adds so many logs to a list, each with two operations: of a replica of its own, so that its run is moved whole, or one that all have and one that
+// only it has.
 fn push_logs<M: Allocator + Copy>(
     many: &mut Vec<Log<M>, M>,
     memory: M,
     logs: u64,
+    apart: bool,
 ) -> Result<(), LogFault> {
-    for seq in 2..logs.saturating_add(2) {
-        many.push(log_with(memory, &[(A, 1), (A, seq)])?)?;
-    }
-    Ok(())
-}
-
-// Adds nine operations of one replica.
-fn add_nine<M: Allocator + Copy>(
-    log: &mut Log<M>,
-    memory: M,
-    replica: Replica,
-) -> Result<(), LogFault> {
-    for seq in 1..10 {
-        let _new = add_dot(log, memory, replica, seq)?;
-    }
-    Ok(())
-}
-
-// A log of them.
-fn log_of_nine<M: Allocator + Copy>(memory: M, replica: Replica) -> Result<Log<M>, LogFault> {
-    let mut log = Log::new(memory);
-    match add_nine(&mut log, memory, replica) {
-        Ok(()) => Ok(log),
-        Err(fault) => Err(fault),
-    }
-}
-
-// Adds five logs that share no replica, so that their runs are moved whole.
-fn push_apart<M: Allocator + Copy>(many: &mut Vec<Log<M>, M>, memory: M) -> Result<(), LogFault> {
-    for replica in 20_u64..25 {
-        many.push(log_of_nine(memory, Replica(u128::from(replica)))?)?;
+    for number in 2..logs.saturating_add(2) {
+        let own = if apart {
+            Replica(u128::from(number))
+        } else {
+            A
+        };
+        many.push(log_with(memory, &[(own, 1), (own, number)])?)?;
     }
     Ok(())
 }
 
 // How many operations their union has.
-fn len_of_apart<M: Allocator + Copy>(memory: M) -> Result<usize, LogFault> {
+fn len_of_many<M: Allocator + Copy>(memory: M, logs: u64, apart: bool) -> Result<usize, LogFault> {
     let mut many = Vec::new(memory);
-    match push_apart(&mut many, memory) {
-        Ok(()) => Ok(Log::join_all(memory, many)?.len()),
-        Err(fault) => Err(fault),
-    }
-}
-
-// The same of logs that share one operation.
-fn len_of_many<M: Allocator + Copy>(memory: M, logs: u64) -> Result<usize, LogFault> {
-    let mut many = Vec::new(memory);
-    match push_logs(&mut many, memory, logs) {
+    match push_logs(&mut many, memory, logs, apart) {
         Ok(()) => Ok(Log::join_all(memory, many)?.len()),
         Err(fault) => Err(fault),
     }
@@ -350,7 +172,6 @@ fn len_of_many<M: Allocator + Copy>(memory: M, logs: u64) -> Result<usize, LogFa
 enum Work {
     Join,
     JoinAgreeing,
-    Merge,
     Refer,
     JoinAll,
     JoinInTurns,
@@ -362,11 +183,10 @@ fn len_of<M: Allocator + Copy>(memory: M, work: Work) -> Result<usize, LogFault>
     match work {
         Work::Join => joined_len(memory),
         Work::JoinAgreeing => agreeing_len(memory),
-        Work::Merge => merged_len(memory),
-        Work::Refer => count_of_references(memory, &LEFT),
-        Work::JoinAll => len_of_many(memory, 9),
-        Work::JoinInTurns => len_of_many(memory, 17),
-        Work::JoinApart => len_of_apart(memory),
+        Work::Refer => count_of_references(memory),
+        Work::JoinAll => len_of_many(memory, 9, false),
+        Work::JoinInTurns => len_of_many(memory, 17, false),
+        Work::JoinApart => len_of_many(memory, 5, true),
     }
 }
 
@@ -391,11 +211,10 @@ fn of_several_logs(rt: HostRuntime) {
     for (work, len, least) in [
         (Work::Join, 6, 12),
         (Work::JoinAgreeing, 6, 12),
-        (Work::Merge, 6, 20),
         (Work::Refer, 3, 6),
         (Work::JoinAll, 10, 61),
         (Work::JoinInTurns, 18, 61),
-        (Work::JoinApart, 45, 61),
+        (Work::JoinApart, 10, 20),
     ] {
         let refused = refusals(rt.alloc(), work, len);
         assert!(rt; refused >= Some(least), "{work:?}");

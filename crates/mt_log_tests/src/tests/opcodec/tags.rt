@@ -1,6 +1,6 @@
 //! The tags of a Remove as bytes.
-use mt_op::{Body, Op};
-use mt_opcodec::{ReadFault, read_op, write_op};
+use super::refused_growth::written_op_len;
+use mt_opcodec::{ReadFault, read_op};
 use mt_stamp::Replica;
 use mt_testkit::{A, B, Refusing};
 use std::alloc::{AllocError, Allocator, Global};
@@ -55,30 +55,11 @@ fn takes_no_memory_for_a_count(rt: HostRuntime) -> Result<(), Fail> {
     Ok(())
 }
 
-// How many tags a Remove lists.
-fn count_of_tags<M: Allocator>(op: &Op<M>) -> usize {
-    match op.body() {
-        Body::Remove { tags, .. } => tags.items().len(),
-        _ => 0,
-    }
-}
-
-// Whether an operation is written as this text.
-fn is_written<M: Allocator + Copy>(memory: M, op: &Op<M>, text: &[u8]) -> bool {
-    let mut out = Vec::new(memory);
-    write_op(op, &mut out).is_ok() && out.as_slice() == text
-}
-
-// How many bytes and tags a text is read as, and whether it is written again.
-fn tags_of<M: Allocator + Copy>(memory: M, text: &[u8]) -> Result<(usize, usize, bool), ReadFault> {
-    let (op, len) = read_op(memory, text)?;
-    Ok((len, count_of_tags(&op), is_written(memory, &op, text)))
-}
-
+// 35 bytes before the tags, and 32 for each of 65,535.
 #[test]
-fn reads_the_greatest_count_of_tags(rt: HostRuntime) -> Result<(), Fail> {
+fn reads_and_writes_the_greatest_count_of_tags(rt: HostRuntime) -> Result<(), Fail> {
     let mut bytes = Vec::new(rt.alloc());
     put_removal_of(&mut bytes, u16::MAX)?;
-    assert!(rt; tags_of(rt.alloc(), &bytes) == Ok((2_097_187, 65_535, true)));
+    assert!(rt; written_op_len(rt.alloc(), &bytes) == Ok(2_097_187));
     Ok(())
 }

@@ -5,6 +5,7 @@ use Rattle.mt_op.specs.Gain.{Ratio}
 use Rattle.mt_op.specs.declared.digest.Digest.{Digest}
 use Rattle.mt_op.specs.declared.value.Placement.{Placement}
 use Rattle.mt_op.specs.declared.value.TrimRange.{TrimRange}
+use Rattle.mt_op.specs.declared.value.FadeLengths.{FadeLengths}
 use Rattle.mt_op.proofs.LastWrite.{latest_is_greatest}
 use Rattle.mt_op.proofs.laws.last_write.Goals as goal
 
@@ -31,3 +32,9 @@ returns-clause-sources c = latest_is_greatest Digest
 
 pub returns-clause-positions : goal.returns-clause-positions
 returns-clause-positions c = latest_is_greatest ℕ
+
+pub returns-clause-fades : goal.returns-clause-fades
+returns-clause-fades c = latest_is_greatest FadeLengths
+
+pub returns-clause-marker_lengths : goal.returns-clause-marker_lengths
+returns-clause-marker_lengths c = latest_is_greatest ℕ

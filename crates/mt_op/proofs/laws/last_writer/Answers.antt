@@ -1,5 +1,5 @@
 use Rattle.mt_op.specs.Writes as field
-use Rattle.mt_op.proofs.Written.{titles, gains, mutes, track_places, clip_places, trims, sources, positions}
+use Rattle.mt_op.proofs.Written.{titles, gains, mutes, track_places, clip_places, trims, sources, positions, fades, marker_lengths}
 use Rattle.mt_op.proofs.LastWriter.{last_write_is_greatest}
 use Rattle.mt_op.proofs.laws.last_writer.Goals as goal
 
@@ -26,3 +26,9 @@ returns-clause-sources c = last_write_is_greatest field.Source field.source_writ
 
 pub returns-clause-positions : goal.returns-clause-positions
 returns-clause-positions c = last_write_is_greatest field.Position field.position_written positions
+
+pub returns-clause-fades : goal.returns-clause-fades
+returns-clause-fades c = last_write_is_greatest field.Fades field.fades_written fades
+
+pub returns-clause-marker_lengths : goal.returns-clause-marker_lengths
+returns-clause-marker_lengths c = last_write_is_greatest field.MarkerLength field.marker_length_written marker_lengths

@@ -1,4 +1,4 @@
-use Rattle.mt_op.proofs.Written.{titles, gains, mutes, track_places, clip_places, trims, sources, positions}
+use Rattle.mt_op.proofs.Written.{titles, gains, mutes, track_places, clip_places, trims, sources, positions, fades, marker_lengths}
 use Rattle.mt_op.proofs.laws.writes.Goals as goal
 
 pub returns-clause-titles : goal.returns-clause-titles
@@ -24,3 +24,9 @@ returns-clause-sources c = sources
 
 pub returns-clause-positions : goal.returns-clause-positions
 returns-clause-positions c = positions
+
+pub returns-clause-fades : goal.returns-clause-fades
+returns-clause-fades c = fades
+
+pub returns-clause-marker_lengths : goal.returns-clause-marker_lengths
+returns-clause-marker_lengths c = marker_lengths

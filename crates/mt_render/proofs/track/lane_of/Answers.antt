@@ -22,6 +22,11 @@ add_part-requires-clause-begun g c =
     let k = segment_of c.items-clips.result.now c.in_ok-spans.spans.items c.in_ok-segments.segments.items c.loop-index.index c.in_ok-spans.ensures.ok (rw c.deref.ensures.value at c.in_ok-segments.ensures.ok) (omega arith) in
     rw (c.clip_at-clip.ensures, c.segment_at-segment.ensures, c.deref-in-loop-index.ensures.value) k.begun
 
+pub add_part-requires-clause-ended : goal.add_part-requires-clause-ended
+add_part-requires-clause-ended g c =
+    let k = segment_of c.items-clips.result.now c.in_ok-spans.spans.items c.in_ok-segments.segments.items c.loop-index.index c.in_ok-spans.ensures.ok (rw c.deref.ensures.value at c.in_ok-segments.ensures.ok) (omega arith) in
+    rw (c.clip_at-clip.ensures, c.segment_at-segment.ensures, c.deref-in-loop-index.ensures.value) k.ended
+
 pub add_part-requires-clause-there : goal.add_part-requires-clause-there
 add_part-requires-clause-there g c =
     let k = segment_of c.items-clips.result.now c.in_ok-spans.spans.items c.in_ok-segments.segments.items c.loop-index.index c.in_ok-spans.ensures.ok (rw c.deref.ensures.value at c.in_ok-segments.ensures.ok) (omega arith) in

@@ -23,20 +23,6 @@ const ITEMS: [Item; 5] = [
     Item::Early,
 ];
 
-// Whether the session of these operations has this text.
-fn has_text(alloc: Global, items: &[Item], wanted: &str) -> Result<bool, SessionFault> {
-    let session = session_of(&alloc, items)?;
-    let mut output = Latch::new(Vec::new(alloc));
-    write_text(alloc, &session, &mut output)?;
-    Ok(output.into_inner().as_slice() == wanted.as_bytes())
-}
-
-#[test]
-fn shows_a_log(rt: HostRuntime) {
-    assert!(rt; has_text(rt.alloc(), &ITEMS, TEXT) == Ok(true));
-    assert!(rt; has_text(rt.alloc(), &[], "held 0\n") == Ok(true));
-}
-
 // How long this front of the text is.
 fn front_of(written: &[u8]) -> Option<usize> {
     if TEXT.as_bytes().starts_with(written) {
@@ -46,67 +32,61 @@ fn front_of(written: &[u8]) -> Option<usize> {
     }
 }
 
-// What writing a session's text came to: the last answer, whether the output failed, and how long a front of the text it has.
+// What writing a session's text came to: the answer, whether the output failed, and how long a front of the text it has.
 type Written = (Result<(), SessionFault>, bool, Option<usize>);
 
-// Writes a session's text so often.
-fn written<M: Allocator + Copy>(
-    memory: M,
-    session: &Session,
-    mut output: Latch<FailingWriter<Global>>,
-    times: usize,
-) -> Written {
-    let mut answer = Ok(());
-    for _ in 0..times {
-        answer = write_text(memory, session, &mut output);
-    }
+// Writes a session's text to an output that fails at the write of this number, each of one byte.
+fn written<M: Allocator>(memory: M, alloc: Global, session: &Session, good: usize) -> Written {
+    let mut output = Latch::new(FailingWriter::new(alloc, good, ErrorKind::Other));
+    let answer = write_text(memory, session, &mut output);
     let failed = output.failed();
     (answer, failed, front_of(output.into_inner().written()))
 }
 
-// An output that fails at the write of this number, each of one byte.
-fn output(alloc: Global, good: usize) -> Latch<FailingWriter<Global>> {
-    Latch::new(FailingWriter::new(alloc, good, ErrorKind::Other))
-}
-
-#[test]
-fn writes_a_front_where_the_output_fails(rt: HostRuntime) -> Result<(), Fail> {
-    let session = session_of(&rt.alloc(), &ITEMS)?;
-    for fails_at in 0..TEXT.len() {
-        for times in 1..3 {
-            assert!(rt;
-                written(rt.alloc(), &session, output(rt.alloc(), fails_at), times)
-                    == (Err(SessionFault::Write), true, Some(fails_at)),
-                "at {fails_at}"
-            );
+// How many writes fail in turn, until the whole text is written; none where a failed write is answered otherwise.
+fn failed_writes(alloc: Global, session: &Session) -> Option<usize> {
+    for good in 0..TEXT.len() {
+        if written(alloc, alloc, session, good) != (Err(SessionFault::Write), true, Some(good)) {
+            return None;
         }
     }
-    Ok(())
+    match written(alloc, alloc, session, TEXT.len()) {
+        (Ok(()), false, front) => front,
+        _ => None,
+    }
 }
 
 // Writes it where the growth of this number is refused, and tells whether one was.
 fn written_without(alloc: Global, session: &Session, at: u64) -> (bool, Written) {
     let memory = Refusing::new(alloc, at);
-    let told = written(&memory, session, output(alloc, usize::MAX), 1);
+    let told = written(&memory, alloc, session, usize::MAX);
     (memory.has_refused(), told)
+}
+
+// How many growths are refused in turn, none of which lets anything be written, until the whole text is written.
+fn refused_growths(alloc: Global, session: &Session) -> Option<u64> {
+    for at in 0..20 {
+        match written_without(alloc, session, at) {
+            (true, (Err(SessionFault::Memory), false, Some(0))) => {}
+            (false, (Ok(()), false, Some(len))) if len == TEXT.len() => return Some(at),
+            _ => return None,
+        }
+    }
+    None
+}
+
+#[test]
+fn writes_a_front_where_the_output_fails(rt: HostRuntime) -> Result<(), Fail> {
+    let session = session_of(&rt.alloc(), &ITEMS)?;
+    assert!(rt; failed_writes(rt.alloc(), &session) == Some(TEXT.len()));
+    Ok(())
 }
 
 #[test]
 fn writes_nothing_without_memory(rt: HostRuntime) -> Result<(), Fail> {
     let session = session_of(&rt.alloc(), &ITEMS)?;
-    for at in 0..20 {
-        let (refused, told) = written_without(rt.alloc(), &session, at);
-        if !refused {
-            assert!(rt; told == (Ok(()), false, Some(TEXT.len())));
-            assert!(rt; at > 0, "the text was refused memory");
-            return Ok(());
-        }
-        assert!(rt;
-            told == (Err(SessionFault::Memory), false, Some(0)),
-            "at {at}"
-        );
-    }
-    Err(Fail::from("each run met a refusal"))
+    assert!(rt; refused_growths(rt.alloc(), &session) > Some(0));
+    Ok(())
 }
 
 // How many tracks and markers a session of these operations shows, and how many it holds.
@@ -122,18 +102,24 @@ fn counts_of<M: Allocator + Clone>(
     ))
 }
 
+// The same where one growth is refused, and whether one was.
+fn refused_counts(alloc: Global, at: u64) -> (Result<(usize, usize, u64), SessionFault>, bool) {
+    let memory = Refusing::new(alloc, at);
+    let made = counts_of(&&memory, &ITEMS);
+    (made, memory.has_refused())
+}
+
 #[test]
 fn makes_no_session_without_memory(rt: HostRuntime) -> Result<(), Fail> {
     let first = growths_of_log(rt.alloc(), &ITEMS)?;
     for at in first..100 {
-        let memory = Refusing::new(rt.alloc(), at);
-        let made = counts_of(&&memory, &ITEMS);
-        if !memory.has_refused() {
+        let (made, refused) = refused_counts(rt.alloc(), at);
+        if !refused {
             assert!(rt; made == Ok((1, 1, 1)));
-            assert!(rt; at - first > 10, "several growths were refused");
+            assert!(rt; at - first > 10);
             return Ok(());
         }
-        assert!(rt; made == Err(SessionFault::Memory), "at {at}");
+        assert!(rt; made == Err(SessionFault::Memory));
     }
     Err(Fail::from("each run met a refusal"))
 }

@@ -10,7 +10,8 @@ use Rattle.mt_sessionview.proofs.clip.clips_by_track.Goals.{in-Some+in_ok-note_c
 
 pub clip_at-requires : goal.clip_at-requires
 clip_at-requires g c =
-    record { positive = (item_of (λ x. HoldsClip x.0 c.args.items.now x.1) c.clip_cells-clip-items.result.now c.loop-clip.clip-index c.loop-clip-item.result c.loop-clip-test.true c.loop-clip-item.is c.clip_cells-clip-items.ensures.each).positive }
+    let held = item_of (λ x. HoldsClip x.0 c.args.items.now x.1) c.clip_cells-clip-items.result.now c.loop-clip.clip-index c.loop-clip-item.result c.loop-clip-test.true c.loop-clip-item.is c.clip_cells-clip-items.ensures.each in
+    record { positive = held.positive; short = held.short }
 
 pub loop-clip-preserved : goal.loop-clip-preserved
 loop-clip-preserved g c = λ track.

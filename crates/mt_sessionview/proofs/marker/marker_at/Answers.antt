@@ -8,5 +8,5 @@ returns-then-not-is_present-clause-ok g c = λ ops held. cc (marker_is ops c.arg
 
 pub returns-clause-ok : goal.returns-clause-ok
 returns-clause-ok g c = λ ops held.
-    (λ i. Some (record { marker = c.args.marker; at = c.get-2.ensures i; title = (c.in-Ok.ensures.ok ∙ c.get.ensures) i }))
+    (λ i. Some (record { marker = c.args.marker; at = c.get-2.ensures i; len = c.get-3.ensures i; title = (c.in-Ok.ensures.ok ∙ c.get.ensures) i }))
     ∙ marker_is ops c.args.marker c.args.cells.now true held (present_is c.args.marker ops c.args.cells.now.presence true held.presence c.if-not-is_present.ensures)

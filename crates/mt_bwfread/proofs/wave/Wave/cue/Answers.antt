@@ -6,4 +6,4 @@ pub returns-in_err-point : goal.returns-in_err-point
 returns-in_err-point c = rw c.from_residual.ensures (no_cue c.args.self.now c.args.index c.in_err-point.ensures)
 
 pub returns : goal.returns
-returns c = cue_is c.args.self.now c.args.index c.in_ok-point.point (option_copied c.label.result) c.in_ok-point.ensures c.label.ensures
+returns c = cue_is c.args.self.now c.args.index c.in_ok-point.point c.length.result (option_copied c.label.result) c.in_ok-point.ensures c.length.ensures c.label.ensures

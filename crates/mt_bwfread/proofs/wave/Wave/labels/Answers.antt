@@ -1,4 +1,4 @@
-use Rattle.mt_bwfread.proofs.Labelling.{all_labels}
+use Rattle.mt_bwfread.proofs.Listing.{all_labels}
 use Rattle.mt_bwfread.proofs.wave.Wave.labels.Goals as goal
 
 pub returns : goal.returns

@@ -1,27 +1,25 @@
-use Rattle.std.proofs.Common.{◌≡◌, ◌+◌, ◌-◌, ◌<◌, ◌∙◌, pos, ◌*ℤ◌, arith, length, length-take, length-drop, ap, sym, refl}
-use Rattle.std.specs.Prelude.{min}
-use Rattle.mt_bwfread.specs.Wave.{channels_of}
+use Rattle.std.proofs.Common.{◌≡◌, ◌+◌, ◌+ℤ◌, ◌∙◌, arith, refl}
 use Rattle.mt_bwfread.specs.Fill.{at}
-use Rattle.mt_render.specs.Mix.{rounded}
 use Rattle.mt_render.specs.Parts.{gives}
-use Rattle.mt_render.proofs.Gaining.{gained_mid, inside}
+use Rattle.mt_render.proofs.Cutting.{thirds, three}
+use Rattle.mt_render.proofs.Gaining.{gained_more}
 use Rattle.mt_render.proofs.Rising.{early, late}
 use Rattle.mt_render.proofs.part.Part.add.Goals as goal
 
 pub returns : goal.returns
-returns c =
+returns c k h =
     let p = c.args.self.now in
-    let first = c.args.first in
-    let from = c.max-from.result in
-    let skip = from - first in
-    let n = skip + (c.min-to.result - from) - skip in
-    let begun = p.begun in
-    let on : c.min.result ≡ min c.args.channel (channels_of p.wave.now - 1) = c.min.ensures ∙ ap (λ m. min c.args.channel (m - 1)) c.channels-last.ensures.value in
-    gained_mid c.args.sums.now c.add.new.sums skip n (λ k. rounded (at c.fill.new.samples k *ℤ pos p.scale.num) p.scale.den) (λ k. gives (first + k) c.args.channel p)
-    (simp (length-take, length-drop) at c.add.auto.sums ∙ omega arith) (omega arith) c.add.ensures
-    (λ k h.
-    let place : (c.from.result + (from - c.from-2.result)) + k ≡ p.offset + ((first + (skip + k)) - p.at) = omega arith in
-    let short : k < length c.fill.new.samples = omega (arith, simp length-take at c.fill.auto.samples) in
-    ap (λ x. rounded (x *ℤ pos p.scale.num) p.scale.den) (c.fill.ensures k short ∙ rw (place, on) refl)
-    ∙ sym (inside p (first + (skip + k)) c.args.channel (omega arith) (omega arith)))
-    (λ k h. early p (first + k) c.args.channel (omega arith)) (λ k h w. late p (first + k) c.args.channel (omega arith))
+    let f = c.args.first + k in
+    let d = c.args.channel in
+    let z = gives f d p in
+    let a = gives f d c.cut-rising.result in
+    let b = gives f d c.cut-between.result in
+    let e = gives f d c.cut-falling.result in
+    let low = c.min-low.result in
+    let high = c.max-high.result in
+    let all : (a +ℤ b) +ℤ e ≡ z =
+    three _ _ _ _ _ _ (c.cut-rising.ensures f d) (c.cut-between.ensures f d) (c.cut-falling.ensures f d)
+    ∙ (thirds (p.at + 0) (p.at + low) (p.at + high) (p.at + p.fades.len) f z (omega arith) (omega arith) (omega arith) (λ out. early p f d (omega arith)) (λ out. late p f d (omega arith))) in
+    gained_more (at c.args.sums.now k) (at c.add_at_once-3.new.sums k) (at c.add_at_once-4.new.sums k) (a +ℤ b) e z
+    (gained_more (at c.args.sums.now k) (at c.add_at_once-2.new.sums k) (at c.add_at_once-3.new.sums k) a b (a +ℤ b) (c.add_at_once-2.ensures k h) (c.add_at_once-3.ensures k (omega arith)) refl)
+    (c.add_at_once-4.ensures k (omega arith)) all

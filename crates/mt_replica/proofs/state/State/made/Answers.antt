@@ -16,7 +16,7 @@ unwrap-requires g c =
     let o : Operation = record { stamp = c.in_ok-stamp.stamp; act = act_of c.in_ok-body.body } in
     let rise : dots_rise ops ≡ true = subst (λ (n : Named). dots_rise (operations n.log) ≡ true) (ap (λ (s : Stated). s.named) c.self.view_is) c.runs.ensures.logged.rise in
     let parts = made_is ops c.args.self.now.named.name edit c.in_ok-stamp.stamp (act_of c.in_ok-body.body) c.in_ok-body.ensures.passes (sym c.in_ok-stamp.ensures) c.in_ok-body.ensures.ok in
-    it_is_made ops c.args.self.now.named.name edit o c.new.result rise parts.0 parts.1 c.new.ensures.not_older.0 (λ e. (c.new.ensures.zero_length.0 e).1) (λ e. (c.new.ensures.bad_tags.0 e).2) c.new.ensures.err
+    it_is_made ops c.args.self.now.named.name edit o c.new.result rise parts.0 parts.1 c.new.ensures.not_older.0 (λ e. (c.new.ensures.zero_length.0 e).1) (λ e. (c.new.ensures.fade_too_long.0 e).2) (λ e. (c.new.ensures.bad_tags.0 e).3) c.new.ensures.err
 
 pub returns-clause-ok : goal.returns-clause-ok
 returns-clause-ok g c =

@@ -1,0 +1,86 @@
+//! Lengths of cue points: one that is cut short is none, and the first of a name counts. What a count or a size tells beyond the bytes is not there.
+
+use crate::tests::bwfread::{file, pcm};
+use mt_bwfread::Wave;
+use std::alloc::{AllocError, Global};
+use std::test::Fail;
+
+/// A cue point of the name 1, at the frame 5.
+const CUE: &[u8] = b"\x01\0\0\0\x01\0\0\0\x05\0\0\0data\0\0\0\0\0\0\0\0\x05\0\0\0";
+
+// A file of a format, of samples, of cue points and of a list.
+fn with_list<'a>(
+    alloc: Global,
+    format: &'a [u8],
+    samples: &'a [u8],
+    cue: &'a [u8],
+    list: &'a [u8],
+) -> Result<Vec<u8>, AllocError> {
+    file(
+        alloc,
+        &[
+            (b"fmt ", format),
+            (b"data", samples),
+            (b"cue ", cue),
+            (b"LIST", list),
+        ],
+    )
+}
+
+// Whether the list gives the cue point this length, and the label `News`.
+fn gives(alloc: Global, list: &[u8], length: Option<u32>) -> Result<bool, AllocError> {
+    let text = with_list(alloc, &pcm(1, 8), &[129], CUE, list)?;
+    let Ok(wave) = Wave::read(&text) else {
+        return Ok(false);
+    };
+    let Some(cue) = wave.cue(0) else {
+        return Ok(false);
+    };
+    Ok(cue.length == length && cue.label == Some(b"News".as_slice()))
+}
+
+#[test]
+fn passes_over_a_length_of_19_bytes(rt: HostRuntime) -> Result<(), Fail> {
+    let list =
+        b"adtlltxt\x13\0\0\0\x01\0\0\0\x03\0\0\0rgn \0\0\0\0\0\0\0\0labl\x09\0\0\0\x01\0\0\0News\0\0";
+    assert!(rt; gives(rt.alloc(), list, None)?);
+    Ok(())
+}
+
+#[test]
+fn takes_the_first_of_two_lengths(rt: HostRuntime) -> Result<(), Fail> {
+    let list =
+        b"adtlltxt\x14\0\0\0\x01\0\0\0\x03\0\0\0beat\0\0\0\0\0\0\0\0ltxt\x14\0\0\0\x01\0\0\0\x04\0\0\0rgn \0\0\0\0\0\0\0\0labl\x09\0\0\0\x01\0\0\0News\0\0";
+    assert!(rt; gives(rt.alloc(), list, Some(3))?);
+    Ok(())
+}
+
+// How many cue points a chunk has that tells so many and has the bytes of one.
+fn cue_count(alloc: Global, count: u32) -> Result<u32, AllocError> {
+    let mut cue = Vec::from_slice(alloc, &count.to_le_bytes())?;
+    cue.extend_from_slice(&CUE[4..])?;
+    let text = with_list(alloc, &pcm(1, 8), &[129], &cue, b"adtl")?;
+    match Wave::read(&text) {
+        Ok(wave) if wave.cue(1).is_none() => Ok(wave.cue_count()),
+        _ => Ok(u32::MAX),
+    }
+}
+
+#[test]
+fn counts_the_cue_points_that_are_there(rt: HostRuntime) {
+    for (told, count) in [(0, 0), (1, 1), (2, 1), (u32::MAX, 1)] {
+        assert!(rt; cue_count(rt.alloc(), told) == Ok(count));
+    }
+}
+
+// a label and a length of 2^32 - 1 bytes in a list of few
+#[test]
+fn passes_over_a_label_and_a_length_that_are_too_long(rt: HostRuntime) -> Result<(), Fail> {
+    for list in [
+        b"adtllabl\x09\0\0\0\x01\0\0\0News\0\0ltxt\xff\xff\xff\xff\x01\0\0\0\x03\0\0\0rgn \0\0\0\0\0\0\0\0".as_slice(),
+        b"adtllabl\x09\0\0\0\x01\0\0\0News\0\0labl\xff\xff\xff\xff\x01\0\0\0Else\0\0",
+    ] {
+        assert!(rt; gives(rt.alloc(), list, None)?);
+    }
+    Ok(())
+}

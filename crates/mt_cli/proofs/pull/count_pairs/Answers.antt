@@ -1,0 +1,11 @@
+use Rattle.std.proofs.Common.{arith}
+use Rattle.std.specs.Prelude.{map}
+use Rattle.std.proofs.lemmas.List.{length-map}
+use Rattle.mt_cli.proofs.Pulling.{zip_within, zip_within_right}
+use Rattle.mt_cli.proofs.pull.count_pairs.Goals as goal
+
+pub returns-then-names-shares-clause-all : goal.returns-then-names-shares-clause-all
+returns-then-names-shares-clause-all c = omega (arith, zip_within (map (λ n. n.now) c.args.names.now) c.args.shares.now, length-map c.args.names.now (λ n. n.now))
+
+pub returns-else-names-shares-clause-all : goal.returns-else-names-shares-clause-all
+returns-else-names-shares-clause-all c = zip_within_right (map (λ n. n.now) c.args.names.now) c.args.shares.now

@@ -1,0 +1,15 @@
+use Rattle.std.proofs.Common.{rules, ◌++◌}
+use Rattle.std.proofs.lemmas.List.{append-nil}
+use Rattle.mt_latch.specs.Buffered.{Puts}
+use Rattle.mt_latch.proofs.Putting.{then_handed, same_handed}
+use Rattle.std.specs.Prelude.{codes}
+use Rattle.mt_cli.specs.Editing.{number_line}
+use Rattle.mt_cli.specs.Telling.{why_line}
+use Rattle.mt_cli.proofs.Telling.{handed_told}
+use Rattle.mt_cli.proofs.refusal_lines.put_cause.Goals as goal
+
+pub returns : goal.returns
+unfolding Puts
+returns g c =
+    let all = same_handed g.E.Write.contents (append-nil (number_line (codes "radio: fault ") _ ++ why_line c.args.text.now)) (then_handed _ (then_handed _ c.hand_line.ensures c.hand_cause.ensures) c.flush.ensures.puts) in
+    rw (← c.number.ensures, ← c.from.ensures) (handed_told g.E.Write.contents _ _ _ _ _ c.new-lines.ensures.empty c.flush.ensures.empty (search rules) (search rules) all)

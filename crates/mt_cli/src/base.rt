@@ -1,0 +1,50 @@
+//! The log that a command reads and whose name it gives to what it writes.
+
+use crate::fault::CliFault;
+use std::fs::{self, File};
+use std::os::unix::fs::MetadataExt;
+use std::rt::Files;
+
+/// The file of a log that was read, where it is OUT: what is written stands in for this file, and for no other.
+#[derive(Drop)]
+pub(crate) struct Base {
+    log: File,
+}
+
+impl Base {
+    /// The file of a log that was opened by its name, where OUT names it too: by the same text, or as the same file. Refused as `Write` where
+    /// the system gives no second handle of it.
+    pub(crate) fn of<F: Files<File = File>>(
+        rt: &F,
+        log: &File,
+        name: &str,
+        out: &str,
+    ) -> Result<Option<Base>, CliFault> {
+        if name != out && !is_named(rt, log, out) {
+            return Ok(None);
+        }
+        match log.try_clone() {
+            Ok(log) => Ok(Some(Base { log })),
+            Err(_) => Err(CliFault::Write),
+        }
+    }
+
+    /// Gives a part the name OUT, if OUT is still this file: under its lock, so that of two programs which began with one log one is done, and the
+    /// other is not. Answers whether it was given.
+    pub(crate) fn give_way<F: Files<File = File>>(&self, rt: &F, part: &str, out: &str) -> bool {
+        if self.log.try_lock().is_err() {
+            return false;
+        }
+        let is_given = is_named(rt, &self.log, out) && fs::rename(rt, part, out).is_ok();
+        let _ = self.log.unlock();
+        is_given
+    }
+}
+
+// Whether a name is that of an open file.
+fn is_named<F: Files<File = File>>(rt: &F, file: &File, name: &str) -> bool {
+    match (file.metadata(), fs::metadata(rt, name)) {
+        (Ok(own), Ok(there)) => own.dev() == there.dev() && own.ino() == there.ino(),
+        _ => false,
+    }
+}

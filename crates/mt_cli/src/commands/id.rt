@@ -1,0 +1,32 @@
+//! `radio id`.
+
+use crate::fault::CliFault;
+use crate::put::put_bytes;
+use crate::words::Words;
+use mt_opcodec::Latch;
+use mt_stamp::Replica;
+use std::io::Write;
+use std::random::RandomSource;
+use uuid::Uuid;
+
+pub(crate) const WORDS: Words = Words {
+    name: "id",
+    about: "Prints a new name for an editor: a random UUID",
+    after: "Example: radio id\n\nEach editor has a name of its own, which no other uses, and keeps it: what `radio edit` is called with.\n\nExit status: 0 done, 1 refused (the line `radio: fault N`; `radio explain N` tells why), 2 the command line does not parse.",
+    words: &[],
+};
+
+/// Refused as `Read` where the system gives no random bytes.
+pub(crate) fn run<F: RandomSource + AllocGlobal, W: Write>(
+    rt: &F,
+    output: &mut Latch<W>,
+) -> Result<(), CliFault> {
+    let Ok(id) = Uuid::try_new_v4(rt) else {
+        return Err(CliFault::Read(0));
+    };
+    let Ok(mut line) = Replica(id.as_u128()).text(rt.alloc()) else {
+        return Err(CliFault::Memory);
+    };
+    line.push_str("\n")?;
+    put_bytes(line.as_bytes(), output)
+}

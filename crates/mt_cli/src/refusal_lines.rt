@@ -1,0 +1,96 @@
+//! The lines that tell a refusal.
+
+ghost use Rattle.std.specs.Prelude.{◌≡◌, ◌++◌, codes};
+ghost use Rattle.std.specs.List.{flat_map, position};
+ghost use Rattle.mt_latch.specs.Buffered.{Puts};
+ghost use Rattle.mt_cli.specs.Telling.{is_word, up_to, asks_why, on_line, why_line, fault_line, HasTold};
+
+use crate::fault::CliFault;
+use crate::put::hand_line;
+use mt_opcodec::{BufferedLatch, Latch};
+use std::io::Write;
+
+// Where the first `--` stands.
+fn place_of_dashes(words: &[String]) -> Option<usize>
+    ensures { result ≡ position (is_word (codes "--")) words.now }
+{
+    words.iter().position(|word| word.as_str() == "--")
+}
+
+// The words before the first `--`.
+fn words_before_dashes(words: &[String]) -> &[String]
+    ensures { result.now ≡ up_to (position (is_word (codes "--")) words.now) words.now }
+{
+    match place_of_dashes(words) {
+        Some(place) => &words[..place],
+        None => words,
+    }
+}
+
+/// Whether the words ask for the cause of a refusal.
+pub(crate) fn asks_why(words: &[String]) -> bool
+    ensures { result ≡ asks_why words.now }
+{
+    words_before_dashes(words)
+        .iter()
+        .any(|word| word.as_str() == "--why")
+}
+
+// Hands over a byte of a text that is told on one line.
+fn hand_byte<W: Write>(line: &mut BufferedLatch<'_, W>, byte: u8)
+    ensures { Puts W.contents line.old line.new (on_line byte) }
+{
+    if byte < 32 || byte == 127 {
+        line.put(b"?");
+        return;
+    }
+    line.put(&[byte]);
+}
+
+// Hands over a text, with no end of a line in it.
+#[tactic(auto, using(mt_latch::proofs::Putting::puts_none))]
+fn hand_text<W: Write>(line: &mut BufferedLatch<'_, W>, text: &[u8])
+    ensures { Puts W.contents line.old line.new (flat_map on_line text.now) }
+{
+    for byte in text {
+        hand_byte(line, *byte);
+    }
+}
+
+// Hands over the line that tells a cause.
+#[tactic(auto, using(mt_latch::proofs::Putting::then_puts))]
+fn hand_cause<W: Write>(line: &mut BufferedLatch<'_, W>, text: &str)
+    ensures { Puts W.contents line.old line.new (why_line text.now) }
+{
+    line.put(b"radio: why: ");
+    hand_text(line, text.as_bytes());
+    line.put(b"\n");
+}
+
+/// Tells a refusal.
+pub(crate) fn put_refusal<E: Write>(fault: CliFault, errors: &mut Latch<E>)
+    ensures { HasTold E.contents errors.old errors.new (fault_line fault) }
+{
+    let mut lines = BufferedLatch::new(errors);
+    hand_line(&mut lines, b"radio: fault ", u64::from(fault.number()));
+    let _ = lines.flush();
+}
+
+/// Tells a refusal and its cause.
+pub(crate) fn put_cause<E: Write>(fault: CliFault, text: &str, errors: &mut Latch<E>)
+    ensures { HasTold E.contents errors.old errors.new (fault_line fault ++ why_line text.now) }
+{
+    let mut lines = BufferedLatch::new(errors);
+    hand_line(&mut lines, b"radio: fault ", u64::from(fault.number()));
+    hand_cause(&mut lines, text);
+    let _ = lines.flush();
+}
+
+/// Tells a text.
+pub(crate) fn put_text<E: Write>(text: &str, errors: &mut Latch<E>)
+    ensures { HasTold E.contents errors.old errors.new text.now }
+{
+    let mut lines = BufferedLatch::new(errors);
+    lines.put(text.as_bytes());
+    let _ = lines.flush();
+}

@@ -1,0 +1,337 @@
+//! What is known of the cause of a refusal, as `--why` tells it.
+
+ghost use Rattle.std.specs.Prelude.{◌≡◌, IfErr, Err};
+ghost use Rattle.mt_cli.specs.Mistakes.{IsMistake};
+
+use crate::fault::{CliFault, PartFault};
+use crate::stop::Stop;
+use clap::ArgMatches;
+use mt_bwfread::Wave;
+use mt_cuewrite::HeadFault;
+use mt_op::Digest;
+use mt_opcodec::{Latch, Log, LogFault};
+use mt_render::MixFault;
+use mt_script::ScriptFault;
+use mt_stamp::Dot;
+use mt_sync::{SyncFault, TalkFault};
+use std::alloc::Global;
+use std::fs;
+use std::rt::Files;
+
+/// What is known of the cause of a refusal: of the words that a command of this name was called with, and of their files. Nothing where memory is
+/// refused.
+pub(crate) fn cause<F: Files + AllocGlobal>(
+    rt: &F,
+    name: &str,
+    words: &ArgMatches<'_>,
+    fault: &CliFault,
+) -> Option<String> {
+    cause_of(rt, &Call { name, words }, *fault)
+}
+
+/// What a command came to, with what is known of the cause of a refusal where that is asked for.
+pub(crate) fn explained<F: Files + AllocGlobal>(
+    rt: &F,
+    name: &str,
+    words: &ArgMatches<'_>,
+    asked: bool,
+    done: Result<(), Stop>,
+) -> Result<(), Stop>
+    ensures { IfErr result (λ stop. IsMistake stop → done ≡ Err stop) }
+{
+    match done {
+        Ok(()) => Ok(()),
+        Err(stop) if asked => Err(with_cause(rt, name, words, stop)),
+        Err(stop) => Err(stop),
+    }
+}
+
+// The same stop, with what is known of the cause of a refusal.
+fn with_cause<F: Files + AllocGlobal>(
+    rt: &F,
+    name: &str,
+    words: &ArgMatches<'_>,
+    stop: Stop,
+) -> Stop
+    ensures { IsMistake result → stop ≡ result }
+{
+    match stop {
+        Stop::Refused { fault, why } => {
+            drop(why);
+            refused_for(rt, name, words, fault)
+        }
+        Stop::Told { text, is_mistake } => Stop::Told { text, is_mistake },
+    }
+}
+
+// A refusal, with what is known of its cause.
+fn refused_for<F: Files + AllocGlobal>(
+    rt: &F,
+    name: &str,
+    words: &ArgMatches<'_>,
+    fault: CliFault,
+) -> Stop
+    ensures { IsMistake result → ⊥ }
+{
+    let why = cause(rt, name, words, &fault);
+    Stop::Refused { fault, why }
+}
+
+// A command's name, and the words that it was called with.
+#[derive(Clone, Copy)]
+struct Call<'c, 'w> {
+    name: &'c str,
+    words: &'c ArgMatches<'w>,
+}
+
+impl<'w> Call<'_, 'w> {
+    // The word that is called so.
+    fn word(&self, id: &str) -> &'w str {
+        self.words.get_str(id).unwrap_or("")
+    }
+
+    // The words that name a command's inputs, in the order in which these are counted.
+    fn inputs(&self) -> &'static [&'static str] {
+        match self.name {
+            "edit" => &["LOG", "SCRIPT"],
+            "pull" => &["LOG", "FROM"],
+            "lack" => &["LOG", "HAVE"],
+            "take" => &["LOG", "OPS"],
+            "render" | "check" => &["LOG", "SOURCE"],
+            "sources" => &["LOG", "WAVE"],
+            "info" => &["WAVE"],
+            _ => &["LOG"],
+        }
+    }
+
+    // The name of the input of this index, of those that these words name.
+    fn input(&self, ids: &[&str], index: usize) -> &'w str {
+        let mut left = index;
+        for id in ids {
+            let names = self.words.get_strs(id).unwrap_or(&[]);
+            if left < names.len() {
+                return names[left];
+            }
+            left -= names.len();
+        }
+        if self.name == "id" {
+            "random bytes of the system"
+        } else {
+            "standard input"
+        }
+    }
+
+    // The first option of a format that is not one that is written.
+    fn format_option(&self) -> &'static str {
+        if !(1..=384_000).contains(&self.words.get_one::<u32>("rate").unwrap_or(0)) {
+            return "rate";
+        }
+        match self.words.get_one::<u16>("bits") {
+            Some(16 | 24) => "channels",
+            _ => "bits",
+        }
+    }
+
+    // The name of what it writes.
+    fn output(&self) -> &'w str {
+        match self.words.get_str("OUT") {
+            Some(name) => name,
+            None if self.name == "pull" => self.word("LOG"),
+            None => STANDARD_OUTPUT,
+        }
+    }
+}
+
+const STANDARD_OUTPUT: &str = "standard output";
+
+// What is known of the cause of a command's refusal; nothing where memory is refused.
+fn cause_of<F: Files + AllocGlobal>(
+    rt: &F,
+    call: &Call<'_, '_>,
+    fault: CliFault,
+) -> Option<String> {
+    let alloc = rt.alloc();
+    match fault {
+        CliFault::Memory => told(alloc, "memory", ""),
+        CliFault::Read(index) => told(alloc, "input ", call.input(call.inputs(), index)),
+        CliFault::Log(index, fault) => log_cause(alloc, call.input(call.inputs(), index), fault),
+        CliFault::Merge(dot) => clash_cause(rt, call, dot),
+        CliFault::Source(index, _) => {
+            told(alloc, "recording ", call.input(&["SOURCE", "WAVE"], index))
+        }
+        CliFault::Mix(fault) => mix_cause(rt, call, fault),
+        CliFault::Write => output_cause(alloc, call.output(), "cannot be written"),
+        CliFault::Print => output_cause(alloc, STANDARD_OUTPUT, "cannot be written"),
+        CliFault::Part(fault) => part_cause(alloc, call.output(), fault),
+        CliFault::Name(_) => told(alloc, "word ", call.word("REPLICA")),
+        CliFault::Head(fault) => told(alloc, "option --", head_option(fault)),
+        CliFault::Format(_) => told(alloc, "option --", call.format_option()),
+        CliFault::Script(fault) => script_cause(alloc, call.word("SCRIPT"), fault),
+        CliFault::Message(_) => messages_cause(alloc, call),
+        CliFault::Sync(fault) => sync_cause(alloc, call, fault),
+        CliFault::Net => told(alloc, "address ", call.word("ADDR")),
+    }
+}
+
+// A word, and what it is said of.
+fn told(alloc: Global, word: &str, name: &str) -> Option<String> {
+    format!(in alloc; "{word}{name}").ok()
+}
+
+// A log that is none, and the record at fault, counted from 0.
+fn log_cause(alloc: Global, name: &str, fault: LogFault) -> Option<String> {
+    match fault {
+        LogFault::BadRecord(record, _) | LogFault::OutOfOrder(record) => {
+            format!(in alloc; "log {name} record {record}").ok()
+        }
+        _ => told(alloc, "log ", name),
+    }
+}
+
+// A log, and the operation in it that has another's name.
+fn operation_cause(alloc: Global, name: &str, dot: Dot) -> Option<String> {
+    let replica = dot.replica.text(alloc).ok()?;
+    let number = dot.seq;
+    format!(in alloc; "log {name} operation {number}.{replica}").ok()
+}
+
+// The first log that has another operation of this name than those before it: they are read once more.
+fn clash_cause<F: Files + AllocGlobal>(rt: &F, call: &Call<'_, '_>, dot: Dot) -> Option<String> {
+    let mut first = None;
+    for id in call.inputs() {
+        for name in call.words.get_strs(id).unwrap_or(&[]) {
+            let Some(log) = log_named(rt, name) else {
+                continue;
+            };
+            if is_other(&first, &log, &dot) {
+                return operation_cause(rt.alloc(), name, dot);
+            }
+            if first.is_none() && log.get(&dot).is_some() {
+                first = Some(log);
+            }
+        }
+    }
+    operation_cause(rt.alloc(), call.word("LOG"), dot)
+}
+
+// Whether a log has another operation of this name than the first log that has one.
+fn is_other(first: &Option<Log>, log: &Log, dot: &Dot) -> bool {
+    let Some(first) = first else {
+        return false;
+    };
+    match (first.get(dot), log.get(dot)) {
+        (Some(one), Some(other)) => one != other,
+        _ => false,
+    }
+}
+
+// The log in a file, where it still is one.
+fn log_named<F: Files + AllocGlobal>(rt: &F, name: &str) -> Option<Log> {
+    let bytes = bytes_named(rt, name)?;
+    Log::read(rt.alloc(), &bytes).ok()
+}
+
+// The bytes of a file, where it still can be read.
+fn bytes_named<F: Files + AllocGlobal>(rt: &F, name: &str) -> Option<Vec<u8>> {
+    let mut file = Latch::new(fs::open(rt, name).ok()?);
+    file.get_all(rt.alloc()).ok()
+}
+
+// Why a programme cannot be mixed: a recording, of which one of another rate is named, or the log, whose programme is too long.
+fn mix_cause<F: Files + AllocGlobal>(
+    rt: &F,
+    call: &Call<'_, '_>,
+    fault: MixFault,
+) -> Option<String> {
+    let alloc = rt.alloc();
+    match fault {
+        MixFault::MissingSource(digest) => {
+            let digest = digest.text(alloc).ok()?;
+            told(alloc, "source ", &digest)
+        }
+        MixFault::RateDiffers(digest) => rate_cause(rt, call, digest),
+        MixFault::TooLong | MixFault::Memory => told(alloc, "log ", call.word("LOG")),
+    }
+}
+
+// A recording of another rate: its digest, its rate and its name. The recordings are read once more.
+fn rate_cause<F: Files + AllocGlobal>(
+    rt: &F,
+    call: &Call<'_, '_>,
+    digest: Digest,
+) -> Option<String> {
+    let alloc = rt.alloc();
+    let text = digest.text(alloc).ok()?;
+    for name in call.words.get_strs("SOURCE").unwrap_or(&[]) {
+        if let Some(rate) = rate_of(rt, name, digest) {
+            return format!(in alloc; "source {text} rate {rate} file {name}").ok();
+        }
+    }
+    told(alloc, "source ", &text)
+}
+
+// The rate of a recording, where its file still has this digest.
+fn rate_of<F: Files + AllocGlobal>(rt: &F, name: &str, digest: Digest) -> Option<u32> {
+    let bytes = bytes_named(rt, name)?;
+    if Digest::of(&bytes) != digest {
+        return None;
+    }
+    Some(Wave::read(&bytes).ok()?.rate())
+}
+
+// An output, and what became of it.
+fn output_cause(alloc: Global, name: &str, what: &str) -> Option<String> {
+    format!(in alloc; "output {name} {what}").ok()
+}
+
+// A file that was not made, or did not get its name.
+fn part_cause(alloc: Global, name: &str, fault: PartFault) -> Option<String> {
+    match fault {
+        PartFault::OutThere => output_cause(alloc, name, "is there"),
+        PartFault::PartThere => output_cause(alloc, name, "cannot be made: its part is there"),
+        PartFault::NotMade => output_cause(alloc, name, "cannot be made"),
+        PartFault::NotNamed => output_cause(alloc, name, "cannot get its name"),
+    }
+}
+
+// The option of a text of the head.
+fn head_option(fault: HeadFault) -> &'static str {
+    let HeadFault::BadHead(place) = fault;
+    match place {
+        1 => "description",
+        2 => "originator",
+        3 => "reference",
+        4 => "date",
+        _ => "time",
+    }
+}
+
+// A script, its line at fault, counted from 1, and the refusal of the change that this asks for.
+fn script_cause(alloc: Global, name: &str, fault: ScriptFault) -> Option<String> {
+    match fault {
+        ScriptFault::BadLine(line) => format!(in alloc; "script {name} line {line}").ok(),
+        ScriptFault::Refused(line, fault) => {
+            let number = fault.number();
+            format!(in alloc; "script {name} line {line} fault {number}").ok()
+        }
+        ScriptFault::Memory | ScriptFault::Failed => told(alloc, "script ", name),
+    }
+}
+
+// Where messages came from that are not taken: a file, or the other end of a conversation. Of `have`, whose own message is too long, the log.
+fn messages_cause(alloc: Global, call: &Call<'_, '_>) -> Option<String> {
+    match call.name {
+        "have" => told(alloc, "log ", call.word("LOG")),
+        "lack" => told(alloc, "messages ", call.word("HAVE")),
+        "take" => told(alloc, "messages ", call.word("OPS")),
+        _ => told(alloc, "peer ", call.word("ADDR")),
+    }
+}
+
+// Why operations are not taken: one of them has another's name in the log, or the messages.
+fn sync_cause(alloc: Global, call: &Call<'_, '_>, fault: SyncFault) -> Option<String> {
+    match fault {
+        SyncFault::Talk(TalkFault::Conflict(dot)) => operation_cause(alloc, call.word("LOG"), dot),
+        _ => messages_cause(alloc, call),
+    }
+}

@@ -1,0 +1,46 @@
+//! One round, and what ends the rounds of a block (FIPS 180-4, section 6.2.2).
+
+ghost use Rattle.std.specs.Prelude.{◌≡◌, ℕ};
+ghost use Rattle.sha2.specs.Sha256.{add32, add_state, round};
+
+use crate::words::{big_sigma0, big_sigma1, ch, maj};
+
+/// A round of a word and a constant, which are added up already: their sum waits for no round.
+#[inline(always)]
+pub(crate) fn round(variables: [u32; 8], sum: u32) -> [u32; 8]
+    ensures { (constant word : ℕ) → sum ≡ add32 word constant → result ≡ round variables constant word }
+{
+    let [a, b, c, d, e, f, g, h] = variables;
+    let first = h
+        .wrapping_add(sum)
+        .wrapping_add(ch(e, f, g))
+        .wrapping_add(big_sigma1(e));
+    let second = big_sigma0(a).wrapping_add(maj(a, b, c));
+    [
+        first.wrapping_add(second),
+        a,
+        b,
+        c,
+        d.wrapping_add(first),
+        e,
+        f,
+        g,
+    ]
+}
+
+/// The hash value with what the rounds left added to it.
+#[inline(always)]
+pub(crate) fn sum(state: [u32; 8], variables: [u32; 8]) -> [u32; 8]
+    ensures { result ≡ add_state state variables }
+{
+    [
+        state[0].wrapping_add(variables[0]),
+        state[1].wrapping_add(variables[1]),
+        state[2].wrapping_add(variables[2]),
+        state[3].wrapping_add(variables[3]),
+        state[4].wrapping_add(variables[4]),
+        state[5].wrapping_add(variables[5]),
+        state[6].wrapping_add(variables[6]),
+        state[7].wrapping_add(variables[7]),
+    ]
+}

@@ -1,0 +1,4 @@
+pub mod Files
+pub mod Played
+pub mod SourcesText
+pub mod Using
