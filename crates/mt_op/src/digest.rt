@@ -8,7 +8,7 @@ ghost use Rattle.mt_op.specs.Digest.{digest_text, is_digest_text, IsDigest};
 
 use crate::fault::OpFault;
 use hex::FromHex;
-use sha2::{Digest as Hasher, Sha256};
+use mt_digests::sha256_of;
 use std::alloc::Allocator;
 
 /// The SHA-256 (FIPS 180-4) of a recording's bytes, which names the recording. Digests are ordered by their
@@ -26,7 +26,7 @@ impl Digest {
     pub fn of(bytes: &[u8]) -> Digest
         ensures { result.0 ≡ sha256 bytes.now }
     {
-        Digest(Sha256::digest(bytes))
+        Digest(sha256_of(bytes))
     }
 
     // The bytes: thirty-two of them.

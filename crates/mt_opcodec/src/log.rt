@@ -18,10 +18,10 @@ use crate::op_writer::put_op;
 use crate::run::Run;
 use crate::run_list::{add_to_runs, copied_runs, count_of, equal_runs, op_of_runs, refs_of_runs};
 use crate::version::version_of_body;
+use mt_digests::sha256_of;
 use mt_op::Op;
 use mt_op::laws::equal_ops;
 use mt_stamp::Dot;
-use sha2::{Digest, Sha256};
 use std::alloc::{AllocError, Allocator, Global};
 use std::collections::VecDeque;
 use std::marker::Model;
@@ -190,7 +190,7 @@ impl<A: Allocator + Clone> Log<A> {
     {
         let mut text = Vec::new(self.allocator().clone()?);
         put_records(&mut text, self.len(), self.runs())?;
-        let digest = Sha256::digest(text.as_slice());
+        let digest = sha256_of(text.as_slice());
         text.extend_from_slice(&digest)?;
         Ok(text)
     }

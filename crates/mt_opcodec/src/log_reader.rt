@@ -15,9 +15,9 @@ use crate::fault::{LogFault, ReadFault};
 use crate::log::{Log, add_last};
 use crate::op_reader::op_of;
 use crate::version::{NEWEST_VERSION, is_version, version_of_body};
+use mt_digests::sha256_of;
 use mt_op::Op;
 use mt_stamp::Dot;
-use sha2::{Digest, Sha256};
 use std::alloc::Allocator;
 
 fn is_after(last: Option<Dot>, dot: Dot) -> bool
@@ -128,8 +128,7 @@ fn sealed_body(bytes: &[u8]) -> Result<&[u8], LogFault>
 fn is_digest_of(body: &[u8], digest: &[u8]) -> bool
     ensures { result ≡ pointwise nat_eq (sha256 body.now) digest.now }
 {
-    let made = Sha256::digest(body);
-    made.as_slice() == digest
+    sha256_of(body).as_slice() == digest
 }
 
 // The log, where its operations ask for no earlier version than this one.

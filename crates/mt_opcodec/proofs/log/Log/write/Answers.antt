@@ -16,4 +16,4 @@ put_records-requires g c = record {
 
 pub returns-clause-ok : goal.returns-clause-ok
 returns-clause-ok g c =
-    sealed (operations c.args.self.now) c.put_records.new.out.items c.digest-digest.result c.extend_from_slice.new.self.items (c.in_ok-put_records.ensures ∙ ap log_body c.runs.ensures.value) (c.digest-digest.ensures ∙ ap sha256 c.as_slice.ensures.value) c.in_ok-extend_from_slice.ensures.items
+    sealed (operations c.args.self.now) c.put_records.new.out.items c.sha256_of-digest.result c.extend_from_slice.new.self.items (c.in_ok-put_records.ensures ∙ ap log_body c.runs.ensures.value) (c.sha256_of-digest.ensures ∙ ap sha256 c.as_slice.ensures.value) c.in_ok-extend_from_slice.ensures.items
