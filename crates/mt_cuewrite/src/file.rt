@@ -1,10 +1,10 @@
 //! The file.
 
-ghost use Rattle.std.specs.Prelude.{◌≡◌, ◌+◌, ◌*◌, ◌^◌, ◌<◌, true, false, length, IfErr, OnOk, codes};
+ghost use Rattle.std.specs.Prelude.{◌≡◌, ◌+◌, ◌*◌, ◌^◌, ◌<◌, ◌≤◌, true, false, length, IfErr, OnOk, codes};
 ghost use Rattle.std.specs.Io.KnownBytes.{Appends};
 ghost use Rattle.mt_render.specs.Mix.{length_of};
 ghost use Rattle.mt_cuewrite.specs.Faults.{Fits, BounceFails};
-ghost use Rattle.mt_cuewrite.specs.File.{before, list_content, marker_chunks, padded, samples as all_samples, file};
+ghost use Rattle.mt_cuewrite.specs.File.{before, list_content, marker_chunks, padded, riff, samples as all_samples, file};
 ghost use Rattle.mt_latch.specs.Buffered.{Puts};
 ghost use Rattle.mt_cuewrite.specs.Sizes.{AreSizes};
 ghost use Rattle.std.specs.List.{flat_map};
@@ -75,6 +75,22 @@ fn put_file<A: Allocator, B: Allocator, W: Write>(
     put_format(output, mix.format());
     put_data(output, mix, sizes.samples, room);
     put_marks(output, mix.length(), markers, sizes);
+}
+
+/// Looks whether the file of a mix, of markers and of a head can be written, as `bounce` does first. Refused only as `TooLong` (35), where the size of
+/// the RIFF chunk is over 4,294,967,295 bytes. Takes no memory, and no time but that of a walk over the markers.
+pub fn check_size<A: Allocator, B: Allocator>(
+    mix: &Mix<'_, '_, A>,
+    markers: &[MarkerView<B>],
+    head: &Head<'_>,
+) -> Result<(), BounceFault>
+    ensures fits { OnOk result (Fits mix.now markers.now head.now) }
+    ensures err { IfErr result (λ fault. (fault ≡ BounceFault.TooLong) × (2 ^ 32 ≤ length (riff mix.now markers.now head.now))) }
+{
+    match sizes_of(mix, markers, head) {
+        Some(_) => Ok(()),
+        None => Err(BounceFault::TooLong),
+    }
 }
 
 /// Writes the file of a mix, of markers and of a head, and nothing else. Markers that stand at the programme's end or behind it

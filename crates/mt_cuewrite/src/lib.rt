@@ -51,5 +51,5 @@ mod put;
 mod size;
 
 pub use fault::{BounceFault, HeadFault};
-pub use file::bounce;
+pub use file::{bounce, check_size};
 pub use head::Head;
