@@ -28,6 +28,7 @@ import subprocess
 import sys
 import tempfile
 import threading
+import traceback
 
 TOP = os.path.dirname(os.path.dirname(os.path.abspath(__file__)))
 TRIED = os.path.join(TOP, "tests", "wrong_bodies.tried")
@@ -226,7 +227,7 @@ LOOKS = 6
 
 def own_report(crate, name):
     """Checks a crate, and gives what is said of it, and not of those below it."""
-    report = subprocess.run(["rt", "check", "--jobs", "1"], cwd=crate, capture_output=True, text=True)
+    report = subprocess.run(["rt", "check", "--jobs", "1"], cwd=crate, capture_output=True, text=True, errors="replace")
     report = report.stdout + report.stderr
     return report[max(report.rfind("for " + name + "\n"), 0) :]
 
@@ -440,7 +441,7 @@ def try_crate(name, folder):
     made, wrong, weak = sum_of(name), {}, {}
     with tempfile.TemporaryDirectory() as top:
         crate = copy_project(name, top)
-        first = subprocess.run(["rt", "check", "--jobs", "1"], cwd=crate, capture_output=True, text=True)
+        first = subprocess.run(["rt", "check", "--jobs", "1"], cwd=crate, capture_output=True, text=True, errors="replace")
         if "not proved" in first.stdout + first.stderr or first.returncode != 0:
             print("%s: the crate itself is not proved" % name)
             return 1
@@ -472,6 +473,15 @@ def try_crate(name, folder):
     return len(wrong) + len(weak)
 
 
+def tried_to_the_end(name, folder):
+    """The same; where the trying itself fails, that is told of this crate, and the others go on."""
+    try:
+        return try_crate(name, folder)
+    except Exception:
+        print("%s: not tried to the end\n%s" % (name, traceback.format_exc()), flush=True)
+        return 1
+
+
 def main():
     parser = argparse.ArgumentParser(description=__doc__.split("\n")[0])
     parser.add_argument("crates", nargs="*")
@@ -493,7 +503,7 @@ def main():
             print("%s: rt check: the crate itself is not proved" % name)
             return 1
     with concurrent.futures.ThreadPoolExecutor(options.jobs) as pool:
-        return 1 if sum(pool.map(lambda name: try_crate(name, options.folder), crates)) else 0
+        return 1 if sum(pool.map(lambda name: tried_to_the_end(name, options.folder), crates)) else 0
 
 
 if __name__ == "__main__":
