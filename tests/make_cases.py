@@ -18,6 +18,8 @@ import subjects.merges
 import subjects.pulls
 import subjects.waves
 import subjects.renders
+import subjects.sources
+import subjects.warnings
 import subjects.command_lines
 import subjects.edits
 import subjects.exchanges

@@ -1,6 +1,6 @@
 """What `radio` answers to words and files, by the second reading in this folder: status, standard output, the refusal's number, and the files that it makes.
 The order of the refusals is that of docs/refusals.md and of the README: a command checks its words, opens its files from left to right, and reads and checks
-each in turn; `merge` and `render` make OUT.part once their files are open, the others once all is known."""
+each in turn (`sources` opens each where it reads it); `merge` and `render` make OUT.part once their files are open, the others once all is known."""
 from formats.log_text import log_text
 from formats.mixes import Mix, check_format, check_head
 from formats.read_logs import dot, read_log, union, write_log
@@ -9,6 +9,8 @@ from formats.read_waves import Wave
 from formats.refused import Refused, refuse_unless
 from formats.scripts import read_replica, run
 from formats.sessions import ready_of, session_of, session_text
+from formats.sources_text import sources_text
+from formats.warnings_text import warnings_text
 
 WRITE, READ = 37, 45
 OPTIONS = {
@@ -16,6 +18,8 @@ OPTIONS = {
     "time-reference": "0"}
 # more frames than these are not mixed here
 FRAMES_MIXED = 20_000
+# so many bytes of samples leave room for the rest of the file
+BYTES_THAT_FIT = 3_900_000_000
 
 
 class TooMuch(Exception):
@@ -123,20 +127,42 @@ def info(folder, name):
     return Answer(output=Wave(*folder.open(name)).info().encode())
 
 
-def render(folder, *words):
+def sources(folder, *words):
+    log, *names = [word for word in words if word not in ("--missing", "--files")]
+    session = session_of(read_log(*folder.open(log)))
+    return Answer(output=sources_text(session, [(name, *folder.open(name)) for name in names], words).encode())
+
+
+def parted_well(words):
+    """The names among the words, the options of the head and those of the format, which both have to be taken."""
     names, options = parted(words)
     head = {name: options[name] for name in ("description", "originator", "reference", "date", "time")}
     check_head(head)
-    rate, bits, channels = (int(options[name]) for name in ("rate", "bits", "channels"))
-    check_format(rate, bits, channels)
-    out, log, *recordings = names
+    layout = [int(options[name]) for name in ("rate", "bits", "channels")]
+    check_format(*layout)
+    return names, dict(head, reference_time=int(options["time-reference"])), layout
+
+
+def render(folder, *words):
+    (out, log, *recordings), head, layout = parted_well(words)
     inputs = folder.open(log, *recordings)
     folder.part(out)
     session = session_of(read_log(inputs[0]))
-    mix = Mix(session, [Wave(data) for data in inputs[1:]], rate, bits, channels)
+    mix = Mix(session, [Wave(data) for data in inputs[1:]], *layout)
     if mix.length > FRAMES_MIXED:
         raise TooMuch
-    return Answer(made={out: mix.file(dict(head, reference_time=int(options["time-reference"])))})
+    return Answer(made={out: mix.file(head)})
+
+
+def check(folder, *words):
+    (log, *recordings), _, layout = parted_well(words)
+    inputs = folder.open(log, *recordings)
+    ops = read_log(inputs[0])
+    session = session_of(ops)
+    mix = Mix(session, [Wave(data) for data in inputs[1:]], *layout)
+    if mix.size > BYTES_THAT_FIT:
+        raise TooMuch
+    return Answer(output=warnings_text(ops, session, mix).encode())
 
 
 def parted(words):
@@ -152,7 +178,7 @@ def parted(words):
     return names, options
 
 
-COMMANDS = {"view": view, "log": list_ops, "merge": merge, "pull": pull, "edit": edit, "have": have, "lack": lack, "take": take, "info": info, "render": render}
+COMMANDS = {"view": view, "log": list_ops, "merge": merge, "pull": pull, "edit": edit, "have": have, "lack": lack, "take": take, "info": info, "sources": sources, "check": check, "render": render}
 
 
 def answer(words, files, stdin=b""):

@@ -25,6 +25,10 @@ caused("missing_operations", 45, "input ops", ["take", "log", "ops", "out"], {"l
 caused("missing_recording", 45, "input second", ["render", "out", "log", "first", "second"], {"log": ONE, "first": SMALLEST})
 caused("missing_from", 45, "input desk", ["pull", "log", "home", "desk"], {"log": ONE, "home": ONE})
 caused("missing_wave", 45, "input wave", ["info", "wave"])
+caused("missing_log_of_sources", 45, "input log", ["sources", "log", "wave"], {"wave": SMALLEST})
+caused("missing_file_of_sources", 45, "input second", ["sources", "log", "first", "second"], {"log": ONE, "first": SMALLEST})
+caused("missing_source_of_check", 45, "input second", ["check", "log", "first", "second"], {"log": ONE, "first": SMALLEST})
+caused("damaged_log_of_sources", 13, "log bad", ["sources", "bad", "wave"], {"bad": CUT, "wave": SMALLEST})
 # before the command's name, and between its words
 case("why_before_the_command", ["--why", "view", "missing"], status=1, stderr="radio: fault 45\nradio: why: input missing\n")
 case("why_among_the_words", ["merge", "out", "--why", "missing"], status=1, stderr="radio: fault 45\nradio: why: input missing\n")
@@ -47,6 +51,7 @@ caused("clash_with_what_came", 17, "log log operation 1.%s" % EDITOR, ["take", "
 caused("no_wave", 26, "recording second", ["render", "out", "log", "first", "second"], {"log": ONE, "first": SMALLEST, "second": ONE})
 LAID = log([add_track((1, A, 1), None, "V"), add_clip((2, A, 2), DIGEST, (1, A, 1), 0, 0, 1)])
 caused("no_recording", 33, "source %s" % DIGEST.hex(), ["render", "out", "log"], {"log": LAID})
+caused("no_recording_to_check", 33, "source %s" % DIGEST.hex(), ["check", "log"], {"log": LAID})
 caused("recording_of_another_rate", 34, "source %s rate 44100 file wave" % DIGEST.hex(), ["render", "out", "log", "wave"], {"log": LAID, "wave": SMALLEST})
 
 # outputs

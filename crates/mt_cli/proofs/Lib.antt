@@ -10,3 +10,6 @@ mod Editing
 pub mod Telling
 pub mod Stopping
 mod Pulling
+mod LogAndFiles
+mod SourcesListing
+mod Checking

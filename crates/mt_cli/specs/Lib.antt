@@ -6,7 +6,10 @@ pub mod Listing
 pub mod Writing
 pub mod Info
 pub mod Sources
+pub mod LogAndFiles
+pub mod SourcesListing
 pub mod Bouncing
+pub mod Checking
 pub mod Headline
 pub mod OneLog
 pub mod Swapping

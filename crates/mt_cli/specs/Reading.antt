@@ -21,6 +21,21 @@ IsReadCause index new Memory = Unit {0}
 IsReadCause index new (Read place) = (place ≡ index) × (new.failed ≡ true)
 IsReadCause index new _ = ⊥
 
+-- each reader gave what stands at its place
+abbrev pub GaveEach : {L X : Type 0} → (L → X → Type 0) → List L → List X → Type 0
+GaveEach Gives [] [] = Unit {0}
+GaveEach Gives [] (x ∷ xs) = ⊥
+GaveEach Gives (latch ∷ latches) [] = ⊥
+GaveEach Gives (latch ∷ latches) (x ∷ xs) = Gives latch x × GaveEach Gives latches xs
+
+-- Why the first of the readers from an index on that is at fault gave nothing: those before it gave what they had and are at their ends, and
+-- those behind it were not asked. Where memory ran out, it is the one that was being read, or the next.
+abbrev pub FirstCause : {L X : Type 0} → (L → Type 0) → (L → X → Type 0) → (ℕ → L → L → CliFault → Type 0) → ℕ → List L → List L → CliFault → Type 0
+FirstCause Ended Gives Cause index [] new fault = fault ≡ Memory
+FirstCause Ended Gives Cause index (latch ∷ latches) [] fault = ⊥
+FirstCause {L} {X} Ended Gives Cause index (latch ∷ latches) (after ∷ afters) fault =
+    (Cause index latch after fault × (afters ≡ latches)) ⊎ ((x : X) × (Gives latch x × (Ended after × FirstCause Ended Gives Cause (index + 1) latches afters fault)))
+
 module _ {R : Type 0} (remaining : R → Option (List ℕ)) where
   -- these bytes are all that the reader had left, where it tells
   abbrev pub Gave : Latched R → List ℕ → Type 0
@@ -36,10 +51,7 @@ module _ {R : Type 0} (remaining : R → Option (List ℕ)) where
 
   -- each reader gave the text of the log at its place
   abbrev pub GaveLogs : List (Latched R) → List LogMap → Type 0
-  GaveLogs [] [] = Unit {0}
-  GaveLogs [] (m ∷ logs) = ⊥
-  GaveLogs (latch ∷ latches) [] = ⊥
-  GaveLogs (latch ∷ latches) (m ∷ logs) = GaveLog latch m × GaveLogs latches logs
+  GaveLogs = GaveEach GaveLog
 
   -- each reader was read to its end, and has not failed
   abbrev pub AreRead : List (Latched R) → Type 0
@@ -56,10 +68,6 @@ module _ {R : Type 0} (remaining : R → Option (List ℕ)) where
   IsCause index old new (Log place fault) = (place ≡ index) × ((fault ≢ log.Memory) × (IsRead new × ((bytes : List ℕ) × (Gave old bytes × LogFails fault (log_at bytes)))))
   IsCause index old new _ = ⊥
 
-  -- The same of the readers from an index on: those before the one at fault gave logs and are at their ends, and those
-  -- behind it were not asked. Where memory ran out, it is the one that was being read, or the next.
+  -- the same of the readers from an index on
   abbrev pub HasCause : ℕ → List (Latched R) → List (Latched R) → CliFault → Type 0
-  HasCause index [] new fault = fault ≡ Memory
-  HasCause index (latch ∷ latches) [] fault = ⊥
-  HasCause index (latch ∷ latches) (after ∷ afters) fault =
-      (IsCause index latch after fault × (afters ≡ latches)) ⊎ ((m : LogMap) × (GaveLog latch m × (IsRead after × HasCause (index + 1) latches afters fault)))
+  HasCause = FirstCause IsRead GaveLog IsCause

@@ -1,22 +1,23 @@
 -- Reading recordings from readers, and why one is refused.
-use Rattle.std.specs.Prelude.{◌≡◌, ℕ, true, List, [], ◌∷◌, ◌+◌, Option, Some, map, Vec, ◌⊎◌}
+use Rattle.std.specs.Prelude.{◌≡◌, ℕ, true, List, ◌+◌, Option, Some, map, Vec}
 use Rattle.mt_latch.specs.Latch.{Latched}
 use Rattle.mt_bwfread.specs.Wave.{IsWave, fault_of}
 use Rattle.mt_cli.specs.declared.fault.CliFault.{CliFault}
 use Rattle.mt_cli.specs.declared.fault.CliFault.TheVariants.{Memory, Read, Source}
-use Rattle.mt_cli.specs.Reading.{Gave, IsRead, IsRest}
+use Rattle.mt_cli.specs.Reading.{Gave, IsRead, IsRest, GaveEach, FirstCause}
 
 -- the bytes of each recording that is kept
 abbrev pub bytes_in : {Z : Type 0} → List (Vec ℕ Z) → List (List ℕ)
 bytes_in texts = map (λ t. t.items) texts
 
 module _ {R : Type 0} (remaining : R → Option (List ℕ)) where
+  -- the reader gave the bytes of a wave file
+  abbrev pub GaveWave : Latched R → List ℕ → Type 0
+  GaveWave latch text = Gave remaining latch text × IsWave text
+
   -- each reader gave the wave file at its place
   abbrev pub GaveWaves : List (Latched R) → List (List ℕ) → Type 0
-  GaveWaves [] [] = Unit {0}
-  GaveWaves [] (text ∷ texts) = ⊥
-  GaveWaves (latch ∷ latches) [] = ⊥
-  GaveWaves (latch ∷ latches) (text ∷ texts) = (Gave remaining latch text × IsWave text) × GaveWaves latches texts
+  GaveWaves = GaveEach GaveWave
 
   -- Why the reader of an index gave no wave file: the latch has failed, or its bytes are none, by the first of their faults. As a
   -- reader it is counted behind so many others, and as a recording it is not.
@@ -26,10 +27,6 @@ module _ {R : Type 0} (remaining : R → Option (List ℕ)) where
   IsSourceCause others index old new (Source place fault) = (place ≡ index) × (IsRead remaining new × ((bytes : List ℕ) × (Gave remaining old bytes × (fault_of bytes ≡ Some fault))))
   IsSourceCause others index old new _ = ⊥
 
-  -- The same of the readers from an index on: those before the one at fault gave wave files and are at their ends, and those behind
-  -- it were not asked. Where memory ran out, it is the one that was being read, or the next.
+  -- the same of the readers from an index on
   abbrev pub HasSourceCause : ℕ → ℕ → List (Latched R) → List (Latched R) → CliFault → Type 0
-  HasSourceCause others index [] new fault = fault ≡ Memory
-  HasSourceCause others index (latch ∷ latches) [] fault = ⊥
-  HasSourceCause others index (latch ∷ latches) (after ∷ afters) fault =
-      (IsSourceCause others index latch after fault × (afters ≡ latches)) ⊎ ((text : List ℕ) × ((Gave remaining latch text × IsWave text) × (IsRead remaining after × HasSourceCause others (index + 1) latches afters fault)))
+  HasSourceCause others = FirstCause (IsRead remaining) GaveWave (IsSourceCause others)

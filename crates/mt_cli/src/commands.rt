@@ -17,6 +17,7 @@ use std::net::OpenStream;
 use std::rt::Files;
 use std::time::Duration;
 
+pub(crate) mod check;
 pub(crate) mod edit;
 pub(crate) mod explain;
 pub(crate) mod have;
@@ -29,6 +30,7 @@ pub(crate) mod merge;
 pub(crate) mod pull;
 pub(crate) mod render;
 pub(crate) mod serve;
+pub(crate) mod sources;
 pub(crate) mod take;
 pub(crate) mod view;
 

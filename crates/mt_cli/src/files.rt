@@ -4,6 +4,7 @@ use crate::base::Base;
 use crate::fault::CliFault;
 use mt_opcodec::Latch;
 use std::fs::{self, File};
+use std::io::{self, Read};
 use std::rt::Files;
 
 /// Opens the files from left to right; so many inputs are counted before them.
@@ -29,6 +30,59 @@ pub(crate) fn open<F: Files + AllocGlobal>(
         Ok(file) => Ok(Latch::new(file)),
         Err(_) => Err(CliFault::Read(index)),
     }
+}
+
+/// A file that is opened where it is first read, and closed at its end: so as many can be read, one after another, as there are. One that cannot be
+/// opened is one that cannot be read.
+#[derive(Drop)]
+pub(crate) struct LateFile<'r, 'n, F: Files> {
+    rt: &'r F,
+    name: &'n str,
+    file: Option<F::File>,
+    is_over: bool,
+}
+
+impl<'r, 'n, F: Files> LateFile<'r, 'n, F> {
+    /// The file of a name.
+    pub(crate) fn new(rt: &'r F, name: &'n str) -> LateFile<'r, 'n, F> {
+        LateFile {
+            rt,
+            name,
+            file: None,
+            is_over: false,
+        }
+    }
+}
+
+impl<F: Files> Read for LateFile<'_, '_, F> {
+    fn read(&mut self, buf: &mut [u8]) -> io::Result<usize> {
+        if self.is_over {
+            return Ok(0);
+        }
+        let mut file = match self.file.take() {
+            Some(file) => file,
+            None => fs::open(self.rt, self.name)?,
+        };
+        let count = file.read(buf)?;
+        if count == 0 {
+            self.is_over = true;
+        } else {
+            self.file = Some(file);
+        }
+        Ok(count)
+    }
+}
+
+/// Files that are opened where they are first read, from left to right.
+pub(crate) fn late_files<'r, 'n, F: Files + AllocGlobal>(
+    rt: &'r F,
+    names: &[&'n str],
+) -> Result<Vec<Latch<LateFile<'r, 'n, F>>>, CliFault> {
+    let mut files = Vec::new(rt.alloc());
+    for name in names {
+        files.push(Latch::new(LateFile::new(rt, name)))?;
+    }
+    Ok(files)
 }
 
 /// The file of a log, and beside it the same, where it is OUT.

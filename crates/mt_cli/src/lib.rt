@@ -1,7 +1,7 @@
 //! The commands of `radio`.
 //!
-//! `view_logs`, `list_logs`, `merge_logs`, `pull_logs`, `bounce_logs`, `write_info`, `edit_log`, `have_log`, `lack_log`, `take_log` and `swap_log` do the
-//! work of commands over any readers and writers, of which each is in a latch:
+//! `view_logs`, `list_logs`, `merge_logs`, `pull_logs`, `list_sources`, `check_log`, `bounce_logs`, `write_info`, `edit_log`, `have_log`, `lack_log`, `take_log` and
+//! `swap_log` do the work of commands over any readers and writers, of which each is in a latch:
 //!
 //! ```rust
 //! use mt_cli::{merge_logs, view_logs};
@@ -42,6 +42,7 @@
 
 mod base;
 mod both;
+mod check;
 mod commands;
 mod edit;
 mod fault;
@@ -60,6 +61,7 @@ mod read;
 mod refusal_lines;
 mod refusals;
 mod render;
+mod source_list;
 mod sources;
 mod stop;
 mod swap;
@@ -71,6 +73,7 @@ mod why;
 mod words;
 
 pub use both::read_editor;
+pub use check::check_log;
 pub use edit::edit_log;
 pub use fault::{CliFault, PartFault};
 pub use have::have_log;
@@ -82,6 +85,7 @@ pub use program::command;
 pub use pull::pull_logs;
 pub use refusals::{Refusal, find_refusal};
 pub use render::bounce_logs;
+pub use source_list::list_sources;
 pub use swap::swap_log;
 pub use take::take_log;
 pub use view::{view_log, view_logs};

@@ -5,7 +5,8 @@ ghost use Rattle.mt_cli.specs.Telling.{asks_why, TellsCauses, TellsFault, TellsR
 ghost use Rattle.mt_cli.specs.Mistakes.{IsMistake};
 
 use crate::commands::{
-    edit, explain, have, id, info, lack, log, meet, merge, pull, render, serve, take, view,
+    check, edit, explain, have, id, info, lack, log, meet, merge, pull, render, serve, sources,
+    take, view,
 };
 use crate::fault::CliFault;
 use crate::refusal_lines::{asks_why, put_cause, put_refusal, put_text};
@@ -166,6 +167,8 @@ fn print<
     match name {
         "view" => stopped_by(view::run(rt, words, input, output)),
         "log" => stopped_by(log::run(rt, words, input, output)),
+        "sources" => stopped_by(sources::run(rt, words, output)),
+        "check" => stopped_by(check::run(rt, words, output)),
         "info" => stopped_by(info::run(rt, words, output)),
         "explain" => explain::run(rt.alloc(), words, output),
         "id" => stopped_by(id::run(rt, output)),
@@ -235,12 +238,14 @@ fn of_logs() -> &'static [Words] {
     &OF_LOGS
 }
 
-const OF_LOGS: [Words; 6] = [
+const OF_LOGS: [Words; 8] = [
     view::WORDS,
     log::WORDS,
     pull::WORDS,
     merge::WORDS,
     edit::WORDS,
+    sources::WORDS,
+    check::WORDS,
     render::WORDS,
 ];
 

@@ -79,16 +79,16 @@ fn hand_share<W: Write>(lines: &mut BufferedLatch<'_, W>, name: &str, share: Sha
     lines.put(b"\n");
 }
 
-// How many names and shares stand beside each other.
-fn count_pairs(names: &[&str], shares: &[Share]) -> usize
+/// How many names and things stand beside each other.
+pub(crate) fn count_pairs<T>(names: &[&str], things: &[T]) -> usize
     ensures named { result ≤ length names.now }
-    ensures shared { result ≤ length shares.now }
-    ensures all { length (zip (map (λ n. n.now) names.now) shares.now) ≤ result }
+    ensures there { result ≤ length things.now }
+    ensures all { length (zip (map (λ n. n.now) names.now) things.now) ≤ result }
 {
-    if names.len() < shares.len() {
+    if names.len() < things.len() {
         names.len()
     } else {
-        shares.len()
+        things.len()
     }
 }
 

@@ -239,7 +239,7 @@ const OF_RENDERING: [Refusal; 4] = [
         number: 33,
         name: "MissingSource",
         meaning: "the recording of a clip that would sound is not given",
-        advice: "Name the recording too: `--why` tells its digest, `radio view` prints those that clips name, and `radio info` that of a file.",
+        advice: "Name the recording too: `--why` tells its digest, and `radio sources LOG FILE...` which recordings of the session are missing, and which of the files the others are.",
     },
     Refusal {
         number: 34,

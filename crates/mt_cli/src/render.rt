@@ -20,8 +20,8 @@ use mt_sessionview::{Session, from_scratch};
 use std::alloc::Allocator;
 use std::io::{Read, Write};
 
-// Why a programme is not mixed.
-fn refused_mix(fault: MixFault) -> CliFault
+/// Why a programme is not mixed.
+pub(crate) fn refused_mix(fault: MixFault) -> CliFault
     ensures memory { fault ≡ mix.Memory → result ≡ CliFault.Memory }
     ensures other { fault ≢ mix.Memory → result ≡ CliFault.Mix fault }
 {
@@ -31,8 +31,8 @@ fn refused_mix(fault: MixFault) -> CliFault
     }
 }
 
-// Why a file is not written.
-fn refused_file(fault: BounceFault) -> CliFault
+/// Why a file is not written.
+pub(crate) fn refused_file(fault: BounceFault) -> CliFault
     ensures { result ≡ file_fault fault }
 {
     match fault {

@@ -62,6 +62,12 @@ pub(crate) enum Word {
         name: &'static str,
         help: &'static str,
     },
+    /// An option that is there or not, and not beside another.
+    Choice {
+        name: &'static str,
+        other: &'static str,
+        help: &'static str,
+    },
 }
 
 /// OUT may not be there yet.
@@ -106,7 +112,7 @@ fn with_words<'a>(
 ) -> Result<Command<'a>, AllocError> {
     let mut command = command;
     for word in words {
-        command = command.arg(word_of(alloc, word))?;
+        command = command.arg(word_of(alloc, word)?)?;
     }
     Ok(command)
 }
@@ -135,7 +141,15 @@ fn with_one<'a>(
     }
 }
 
-fn word_of<'a>(alloc: Global, word: &Word) -> Arg<'a> {
+fn word_of<'a>(alloc: Global, word: &Word) -> Result<Arg<'a>, AllocError> {
+    match word {
+        Word::Choice { name, other, help } => flag(alloc, name, help).conflicts_with(other),
+        other => Ok(free_word_of(alloc, other)),
+    }
+}
+
+// A word that may stand beside all others.
+fn free_word_of<'a>(alloc: Global, word: &Word) -> Arg<'a> {
     match word {
         Word::Needed { name, help } => needed(alloc, name, help),
         Word::Any { name, help } => any(alloc, name, help),
@@ -163,6 +177,7 @@ fn word_of<'a>(alloc: Global, word: &Word) -> Arg<'a> {
             help,
         } => limit(alloc, name, *least, *greatest, help),
         Word::Flag { name, help } => flag(alloc, name, help),
+        Word::Choice { name, help, .. } => flag(alloc, name, help),
     }
 }
 

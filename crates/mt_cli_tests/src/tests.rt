@@ -2,6 +2,7 @@
 //! turn.
 mod headline;
 mod infos;
+mod listings;
 mod merges;
 mod pulls;
 mod refused_growth;

@@ -28,58 +28,78 @@ pub(crate) const WORDS: Words = Words {
             name: "SOURCE",
             help: "The recordings that clips name by their digests, in any order",
         },
-        Word::Count {
-            name: "rate",
-            default: "48000",
-            greatest: u32::MAX as u64,
-            help: "Frames a second, 1 to 384000",
-        },
-        Word::Count {
-            name: "bits",
-            default: "24",
-            greatest: u16::MAX as u64,
-            help: "Bits of a sample, 16 or 24",
-        },
-        Word::Count {
-            name: "channels",
-            default: "1",
-            greatest: u16::MAX as u64,
-            help: "Channels, 1 or 2",
-        },
-        Word::Text {
-            name: "description",
-            default: "",
-            help: "What it is, at most 256 bytes of printing ASCII (0x20 to 0x7E)",
-        },
-        Word::Text {
-            name: "originator",
-            default: "",
-            help: "Who made it, at most 32 bytes of printing ASCII",
-        },
-        Word::Text {
-            name: "reference",
-            default: "",
-            help: "Its reference there, at most 32 bytes of printing ASCII",
-        },
-        Word::Text {
-            name: "date",
-            default: "2000-01-01",
-            help: "The date, as dddd-dd-dd",
-        },
-        Word::Text {
-            name: "time",
-            default: "00:00:00",
-            help: "The time, as dd:dd:dd",
-        },
-        Word::Count {
-            name: "time-reference",
-            default: "0",
-            greatest: u64::MAX,
-            help: "Frames from midnight to the first",
-        },
+        RATE,
+        BITS,
+        CHANNELS,
+        DESCRIPTION,
+        ORIGINATOR,
+        REFERENCE,
+        DATE,
+        TIME,
+        TIME_REFERENCE,
         NEW,
         NO_SYNC,
     ],
+};
+
+// The options of a render, which a check has too.
+
+pub(super) const RATE: Word = Word::Count {
+    name: "rate",
+    default: "48000",
+    greatest: u32::MAX as u64,
+    help: "Frames a second, 1 to 384000",
+};
+
+pub(super) const BITS: Word = Word::Count {
+    name: "bits",
+    default: "24",
+    greatest: u16::MAX as u64,
+    help: "Bits of a sample, 16 or 24",
+};
+
+pub(super) const CHANNELS: Word = Word::Count {
+    name: "channels",
+    default: "1",
+    greatest: u16::MAX as u64,
+    help: "Channels, 1 or 2",
+};
+
+pub(super) const DESCRIPTION: Word = Word::Text {
+    name: "description",
+    default: "",
+    help: "What it is, at most 256 bytes of printing ASCII (0x20 to 0x7E)",
+};
+
+pub(super) const ORIGINATOR: Word = Word::Text {
+    name: "originator",
+    default: "",
+    help: "Who made it, at most 32 bytes of printing ASCII",
+};
+
+pub(super) const REFERENCE: Word = Word::Text {
+    name: "reference",
+    default: "",
+    help: "Its reference there, at most 32 bytes of printing ASCII",
+};
+
+pub(super) const DATE: Word = Word::Text {
+    name: "date",
+    default: "2000-01-01",
+    help: "The date, as dddd-dd-dd",
+};
+
+pub(super) const TIME: Word = Word::Text {
+    name: "time",
+    default: "00:00:00",
+    help: "The time, as dd:dd:dd",
+};
+
+pub(super) const TIME_REFERENCE: Word = Word::Count {
+    name: "time-reference",
+    default: "0",
+    greatest: u64::MAX,
+    help: "Frames from midnight to the first",
 };
 
 // The text of an option.
@@ -87,8 +107,8 @@ fn given<'w>(words: &ArgMatches<'w>, name: &str) -> &'w str {
     words.get_str(name).unwrap_or("")
 }
 
-// The head of these words.
-fn head_of<'w>(words: &ArgMatches<'w>) -> Result<Head<'w>, CliFault> {
+/// The head of these words.
+pub(super) fn head_of<'w>(words: &ArgMatches<'w>) -> Result<Head<'w>, CliFault> {
     Head::new(
         given(words, "description"),
         given(words, "originator"),
@@ -100,8 +120,8 @@ fn head_of<'w>(words: &ArgMatches<'w>) -> Result<Head<'w>, CliFault> {
     .map_err(CliFault::Head)
 }
 
-// The format of these words.
-fn format_of(words: &ArgMatches<'_>) -> Result<Format, CliFault> {
+/// The format of these words.
+pub(super) fn format_of(words: &ArgMatches<'_>) -> Result<Format, CliFault> {
     Format::new(
         words.get_one::<u32>("rate").unwrap_or(0),
         words.get_one::<u16>("bits").unwrap_or(0),

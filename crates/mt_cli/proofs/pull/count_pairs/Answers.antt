@@ -4,8 +4,8 @@ use Rattle.std.proofs.lemmas.List.{length-map}
 use Rattle.mt_cli.proofs.Pulling.{zip_within, zip_within_right}
 use Rattle.mt_cli.proofs.pull.count_pairs.Goals as goal
 
-pub returns-then-names-shares-clause-all : goal.returns-then-names-shares-clause-all
-returns-then-names-shares-clause-all c = omega (arith, zip_within (map (λ n. n.now) c.args.names.now) c.args.shares.now, length-map c.args.names.now (λ n. n.now))
+pub returns-then-names-things-clause-all : goal.returns-then-names-things-clause-all
+returns-then-names-things-clause-all g c = omega (arith, zip_within (map (λ n. n.now) c.args.names.now) c.args.things.now, length-map c.args.names.now (λ n. n.now))
 
-pub returns-else-names-shares-clause-all : goal.returns-else-names-shares-clause-all
-returns-else-names-shares-clause-all c = zip_within_right (map (λ n. n.now) c.args.names.now) c.args.shares.now
+pub returns-else-names-things-clause-all : goal.returns-else-names-things-clause-all
+returns-else-names-things-clause-all g c = zip_within_right (map (λ n. n.now) c.args.names.now) c.args.things.now

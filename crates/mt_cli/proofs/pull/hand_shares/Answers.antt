@@ -15,5 +15,5 @@ loop-place-preserved g c =
     one_more_handed g.W.Write.contents share_line (zip (map (λ n. n.now) c.args.names.now) c.args.shares.now) c.loop-place.place _
     (zipped (map (λ n. n.now) c.args.names.now) c.args.shares.now c.loop-place.place _ _
     (slice_get-map (λ n. n.now) c.args.names.now c.loop-place.place ∙ ap (option_map (λ n. n.now)) (slice_get-get_or c.args.names.now c.loop-place.place _ (omega (arith, c.loop-place-test.true, c.count_pairs-count.ensures.named))))
-    (slice_get-get_or c.args.shares.now c.loop-place.place _ (omega (arith, c.loop-place-test.true, c.count_pairs-count.ensures.shared))))
+    (slice_get-get_or c.args.shares.now c.loop-place.place _ (omega (arith, c.loop-place-test.true, c.count_pairs-count.ensures.there))))
     c.loop-place.invariant c.hand_share.ensures

@@ -1,7 +1,7 @@
 use Rattle.std.proofs.Common.{get_or}
 use Rattle.std.proofs.Math.ListN.{set}
 use Rattle.mt_cli.specs.declared.fault.CliFault.TheVariants.{Memory}
-use Rattle.mt_cli.specs.Reading.{HasCause}
+use Rattle.mt_cli.specs.Reading.{GaveLog, IsCause, HasCause}
 use Rattle.mt_cli.proofs.Readers.{HasCause-memory, rest_same, told_as, cause_at, gave_more, read_more, left_more}
 use Rattle.mt_cli.proofs.read.read_logs.Goals as goal
 
@@ -13,21 +13,21 @@ returns-in_err-clone-clause-err g c =
 pub returns-in_err-clone-2-clause-err : goal.returns-in_err-clone-2-clause-err
 returns-in_err-clone-2-clause-err g c =
     told_as c.from_residual-in_err-clone-2.result (HasCause g.R.Read.remaining 0 c.args.inputs.now (set c.loop-place.inputs c.loop-place.place (get_or c.loop-place.inputs c.loop-place.place c.index-inputs-place.result))) Memory c.from_residual-in_err-clone-2.ensures.1
-    (cause_at g.R.Read.remaining c.args.inputs.now c.loop-place.inputs c.loop-place.place c.index-inputs-place.result (get_or c.loop-place.inputs c.loop-place.place c.index-inputs-place.result) c.loop-place.auto.inputs c.loop-place-test.true c.loop-place.logs.items Memory c.loop-place.invariant.left c.index-inputs-place.is c.loop-place.invariant.gave c.loop-place.invariant.read (rest_same g.R.Read.remaining (get_or c.loop-place.inputs c.loop-place.place c.index-inputs-place.result)))
+    (cause_at g.R.Read.remaining c.args.inputs.now c.loop-place.inputs c.loop-place.place c.index-inputs-place.result (get_or c.loop-place.inputs c.loop-place.place c.index-inputs-place.result) c.loop-place.auto.inputs c.loop-place-test.true (GaveLog g.R.Read.remaining) (IsCause g.R.Read.remaining) c.loop-place.logs.items Memory c.loop-place.invariant.left c.index-inputs-place.is c.loop-place.invariant.gave c.loop-place.invariant.read (rest_same g.R.Read.remaining (get_or c.loop-place.inputs c.loop-place.place c.index-inputs-place.result)))
 
 pub returns-in_err-log-clause-err : goal.returns-in_err-log-clause-err
 returns-in_err-log-clause-err g c =
     told_as c.from_residual-in_err-log.result (HasCause g.R.Read.remaining 0 c.args.inputs.now (set c.loop-place.inputs c.loop-place.place c.read_log.new.input)) c.in_err-log.field-0.0 c.from_residual-in_err-log.ensures.1
-    (cause_at g.R.Read.remaining c.args.inputs.now c.loop-place.inputs c.loop-place.place c.index-inputs-place.result c.read_log.new.input c.loop-place.auto.inputs c.loop-place-test.true c.loop-place.logs.items c.in_err-log.field-0.0 c.loop-place.invariant.left c.index-inputs-place.is c.loop-place.invariant.gave c.loop-place.invariant.read c.in_err-log.ensures.err)
+    (cause_at g.R.Read.remaining c.args.inputs.now c.loop-place.inputs c.loop-place.place c.index-inputs-place.result c.read_log.new.input c.loop-place.auto.inputs c.loop-place-test.true (GaveLog g.R.Read.remaining) (IsCause g.R.Read.remaining) c.loop-place.logs.items c.in_err-log.field-0.0 c.loop-place.invariant.left c.index-inputs-place.is c.loop-place.invariant.gave c.loop-place.invariant.read c.in_err-log.ensures.err)
 
 pub returns-in_err-push-clause-err : goal.returns-in_err-push-clause-err
 returns-in_err-push-clause-err g c =
     told_as c.from_residual-in_err-push.result (HasCause g.R.Read.remaining 0 c.args.inputs.now (set c.loop-place.inputs c.loop-place.place c.read_log.new.input)) Memory c.from_residual-in_err-push.ensures.1
-    (cause_at g.R.Read.remaining c.args.inputs.now c.loop-place.inputs c.loop-place.place c.index-inputs-place.result c.read_log.new.input c.loop-place.auto.inputs c.loop-place-test.true c.loop-place.logs.items Memory c.loop-place.invariant.left c.index-inputs-place.is c.loop-place.invariant.gave c.loop-place.invariant.read c.read_log.ensures.rest)
+    (cause_at g.R.Read.remaining c.args.inputs.now c.loop-place.inputs c.loop-place.place c.index-inputs-place.result c.read_log.new.input c.loop-place.auto.inputs c.loop-place-test.true (GaveLog g.R.Read.remaining) (IsCause g.R.Read.remaining) c.loop-place.logs.items Memory c.loop-place.invariant.left c.index-inputs-place.is c.loop-place.invariant.gave c.loop-place.invariant.read c.read_log.ensures.rest)
 
 pub loop-place-preserved : goal.loop-place-preserved
 loop-place-preserved g c = record {
   read = read_more g.R.Read.remaining c.args.inputs.now c.loop-place.inputs c.loop-place.place c.index-inputs-place.result c.read_log.new.input c.loop-place.auto.inputs c.loop-place-test.true c.loop-place.invariant.read c.in_ok-log.ensures.read;
-  gave = rw c.in_ok-push.ensures.items (gave_more g.R.Read.remaining c.args.inputs.now c.loop-place.inputs c.loop-place.place c.index-inputs-place.result c.read_log.new.input c.loop-place.auto.inputs c.loop-place-test.true c.loop-place.logs.items c.in_ok-log.log c.loop-place.invariant.left c.index-inputs-place.is c.loop-place.invariant.gave c.in_ok-log.ensures.ok);
+  gave = rw c.in_ok-push.ensures.items (gave_more g.R.Read.remaining c.args.inputs.now c.loop-place.inputs c.loop-place.place c.index-inputs-place.result c.read_log.new.input c.loop-place.auto.inputs c.loop-place-test.true (GaveLog g.R.Read.remaining) c.loop-place.logs.items c.in_ok-log.log c.loop-place.invariant.left c.index-inputs-place.is c.loop-place.invariant.gave c.in_ok-log.ensures.ok);
   left = left_more c.loop-place.place c.loop-place.inputs c.args.inputs.now c.read_log.new.input c.loop-place.invariant.left;
 }

@@ -1,9 +1,9 @@
 use Rattle.std.proofs.Common.{get_or}
 use Rattle.std.proofs.Math.ListN.{set}
 use Rattle.mt_cli.specs.declared.fault.CliFault.TheVariants.{Memory}
-use Rattle.mt_cli.specs.Sources.{HasSourceCause, bytes_in}
-use Rattle.mt_cli.proofs.Readers.{rest_same, told_as, read_more, left_more}
-use Rattle.mt_cli.proofs.Recordings.{HasSourceCause-memory, source_cause_at, waves_more, bytes_more}
+use Rattle.mt_cli.specs.Sources.{GaveWave, IsSourceCause, HasSourceCause, bytes_in}
+use Rattle.mt_cli.proofs.Readers.{rest_same, told_as, cause_at, gave_more, read_more, left_more}
+use Rattle.mt_cli.proofs.Recordings.{HasSourceCause-memory, bytes_more}
 use Rattle.mt_cli.proofs.sources.read_sources.Goals as goal
 
 pub returns-in_err-clone-clause-err : goal.returns-in_err-clone-clause-err
@@ -14,23 +14,23 @@ returns-in_err-clone-clause-err g c =
 pub returns-in_err-clone-2-clause-err : goal.returns-in_err-clone-2-clause-err
 returns-in_err-clone-2-clause-err g c =
     told_as c.from_residual-in_err-clone-2.result (HasSourceCause g.R.Read.remaining c.args.others 0 c.args.inputs.now (set c.loop-place.inputs c.loop-place.place (get_or c.loop-place.inputs c.loop-place.place c.index-inputs-place.result))) Memory c.from_residual-in_err-clone-2.ensures.1
-    (source_cause_at g.R.Read.remaining c.args.others c.args.inputs.now c.loop-place.inputs c.loop-place.place c.index-inputs-place.result (get_or c.loop-place.inputs c.loop-place.place c.index-inputs-place.result) c.loop-place.auto.inputs c.loop-place-test.true (bytes_in c.loop-place.texts.items) Memory c.loop-place.invariant.left c.index-inputs-place.is c.loop-place.invariant.gave c.loop-place.invariant.read (rest_same g.R.Read.remaining (get_or c.loop-place.inputs c.loop-place.place c.index-inputs-place.result)))
+    (cause_at g.R.Read.remaining c.args.inputs.now c.loop-place.inputs c.loop-place.place c.index-inputs-place.result (get_or c.loop-place.inputs c.loop-place.place c.index-inputs-place.result) c.loop-place.auto.inputs c.loop-place-test.true (GaveWave g.R.Read.remaining) (IsSourceCause g.R.Read.remaining c.args.others) (bytes_in c.loop-place.texts.items) Memory c.loop-place.invariant.left c.index-inputs-place.is c.loop-place.invariant.gave c.loop-place.invariant.read (rest_same g.R.Read.remaining (get_or c.loop-place.inputs c.loop-place.place c.index-inputs-place.result)))
 
 pub returns-in_err-text-clause-err : goal.returns-in_err-text-clause-err
 returns-in_err-text-clause-err g c =
     told_as c.from_residual-in_err-text.result (HasSourceCause g.R.Read.remaining c.args.others 0 c.args.inputs.now (set c.loop-place.inputs c.loop-place.place c.read_source.new.input)) c.in_err-text.field-0.0 c.from_residual-in_err-text.ensures.1
-    (source_cause_at g.R.Read.remaining c.args.others c.args.inputs.now c.loop-place.inputs c.loop-place.place c.index-inputs-place.result c.read_source.new.input c.loop-place.auto.inputs c.loop-place-test.true (bytes_in c.loop-place.texts.items) c.in_err-text.field-0.0 c.loop-place.invariant.left c.index-inputs-place.is c.loop-place.invariant.gave c.loop-place.invariant.read c.in_err-text.ensures.err)
+    (cause_at g.R.Read.remaining c.args.inputs.now c.loop-place.inputs c.loop-place.place c.index-inputs-place.result c.read_source.new.input c.loop-place.auto.inputs c.loop-place-test.true (GaveWave g.R.Read.remaining) (IsSourceCause g.R.Read.remaining c.args.others) (bytes_in c.loop-place.texts.items) c.in_err-text.field-0.0 c.loop-place.invariant.left c.index-inputs-place.is c.loop-place.invariant.gave c.loop-place.invariant.read c.in_err-text.ensures.err)
 
 pub returns-in_err-push-clause-err : goal.returns-in_err-push-clause-err
 returns-in_err-push-clause-err g c =
     told_as c.from_residual-in_err-push.result (HasSourceCause g.R.Read.remaining c.args.others 0 c.args.inputs.now (set c.loop-place.inputs c.loop-place.place c.read_source.new.input)) Memory c.from_residual-in_err-push.ensures.1
-    (source_cause_at g.R.Read.remaining c.args.others c.args.inputs.now c.loop-place.inputs c.loop-place.place c.index-inputs-place.result c.read_source.new.input c.loop-place.auto.inputs c.loop-place-test.true (bytes_in c.loop-place.texts.items) Memory c.loop-place.invariant.left c.index-inputs-place.is c.loop-place.invariant.gave c.loop-place.invariant.read c.read_source.ensures.rest)
+    (cause_at g.R.Read.remaining c.args.inputs.now c.loop-place.inputs c.loop-place.place c.index-inputs-place.result c.read_source.new.input c.loop-place.auto.inputs c.loop-place-test.true (GaveWave g.R.Read.remaining) (IsSourceCause g.R.Read.remaining c.args.others) (bytes_in c.loop-place.texts.items) Memory c.loop-place.invariant.left c.index-inputs-place.is c.loop-place.invariant.gave c.loop-place.invariant.read c.read_source.ensures.rest)
 
 pub loop-place-preserved : goal.loop-place-preserved
 loop-place-preserved g c = record {
   read = read_more g.R.Read.remaining c.args.inputs.now c.loop-place.inputs c.loop-place.place c.index-inputs-place.result c.read_source.new.input c.loop-place.auto.inputs c.loop-place-test.true c.loop-place.invariant.read c.in_ok-text.ensures.read;
   gave =
       rw (c.in_ok-push.ensures.items, bytes_more c.loop-place.texts.items c.in_ok-text.text)
-      (waves_more g.R.Read.remaining c.args.others c.args.inputs.now c.loop-place.inputs c.loop-place.place c.index-inputs-place.result c.read_source.new.input c.loop-place.auto.inputs c.loop-place-test.true (bytes_in c.loop-place.texts.items) c.in_ok-text.text.items c.loop-place.invariant.left c.index-inputs-place.is c.loop-place.invariant.gave c.in_ok-text.ensures.ok);
+      (gave_more g.R.Read.remaining c.args.inputs.now c.loop-place.inputs c.loop-place.place c.index-inputs-place.result c.read_source.new.input c.loop-place.auto.inputs c.loop-place-test.true (GaveWave g.R.Read.remaining) (bytes_in c.loop-place.texts.items) c.in_ok-text.text.items c.loop-place.invariant.left c.index-inputs-place.is c.loop-place.invariant.gave c.in_ok-text.ensures.ok);
   left = left_more c.loop-place.place c.loop-place.inputs c.args.inputs.now c.read_source.new.input c.loop-place.invariant.left;
 }
