@@ -15,7 +15,7 @@ ghost use Rattle.mt_op.specs.Writes.{title_written, gain_written, mute_written, 
 ghost use Rattle.mt_op.specs.Valid.{AreShort};
 ghost use Rattle.mt_cells.specs.Marks.{unmarked};
 ghost use Rattle.mt_items.specs.Noting.{MayFollow, AreNoted, is_need_met, are_needs_met};
-ghost use Rattle.mt_items.specs.Cells.{HoldsTrack, HoldsClip, HoldsMarker, items_of, rising_items};
+ghost use Rattle.mt_items.specs.Cells.{HoldsTrack, HoldsClip, HoldsMarker, HoldsTracks, items_of, rising_items};
 ghost use Rattle.mt_items.specs.Tags.{HoldsTags};
 
 use crate::cells::{ClipCells, MarkerCells, TrackCells};
@@ -433,13 +433,20 @@ impl<A: Allocator> Items<A> {
         self.markers.entries()
     }
 
-    /// The markers with their cells by value, present or not, in the order in which they were noted. All else is let go.
-    pub fn into_marker_cells(self) -> Vec<(Stamp, MarkerCells<A>), A>
-        ensures markers { keys_of result.items ≡ items_of Marker self }
-        ensures each { AllByRecursion (λ e. HoldsMarker e.0 self e.1) result.items }
+    /// The tracks by their stamps, and the markers in the order in which they were noted, present or not, with their cells by value. All else is let go.
+    pub fn into_tracks_and_markers(
+        self,
+    ) -> (StampMap<TrackCells<A>, A>, Vec<(Stamp, MarkerCells<A>), A>)
+        ensures tracks { HoldsTracks self result.0 }
+        ensures markers { keys_of result.1.items ≡ items_of Marker self }
+        ensures each_marker { AllByRecursion (λ e. HoldsMarker e.0 self e.1) result.1.items }
     {
-        let Items { markers, .. } = self;
-        markers.into_entries()
+        let Items {
+            tracks,
+            markers,
+            ..
+        } = self;
+        (tracks, markers.into_entries())
     }
 
     /// The stamps of the tracks, present or not, from the least to the greatest. Refused only as `Memory` (0), where
