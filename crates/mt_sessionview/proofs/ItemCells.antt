@@ -5,11 +5,14 @@ use Rattle.std.specs.Map.{keys_of}
 use Rattle.std.proofs.lemmas.List.{append-nil, append_assoc}
 use Rattle.mt_stamp.specs.Moment.{Moment}
 use Rattle.mt_op.specs.Operation.{Operation}
-use Rattle.mt_items.specs.Cells.{HoldsClip, HoldsMarker}
+use Rattle.mt_items.specs.Cells.{HoldsTrack, HoldsClip, HoldsMarker}
 use Rattle.mt_op.specs.Presence.{is_present}
+use Rattle.mt_op.specs.Writes.{title_written, last_write}
 use Rattle.mt_items.specs.declared.cells.ClipCells.{ClipCells}
 use Rattle.mt_items.specs.declared.cells.MarkerCells.{MarkerCells}
-use Rattle.mt_sessionview.specs.Read.{clip_read, marker_read}
+use Rattle.mt_items.specs.declared.cells.TrackCells.{TrackCells}
+use Rattle.mt_sessionview.specs.Content.{Clip}
+use Rattle.mt_sessionview.specs.Read.{clip_read, marker_read, track_from}
 use Rattle.mt_sessionview.specs.declared.clip.OnTrack.{OnTrack}
 
 abbrev pub found_in : {A : Type 0} → Moment → ClipCells A → OnTrack
@@ -37,6 +40,11 @@ clip_is ops clip cells here holds there = rw (← there, holds.place, holds.trim
 pub marker_is : {A : Type 0} (ops : List Operation) (marker : Moment) (cells : MarkerCells A) (here : Bool) → HoldsMarker marker ops cells → here ≡ is_present ops marker
     → cond here (Some (record { marker = marker; at = cells.position.value; len = cells.len.value; title = cells.title.value })) None ≡ marker_read ops marker
 marker_is ops marker cells here holds there = rw (← there, holds.title, holds.position, holds.len) refl
+
+-- a track, with whatever clips
+pub track_of_cells : {A : Type 0} (ops : List Operation) (track : Moment) (cells : TrackCells A) (clips : List Clip) → HoldsTrack track ops cells
+    → Some (record { track = track; title = cells.title.value; gain = cells.gain.value; mute = cells.mute.value; clips = clips }) ≡ track_from ops track clips (last_write title_written track ops)
+track_of_cells ops track cells clips holds = rw (holds.title, holds.gain, holds.mute) refl
 
 -- ---- entries that are taken one after another
 

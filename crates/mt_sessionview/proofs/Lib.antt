@@ -18,6 +18,7 @@ pub mod Passing
 pub mod PlacedOps
 pub mod SameMembers
 pub mod Standing
+mod TakenTitles
 pub mod Whole
 mod Equal
 pub mod Placing

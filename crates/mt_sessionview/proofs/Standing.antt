@@ -29,7 +29,7 @@ use Rattle.mt_items.specs.Noting.{AreNoted, is_need_met}
 use Rattle.mt_items.proofs.Roles.{none_written, track_places}
 use Rattle.mt_sessionview.specs.Noted.{is_shown_in, clips_in, places_in, by_place, placed_in, track_place_in, track_cmp_in, track_in, tracks_in}
 use Rattle.mt_sessionview.proofs.PlacedOps.{by_place_total, placed_rise}
-use Rattle.mt_sessionview.specs.Read.{placed_track, is_writer, stands_at, if_standing, standing, track_where, track_read, HasClips, AreTheClips}
+use Rattle.mt_sessionview.specs.Read.{placed_track, is_writer, stands_at, if_standing, standing, track_where, track_read, HasClips}
 use Rattle.mt_sessionview.specs.Content.{Clip, clip_cmp}
 use Rattle.mt_sessionview.proofs.Reading.{clips_sorted}
 use Rattle.mt_sessionview.proofs.InOrder.{noted_differ, one_op, apart_by}
@@ -86,26 +86,29 @@ place_is r o track is =
 
 -- ---- the clips of the tracks that operations put where they stand
 
--- a map has the clips of each track that one of these operations puts where it stands, and no two of them are one
-pub record HasTheirs (r : List Operation) (table : BTreeMap Moment (List Clip)) (os : List Operation) : Type 0 where
-  pub each : AllByRecursion (λ o. IfSome (standing r o) (HasClips r table)) os
+-- something holds of each track that one of these operations puts where it stands, and no two of them are one
+pub record HasTheirs (r : List Operation) (P : Moment → Type 0) (os : List Operation) : Type 0 where
+  pub each : AllByRecursion (λ o. IfSome (standing r o) P) os
   pub differ : DifferBy stamp_of os
 
-pub has_all : (r : List Operation) (table : BTreeMap Moment (List Clip)) (os : List Operation) → AreTheClips r table → DifferBy stamp_of os → HasTheirs r table os
-has_all r table os clips differ = record { each = all_members (λ o. IfSome (standing r o) (HasClips r table)) os (λ o m. by (standing r o)); differ = differ }
+pub has_all : (r : List Operation) (P : Moment → Type 0) (os : List Operation) → ((track : Moment) → P track) → DifferBy stamp_of os → HasTheirs r P os
+has_all r P os all differ = record { each = all_members (λ o. IfSome (standing r o) P) os (λ o m. by (standing r o)); differ = differ }
   where
-    by : (named : Option Moment) → IfSome named (HasClips r table)
+    by : (named : Option Moment) → IfSome named P
     by None = tt
-    by (Some track) = clips track
+    by (Some track) = all track
 
--- it has them still where the first operation's track has lost its clips
-pub has_others : (r : List Operation) (before after : BTreeMap Moment (List Clip)) (x : Operation) (os : List Operation) → HasTheirs r before (x ∷ os) → ((track : Moment) → standing r x ≢ Some track → get stamp_cmp after track ≡ get stamp_cmp before track) → HasTheirs r after os
-has_others r before after x os has kept = record { each = all_members (λ o. IfSome (standing r o) (HasClips r after)) os (λ o m. by o m (standing r o) refl (member_all (λ y. IfSome (standing r y) (HasClips r before)) os o has.each.1 m)); differ = has.differ.1 }
+-- what holds still of all tracks but the first operation's, holds still of the others'
+pub has_others : (r : List Operation) (P Q : Moment → Type 0) (x : Operation) (os : List Operation) → HasTheirs r P (x ∷ os) → ((track : Moment) → standing r x ≢ Some track → P track → Q track) → HasTheirs r Q os
+has_others r P Q x os has kept = record { each = all_members (λ o. IfSome (standing r o) Q) os (λ o m. by o m (standing r o) refl (member_all (λ y. IfSome (standing r y) P) os o has.each.1 m)); differ = has.differ.1 }
   where
-    by : (o : Operation) → IsMember o os → (named : Option Moment) → standing r o ≡ named → IfSome named (HasClips r before) → IfSome named (HasClips r after)
-    by o m None is clips = tt
-    by o m (Some track) is clips =
-        ap (λ (l : Option (List Clip)). unwrap_or l []) (kept track (λ too. member_all (λ y. x.stamp ≢ y.stamp) os o has.differ.0 m (sym (place_is r x track too) ∙ place_is r o track is))) ∙ clips
+    by : (o : Operation) → IsMember o os → (named : Option Moment) → standing r o ≡ named → IfSome named P → IfSome named Q
+    by o m None is holds = tt
+    by o m (Some track) is holds = kept track (λ too. member_all (λ y. x.stamp ≢ y.stamp) os o has.differ.0 m (sym (place_is r x track too) ∙ place_is r o track is)) holds
+
+-- a map has the clips of a track, where it has what one had that has them
+pub has_clips : (r : List Operation) (before after : BTreeMap Moment (List Clip)) (track : Moment) → get stamp_cmp after track ≡ get stamp_cmp before track → HasClips r before track → HasClips r after track
+has_clips r before after track kept clips = ap (λ (l : Option (List Clip)). unwrap_or l []) kept ∙ clips
 
 -- those that are taken out, in order, are the track's
 pub clips_taken : (r : List Operation) → AreNoted r → (table : BTreeMap Moment (List Clip)) (track : Moment) (taken : Option (List Clip)) (sorted : List Clip) → HasClips r table track → taken ≡ get stamp_cmp table track → IsPermutation (unwrap_or taken []) sorted → IsSorted clip_cmp sorted

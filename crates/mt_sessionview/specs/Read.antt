@@ -1,7 +1,8 @@
 -- What is read of the operations noted, item by item. Working definitions.
-use Rattle.std.specs.Prelude.{◌≡◌, ℕ, Bool, false, ◌&&◌, List, [], ◌∷◌, Option, Some, None, unwrap_or, slice_index_or, if◌then◌else◌}
+use Rattle.std.specs.Prelude.{◌≡◌, ℕ, Bool, false, ◌&&◌, List, [], ◌∷◌, Option, Some, None, MatchOption, unwrap_or, slice_index_or, if◌then◌else◌}
 use Rattle.std.specs.BTreeMap.{BTreeMap, get}
 use Rattle.std.specs.List.{filter_map}
+use Rattle.std.specs.Map.{lookup}
 use Rattle.mt_stamp.specs.Moment.{Moment, stamp_cmp, stamp_eq}
 use Rattle.mt_stamp.specs.Written.{Written}
 use Rattle.mt_stamp.specs.Tree.{TreePlace}
@@ -10,12 +11,17 @@ use Rattle.mt_op.specs.declared.digest.Digest.{Digest}
 use Rattle.mt_op.specs.declared.value.Placement.{Placement}
 use Rattle.mt_op.specs.declared.value.TrimRange.{TrimRange}
 use Rattle.mt_op.specs.declared.value.FadeLengths.{FadeLengths}
-use Rattle.mt_op.specs.declared.need.Role.TheVariants.{Clip as ClipRole}
+use Rattle.mt_op.specs.declared.need.Role.TheVariants.{Track as TrackRole, Clip as ClipRole}
+use Rattle.mt_op.specs.Needs.{need_of}
 use Rattle.mt_op.specs.Operation.{Act, AddTrack, MoveTrack, AddMarker, Operation}
 use Rattle.mt_op.specs.Presence.{is_present}
 use Rattle.mt_op.specs.Writes.{title_written, gain_written, mute_written, track_place_written, clip_place_written, trim_written, source_written, position_written, fades_written, marker_length_written, no_fades, last_write}
 use Rattle.mt_sessionview.specs.Content.{Clip, Track, Marker}
 use Rattle.mt_items.specs.Cells.{items_of}
+use Rattle.mt_items.specs.Fields.{HoldsLast}
+use Rattle.mt_items.specs.Noting.{is_need_met}
+use Rattle.mt_items.specs.Tags.{HoldsTags}
+use Rattle.mt_items.specs.declared.cells.TrackCells.{TrackCells}
 use Rattle.mt_sessionview.specs.Noted.{value_in, clips_in}
 use Rattle.mt_sessionview.specs.declared.clip.OnTrack.{OnTrack}
 
@@ -125,6 +131,10 @@ module _ (noted : List Operation) where
 
   abbrev pub track_read : Operation → Option Track
   track_read o = track_where (standing o)
+
+-- the cells of each track hold where it stands and its tags, and there are cells of nothing else
+abbrev pub HoldStands : {A : Type 0} → List Operation → List (Moment × TrackCells A) → Type 0
+HoldStands noted cells = (track : Moment) → MatchOption (lookup (stamp_eq track) cells) (is_need_met noted (need_of TrackRole track) ≡ false) (λ c. HoldsLast track_place_written track noted c.place × HoldsTags track noted c.presence)
 
 -- the operation at a place, and one in no list where there is none
 abbrev pub op_at : List Operation → ℕ → Operation

@@ -18,6 +18,7 @@ use crate::marker::{markers, sort_markers, taken_markers};
 use crate::placed::placed_ops;
 use crate::ready::{Ready, ready_of};
 use crate::session::{MarkerView, Session, TrackView};
+use crate::taken::taken_tracks;
 use crate::track::tracks;
 use mt_items::Items;
 use mt_op::Op;
@@ -100,7 +101,7 @@ pub fn session_of_ready<'a, A: Allocator + Clone>(
     Ok((session, placed))
 }
 
-// The same session alone, of items that are let go.
+// The same session alone, of items that are let go: it has the titles that their cells held.
 fn session_of_items<A: Allocator + Clone>(
     alloc: A,
     ready: &[&Op<A>],
@@ -114,8 +115,8 @@ fn session_of_items<A: Allocator + Clone>(
     ensures session { IfOk result (λ session. session ≡ record { tracks = tracks_in items; markers = markers_in items; held = held }) }
     ensures err { IfErr result (λ fault. fault ≡ SessionFault.Memory) }
 {
-    let (tracks, _placed) = placed_tracks(&alloc, ready, &items)?;
-    let mut markers = taken_markers(alloc, items)?;
+    let (tracks, cells) = taken_tracks(&alloc, ready, items)?;
+    let mut markers = taken_markers(alloc, cells)?;
     sort_markers(&mut markers)?;
     Ok(Session {
         tracks: List::new(tracks),

@@ -77,6 +77,7 @@ mod readiness;
 mod ready;
 mod scratch;
 mod session;
+mod taken;
 mod text;
 mod track;
 

@@ -1,7 +1,8 @@
 //! Markers.
 
 ghost use Rattle.std.specs.Prelude.{◌≡◌, List, IfOk, IfErr, OnOk};
-ghost use Rattle.std.specs.List.{filter_map};
+ghost use Rattle.std.specs.List.{AllByRecursion, filter_map};
+ghost use Rattle.std.specs.Map.{keys_of};
 ghost use Rattle.std.specs.List.Sorted.{IsPermutation, IsSorted};
 ghost use Rattle.mt_op.specs.declared.need.Role.TheVariants.{Marker};
 ghost use Rattle.mt_op.specs.Operation.{Operation};
@@ -76,15 +77,14 @@ fn marker_from<A: Allocator>(marker: Stamp, cells: MarkerCells<A>) -> Option<Mar
     })
 }
 
-// The markers that are present, in the order in which they were noted, with the titles that their cells held.
+// The markers that are present, in the order of their cells, with the titles that these held.
 pub(crate) fn taken_markers<A: Allocator + Clone>(
     alloc: A,
-    items: Items<A>,
+    cells: Vec<(Stamp, MarkerCells<A>), A>,
 ) -> Result<Vec<MarkerView<A>, A>, SessionFault>
-    ensures ok { IfOk result (λ markers. markers.items ≡ filter_map (marker_read items) (items_of Marker items)) }
+    ensures ok { IfOk result (λ markers. (ops : List Operation) → AllByRecursion (λ e. HoldsMarker e.0 ops e.1) cells.items → markers.items ≡ filter_map (marker_read ops) (keys_of cells.items)) }
     ensures err { IfErr result (λ fault. fault ≡ SessionFault.Memory) }
 {
-    let cells = items.into_marker_cells();
     let mut markers = Vec::with_capacity(alloc, cells.len())?;
     for (marker, cells) in cells {
         if let Some(view) = marker_from(marker, cells) {

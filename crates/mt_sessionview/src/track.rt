@@ -7,9 +7,11 @@ ghost use Rattle.mt_stamp.specs.Moment.{Moment, stamp_cmp};
 ghost use Rattle.mt_stamp.specs.Sorting.{DifferBy};
 ghost use Rattle.mt_op.specs.ByStamp.{stamp_of};
 ghost use Rattle.mt_op.specs.Operation.{Operation};
-ghost use Rattle.mt_op.specs.Writes.{title_written, last_write};
+ghost use Rattle.mt_op.specs.Writes.{title_written, track_place_written, last_write};
 ghost use Rattle.mt_items.specs.Cells.{HoldsTrack};
+ghost use Rattle.mt_items.specs.Fields.{HoldsLast};
 ghost use Rattle.mt_items.specs.Noting.{AreNoted};
+ghost use Rattle.mt_items.specs.Tags.{HoldsTags};
 ghost use Rattle.mt_sessionview.specs.Content.{AreClips};
 ghost use Rattle.mt_sessionview.specs.Read.{placed_track, stands_at, standing, track_from, HasClips, AreTheClips, track_read};
 
@@ -17,7 +19,7 @@ use crate::clip::sorted_clips;
 use crate::fault::SessionFault;
 use crate::session::{ClipView, TrackView};
 use mt_items::{Items, TrackCells};
-use mt_op::{Body, Op};
+use mt_op::{Body, Op, Title};
 use mt_stamp::{List, Stamp};
 use std::alloc::Allocator;
 use std::collections::BTreeMap;
@@ -30,7 +32,7 @@ struct TrackHere<'a, A: Allocator> {
 }
 
 // The track to which an operation gives a place.
-fn placed_track<A: Allocator>(op: &Op<A>) -> Option<Stamp>
+pub(crate) fn placed_track<A: Allocator>(op: &Op<A>) -> Option<Stamp>
     ensures { result ≡ placed_track op.now.stamp op.now.act }
 {
     match op.body() {
@@ -40,7 +42,26 @@ fn placed_track<A: Allocator>(op: &Op<A>) -> Option<Stamp>
     }
 }
 
-// A track with these clips, from its cells.
+// A track with a title and clips, and with what its cells have beside.
+pub(crate) fn track_with<A: Allocator>(
+    track: Stamp,
+    cells: &TrackCells<A>,
+    title: Title<A>,
+    clips: Vec<ClipView, A>,
+) -> TrackView<A>
+    requires clips { AreClips clips.items }
+    ensures { result ≡ record { track = track; title = title; gain = cells.now.gain.value; mute = cells.now.mute.value; clips = clips.items } }
+{
+    TrackView {
+        track,
+        title,
+        gain: *cells.gain.get(),
+        mute: *cells.mute.get(),
+        clips: List::new(clips),
+    }
+}
+
+// A track with these clips, from its cells, with a copy of its title.
 fn track_from<A: Allocator + Clone>(
     track: Stamp,
     cells: &TrackCells<A>,
@@ -53,18 +74,12 @@ fn track_from<A: Allocator + Clone>(
     let Ok(title) = cells.title.get().try_clone() else {
         return Err(SessionFault::Memory);
     };
-    Ok(TrackView {
-        track,
-        title,
-        gain: *cells.gain.get(),
-        mute: *cells.mute.get(),
-        clips: List::new(clips),
-    })
+    Ok(track_with(track, cells, title, clips))
 }
 
 // Whether a track is present and stands at a place, from its cells.
-fn stands_at<A: Allocator>(track: Stamp, cells: &TrackCells<A>, place: Stamp) -> bool
-    ensures { (ops : ListOf Operation) → HoldsTrack track ops cells.now → result ≡ stands_at ops track place }
+pub(crate) fn stands_at<A: Allocator>(track: Stamp, cells: &TrackCells<A>, place: Stamp) -> bool
+    ensures { (ops : ListOf Operation) → HoldsLast track_place_written track ops cells.now.place → HoldsTags track ops cells.now.presence → result ≡ stands_at ops track place }
 {
     cells.place.stamp() == place && cells.presence.is_present()
 }

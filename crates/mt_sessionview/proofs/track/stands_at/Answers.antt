@@ -4,4 +4,4 @@ use Rattle.mt_items.proofs.Marking.{present_is}
 use Rattle.mt_sessionview.proofs.track.stands_at.Goals as goal
 
 pub returns-then-eq : goal.returns-then-eq
-returns-then-eq g c = λ ops held. let present = present_is c.args.track ops c.args.cells.now.presence c.is_present.result held.presence c.is_present.ensures in let place = held.place in grind (arith, common_steps)
+returns-then-eq g c = λ ops place tags. let present = present_is c.args.track ops c.args.cells.now.presence c.is_present.result tags c.is_present.ensures in grind (arith, common_steps)
