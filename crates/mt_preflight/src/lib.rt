@@ -1,4 +1,5 @@
-//! What is to be known of a session before it is rendered: which recordings it wants, and which of the files at hand these are.
+//! What is to be known of a session before it is rendered: which recordings it wants, which of the files at hand these are, and what sounds otherwise
+//! than one may think.
 //!
 //! ```rust
 //! use mt_opcodec::Latch;
@@ -25,17 +26,59 @@
 //!
 //! A file is described by `describe`, which reads its bytes and keeps none of them: so as many recordings can be looked at as there are, one after
 //! another. `specs/SourcesText.antt` is the text.
+//!
+//! `write_warnings` looks at a session, at the log that it is of, and at a catalogue of its recordings, as a mix of mt_render is made of them:
+//!
+//! ```rust
+//! use mt_opcodec::Latch;
+//! use mt_preflight::write_warnings;
+//! use mt_render::{Catalogue, Format};
+//! use mt_sessionview::from_scratch;
+//! use mt_testkit::{RECORDING, log_of_a_clip};
+//! use std::test::Fail;
+//!
+//! const WARNINGS: &[u8] = b"\
+//! past-end 2.2.00000000-0000-0000-0000-00000000000a end 4 frames 3
+//! warnings 1
+//! ";
+//!
+//! fn warns_of_a_clip(rt: HostRuntime) -> Result<(), Fail> {
+//!     // a clip of four frames, of a recording of three
+//!     let log = log_of_a_clip(rt.alloc(), 4)?;
+//!     let session = from_scratch(rt.alloc(), &log)?;
+//!     let mut catalogue = Catalogue::new(rt.alloc());
+//!     let _digest = catalogue.add(RECORDING)?;
+//!     let format = Format::new(48000, 24, 1)?;
+//!     let mut output = Latch::new(Vec::new(rt.alloc()));
+//!     write_warnings(rt.alloc(), &log, &session, &catalogue, format, &mut output)?;
+//!     assert!(rt; output.into_inner().as_slice() == WARNINGS);
+//!     Ok(())
+//! }
+//! ```
+//!
+//! `specs/WarningsText.antt` is that text, and `laws` says what a line stands for.
 #![tactic(auto)]
 
+mod behind;
+mod channels;
 mod clips;
+mod covered;
 mod firsts;
 mod given;
+mod held;
+pub mod laws;
+mod lines;
 mod listing;
+mod past_ends;
 mod piece;
 mod source_line;
 mod sources;
+mod tops;
 mod uses;
+mod warning_line;
+mod warnings;
 
 pub use given::{Given, Recording, describe};
 pub use listing::Listing;
 pub use sources::write_sources;
+pub use warnings::write_warnings;

@@ -3,11 +3,13 @@
 ghost use Rattle.std.specs.Prelude.{◌≡◌, ◌++◌, ◌∷◌, [], OnOk};
 ghost use Rattle.std.specs.Fmt.{decimal};
 ghost use Rattle.std.specs.String.{string_bytes};
+ghost use Rattle.mt_stamp.specs.Texts.{stamp_text};
 ghost use Rattle.mt_op.specs.Digest.{digest_text};
 ghost use Rattle.mt_sessionview.specs.SessionText.{newline};
 
 use itoa::Buffer;
 use mt_op::Digest;
+use mt_stamp::Stamp;
 use std::alloc::{AllocError, Allocator};
 
 /// Writes a label and a number in decimal.
@@ -21,6 +23,18 @@ pub(crate) fn append_number<A: Allocator>(
     let mut digits = Buffer::new();
     text.push_str(label)?;
     text.push_str(digits.format(number))
+}
+
+/// Writes a label and a stamp.
+pub(crate) fn append_stamp<A: Allocator>(
+    text: &mut String<A>,
+    label: &str,
+    stamp: Stamp,
+) -> Result<(), AllocError>
+    ensures { OnOk result (string_bytes text.new ≡ string_bytes text.old ++ (label.now ++ stamp_text stamp)) }
+{
+    text.push_str(label)?;
+    stamp.append_text(text)
 }
 
 /// Writes a label and a digest in hex digits.
