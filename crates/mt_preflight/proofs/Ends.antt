@@ -1,5 +1,5 @@
 -- Where the audible clips of a session end.
-use Rattle.std.proofs.Common.{◌≡◌, ℕ, ◌+◌, ◌<◌, max, Bool, List, [], ◌∷◌, ◌++◌, length, map, take, get_or, refl, sym, ap, ◌∙◌, inl, inr, arith}
+use Rattle.std.proofs.Common.{◌≡◌, ℕ, ◌+◌, ◌<◌, max, Bool, true, false, List, [], ◌∷◌, ◌++◌, length, map, take, get_or, refl, sym, ap, ◌∙◌, inl, inr, arith}
 use Rattle.std.specs.Prelude.{if◌then◌else◌}
 use Rattle.std.proofs.lemmas.Bool.{cases_Bool}
 use Rattle.std.proofs.lemmas.List.{map_more}
@@ -19,12 +19,11 @@ both_end (c ∷ xs) ys =
 
 unmuted_end : (cs : List Clip) → clips_end (unmuted cs) ≡ clips_end cs
 unmuted_end [] = refl
-unmuted_end (c ∷ cs) =
-    let rest = unmuted_end cs in
-    elim (cases_Bool c.mute) [
-      | inl y ↦ rw y rest
-      | inr n ↦ rw n (rw n (ap (max (c.at + c.len)) rest))
-    ]
+unmuted_end (c ∷ cs) = by c.mute refl (unmuted_end cs)
+  where
+    by : (b : Bool) → c.mute ≡ b → clips_end (unmuted cs) ≡ clips_end cs → clips_end (if b then unmuted cs else (c ∷ unmuted cs)) ≡ (if b then clips_end cs else max (c.at + c.len) (clips_end cs))
+    by true is rest = rest
+    by false is rest = ap (λ (m : Bool). if m then clips_end (unmuted cs) else max (c.at + c.len) (clips_end (unmuted cs))) is ∙ ap (max (c.at + c.len)) rest
 
 -- the programme's length
 pub length_is : (tracks : List Track) → clips_end (audible tracks) ≡ length_of tracks

@@ -1,10 +1,10 @@
 pub mod Alike
 mod Ends
-mod Held
-mod Lines
+mod HeldLines
+mod Adding
 mod Noting
 mod Pieces
 mod Silent
-mod Tops
+mod OnTop
 mod Told
 mod Whole

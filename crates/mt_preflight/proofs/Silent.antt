@@ -14,7 +14,7 @@ use Rattle.mt_render.specs.Mix.{sounds, upper, sounding}
 use Rattle.mt_render.specs.Refusals.{IsAmong}
 use Rattle.mt_preflight.specs.Covered.{frames_from, is_this, is_on_top, is_covered}
 use Rattle.mt_preflight.specs.WarningLaws.{CoveredIsSilent}
-use Rattle.mt_preflight.proofs.Tops.{covers_where, covers_unmuted, frames_have, frames_found}
+use Rattle.mt_preflight.proofs.OnTop.{covers_where, covers_unmuted, frames_have, frames_found}
 
 upper_cases : (c d : Clip) (o : Option Clip) → upper c o ≡ Some d → (c ≡ d) ⊎ (o ≡ Some d)
 upper_cases c d None e = inl (same_Some c d e)

@@ -33,7 +33,7 @@ unheard_has_a_line out d text some =
       | inl more ↦ ((λ line. (out, more, λ c low. behind_them out n c more low)), (λ unheard. there (nat_lt out n) (one_channel_line d n) (lt-ltb out n more)))
       | inr few ↦ (
         (λ line. absurd (line (nowhere (nat_lt out n) (one_channel_line d n) (le-ltb out n few)))),
-        (λ unheard. absurd (unheard.2 unheard.0 (let below = unheard.1 in omega arith) (played n unheard.0 unheard.1)))
+        (λ unheard. absurd (unheard.2 unheard.0 (let below = unheard.1 in omega arith) (played n unheard.0 unheard.1))),
       )
     ]
 

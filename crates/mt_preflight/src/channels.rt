@@ -6,6 +6,7 @@ ghost use Rattle.mt_preflight.specs.Lines.{with_lines};
 ghost use Rattle.mt_preflight.specs.WarningsText.{line_where, one_channel_line, one_channel, one_channel_lines};
 
 use crate::lines::Lines;
+use crate::uses::digest_at;
 use crate::warning_line::append_one_channel_line;
 use mt_op::Digest;
 use mt_render::Catalogue;
@@ -31,7 +32,7 @@ fn append_one_channel<A: Allocator, B: Allocator>(
     if !has_more(heard, channels) {
         return Ok(());
     }
-    append_one_channel_line(alloc, &mut lines.text, digest, channels)?;
+    append_one_channel_line(alloc, &mut lines.text, digest, u64::from(channels))?;
     lines.count_one()
 }
 
@@ -61,8 +62,8 @@ pub(crate) fn append_one_channels<A: Allocator, B: Allocator, C: Allocator>(
 ) -> Result<(), AllocError>
     ensures { OnOk result (lines.new ≡ with_lines lines.old (one_channel_lines catalogue.now heard digests.now)) }
 {
-    for digest in digests {
-        append_one_channel_of(alloc, lines, catalogue, heard, *digest)?;
+    for index in 0..digests.len() {
+        append_one_channel_of(alloc, lines, catalogue, heard, digest_at(digests, index))?;
     }
     Ok(())
 }

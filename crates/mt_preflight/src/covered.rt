@@ -53,7 +53,8 @@ fn append_covered_on<A: Allocator + Clone, B: Allocator, C: Allocator>(
     }
     let clips = track.clips.items();
     let tops = tops_of(alloc, clips)?;
-    append_covered_among(lines, clips, &tops)
+    append_covered_among(lines, clips, &tops)?;
+    Ok(())
 }
 
 /// Writes the lines of the clips that are covered, track by track.

@@ -7,7 +7,7 @@ ghost use Rattle.mt_op.specs.Needs.{needs};
 ghost use Rattle.mt_items.specs.Noting.{is_need_met};
 ghost use Rattle.mt_opcodec.specs.LogValue.{operations};
 ghost use Rattle.mt_preflight.specs.Lines.{with_lines};
-ghost use Rattle.mt_preflight.specs.WarningsText.{first_unmet, held_of, held_lines};
+ghost use Rattle.mt_preflight.specs.WarningsText.{first_unmet, waiting, held_of, held_lines};
 
 use crate::lines::Lines;
 use crate::warning_line::append_needs_line;
@@ -15,24 +15,15 @@ use mt_items::{Items, items_of_ready};
 use mt_op::{Need, Op};
 use mt_opcodec::Log;
 use mt_sessionview::sorted_ops;
+use mt_stamp::Stamp;
 use std::alloc::{AllocError, Allocator};
 
 // The need of an operation at place `index`, where no noted operation meets it.
-fn unmet_at<A: Allocator, B: Allocator>(
-    items: &Items<A>,
-    op: &Op<B>,
-    index: usize,
-) -> Option<Need>
+fn unmet_at<A: Allocator, B: Allocator>(items: &Items<A>, op: &Op<B>, index: usize) -> Option<Need>
     ensures { (need : NeedOf) → slice_get (needs op.now) index ≡ Some need → result ≡ (if is_need_met items.now need then None else Some need) }
 {
     match op.need(index) {
-        Some(need) => {
-            if items.meets(&need) {
-                None
-            } else {
-                Some(need)
-            }
-        }
+        Some(need) => { if items.meets(&need) { None } else { Some(need) } }
         None => None,
     }
 }
@@ -49,6 +40,21 @@ fn first_unmet<A: Allocator, B: Allocator>(items: &Items<A>, op: &Op<B>) -> Opti
     None
 }
 
+// Writes the line of an operation that has an unmet need.
+fn append_waiting<A: Allocator>(
+    lines: &mut Lines<A>,
+    stamp: Stamp,
+    unmet: Option<Need>,
+) -> Result<(), AllocError>
+    ensures { OnOk result (lines.new ≡ with_lines lines.old (waiting stamp unmet)) }
+{
+    let Some(need) = unmet else {
+        return Ok(());
+    };
+    append_needs_line(&mut lines.text, stamp, need.stamp)?;
+    lines.count_one()
+}
+
 // Writes the line of an operation that has a need that no noted operation meets.
 fn append_held_of<A: Allocator, B: Allocator, C: Allocator>(
     lines: &mut Lines<A>,
@@ -57,11 +63,7 @@ fn append_held_of<A: Allocator, B: Allocator, C: Allocator>(
 ) -> Result<(), AllocError>
     ensures { OnOk result (lines.new ≡ with_lines lines.old (held_of items.now op.now)) }
 {
-    let Some(need) = first_unmet(items, op) else {
-        return Ok(());
-    };
-    append_needs_line(&mut lines.text, op.stamp(), need.stamp)?;
-    lines.count_one()
+    append_waiting(lines, op.stamp(), first_unmet(items, op))
 }
 
 // Writes the lines of those of these operations that have a need that no noted operation meets.
@@ -92,5 +94,6 @@ pub(crate) fn append_held<A: Allocator + Clone, B: Allocator>(
     let Ok(items) = items_of_ready(alloc.clone()?, &sorted) else {
         return Err(AllocError);
     };
-    append_held_among(lines, &items, &sorted)
+    append_held_among(lines, &items, &sorted)?;
+    Ok(())
 }

@@ -1,6 +1,6 @@
 //! The recordings of a session as text.
 
-ghost use Rattle.std.specs.Prelude.{◌≡◌, ◌<◌, ◌++◌, ◌∷◌, [], true, false, filter, length, map, if◌then◌else◌, IfErr, OnOk, IfOk};
+ghost use Rattle.std.specs.Prelude.{◌≡◌, ◌++◌, ◌∷◌, [], true, false, filter, length, map, if◌then◌else◌, IfErr, OnOk, IfOk};
 ghost use Rattle.std.specs.BTreeMap.{get};
 ghost use Rattle.std.specs.Io.KnownBytes.{Appends};
 ghost use Rattle.std.specs.List.{flat_map};
@@ -12,7 +12,7 @@ ghost use Rattle.mt_render.specs.Sources.{digest_cmp};
 ghost use Rattle.mt_sessionview.specs.SessionText.{newline};
 ghost use Rattle.mt_preflight.specs.SourcesText.{source_line, other_line, name_line, sources_text, missing_text, files_text, listing_text};
 ghost use Rattle.mt_preflight.specs.Played.{named};
-ghost use Rattle.mt_preflight.specs.Using.{noted, digest_at, IsNoted};
+ghost use Rattle.mt_preflight.specs.Using.{noted, IsNoted};
 
 use crate::clips::{all_clips, audible_clips};
 use crate::firsts::first_files;
@@ -22,7 +22,7 @@ use crate::source_line::{
     append_digest_line, append_missing_line, append_name_line, append_refused_line,
     append_source_line, append_unused_line,
 };
-use crate::uses::{Use, named_by, noted, uses_by};
+use crate::uses::{Use, digest_at, named_by, noted, uses_by};
 use mt_op::Digest;
 use mt_opcodec::Latch;
 use mt_sessionview::{Session, SessionFault, TrackView};
@@ -103,14 +103,6 @@ fn append_other_lines<A: Allocator, B: Allocator>(
         append_other_line(alloc, text, uses, file)?;
     }
     Ok(())
-}
-
-// The digest of an index.
-fn digest_at(digests: &[Digest], index: usize) -> Digest
-    requires { index < length digests.now }
-    ensures { result ≡ digest_at digests.now index }
-{
-    digests[index]
 }
 
 // Puts a digest behind others, where no file has it.

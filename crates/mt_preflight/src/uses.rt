@@ -1,10 +1,10 @@
 //! What a session makes of each recording.
 
-ghost use Rattle.std.specs.Prelude.{◌≡◌, ◌+◌, ◌<◌, ◌^◌, max, map, false, IfOk, OnOk};
+ghost use Rattle.std.specs.Prelude.{◌≡◌, ◌+◌, ◌<◌, ◌^◌, max, map, length, false, IfOk, OnOk};
 ghost use Rattle.mt_op.specs.declared.digest.Digest.{Digest as DigestOf};
 ghost use Rattle.mt_preflight.specs.Played.{named_by};
 ghost use Rattle.mt_preflight.specs.Files.{is_same};
-ghost use Rattle.mt_preflight.specs.Using.{noted, AreUses};
+ghost use Rattle.mt_preflight.specs.Using.{noted, digest_at, AreUses};
 
 use mt_op::Digest;
 use mt_sessionview::ClipView;
@@ -108,4 +108,12 @@ pub(crate) fn named_by<A: Allocator>(
     digests.sort_unstable();
     digests.dedup();
     Ok(digests)
+}
+
+/// The digest of an index.
+pub(crate) fn digest_at(digests: &[Digest], index: usize) -> Digest
+    requires { index < length digests.now }
+    ensures { result ≡ digest_at digests.now index }
+{
+    digests[index]
 }

@@ -40,13 +40,14 @@ pub(crate) fn append_one_channel_line<A: Allocator, B: Allocator>(
     alloc: &A,
     text: &mut String<B>,
     digest: Digest,
-    channels: u16,
+    channels: u64,
 ) -> Result<(), AllocError>
     ensures { OnOk result (string_bytes text.new ≡ string_bytes text.old ++ one_channel_line digest channels) }
 {
     append_digest(alloc, text, "one-channel ", digest)?;
-    append_number(text, " channels ", u64::from(channels))?;
-    append_newline(text)
+    append_number(text, " channels ", channels)?;
+    append_newline(text)?;
+    Ok(())
 }
 
 /// Writes `behind MARKER at N` and a line feed.

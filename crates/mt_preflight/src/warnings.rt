@@ -42,7 +42,8 @@ fn append_lines<A: Allocator + Clone, B: Allocator, C: Allocator, D: Allocator>(
     let digests = named_by(alloc.clone()?, &clips)?;
     append_one_channels(alloc, lines, catalogue, format.channels(), &digests)?;
     append_behinds(lines, clips_end(&clips), markers)?;
-    append_held(alloc, lines, log)
+    append_held(alloc, lines, log)?;
+    Ok(())
 }
 
 // The whole text.

@@ -1,5 +1,5 @@
 use Rattle.mt_preflight.specs.WarningsText.{behind}
-use Rattle.mt_preflight.proofs.Lines.{lines_more}
+use Rattle.mt_preflight.proofs.Adding.{lines_more}
 use Rattle.mt_preflight.proofs.behind.append_behinds.Goals as goal
 
 pub loop-marker-preserved : goal.loop-marker-preserved

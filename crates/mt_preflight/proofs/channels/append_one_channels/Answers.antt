@@ -1,10 +1,11 @@
+use Rattle.std.proofs.Common.{[], arith}
 use Rattle.mt_op.specs.declared.digest.Digest.{Digest}
 use Rattle.mt_render.specs.Sources.{found}
 use Rattle.mt_preflight.specs.WarningsText.{one_channel}
-use Rattle.mt_preflight.proofs.Lines.{lines_more}
+use Rattle.mt_preflight.proofs.Adding.{lines_more}
 use Rattle.mt_preflight.proofs.channels.append_one_channels.Goals as goal
 
-pub loop-digest-preserved : goal.loop-digest-preserved
-loop-digest-preserved g c =
-    lines_more (λ (d : Digest). one_channel c.args.heard d (found c.args.catalogue.now d)) c.args.digests.now c.loop-digest.digest-index c.digest-item.result c.digest-item.result c.args.lines.now c.loop-digest.lines c.append_one_channel_of.new.lines
-    c.loop-digest-test.true c.digest-item.is c.loop-digest.invariant c.in_ok-append_one_channel_of.ensures
+pub loop-index-preserved : goal.loop-index-preserved
+loop-index-preserved g c =
+    lines_more (λ (d : Digest). one_channel c.args.heard d (found c.args.catalogue.now d)) c.args.digests.now c.loop-index.index c.digest_at.result (record { 0 = [] }) c.args.lines.now c.loop-index.lines c.append_one_channel_of.new.lines
+    (omega arith) c.digest_at.ensures c.loop-index.invariant c.in_ok-append_one_channel_of.ensures

@@ -1,5 +1,5 @@
 use Rattle.mt_preflight.specs.WarningsText.{covered_on}
-use Rattle.mt_preflight.proofs.Lines.{lines_more}
+use Rattle.mt_preflight.proofs.Adding.{lines_more}
 use Rattle.mt_preflight.proofs.covered.append_all_covered.Goals as goal
 
 pub loop-track-preserved : goal.loop-track-preserved

@@ -12,7 +12,7 @@ use Rattle.mt_sessionview.proofs.Refs.{rising_ops}
 use Rattle.mt_sessionview.proofs.TrackSorting.{every_stamp}
 use Rattle.mt_preflight.specs.Lines.{with_lines}
 use Rattle.mt_preflight.specs.WarningsText.{held_of}
-use Rattle.mt_preflight.proofs.Held.{lines_are}
+use Rattle.mt_preflight.proofs.HeldLines.{lines_are}
 use Rattle.mt_preflight.proofs.held.append_held.Goals as goal
 
 pub items_of_ready-requires : goal.items_of_ready-requires

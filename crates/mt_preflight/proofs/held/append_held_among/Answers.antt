@@ -1,7 +1,7 @@
 use Rattle.std.proofs.Common.{Bor}
 use Rattle.mt_op.specs.declared.op.Op.{Op}
 use Rattle.mt_preflight.specs.WarningsText.{held_of}
-use Rattle.mt_preflight.proofs.Lines.{lines_more_of}
+use Rattle.mt_preflight.proofs.Adding.{lines_more_of}
 use Rattle.mt_preflight.proofs.held.append_held_among.Goals as goal
 
 pub loop-op-preserved : goal.loop-op-preserved

@@ -2,7 +2,7 @@ use Rattle.std.proofs.Common.{Bor}
 use Rattle.mt_sessionview.specs.Content.{Clip}
 use Rattle.mt_render.specs.Sources.{found}
 use Rattle.mt_preflight.specs.WarningsText.{past_end}
-use Rattle.mt_preflight.proofs.Lines.{lines_more_of}
+use Rattle.mt_preflight.proofs.Adding.{lines_more_of}
 use Rattle.mt_preflight.proofs.past_ends.append_past_ends.Goals as goal
 
 pub loop-clip-preserved : goal.loop-clip-preserved

@@ -8,7 +8,7 @@ use Rattle.mt_preflight.specs.Lines.{with_lines}
 use Rattle.mt_preflight.specs.Played.{named_by}
 use Rattle.mt_preflight.specs.WarningsText.{past_end_lines, covered_lines, one_channel_lines, behind_lines, held_lines, warning_lines}
 use Rattle.mt_preflight.proofs.Ends.{length_is}
-use Rattle.mt_preflight.proofs.Lines.{five_kinds}
+use Rattle.mt_preflight.proofs.Adding.{five_kinds}
 use Rattle.mt_preflight.proofs.warnings.append_lines.Goals as goal
 
 pub returns : goal.returns

@@ -145,7 +145,7 @@ one_unmet : (r : Operation → Bool) (s : List Operation) (ns : List Need) → l
 one_unmet r s [] some = absurd (true≢false some)
 one_unmet r s (n ∷ ns) some =
     elim (cases_Bool (is_need_met (filter r s) n)) [
-      | inr no ↦ record { need = n; first = rw no refl }
+      | inr lacks ↦ record { need = n; first = rw lacks refl }
       | inl met ↦
           let rest = one_unmet r s ns (ap (λ (b : Bool). b && list_all (λ need. list_any r (filter (meets need) s)) ns) (sym (turned r (meets n) s met)) ∙ some) in
           record { need = rest.need; first = rw met rest.first }

@@ -16,7 +16,7 @@ use Rattle.mt_overlap.specs.declared.span.Span.{Span}
 use Rattle.mt_overlap.specs.Overlap.{span_at, segment_at, Covers, IsTop, Says, AreSegments}
 use Rattle.mt_render.specs.Mix.{sounds, sounding}
 use Rattle.mt_render.specs.Lanes.{clip_at, span_of, AreSpans}
-use Rattle.mt_render.proofs.Lanes.{PlacesApart, top_sounds}
+use Rattle.mt_render.proofs.Lanes.{PlacesApart, top_sounds, segment_of}
 use Rattle.mt_preflight.specs.Covered.{frames_from, is_this, is_on_top, is_covered}
 use Rattle.mt_preflight.specs.Lines.{mark_at, is_named, AreTops}
 
@@ -209,6 +209,10 @@ marked_more segs k w first old new below is had here others i =
     or_false : (b : Bool) → (b || false) ≡ b
     or_false true = refl
     or_false false = refl
+
+-- each index that a segment names is there
+pub all_within : (clips : List Clip) (spans : List Span) (segs : List Segment) (marks : List Bool) → AreSpans clips spans → AreSegments spans segs → length marks ≡ length clips → (k : ℕ) → k < length segs → (segment_at segs k).which < length marks
+all_within clips spans segs marks are s count k below = let w = (segment_of clips spans segs k are s below).within in omega (arith, count)
 
 -- the marks of all segments, over none, tell which clips are on top
 pub are_tops : (clips : List Clip) (spans : List Span) (segs : List Segment) (first marks : List Bool) (n : ℕ) → PlacesApart clips → AreSpans clips spans → AreSegments spans segs → first ≡ replicate n false → n ≡ length clips → length marks ≡ length first
