@@ -1,5 +1,5 @@
 -- Warnings depend on the recordings under the digests of audible clips alone.
-use Rattle.std.proofs.Common.{◌≡◌, ◌⊎◌, inl, inr, ℕ, List, [], ◌∷◌, ◌++◌, length, map, Option, Some, None, refl, ap, ◌∙◌}
+use Rattle.std.proofs.Common.{◌≡◌, inl, inr, ℕ, List, [], ◌∷◌, ◌++◌, length, map, refl, ap}
 use Rattle.std.specs.List.{AllByRecursion, flat_map}
 use Rattle.std.proofs.lemmas.List.Elements.{All-from_recursion, recursion_from_All}
 use Rattle.std.proofs.lemmas.List.Filters.{All-dedup}
@@ -16,7 +16,7 @@ use Rattle.mt_render.specs.Sources.{Sources, digest_cmp, found}
 use Rattle.mt_preflight.specs.Files.{is_same}
 use Rattle.mt_preflight.specs.Played.{named_by}
 use Rattle.mt_preflight.specs.WarningLaws.{OnlyAudibleAreTold}
-use Rattle.mt_preflight.specs.WarningsText.{past_end, past_end_lines, covered_lines, one_channel, one_channel_lines, behind_lines, held_lines, warning_lines, warnings_line, warnings_text}
+use Rattle.mt_preflight.specs.WarningsText.{past_end, past_end_lines, covered_lines, one_channel, one_channel_lines, behind_lines, held_lines, warning_lines, warnings_line}
 
 module _ (a b : Sources) where
   abbrev Same : Digest → Type 0

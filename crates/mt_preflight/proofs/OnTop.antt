@@ -7,7 +7,7 @@ use Rattle.std.proofs.Math.Bool.{or-true}
 use Rattle.std.proofs.lemmas.Bool.{cases_Bool, cases_lt, cases_eq, false≢true, eqb-true, eq-eqb, ne_eqb}
 use Rattle.std.proofs.lemmas.Bool.Decides.{nat_tests}
 use Rattle.std.proofs.lemmas.List.{take_more, length-replicate}
-use Rattle.mt_stamp.specs.Moment.{stamp_cmp, stamp_eq}
+use Rattle.mt_stamp.specs.Moment.{stamp_cmp}
 use Rattle.mt_op.proofs.Needs.{stamp_eq-true}
 use Rattle.mt_sessionview.specs.Content.{Clip}
 use Rattle.mt_sessionview.proofs.Items.{stamp_eq_same}

@@ -1,11 +1,11 @@
 -- A clip is covered just where it sounds in no frame.
-use Rattle.std.proofs.Common.{◌≡◌, ◌≢◌, ◌⊎◌, ℕ, ◌+◌, ◌<◌, ◌≤◌, inl, inr, Bool, true, false, List, [], ◌∷◌, Option, Some, None, refl, sym, ◌∙◌, ap, arith}
-use Rattle.std.specs.Prelude.{not, ◌&&◌, ◌↔◌, if◌then◌else◌}
+use Rattle.std.proofs.Common.{◌≡◌, ◌≢◌, ◌⊎◌, ℕ, inl, inr, Bool, true, false, List, [], ◌∷◌, Option, Some, None, refl, sym, ◌∙◌, ap}
+use Rattle.std.specs.Prelude.{not, ◌&&◌}
 use Rattle.std.specs.List.{AllByRecursion, list_any}
 use Rattle.std.specs.Ordering.{is_lt}
 use Rattle.std.proofs.lemmas.Bool.{cases_Bool, false≢true, true≢false, not-true}
 use Rattle.std.proofs.lemmas.Option.{none-some, same_Some}
-use Rattle.mt_stamp.specs.Moment.{stamp_cmp, stamp_eq}
+use Rattle.mt_stamp.specs.Moment.{stamp_cmp}
 use Rattle.mt_stamp.specs.Sorting.{DifferBy}
 use Rattle.mt_op.proofs.Needs.{and_first, and_second, stamp_eq-true}
 use Rattle.mt_sessionview.specs.Content.{Clip}

@@ -1,13 +1,11 @@
 -- What is told of channels and of markers.
-use Rattle.std.proofs.Common.{◌≡◌, ◌≢◌, ℕ, ◌-◌, ◌<◌, ◌≤◌, min, Bool, true, false, List, [], ◌∷◌, refl, sym, ◌∙◌, ap, inl, inr, arith}
-use Rattle.std.specs.Prelude.{nat_lt, ◌↔◌, not}
+use Rattle.std.proofs.Common.{◌≡◌, ◌≢◌, ℕ, ◌-◌, ◌<◌, min, Bool, true, false, List, [], ◌∷◌, refl, sym, ◌∙◌, ap, inl, inr, arith}
+use Rattle.std.specs.Prelude.{nat_lt, not}
 use Rattle.std.proofs.lemmas.Bool.{cases_Bool, cases_lt, lt-ltb, le-ltb}
-use Rattle.mt_op.specs.declared.digest.Digest.{Digest}
-use Rattle.mt_sessionview.specs.Content.{Marker}
 use Rattle.mt_bwfread.specs.Wave.{channels_of}
 use Rattle.mt_cuewrite.specs.File.{before}
 use Rattle.mt_preflight.specs.WarningLaws.{UnheardHasALine, UnwrittenHasALine}
-use Rattle.mt_preflight.specs.WarningsText.{line_where, one_channel_line, behind, behind_line}
+use Rattle.mt_preflight.specs.WarningsText.{line_where, one_channel_line, behind_line}
 
 -- a line is there where it is told so
 there : (b : Bool) (line : List ℕ) → b ≡ true → line_where b line ≢ []

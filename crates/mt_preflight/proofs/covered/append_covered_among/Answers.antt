@@ -1,4 +1,4 @@
-use Rattle.std.proofs.Common.{◌∙◌, Bool, List, ℕ, not, ◌&&◌, [], refl, ap, arith}
+use Rattle.std.proofs.Common.{◌∙◌, Bool, not, ◌&&◌, [], refl, ap}
 use Rattle.mt_sessionview.specs.Content.{Clip}
 use Rattle.mt_render.specs.Lanes.{clip_at}
 use Rattle.mt_preflight.specs.Covered.{is_covered}

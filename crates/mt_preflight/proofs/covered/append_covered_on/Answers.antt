@@ -1,5 +1,4 @@
 use Rattle.std.proofs.Common.{◌≡◌, ◌∙◌, List, ℕ, false, refl, sym, ap, subst}
-use Rattle.std.specs.Prelude.{[], if◌then◌else◌}
 use Rattle.mt_stamp.specs.Sorting.{DifferBy}
 use Rattle.mt_sessionview.specs.Content.{Clip, Track}
 use Rattle.mt_preflight.specs.Lines.{with_lines, AreTops}

@@ -1,6 +1,5 @@
 use Rattle.std.proofs.Common.{◌≡◌, ◌∙◌, List, ℕ, map, sym, ap, subst, Bor}
 use Rattle.std.specs.Prelude.{reverse}
-use Rattle.std.specs.List.{flat_map}
 use Rattle.mt_stamp.specs.Sorting.{sort_by, RisesStrictly}
 use Rattle.mt_op.specs.declared.op.Op.{Op}
 use Rattle.mt_op.specs.ByStamp.{op_cmp}
@@ -11,7 +10,6 @@ use Rattle.mt_opcodec.specs.LogValue.{operations}
 use Rattle.mt_sessionview.proofs.Refs.{rising_ops}
 use Rattle.mt_sessionview.proofs.TrackSorting.{every_stamp}
 use Rattle.mt_preflight.specs.Lines.{with_lines}
-use Rattle.mt_preflight.specs.WarningsText.{held_of}
 use Rattle.mt_preflight.proofs.HeldLines.{lines_are}
 use Rattle.mt_preflight.proofs.held.append_held.Goals as goal
 
