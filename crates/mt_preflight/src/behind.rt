@@ -1,6 +1,6 @@
 //! Markers that a file does not have.
 
-ghost use Rattle.std.specs.Prelude.{◌≡◌, ◌+◌, not, nat_lt, map, OnOk, if◌then◌else◌};
+ghost use Rattle.std.specs.Prelude.{◌≡◌, ◌+◌, nat_lt, map, OnOk, if◌then◌else◌};
 ghost use Rattle.mt_render.specs.Mix.{clips_end};
 ghost use Rattle.mt_preflight.specs.Lines.{with_lines};
 ghost use Rattle.mt_preflight.specs.WarningsText.{behind, behind_lines};

@@ -23,8 +23,8 @@ fn unmet_at<A: Allocator, B: Allocator>(items: &Items<A>, op: &Op<B>, index: usi
     ensures { (need : NeedOf) → slice_get (needs op.now) index ≡ Some need → result ≡ (if is_need_met items.now need then None else Some need) }
 {
     match op.need(index) {
-        Some(need) => { if items.meets(&need) { None } else { Some(need) } }
-        None => None,
+        Some(need) if !items.meets(&need) => Some(need),
+        _ => None,
     }
 }
 
