@@ -1,3 +1,5 @@
+mod editors;
+mod growth;
 mod replica;
 mod sync;
 mod world;

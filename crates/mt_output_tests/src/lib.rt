@@ -1,5 +1,5 @@
-//! Tests of what goes in and out of an editor as text or sound: mt_render, mt_logtext, mt_script and mt_cuewrite. Programmes of a few samples, worked out by hand; the text of
-//! what is held; whole scripts; files of a few samples, heads, and outputs that fail.
+//! Tests of what goes in and out of an editor as text or sound: mt_render, mt_script and mt_cuewrite. Each growth refused in turn, fades beside their formula, and how a file is
+//! written. Scripts, programmes and files as a whole are shown by the cases of `radio edit` and `radio render`.
 #![tactic(auto)]
 
 #[cfg(test)]

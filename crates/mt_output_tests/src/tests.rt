@@ -1,4 +1,4 @@
 mod cuewrite;
-mod logtext;
+mod growth;
 mod render;
 mod script;

@@ -65,9 +65,19 @@ fn agree(alloc: Global, left: &Editor, right: &Editor) -> bool {
         && left == right
 }
 
-// An editor of the empty log.
-fn newcomer(alloc: Global, name: Replica) -> Option<Editor> {
-    Editor::from_log(alloc, name, Log::new(alloc)).ok()
+// Lends an editor of this log.
+fn with_editor<T, F: FnOnce(&mut Editor) -> T>(
+    alloc: Global,
+    name: Replica,
+    log: Log,
+    work: F,
+) -> Option<T>
+    requires { F.IsAlwaysCallable work }
+{
+    match Editor::from_log(alloc, name, log) {
+        Ok(mut editor) => Some(work(&mut editor)),
+        Err(_) => None,
+    }
 }
 
 // Takes an operation twice.
@@ -102,43 +112,26 @@ fn take_all(editor: &mut Editor, mut ops: Vec<Op>, number: usize) -> bool {
     take_in_order(editor, ops, number) && take_twice(editor, before) && take_twice(editor, last)
 }
 
-// A copy of an editor's log.
-fn copy_of_log(editor: &Editor) -> Option<Log> {
-    match editor.log() {
-        Some(log) => log.try_clone().ok(),
-        None => None,
-    }
-}
-
-// The same after a script.
+// A copy of an editor's log after a script.
 fn log_after(alloc: Global, editor: &mut Editor, script: &[u8]) -> Option<Log> {
-    match run(alloc, editor, script) {
-        Ok(_) => copy_of_log(editor),
-        Err(_) => None,
+    if run(alloc, editor, script).is_err() {
+        return None;
     }
+    editor.log()?.try_clone().ok()
 }
 
 // The log of an editor that went on with a log by a script.
 fn went_on(alloc: Global, name: Replica, log: Log, script: &[u8]) -> Option<Log> {
-    match Editor::from_log(alloc, name, log) {
-        Ok(mut editor) => log_after(alloc, &mut editor, script),
-        Err(_) => None,
-    }
+    with_editor(alloc, name, log, |editor| log_after(alloc, editor, script))?
 }
 
-// The union of the logs of two editors who go on with a log, B by one script and A by another.
-fn union_from(alloc: Global, log: Log, scripts: [&[u8]; 2]) -> Option<Log> {
-    let copy = log.try_clone().ok()?;
-    let second = went_on(alloc, B, copy, scripts[0])?;
-    let third = went_on(alloc, A, log, scripts[1])?;
-    Log::merge(alloc, &second, &third).ok()
-}
-
-// An editor of the union of the logs of two: A begins with a script, B goes on with a copy by another, and A by a third.
-fn editor_of_union(alloc: Global, scripts: [&[u8]; 3]) -> Option<Editor> {
+// The union of the logs of two editors: A begins with a script, B goes on with a copy by another, and A by a third.
+fn union_of(alloc: Global, scripts: [&[u8]; 3]) -> Option<Log> {
     let first = went_on(alloc, A, Log::new(alloc), scripts[0])?;
-    let log = union_from(alloc, first, [scripts[1], scripts[2]])?;
-    Editor::from_log(alloc, B, log).ok()
+    let copy = first.try_clone().ok()?;
+    let second = went_on(alloc, B, copy, scripts[1])?;
+    let third = went_on(alloc, A, first, scripts[2])?;
+    Log::merge(alloc, &second, &third).ok()
 }
 
 // Copies of a log's operations.
@@ -146,48 +139,34 @@ fn ops_of(alloc: Global, log: &Log) -> Option<Vec<Op>> {
     let mut ops = Vec::new(alloc);
     for index in 0..log.len() {
         let copy = log.op_at(index)?.try_clone().ok()?;
-        if ops.push(copy).is_err() {
-            return None;
-        }
+        ops.push(copy).ok()?;
     }
     Some(ops)
 }
 
-// A newcomer who has taken the operations of a log in the order of this number, each twice.
-fn taker_of(alloc: Global, log: &Log, number: usize) -> Option<Editor> {
-    let ops = ops_of(alloc, log)?;
-    let mut editor = newcomer(alloc, B)?;
-    if take_all(&mut editor, ops, number) {
-        Some(editor)
-    } else {
-        None
-    }
+// Whether an editor agrees with another once it has taken the operations of that one's log in the order of this number, each twice.
+fn agrees_after(alloc: Global, editor: &mut Editor, whole: &Editor, number: usize) -> Option<bool> {
+    let ops = ops_of(alloc, whole.log()?)?;
+    Some(take_all(editor, ops, number) && agree(alloc, whole, editor))
 }
 
-// Whether such a newcomer agrees with an editor of the log.
-fn agrees_in_order(alloc: Global, whole: &Editor, log: &Log, number: usize) -> bool {
-    match taker_of(alloc, log, number) {
-        Some(other) => agree(alloc, whole, &other),
-        None => false,
+// How many operations an editor's log has, where newcomers agree with the editor in each of so many orders.
+fn agreements_with(alloc: Global, whole: &Editor, orders: usize) -> Option<usize> {
+    for number in 0..orders {
+        let agrees = with_editor(alloc, B, Log::new(alloc), |editor| {
+            agrees_after(alloc, editor, whole, number)
+        });
+        if agrees != Some(Some(true)) {
+            return None;
+        }
     }
-}
-
-// How many operations an editor's log has, and whether such a newcomer agrees with the editor in each of so many orders.
-fn agreements_with(alloc: Global, whole: &Editor, orders: usize) -> Option<(usize, bool)> {
-    let log = whole.log()?;
-    let mut all = true;
-    for order in 0..orders {
-        all &= agrees_in_order(alloc, whole, log, order);
-    }
-    Some((log.len(), all))
+    Some(whole.log()?.len())
 }
 
 // The same of an editor of the union of two editors' logs.
-fn agreements(alloc: Global, scripts: [&[u8]; 3], orders: usize) -> Option<(usize, bool)> {
-    match editor_of_union(alloc, scripts) {
-        Some(whole) => agreements_with(alloc, &whole, orders),
-        None => None,
-    }
+fn agreements(alloc: Global, scripts: [&[u8]; 3], orders: usize) -> Option<usize> {
+    let log = union_of(alloc, scripts)?;
+    with_editor(alloc, B, log, |whole| agreements_with(alloc, whole, orders))?
 }
 
 // Each script of B ends with three_sample_file's track and clip: they are the last two operations of the union.
@@ -200,7 +179,7 @@ fn agree_on_four_places(rt: HostRuntime) {
         b"add-track 1.1.00000000-0000-0000-0000-00000000000a y\nadd-track head z\nadd-track head Voice\nadd-clip cc0a0e0651f6e9e304442665437ab61ac3b5302b51bb4a161b144bf9985dfb79 $3 0 0 3\n",
         b"add-track 1.1.00000000-0000-0000-0000-00000000000a x\n",
     ];
-    assert!(rt; agreements(rt.alloc(), scripts, 24) == Some((6, true)));
+    assert!(rt; agreements(rt.alloc(), scripts, 24) == Some(6));
 }
 
 // moved_tracks
@@ -211,7 +190,7 @@ fn agree_on_moved_tracks(rt: HostRuntime) {
         b"move-track 1.1.00000000-0000-0000-0000-00000000000a 3.3.00000000-0000-0000-0000-00000000000a\nadd-track head Voice\nadd-clip cc0a0e0651f6e9e304442665437ab61ac3b5302b51bb4a161b144bf9985dfb79 $2 0 0 3\n",
         b"move-track 1.1.00000000-0000-0000-0000-00000000000a 2.2.00000000-0000-0000-0000-00000000000a\n",
     ];
-    assert!(rt; agreements(rt.alloc(), scripts, 120) == Some((7, true)));
+    assert!(rt; agreements(rt.alloc(), scripts, 120) == Some(7));
 }
 
 // removed_and_restored
@@ -222,7 +201,7 @@ fn agree_on_a_removed_and_restored_marker(rt: HostRuntime) {
         b"restore 1.1.00000000-0000-0000-0000-00000000000a\nadd-track head Voice\nadd-clip cc0a0e0651f6e9e304442665437ab61ac3b5302b51bb4a161b144bf9985dfb79 $2 0 0 3\n",
         b"remove 1.1.00000000-0000-0000-0000-00000000000a\n",
     ];
-    assert!(rt; agreements(rt.alloc(), scripts, 6) == Some((5, true)));
+    assert!(rt; agreements(rt.alloc(), scripts, 6) == Some(5));
 }
 
 // moved_and_removed_clip
@@ -233,38 +212,40 @@ fn agree_on_a_moved_and_removed_clip(rt: HostRuntime) {
         b"move-clip 2.2.00000000-0000-0000-0000-00000000000a 1.1.00000000-0000-0000-0000-00000000000a 70\nadd-track head Voice\nadd-clip cc0a0e0651f6e9e304442665437ab61ac3b5302b51bb4a161b144bf9985dfb79 $2 0 0 3\n",
         b"remove 2.2.00000000-0000-0000-0000-00000000000a\nrestore 2.2.00000000-0000-0000-0000-00000000000a\n",
     ];
-    assert!(rt; agreements(rt.alloc(), scripts, 120) == Some((7, true)));
+    assert!(rt; agreements(rt.alloc(), scripts, 120) == Some(7));
 }
 
-// An editor of a log that goes on with it by a script.
-fn scripted(alloc: Global, log: &Log, script: &[u8]) -> Option<Editor> {
-    let copy = log.try_clone().ok()?;
-    Editor::from_log(alloc, A, went_on(alloc, A, copy, script)?).ok()
+// Whether an editor that makes a change agrees with another that makes it by a script.
+fn edits_as(
+    alloc: Global,
+    editor: &mut Editor,
+    change: &Change,
+    (other, script): (&mut Editor, &[u8]),
+) -> bool {
+    editor.edit(change).is_ok() && run(alloc, other, script).is_ok() && agree(alloc, editor, other)
 }
 
-// An editor of a log that makes a change.
-fn edited(alloc: Global, log: Log, change: &Change) -> Option<Editor> {
-    let mut editor = Editor::from_log(alloc, A, log).ok()?;
-    if editor.edit(change).is_err() {
-        return None;
-    }
-    Some(editor)
+// The same of an editor of a log.
+fn edits_beside(
+    alloc: Global,
+    log: Log,
+    change: &Change,
+    other: (&mut Editor, &[u8]),
+) -> Option<bool> {
+    with_editor(
+        alloc,
+        A,
+        log,
+        |editor| edits_as(alloc, editor, change, other),
+    )
 }
 
-// Whether an editor of a log that makes a change agrees with another.
-fn edits_as(alloc: Global, log: Log, change: &Change, other: &Editor) -> Option<bool> {
-    match edited(alloc, log, change) {
-        Some(editor) => Some(agree(alloc, &editor, other)),
-        None => None,
-    }
-}
-
-// Whether an editor that makes a change of a log agrees with one that makes it by a script.
+// The same of two editors of a log.
 fn edits_as_scripted(alloc: Global, log: Log, change: &Change, script: &[u8]) -> Option<bool> {
-    match scripted(alloc, &log, script) {
-        Some(other) => edits_as(alloc, log, change, &other),
-        None => None,
-    }
+    let copy = log.try_clone().ok()?;
+    with_editor(alloc, A, copy, |other| {
+        edits_beside(alloc, log, change, (other, script))
+    })?
 }
 
 // three_sample_file, moved by `edit`

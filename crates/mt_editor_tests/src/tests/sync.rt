@@ -1,20 +1,17 @@
 //! What no clause says: bytes that were written out by hand, and that every call succeeds where there is memory.
-mod answering;
+mod devices;
 mod growth;
 mod messages;
 mod sockets;
 mod streams;
-mod swaps;
 
+use super::editors::with_markers;
 use mt_opcodec::Log;
 use mt_replica::Editor;
-use mt_stamp::{Replica, Stamp};
+use mt_stamp::Stamp;
 use mt_sync::{Side, Talk, TalkFault};
-use mt_testkit::{A, B, Refusing, log_of};
+use mt_testkit::{A, log_of};
 use std::alloc::{Allocator, Global};
-use std::test::Fail;
-
-const NOBODY: Replica = Replica(0);
 
 // All that the caller of the log of one marker sends: its Have, 37 bytes, the marker, 51 bytes, and Bye.
 const CALLER: &[u8] =
@@ -23,26 +20,35 @@ const CALLER: &[u8] =
 // All that the answerer of the empty log sends: its Have and Bye.
 const ANSWERER: &[u8] = b"\0\0\0\x05\x01\0\0\0\0\0\0\0\x01\x03";
 
-// The log of markers of these stamps. A refused growth is refused as a talk refuses it.
-fn log_with<M: Allocator + Clone>(memory: &M, stamps: &[Stamp]) -> Result<Log<M>, TalkFault> {
-    match log_of(memory, stamps) {
-        Ok(log) => Ok(log),
-        Err(_) => Err(TalkFault::Memory),
+// All that an end sends.
+fn said_by(side: Side) -> &'static [u8] {
+    match side {
+        Side::Caller => CALLER,
+        Side::Answerer => ANSWERER,
     }
 }
 
-// An editor of a log.
-fn editor_from<M: Allocator + Clone>(memory: &M, log: Log<M>) -> Result<Editor<M>, TalkFault> {
-    match Editor::from_log(memory.clone()?, NOBODY, log) {
-        Ok(editor) => Ok(editor),
-        Err(_) => Err(TalkFault::Memory),
+// All that it is told.
+fn told_to(side: Side) -> &'static [u8] {
+    match side {
+        Side::Caller => ANSWERER,
+        Side::Answerer => CALLER,
     }
 }
 
-// An editor who has taken markers of these stamps.
-fn editor_of<M: Allocator + Clone>(memory: &M, stamps: &[Stamp]) -> Result<Editor<M>, TalkFault> {
-    let log = log_with(memory, stamps)?;
-    editor_from(memory, log)
+// Lends the editor of an end, as it is before the conversation.
+fn with_end<M: Allocator + Copy, T, F: FnOnce(&mut Editor<M>) -> T>(
+    memory: M,
+    side: Side,
+    work: F,
+) -> Option<T>
+    requires { F.IsAlwaysCallable work }
+{
+    let marker = [Stamp::new(1, A, 1).ok()?];
+    match side {
+        Side::Caller => with_markers(memory, &marker, work),
+        Side::Answerer => with_markers(memory, &[], work),
+    }
 }
 
 // How many operations an editor of markers has, each of which its session shows; none where it has failed, and has neither log nor session.
@@ -68,19 +74,15 @@ fn has_the_marker(alloc: Global, editor: &Editor) -> Option<bool> {
     Some(*editor.log()? == wanted)
 }
 
-// A talk that has read nothing. What a caller sends first is let go.
-fn talk_of<M: Allocator + Clone>(
-    memory: &M,
-    frames: Global,
-    side: Side,
-    editor: &Editor<M>,
-) -> Result<Talk<M>, TalkFault> {
-    match side {
-        Side::Caller => {
-            let (talk, _) = Talk::call(memory.clone()?, frames, editor)?;
-            Ok(talk)
-        }
-        Side::Answerer => Ok(Talk::answer(memory.clone()?, frames)),
+// The fault of a talk that is out of turn from then on, and whose editor holds a front of what it was told or has failed.
+fn stopped<M: Allocator + Clone>(
+    talk: &mut Talk<M>,
+    editor: &mut Editor<M>,
+    fault: TalkFault,
+) -> TalkFault {
+    match talk.feed(editor, &[]) {
+        Err(TalkFault::OutOfTurn) if is_left(editor, 1) => fault,
+        _ => TalkFault::BadMessage,
     }
 }
 
@@ -97,29 +99,7 @@ fn feed_piece<'w, M: Allocator + Clone>(
     }
 }
 
-// The fault of a talk that is out of turn from then on, and whose editor holds a front of what it was told or has failed.
-fn stopped<M: Allocator + Clone>(
-    talk: &mut Talk<M>,
-    editor: &mut Editor<M>,
-    fault: TalkFault,
-) -> TalkFault {
-    match talk.feed(editor, &[]) {
-        Err(TalkFault::OutOfTurn) if is_left(editor, 1) => fault,
-        _ => TalkFault::BadMessage,
-    }
-}
-
-// What came of a stream.
-#[derive(Clone, Copy, PartialEq, Eq)]
-struct Told {
-    // whether the replies were those wanted
-    replied: bool,
-    ended: bool,
-    // how many operations the editor has
-    held: Option<usize>,
-}
-
-// Whether a talk that reads a stream in pieces of this size answers what is wanted.
+// Whether a talk that is told all in pieces of this size says what is wanted.
 fn replies<M: Allocator + Clone>(
     talk: &mut Talk<M>,
     editor: &mut Editor<M>,
@@ -136,119 +116,49 @@ fn replies<M: Allocator + Clone>(
     Ok(rest.is_empty())
 }
 
-// What comes of it.
-fn tell_talk<M: Allocator + Clone>(
+// Whether it then has ended, and its editor has the marker.
+fn ends<M: Allocator + Clone>(
     talk: &mut Talk<M>,
     editor: &mut Editor<M>,
     stream: (&[u8], usize),
     wanted: &[u8],
-) -> Result<Told, TalkFault> {
+) -> Result<bool, TalkFault> {
     let replied = replies(talk, editor, stream, wanted)?;
-    Ok(Told {
-        replied,
-        ended: talk.ended(),
-        held: held(editor),
-    })
+    Ok(replied && talk.ended() && held(editor) == Some(1))
 }
 
-// A new talk of an editor that does so.
-fn tell_editor<M: Allocator + Clone>(
-    memory: &M,
+// The same of a new talk; a caller begins with its Have.
+fn talks<M: Allocator + Copy>(
+    memory: M,
     frames: Global,
-    (side, editor): (Side, &mut Editor<M>),
-    stream: (&[u8], usize),
-    wanted: &[u8],
-) -> Result<Told, TalkFault> {
-    let mut talk = talk_of(memory, frames, side, editor)?;
-    tell_talk(&mut talk, editor, stream, wanted)
-}
-
-// An editor of markers of these stamps whose talk does so.
-fn tell<M: Allocator + Clone>(
-    memory: &M,
-    frames: Global,
-    (side, own): (Side, &[Stamp]),
-    stream: (&[u8], usize),
-    wanted: &[u8],
-) -> Result<Told, TalkFault> {
-    match editor_of(memory, own) {
-        Ok(mut editor) => tell_editor(memory, frames, (side, &mut editor), stream, wanted),
+    editor: &mut Editor<M>,
+    (side, size): (Side, usize),
+) -> Result<bool, TalkFault> {
+    let stream = (told_to(side), size);
+    if side == Side::Answerer {
+        return ends(&mut Talk::answer(memory, frames), editor, stream, ANSWERER);
+    }
+    match Talk::call(memory, frames, editor) {
+        Ok((mut talk, have)) => match CALLER.strip_prefix(have.as_slice()) {
+            Some(rest) => ends(&mut talk, editor, stream, rest),
+            None => Ok(false),
+        },
         Err(fault) => Err(fault),
     }
 }
 
-const ALL: Told = Told {
-    replied: true,
-    ended: true,
-    held: Some(1),
-};
-
-// Whether an answerer of no operation, told the caller's bytes in pieces of this size, comes to its end.
-fn answers_in<M: Allocator + Clone>(
-    memory: &M,
-    frames: Global,
-    size: usize,
-) -> Result<bool, TalkFault> {
-    let told = tell(
-        memory,
-        frames,
-        (Side::Answerer, &[]),
-        (CALLER, size),
-        ANSWERER,
-    )?;
-    Ok(told == ALL)
-}
-
-// Whether the caller of one marker, told the answerer's bytes in pieces of this size, comes to its end.
-fn calls_in<M: Allocator + Clone>(
-    memory: &M,
-    frames: Global,
-    size: usize,
-) -> Result<bool, TalkFault> {
-    let Ok(stamp) = Stamp::new(1, A, 1) else {
-        return Ok(false);
-    };
-    let told = tell(
-        memory,
-        frames,
-        (Side::Caller, &[stamp]),
-        (ANSWERER, size),
-        &CALLER[37..],
-    )?;
-    Ok(told == ALL)
+// Whether an end comes to its end that is told all in pieces of this size.
+fn ends_in_pieces(alloc: Global, side: Side, size: usize) -> bool {
+    let ended = with_end(alloc, side, |editor| talks(alloc, alloc, editor, (side, size)));
+    ended == Some(Ok(true))
 }
 
 // conversation, however it is cut
 #[test]
-fn answers_in_pieces(rt: HostRuntime) {
-    for size in 1..CALLER.len() + 1 {
-        assert!(rt;
-            answers_in(&rt.alloc(), rt.alloc(), size) == Ok(true),
-            "of {size}"
-        );
-    }
-}
-
-#[test]
-fn calls_in_pieces(rt: HostRuntime) {
-    for size in 1..ANSWERER.len() + 1 {
-        assert!(rt;
-            calls_in(&rt.alloc(), rt.alloc(), size) == Ok(true),
-            "of {size}"
-        );
-    }
-}
-
-#[test]
-fn refuses_each_growth_of_a_conversation(rt: HostRuntime) -> Result<(), Fail> {
-    for at in 0..200 {
-        let memory = Refusing::new(rt.alloc(), at);
-        let told = answers_in(&&memory, rt.alloc(), 50);
-        if !memory.has_refused() {
-            assert!(rt; told == Ok(true));
-            return Ok(());
+fn ends_however_it_is_cut(rt: HostRuntime) {
+    for side in [Side::Caller, Side::Answerer] {
+        for size in 1..told_to(side).len() + 1 {
+            assert!(rt; ends_in_pieces(rt.alloc(), side, size), "of {size}");
         }
-        assert!(rt; told == Err(TalkFault::Memory), "at {at}");
     }
-    Err(Fail::from("each run met a refusal"))
 }

@@ -1,5 +1,164 @@
-//! What no clause says: that a run succeeds where there is memory, and which worlds the worked lists of events make.
+//! A run of a world: which world a list of events makes, its clauses and the law `worked_histories` say, and the stored run of world_histories shows
+//! it; here a run succeeds where there is memory, and each growth of it is refused in turn.
 
-mod refused_growth;
-mod steps;
-mod worked;
+use super::growth::{Work, refusals};
+use mt_op::Title;
+use mt_replica::Change;
+use mt_sessionview::{MarkerView, Session};
+use mt_stamp::{Dot, Replica, Stamp};
+use mt_testkit::{A, B, Refusing};
+use mt_world::{Event, World, WorldFault};
+use std::alloc::{Allocator, Global};
+
+// An event of one of two editors: the first one's marker, its new title and its removal.
+#[derive(Clone, Copy)]
+enum Step {
+    AddMarker(usize, u32, &'static str),
+    Retitle(usize, &'static str),
+    Remove(usize),
+    Save(usize),
+    Take(usize, usize),
+    Restart(usize),
+}
+
+// An edit of each kind, saves, takes, a repeated take and restarts, of what was saved and of what was not.
+const STEPS: [Step; 12] = [
+    Step::AddMarker(0, 1, "News at nine o'clock"),
+    Step::Retitle(0, "Late in the evening"),
+    Step::Save(0),
+    Step::Take(1, 1),
+    Step::Take(1, 0),
+    Step::Take(1, 0),
+    Step::AddMarker(1, 2, "Weather for the region"),
+    Step::Save(1),
+    Step::Remove(1),
+    Step::Restart(1),
+    Step::Take(0, 2),
+    Step::Restart(0),
+];
+
+// The change of a step that is an edit.
+fn change_of<M: Allocator>(memory: M, item: Stamp, step: Step) -> Option<Change<M>> {
+    match step {
+        Step::AddMarker(_, at, text) => {
+            let title = Title::new(memory, text).ok()?;
+            Some(Change::AddMarker { at, title })
+        }
+        Step::Retitle(_, text) => {
+            let title = Title::new(memory, text).ok()?;
+            Some(Change::Retitle { item, title })
+        }
+        _ => Some(Change::Remove { item }),
+    }
+}
+
+fn event_of<M: Allocator>(memory: M, item: Stamp, step: Step) -> Option<Event<M>> {
+    match step {
+        Step::Save(editor) => Some(Event::Save(editor)),
+        Step::Take(editor, sent) => Some(Event::Take(editor, sent)),
+        Step::Restart(editor) => Some(Event::Restart(editor)),
+        Step::AddMarker(editor, _, _) | Step::Retitle(editor, _) | Step::Remove(editor) => {
+            let change = change_of(memory, item, step)?;
+            Some(Event::Edit(editor, change))
+        }
+    }
+}
+
+fn events_of<M: Allocator + Copy>(memory: M, item: Stamp) -> Option<Vec<Event<M>, M>> {
+    let mut events = Vec::new(memory);
+    for step in STEPS {
+        events.push(event_of(memory, item, step)?).ok()?;
+    }
+    Some(events)
+}
+
+// Whether a marker is this one.
+fn is_marker<M: Allocator>(marker: Option<&MarkerView<M>>, at: u32, text: &str) -> bool {
+    match marker {
+        Some(marker) => marker.at == at && marker.title.text() == text,
+        None => false,
+    }
+}
+
+// Whether a session has the first marker with its new title, and beside it as many markers, of which the first is the second editor's.
+fn shows<M: Allocator>(session: &Session<M>, others: usize) -> bool {
+    let markers = session.markers.items();
+    is_marker(markers.first(), 1, "Late in the evening")
+        && (others == 0 || is_marker(markers.get(1), 2, "Weather for the region"))
+        && markers.len().wrapping_sub(1) == others
+        && session.held == 0
+}
+
+// Whether an editor shows that.
+fn editor_shows<M: Allocator + Clone>(world: &World<M>, index: usize, others: usize) -> bool {
+    match world.editor(index) {
+        Some(editor) => match editor.session() {
+            Some(session) => shows(session, others),
+            None => false,
+        },
+        None => false,
+    }
+}
+
+// Whether an operation that was sent has this name.
+fn is_sent<M: Allocator>(world: &World<M>, index: usize, replica: Replica, seq: u64) -> bool {
+    match world.sent().get(index) {
+        Some(op) => op.dot() == Dot { replica, seq },
+        None => false,
+    }
+}
+
+// Whether a world is the one that comes of the steps: the first editor lost the take that it had not saved.
+fn is_wanted<M: Allocator + Clone>(world: &World<M>) -> bool {
+    is_sent(world, 0, A, 1)
+        && is_sent(world, 1, A, 2)
+        && is_sent(world, 2, B, 1)
+        && world.sent().len() == 3
+        && editor_shows(world, 0, 0)
+        && editor_shows(world, 1, 1)
+        && world.editor(2).is_none()
+}
+
+// Whether the world after these events is that one.
+fn comes_to_it<M: Allocator + Copy>(memory: M, events: &[Event<M>]) -> Result<bool, WorldFault> {
+    match World::run(memory, &[A, B], events) {
+        Ok(world) => Ok(is_wanted(&world)),
+        Err(fault) => Err(fault),
+    }
+}
+
+#[derive(Clone, Copy)]
+struct Run;
+
+impl Work for Run {
+    fn is_right<M: Allocator + Copy>(
+        &self,
+        memory: M,
+        _alloc: Global,
+        tally: &Refusing<Global>,
+    ) -> Option<bool> {
+        let item = Stamp::new(1, A, 1).ok()?;
+        let events = events_of(memory, item)?;
+        let answer = comes_to_it(memory, &events);
+        Some(if tally.has_refused() {
+            answer == Err(WorldFault::Memory)
+        } else {
+            answer == Ok(true)
+        })
+    }
+}
+
+#[test]
+fn is_no_world_where_a_growth_is_refused(rt: HostRuntime) {
+    assert!(rt; refusals(rt.alloc(), &Run) > Some(50));
+}
+
+// What a world of one name twice is refused as.
+fn refused_names(alloc: Global) -> Option<WorldFault> {
+    World::run(alloc, &[A, A], &[]).err()
+}
+
+#[test]
+fn refuses_a_name_that_stands_twice(rt: HostRuntime) {
+    assert!(rt; refused_names(rt.alloc()) == Some(WorldFault::SameName(1)));
+}

@@ -1,22 +1,13 @@
-//! Files of a few samples, worked out by hand. The cases of `radio render` have more of them, and each head that is refused.
+//! How a file is written: block by block, and with one growth. Which bytes it has, a clause says of every mix, and the cases of `radio render` show it.
 
-mod writers;
-
-use mt_cuewrite::{BounceFault, Head, HeadFault, bounce};
-use mt_op::{Body, Op, Title};
+use mt_cuewrite::{BounceFault, Head, bounce};
 use mt_opcodec::{Latch, Log};
 use mt_render::{Catalogue, Format, Mix};
 use mt_sessionview::{Session, from_scratch};
-use mt_stamp::Stamp;
-use mt_testkit::{A, RECORDING, log_of_a_clip};
+use mt_testkit::{FailingWriter, RECORDING, Refusing, log_of_a_clip};
 use std::alloc::{Allocator, Global};
-use std::io::Write;
+use std::io::{ErrorKind, Write};
 use std::test::Fail;
-
-// A head of no text.
-fn plain_head() -> Option<Head<'static>> {
-    Head::new("", "", "", "2000-01-01", "00:00:00", 0).ok()
-}
 
 // Writes the file of a session and its mix.
 fn bounce_mix<M: Allocator, W: Write>(
@@ -25,194 +16,104 @@ fn bounce_mix<M: Allocator, W: Write>(
     mix: &Mix<'_, '_>,
     output: &mut Latch<W>,
 ) -> Option<Result<(), BounceFault>> {
-    let head = plain_head()?;
+    let head = Head::new("", "", "", "2000-01-01", "00:00:00", 0).ok()?;
     Some(bounce(memory, mix, session.markers.items(), &head, output))
 }
 
-// A catalogue of the recording.
-fn catalogue_of(alloc: Global) -> Option<Catalogue<'static>> {
-    let mut catalogue = Catalogue::new(alloc);
-    match catalogue.add(RECORDING) {
-        Ok(_) => Some(catalogue),
-        Err(_) => None,
-    }
-}
-
-// Writes the file of a session over the recording.
+// Writes the file of a session over the recording, of 24 bits on two channels. None where the file's parts are not made.
 fn bounce_session<M: Allocator, W: Write>(
     memory: M,
     alloc: Global,
     session: &Session,
-    format: Format,
     output: &mut Latch<W>,
 ) -> Option<Result<(), BounceFault>> {
-    let catalogue = catalogue_of(alloc)?;
+    let mut catalogue = Catalogue::new(alloc);
+    catalogue.add(RECORDING).ok()?;
+    let format = Format::new(48000, 24, 2).ok()?;
     match Mix::new(alloc, session, &catalogue, format) {
         Ok(mix) => bounce_mix(memory, session, &mix, output),
         Err(_) => None,
     }
 }
 
-/// Writes the file of a log, of 24 bits on so many channels, and gives the answer. None where the file's parts are not made.
-pub fn bounce_log<M: Allocator, W: Write>(
+// The same of a log.
+fn bounce_log<M: Allocator, W: Write>(
     memory: M,
     alloc: Global,
     log: &Log,
-    channels: u16,
     output: &mut Latch<W>,
 ) -> Option<Result<(), BounceFault>> {
-    let Ok(format) = Format::new(48000, 24, channels) else {
-        return None;
-    };
-    let Ok(session) = from_scratch(alloc, log) else {
-        return None;
-    };
-    bounce_session(memory, alloc, &session, format, output)
-}
-
-/// The file of a log on one channel.
-pub fn file_of(alloc: Global, log: &Log) -> Option<Vec<u8>> {
-    let mut output = Latch::new(Vec::new(alloc));
-    match bounce_log(alloc, alloc, log, 1, &mut output) {
-        Some(Ok(())) => Some(output.into_inner()),
-        _ => None,
+    match from_scratch(alloc, log) {
+        Ok(session) => bounce_session(memory, alloc, &session, output),
+        Err(_) => None,
     }
 }
 
-// What stands behind these pieces, where bytes begin with them.
-fn behind<'a>(bytes: &'a [u8], pieces: &[&[u8]]) -> Option<&'a [u8]> {
-    let mut rest = bytes;
-    for piece in pieces {
-        rest = rest.strip_prefix(*piece)?;
-    }
-    Some(rest)
+// What came of writing a file.
+#[derive(Clone, Copy, PartialEq, Eq)]
+struct Written {
+    answer: Result<(), BounceFault>,
+    // how many bytes the writer holds
+    held: usize,
+    // how many of them it was given at once at most
+    greatest: usize,
+    // how many writes there were
+    asked: usize,
 }
 
-// The chunks `bext` and `fmt `.
-const HEAD: [&[u8]; 6] = [
-    b"WAVEbext\x75\x02\0\0",
-    &[0; 320],
-    b"2000-01-0100:00:00",
-    &[0; 264],
-    b"A=PCM,F=48000,W=24,M=mono\r\n\0",
-    b"fmt \x10\0\0\0\x01\0\x01\0\x80\xbb\0\0\x80\x32\x02\0\x03\0\x18\0",
-];
-
-// Whether a file is a RIFF chunk of this size with the head and these chunks.
-fn is_of_chunks(file: &[u8], size: &[u8], chunks: &[&[u8]]) -> bool {
-    let Some(content) = behind(file, &[b"RIFF", size]) else {
-        return false;
-    };
-    let Some(rest) = behind(content, &HEAD) else {
-        return false;
-    };
-    behind(rest, chunks) == Some(&[])
+// What comes of writing the file of a log over this memory to a writer that fails behind so many writes.
+fn write_log<M: Allocator>(memory: M, alloc: Global, log: &Log, good: usize) -> Option<Written> {
+    let writer = FailingWriter::of_pieces(alloc, usize::MAX, good, ErrorKind::Other);
+    let mut output = Latch::new(writer);
+    let answer = bounce_log(memory, alloc, log, &mut output)?;
+    let writer = output.into_inner();
+    Some(Written {
+        answer,
+        held: writer.written().len(),
+        greatest: writer.greatest(),
+        asked: writer.asked(),
+    })
 }
 
-// Adds the marker of this number.
-fn add_marker(log: &mut Log, alloc: Global, (number, at, title): (u64, u32, &str)) -> bool {
-    let Ok(stamp) = Stamp::new(number, A, number) else {
-        return false;
-    };
-    let Ok(title) = Title::new(alloc, title) else {
-        return false;
-    };
-    let Ok(op) = Op::new(stamp, Body::AddMarker { at, title }) else {
-        return false;
-    };
-    log.add(op).is_ok()
-}
-
-// Sets the length of the marker of another number.
-fn set_length(log: &mut Log, (number, marker, len): (u64, u64, u32)) -> bool {
-    let Ok(stamp) = Stamp::new(number, A, number) else {
-        return false;
-    };
-    let Ok(marker) = Stamp::new(marker, A, marker) else {
-        return false;
-    };
-    let Ok(op) = Op::new(stamp, Body::SetMarkerLength { marker, len }) else {
-        return false;
-    };
-    log.add(op).is_ok()
-}
-
-// Whether the file of a log is of these chunks.
-fn is_written(alloc: Global, log: &Log, size: &[u8], chunks: &[&[u8]]) -> bool {
-    match file_of(alloc, log) {
-        Some(file) => is_of_chunks(&file, size, chunks),
+// Whether a file is not written, and the writer is not asked again behind the write of this number, which fails.
+fn fails_after(alloc: Global, log: &Log, good: usize) -> bool {
+    match write_log(alloc, alloc, log, good) {
+        Some(written) => {
+            written.answer == Err(BounceFault::Write) && written.asked == good.saturating_add(1)
+        }
         None => false,
     }
 }
 
-// Whether the file of a clip of three frames and of these markers, with these lengths, is of these chunks.
-fn is_of_markers(
-    alloc: Global,
-    markers: &[(u64, u32, &str)],
-    lengths: &[(u64, u64, u32)],
-    size: &[u8],
-    chunks: &[&[u8]],
-) -> Result<bool, Fail> {
-    let mut log = log_of_a_clip(alloc, 3)?;
-    let mut added = true;
-    for marker in markers {
-        added &= add_marker(&mut log, alloc, *marker);
+// the head, and three blocks
+#[test]
+fn writes_block_by_block(rt: HostRuntime) -> Result<(), Fail> {
+    let log = log_of_a_clip(rt.alloc(), 10000)?;
+    for good in 0..4 {
+        assert!(rt; fails_after(rt.alloc(), &log, good), "after {good}");
     }
-    for length in lengths {
-        added &= set_length(&mut log, *length);
-    }
-    Ok(added && is_written(alloc, &log, size, chunks))
-}
-
-const SAMPLES: &[u8] = b"data\x09\0\0\0\x01\0\0\x02\0\0\x03\0\0\0";
-
-#[test]
-fn three_sample_file(rt: HostRuntime) -> Result<(), Fail> {
-    assert!(rt; is_of_markers(rt.alloc(), &[], &[], b"\xac\x02\0\0", &[SAMPLES])?);
+    let whole = Written {
+        answer: Ok(()),
+        held: 60684,
+        greatest: 24576,
+        asked: 4,
+    };
+    assert!(rt; write_log(rt.alloc(), rt.alloc(), &log, 4) == Some(whole));
     Ok(())
 }
 
-const NEWS: (u64, u32, &str) = (3, 1, "News");
+// What is answered where this growth is refused, how many bytes are written, and whether one was.
+fn refused_at(alloc: Global, log: &Log, at: u64) -> Option<(Result<(), BounceFault>, usize, bool)> {
+    let memory = Refusing::new(alloc, at);
+    let written = write_log(&memory, alloc, log, usize::MAX)?;
+    Some((written.answer, written.held, memory.has_refused()))
+}
 
-const NEWS_CUE: &[u8] =
-    b"cue \x1c\0\0\0\x01\0\0\0\x01\0\0\0\x01\0\0\0data\0\0\0\0\0\0\0\0\x01\0\0\0";
-
-const NEWS_LABEL: &[u8] = b"labl\x09\0\0\0\x01\0\0\0News\0\0";
-
-// a point, and one that was longer
 #[test]
-fn file_with_marker(rt: HostRuntime) -> Result<(), Fail> {
-    let chunks: [&[u8]; 4] = [SAMPLES, NEWS_CUE, b"LIST\x16\0\0\0adtl", NEWS_LABEL];
-    let size = b"\xee\x02\0\0";
-    assert!(rt; is_of_markers(rt.alloc(), &[NEWS], &[], size, &chunks)?);
-    assert!(rt; is_of_markers(rt.alloc(), &[NEWS], &[(4, 3, 5), (5, 3, 0)], size, &chunks)?);
+fn refuses_its_one_growth(rt: HostRuntime) -> Result<(), Fail> {
+    let log = log_of_a_clip(rt.alloc(), 5000)?;
+    let refused = (Err(BounceFault::Memory), 0, true);
+    assert!(rt; refused_at(rt.alloc(), &log, 0) == Some(refused));
+    assert!(rt; refused_at(rt.alloc(), &log, 1) == Some((Ok(()), 30684, false)));
     Ok(())
-}
-
-// the length is cut at the programme's end
-#[test]
-fn file_with_region(rt: HostRuntime) -> Result<(), Fail> {
-    let chunks: [&[u8]; 5] = [
-        SAMPLES,
-        NEWS_CUE,
-        b"LIST\x32\0\0\0adtl",
-        NEWS_LABEL,
-        b"ltxt\x14\0\0\0\x01\0\0\0\x02\0\0\0rgn \0\0\0\0\0\0\0\0",
-    ];
-    assert!(rt; is_of_markers(rt.alloc(), &[NEWS], &[(4, 3, 5)], b"\x0a\x03\0\0", &chunks)?);
-    Ok(())
-}
-
-// What a head of no date is refused as.
-fn bad_head() -> Option<HeadFault> {
-    Head::new("", "", "", "", "", 0).err()
-}
-
-#[test]
-fn numbers_its_refusals(rt: HostRuntime) {
-    assert!(rt; bad_head() == Some(HeadFault::BadHead(4)));
-    assert!(rt; HeadFault::BadHead(4).number() == 36);
-    assert!(rt; BounceFault::Memory.number() == 0);
-    assert!(rt; BounceFault::TooLong.number() == 35);
-    assert!(rt; BounceFault::Write.number() == 37);
 }

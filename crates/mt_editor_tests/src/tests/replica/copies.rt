@@ -1,37 +1,37 @@
-//! Copies and drafts of an editor, and what it answers where a growth of an edit or a copy is refused.
+//! Copies and drafts of an editor, with each growth refused in turn: what they do leaves it as it was.
 
 ghost use Rattle.std.specs.Prelude.{◌≢◌, None};
 
-use super::histories::{EditorCounts, counts, newcomer, take, take_op};
-use super::operations::{Act, Name, op_of};
-use mt_op::Op;
+use crate::tests::editors::with_markers;
+use crate::tests::growth::{Work, refusals};
+use super::histories::{EditorCounts, counts};
 use mt_replica::{Change, Draft, Editor, EditorFault};
 use mt_stamp::Stamp;
-use mt_testkit::{A, B, Refusing};
+use mt_testkit::{A, Refusing};
 use std::alloc::{Allocator, Global};
-use std::test::Fail;
 
-// What an editor has after it removed this item.
+// What a copy that has joined nothing has once it removed an item.
 fn removed<M: Allocator + Copy>(
-    editor: &mut Editor<M>,
+    copy: &mut Editor<M>,
     item: Stamp,
 ) -> Result<Option<EditorCounts>, EditorFault> {
-    match editor.edit(&Change::Remove { item }) {
-        Ok(_) => Ok(counts(editor)),
+    if copy.joins() != 0 {
+        return Ok(None);
+    }
+    match copy.edit(&Change::Remove { item }) {
+        Ok(_) => Ok(counts(copy)),
         Err(fault) => Err(fault),
     }
 }
 
-// Whether a copy has joined nothing, and then removes this item.
-fn removes<M: Allocator + Copy>(copy: &mut Editor<M>, item: Stamp) -> Result<bool, EditorFault> {
-    let anew = copy.joins();
-    let left = removed(copy, item)?;
-    Ok(anew == 0 && copy.joins() == 1 && left == Some((2, 0, 0)))
-}
-
-fn copy_removes<M: Allocator + Copy>(editor: &Editor<M>, item: Stamp) -> Result<bool, EditorFault> {
-    let mut copy = editor.try_clone()?;
-    removes(&mut copy, item)
+fn copy_removes<M: Allocator + Copy>(
+    editor: &Editor<M>,
+    item: Stamp,
+) -> Result<Option<EditorCounts>, EditorFault> {
+    match editor.try_clone() {
+        Ok(mut copy) => removed(&mut copy, item),
+        Err(fault) => Err(fault),
+    }
 }
 
 // What the editor of a draft has.
@@ -57,143 +57,58 @@ fn remove_in<M: Allocator + Clone>(draft: &mut Draft<M>, item: Stamp) {
     let _ = draft.edit(&Change::Remove { item });
 }
 
-// What a draft has that removed this item.
+// What the copy of a draft has that removed this item.
 fn draft_removes<M: Allocator + Clone>(
     editor: &Editor<M>,
     item: Stamp,
 ) -> Result<Option<EditorCounts>, EditorFault> {
-    let mut draft = editor.draft()?;
-    remove_in(&mut draft, item);
-    counts_of_whole(draft)
+    let draft = editor.draft()?;
+    let mut copy = draft.try_clone()?;
+    remove_in(&mut copy, item);
+    counts_of_whole(copy)
 }
 
-// Whether a copy and a draft that remove an item leave the first editor as it was.
-fn are_apart<M: Allocator + Copy>(editor: &Editor<M>, item: Stamp) -> Result<bool, EditorFault> {
-    let copied = copy_removes(editor, item)?;
-    let drafted = draft_removes(editor, item)?;
-    Ok(copied && drafted == Some((2, 0, 0)) && counts(editor) == Some((1, 0, 1)))
-}
-
-// The same of an editor that takes a marker first.
-fn are_apart_then<M: Allocator + Copy>(
-    editor: &mut Editor<M>,
-    memory: M,
-    item: Stamp,
-) -> Result<bool, EditorFault> {
-    let _ = take(editor, memory, item, Act::AddMarker(Name::News))?;
-    are_apart(editor, item)
-}
-
-// The same of an editor that begins with the empty log.
-fn copies<M: Allocator + Copy>(memory: M, item: Stamp) -> Result<bool, EditorFault> {
-    let mut editor = newcomer(memory, B)?;
-    are_apart_then(&mut editor, memory, item)
-}
-
-// What comes of it where one growth is refused, and whether one was.
-fn copies_at(alloc: Global, at: u64, item: Stamp) -> (Result<bool, EditorFault>, bool) {
-    let memory = Refusing::new(alloc, at);
-    let done = copies(&memory, item);
-    (done, memory.has_refused())
-}
-
-// Each growth is refused in turn, until none is.
-#[test]
-fn copies_an_editor(rt: HostRuntime) -> Result<(), Fail> {
-    let item = Stamp::new(1, A, 1)?;
-    for at in 0..400 {
-        let (done, refused) = copies_at(rt.alloc(), at, item);
-        if !refused {
-            assert!(rt; at > 20);
-            assert!(rt; done == Ok(true));
-            return Ok(());
-        }
-        assert!(rt; done == Err(EditorFault::Memory));
-    }
-    assert!(rt; false);
-    Ok(())
-}
-
-// What an editor answers after a take that was refused memory, or an edit, or a copy.
+// What is made of an editor.
 #[derive(Clone, Copy, PartialEq, Eq)]
-struct Left {
-    take: Option<EditorFault>,
-    edit: Option<EditorFault>,
-    copy: Option<EditorFault>,
-    counts: Option<EditorCounts>,
+enum Made {
+    Copy,
+    Draft,
 }
 
-fn copy_fault<M: Allocator + Clone>(editor: &Editor<M>) -> Option<EditorFault> {
-    editor.try_clone().err()
-}
-
-// Takes an operation, removes its item and copies the editor.
-fn left_by<M: Allocator + Copy>(editor: &mut Editor<M>, op: Op<M>, item: Stamp) -> Left {
-    let take = take_op(editor, op).err();
-    let edit = removed(editor, item).err();
-    Left {
-        take,
-        edit,
-        copy: copy_fault(editor),
-        counts: counts(editor),
-    }
-}
-
-// The same of a marker.
-fn left_by_marker<M: Allocator + Copy>(
-    editor: &mut Editor<M>,
-    memory: M,
+// Whether it removes the marker, where no growth is refused, and the editor has it as before.
+fn leaves<M: Allocator + Copy>(
+    editor: &Editor<M>,
     item: Stamp,
-) -> Result<Left, EditorFault> {
-    match op_of(memory, item, Act::AddMarker(Name::News)) {
-        Ok(op) => Ok(left_by(editor, op, item)),
-        Err(_) => Err(EditorFault::Memory),
-    }
-}
-
-// The same of an editor that begins with the empty log.
-fn takes_and_removes<M: Allocator + Copy>(memory: M, item: Stamp) -> Result<Left, EditorFault> {
-    let mut editor = newcomer(memory, B)?;
-    left_by_marker(&mut editor, memory, item)
-}
-
-// Whether the first refusal in a take or an edit is 0, and all after it are 20, with nothing left.
-fn is_failed(left: &Left) -> bool {
-    let failed = Some(EditorFault::Failed);
-    let at_take = left.take == Some(EditorFault::Memory) && left.edit == failed;
-    let at_edit = left.take.is_none() && left.edit == Some(EditorFault::Memory);
-    (at_take || at_edit) && left.copy == failed && left.counts.is_none()
-}
-
-// Whether the copy alone was refused, which leaves the editor as it was.
-fn is_copy_refused(left: &Left) -> bool {
-    left.take.is_none()
-        && left.edit.is_none()
-        && left.copy == Some(EditorFault::Memory)
-        && left.counts == Some((2, 0, 0))
-}
-
-// Whether it is answered so where one growth is refused, and whether one was.
-fn refused_at(alloc: Global, at: u64, item: Stamp) -> (bool, bool) {
-    let memory = Refusing::new(alloc, at);
-    let answered = match takes_and_removes(&memory, item) {
-        Ok(left) => is_failed(&left) || is_copy_refused(&left),
-        Err(fault) => fault == EditorFault::Memory,
+    made: Made,
+    tally: &Refusing<Global>,
+) -> bool {
+    let removed = match made {
+        Made::Copy => copy_removes(editor, item),
+        Made::Draft => draft_removes(editor, item),
     };
-    (answered, memory.has_refused())
+    let wanted = if tally.has_refused() {
+        Err(EditorFault::Memory)
+    } else {
+        Ok(Some((2, 0, 0)))
+    };
+    removed == wanted && counts(editor) == Some((1, 0, 1))
+}
+
+impl Work for Made {
+    fn is_right<M: Allocator + Copy>(
+        &self,
+        memory: M,
+        _alloc: Global,
+        tally: &Refusing<Global>,
+    ) -> Option<bool> {
+        let item = Stamp::new(1, A, 1).ok()?;
+        let made = *self;
+        with_markers(memory, &[item], |editor| leaves(editor, item, made, tally))
+    }
 }
 
 #[test]
-fn fails_at_each_refused_growth(rt: HostRuntime) -> Result<(), Fail> {
-    let item = Stamp::new(1, A, 1)?;
-    for at in 0..400 {
-        let (answered, refused) = refused_at(rt.alloc(), at, item);
-        if !refused {
-            assert!(rt; at > 20);
-            return Ok(());
-        }
-        assert!(rt; answered);
-    }
-    assert!(rt; false);
-    Ok(())
+fn refuses_each_growth_of_copies_and_drafts(rt: HostRuntime) {
+    assert!(rt; refusals(rt.alloc(), &Made::Copy) > Some(10));
+    assert!(rt; refusals(rt.alloc(), &Made::Draft) > Some(10));
 }

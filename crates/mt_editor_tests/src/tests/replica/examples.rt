@@ -1,6 +1,7 @@
 //! The session that an editor keeps through worked examples, in the order in which they are told and backwards.
 
-use super::histories::{is_alike, newcomer, take};
+use crate::tests::editors::with_newcomer;
+use super::histories::{is_alike, take};
 use super::operations::{Act, Name};
 use mt_replica::{Editor, EditorFault};
 use mt_stamp::{Stamp, StampFault};
@@ -16,7 +17,10 @@ fn is_alike_with<M: Allocator + Copy>(
     op: &(Stamp, Act),
 ) -> bool {
     let (stamp, act) = *op;
-    take(editor, memory, stamp, act) != Err(EditorFault::Memory) && is_alike(memory, editor)
+    match take(editor, memory, stamp, act) {
+        Some(answer) => answer != Err(EditorFault::Memory) && is_alike(memory, editor),
+        None => false,
+    }
 }
 
 // The same of each of these operations.
@@ -40,18 +44,15 @@ fn is_alike_with_each<M: Allocator + Copy>(
 }
 
 // The same of an editor that begins with the empty log.
-fn keeps<M: Allocator + Copy>(
-    memory: M,
-    ops: &[(Stamp, Act)],
-    backwards: bool,
-) -> Result<bool, EditorFault> {
-    let mut editor = newcomer(memory, B)?;
-    Ok(is_alike_with_each(&mut editor, memory, ops, backwards))
+fn keeps(alloc: Global, ops: &[(Stamp, Act)], backwards: bool) -> Option<bool> {
+    with_newcomer(alloc, B, |editor| {
+        is_alike_with_each(editor, alloc, ops, backwards)
+    })
 }
 
 // The same in the order of the operations and backwards.
 fn keeps_both_ways(alloc: Global, ops: &[(Stamp, Act)]) -> bool {
-    keeps(alloc, ops, false) == Ok(true) && keeps(alloc, ops, true) == Ok(true)
+    keeps(alloc, ops, false) == Some(true) && keeps(alloc, ops, true) == Some(true)
 }
 
 // early_retitle, two_retitles and taken_again: a marker, two new titles of it, and the marker once more.

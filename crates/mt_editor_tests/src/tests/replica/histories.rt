@@ -1,30 +1,28 @@
 //! What an editor answers step by step, and what there is after each.
 
+use crate::tests::editors::with_newcomer;
 use super::operations::{Act, change_of, op_of};
 use mt_op::Op;
 use mt_opcodec::Log;
-use mt_replica::{Editor, EditorFault, Taken};
+use mt_replica::{Change, Editor, EditorFault, Taken};
 use mt_sessionview::{Session, from_scratch};
 use mt_stamp::{Replica, Stamp};
 use std::alloc::Allocator;
 
-/// An editor is asked to take an operation of this stamp or to make an edit, or how many cells it has joined.
+/// An editor is asked to take an operation of this stamp, or to make an edit.
 #[derive(Clone, Copy)]
 pub(crate) enum Step {
     Take(Stamp, Act),
     Edit(Act),
-    Joins,
 }
 
-/// What comes of a step: what became of the operation, and how many became ready by it; the stamp of the one that an edit made;
-/// how many cells it has joined.
+/// What comes of a step: what became of the operation, and how many became ready by it; the stamp of the one that an edit made.
 #[derive(Clone, Copy, PartialEq, Eq)]
 pub(crate) enum Answer {
     Already,
     Held,
     Applied(usize),
     Made(Stamp),
-    Joins(u64),
 }
 
 /// How many operations an editor has, how many it holds back, and how many markers it shows.
@@ -32,14 +30,6 @@ pub(crate) type EditorCounts = (usize, u64, usize);
 
 /// A step, its answer, and what there is after it.
 pub(crate) type Row = (Step, Result<Answer, EditorFault>, EditorCounts);
-
-/// An editor of the empty log.
-pub(crate) fn newcomer<M: Allocator + Copy>(
-    memory: M,
-    name: Replica,
-) -> Result<Editor<M>, EditorFault> {
-    Editor::from_log(memory, name, Log::new(memory))
-}
 
 fn told<M: Allocator>(taken: &Taken<M>) -> Answer {
     match taken {
@@ -49,8 +39,7 @@ fn told<M: Allocator>(taken: &Taken<M>) -> Answer {
     }
 }
 
-/// Takes an operation that was made.
-pub(crate) fn take_op<M: Allocator + Copy>(
+fn take_op<M: Allocator + Copy>(
     editor: &mut Editor<M>,
     op: Op<M>,
 ) -> Result<Answer, EditorFault> {
@@ -60,41 +49,38 @@ pub(crate) fn take_op<M: Allocator + Copy>(
     }
 }
 
-/// Makes an operation, and takes it.
+/// Takes the operation of an act; none where that is not made.
 pub(crate) fn take<M: Allocator + Copy>(
     editor: &mut Editor<M>,
     memory: M,
     stamp: Stamp,
     act: Act,
-) -> Result<Answer, EditorFault> {
+) -> Option<Result<Answer, EditorFault>> {
     match op_of(memory, stamp, act) {
-        Ok(op) => take_op(editor, op),
-        Err(_) => Err(EditorFault::Memory),
+        Ok(op) => Some(take_op(editor, op)),
+        Err(_) => None,
     }
 }
 
-/// Makes an edit.
-pub(crate) fn edit<M: Allocator + Copy>(
+fn make<M: Allocator + Copy>(
     editor: &mut Editor<M>,
-    memory: M,
-    act: Act,
+    change: &Change<M>,
 ) -> Result<Answer, EditorFault> {
-    let change = change_of(memory, act)?;
-    match editor.edit(&change) {
+    match editor.edit(change) {
         Ok(op) => Ok(Answer::Made(op.stamp())),
         Err(fault) => Err(fault),
     }
 }
 
-fn answer_to<M: Allocator + Copy>(
+/// Makes the edit of an act; none where its change is not made.
+pub(crate) fn edit<M: Allocator + Copy>(
     editor: &mut Editor<M>,
     memory: M,
-    step: Step,
-) -> Result<Answer, EditorFault> {
-    match step {
-        Step::Take(stamp, act) => take(editor, memory, stamp, act),
-        Step::Edit(act) => edit(editor, memory, act),
-        Step::Joins => Ok(Answer::Joins(editor.joins())),
+    act: Act,
+) -> Option<Result<Answer, EditorFault>> {
+    match change_of(memory, act) {
+        Ok(change) => Some(make(editor, &change)),
+        Err(_) => None,
     }
 }
 
@@ -115,21 +101,20 @@ fn is_made_of<M: Allocator + Copy>(memory: M, session: &Session<M>, log: &Log<M>
 
 /// Whether the session that an editor keeps is the one that is made from nothing of its log.
 pub(crate) fn is_alike<M: Allocator + Copy>(memory: M, editor: &Editor<M>) -> bool {
-    let Some(log) = editor.log() else {
-        return false;
-    };
-    match editor.session() {
-        Some(session) => is_made_of(memory, session, log),
-        None => false,
+    match (editor.log(), editor.session()) {
+        (Some(log), Some(session)) => is_made_of(memory, session, log),
+        _ => false,
     }
 }
 
 // Whether a step is answered as its row says, and leaves what it says and the session of its log.
 fn is_answered<M: Allocator + Copy>(editor: &mut Editor<M>, memory: M, row: &Row) -> bool {
     let (step, wanted, left) = *row;
-    answer_to(editor, memory, step) == wanted
-        && counts(editor) == Some(left)
-        && is_alike(memory, editor)
+    let answer = match step {
+        Step::Take(stamp, act) => take(editor, memory, stamp, act),
+        Step::Edit(act) => edit(editor, memory, act),
+    };
+    answer == Some(wanted) && counts(editor) == Some(left) && is_alike(memory, editor)
 }
 
 // How many of the rows are so until one is not.
@@ -145,11 +130,6 @@ fn answered<M: Allocator + Copy>(editor: &mut Editor<M>, memory: M, rows: &[Row]
 }
 
 /// The same of an editor of this name that begins with the empty log.
-pub(crate) fn history<M: Allocator + Copy>(
-    memory: M,
-    name: Replica,
-    rows: &[Row],
-) -> Result<usize, EditorFault> {
-    let mut editor = newcomer(memory, name)?;
-    Ok(answered(&mut editor, memory, rows))
+pub(crate) fn history<M: Allocator + Copy>(memory: M, name: Replica, rows: &[Row]) -> Option<usize> {
+    with_newcomer(memory, name, |editor| answered(editor, memory, rows))
 }

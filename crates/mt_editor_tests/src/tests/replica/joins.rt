@@ -1,6 +1,7 @@
 //! How many cells takes and edits join, and that they look at nothing else.
 
-use super::histories::{Answer, Step, edit, history, is_alike, newcomer, take};
+use crate::tests::editors::with_newcomer;
+use super::histories::{Answer, edit, is_alike, take};
 use super::operations::{Act, Name};
 use mt_replica::{Editor, EditorFault};
 use mt_stamp::{Stamp, StampFault};
@@ -31,7 +32,8 @@ fn stamp_of_b(number: u64) -> Result<Stamp, StampFault> {
 fn takes_marker<M: Allocator + Copy>(editor: &mut Editor<M>, memory: M, number: u64) -> bool {
     match stamp_of_b(number) {
         Ok(item) => {
-            take(editor, memory, item, Act::AddMarker(Name::News)) == Ok(Answer::Applied(1))
+            let answer = take(editor, memory, item, Act::AddMarker(Name::News));
+            answer == Some(Ok(Answer::Applied(1)))
         }
         Err(_) => false,
     }
@@ -47,23 +49,30 @@ fn takes_markers<M: Allocator + Copy>(editor: &mut Editor<M>, memory: M) -> bool
     true
 }
 
-// The stamps of the new title and of the first marker.
-fn new_title() -> Result<(Stamp, Stamp), EditorFault> {
-    match (stamp_of_b(MARKERS.saturating_add(1)), stamp_of_b(1)) {
-        (Ok(title), Ok(item)) => Ok((title, item)),
-        _ => Err(EditorFault::Failed),
-    }
-}
-
 // Makes the session of the log from nothing, beside the one that is kept.
 fn made_from_nothing<M: Allocator + Copy>(
     editor: &Editor<M>,
     memory: M,
-) -> Result<Answer, EditorFault> {
+) -> Option<Result<Answer, EditorFault>> {
     if is_alike(memory, editor) {
-        Ok(Answer::Already)
+        Some(Ok(Answer::Already))
     } else {
-        Err(EditorFault::Memory)
+        None
+    }
+}
+
+// What comes of it; none where the title was refused memory, or the session.
+fn answer_to<M: Allocator + Copy>(
+    editor: &mut Editor<M>,
+    memory: M,
+    work: Work,
+) -> Option<Result<Answer, EditorFault>> {
+    let title = stamp_of_b(MARKERS.saturating_add(1)).ok()?;
+    let item = stamp_of_b(1).ok()?;
+    match work {
+        Work::Take => take(editor, memory, title, Act::Retitle(item, Name::Early)),
+        Work::Edit => edit(editor, memory, Act::Retitle(item, Name::Late)),
+        Work::Scratch => made_from_nothing(editor, memory),
     }
 }
 
@@ -72,12 +81,7 @@ fn done<M: Allocator + Copy>(
     memory: M,
     work: Work,
 ) -> Result<Answer, EditorFault> {
-    let (title, item) = new_title()?;
-    match work {
-        Work::Take => take(editor, memory, title, Act::Retitle(item, Name::Early)),
-        Work::Edit => edit(editor, memory, Act::Retitle(item, Name::Late)),
-        Work::Scratch => made_from_nothing(editor, memory),
-    }
+    answer_to(editor, memory, work).unwrap_or(Err(EditorFault::Memory))
 }
 
 // Takes what is there before the work.
@@ -115,10 +119,7 @@ fn cost_to<M: Allocator + Copy>(
 
 // The same of an editor of A that begins with the empty log; none where it is refused memory before the work.
 fn cost_of<M: Allocator + Copy>(memory: M, tally: &Refusing<Global>, work: Work) -> Option<Cost> {
-    match newcomer(memory, A) {
-        Ok(mut editor) => cost_to(&mut editor, memory, tally, work),
-        Err(_) => None,
-    }
+    with_newcomer(memory, A, |editor| cost_to(editor, memory, tally, work))?
 }
 
 // The same where one growth is refused, and whether one was.
@@ -186,28 +187,5 @@ fn scratch_takes_more(alloc: Global) -> bool {
 #[test]
 fn makes_a_session_from_nothing_with_more_growths(rt: HostRuntime) -> Result<(), Fail> {
     assert!(rt; scratch_takes_more(rt.alloc()));
-    Ok(())
-}
-
-// A Remove that is held joins nothing, and with the track joins the one tag that it lists, and the track its four fields and its
-// tag.
-#[test]
-fn counts_what_became_ready(rt: HostRuntime) -> Result<(), Fail> {
-    let (track, removed) = (Stamp::new(1, B, 1)?, Stamp::new(2, B, 2)?);
-    let rows = [
-        (
-            Step::Take(removed, Act::Remove(track)),
-            Ok(Answer::Held),
-            (1, 1, 0),
-        ),
-        (Step::Joins, Ok(Answer::Joins(0)), (1, 1, 0)),
-        (
-            Step::Take(track, Act::AddTrack(None)),
-            Ok(Answer::Applied(2)),
-            (2, 0, 0),
-        ),
-        (Step::Joins, Ok(Answer::Joins(6)), (2, 0, 0)),
-    ];
-    assert!(rt; history(rt.alloc(), A, &rows) == Ok(4));
     Ok(())
 }

@@ -51,9 +51,9 @@ fn plain_change<M: Allocator>(act: Act) -> Result<Change<M>, EditorFault> {
         Act::AddClip(track) => Change::AddClip {
             source: Digest([7; 32]),
             track,
-            at: 480,
-            offset: 0,
-            len: 960,
+            at: 0,
+            offset: 10,
+            len: 20,
         },
         Act::MoveClip(clip, track, at) => Change::MoveClip { clip, track, at },
         Act::TrimClip(clip, len) => Change::TrimClip {
@@ -98,7 +98,7 @@ fn titled_change<M: Allocator>(memory: M, act: Act) -> Result<Change<M>, EditorF
             title: titled(memory, text(name))?,
         },
         Act::AddMarker(name) => Change::AddMarker {
-            at: u32::MAX,
+            at: 480,
             title: titled(memory, text(name))?,
         },
         _ => return Err(EditorFault::Memory),

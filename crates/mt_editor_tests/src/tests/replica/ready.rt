@@ -1,6 +1,6 @@
 //! Which operations became ready by one that was taken, in small and in a long chain, and how many tags a removal lists.
 
-use super::histories::newcomer;
+use crate::tests::editors::with_newcomer;
 use mt_op::{Body, Op};
 use mt_opcodec::Log;
 use mt_replica::{Change, Draft, Editor, EditorFault, Taken};
@@ -16,9 +16,12 @@ fn applied(alloc: Global, stamps: &[Stamp]) -> Option<Taken> {
     Some(Taken::Applied(List::new(rising)))
 }
 
-// Whether an editor who has taken a title before its marker is told of both, in the order of their stamps.
-fn tells_of_both(alloc: Global, item: Stamp, early: Stamp) -> Option<bool> {
-    let mut editor = newcomer(alloc, B).ok()?;
+// Whether an editor who takes a title before its marker is told of both, in the order of their stamps.
+fn tells_of_both(
+    editor: &mut Editor,
+    alloc: Global,
+    (item, early): (Stamp, Stamp),
+) -> Option<bool> {
     let held = editor.take(retitle(alloc, early, item, "Weather").ok()?);
     let both = editor.take(marker(alloc, item, "News").ok()?).ok()?;
     Some(held == Ok(Taken::Held) && both == applied(alloc, &[item, early])?)
@@ -26,8 +29,10 @@ fn tells_of_both(alloc: Global, item: Stamp, early: Stamp) -> Option<bool> {
 
 #[test]
 fn tells_the_stamps_that_became_ready(rt: HostRuntime) -> Result<(), Fail> {
-    let (item, early) = (Stamp::new(1, A, 1)?, Stamp::new(2, B, 1)?);
-    assert!(rt; tells_of_both(rt.alloc(), item, early) == Some(true));
+    let both = (Stamp::new(1, A, 1)?, Stamp::new(2, B, 1)?);
+    let alloc = rt.alloc();
+    let told = with_newcomer(alloc, B, |editor| tells_of_both(editor, alloc, both));
+    assert!(rt; told == Some(Some(true)));
     Ok(())
 }
 
@@ -49,15 +54,19 @@ fn ready_by(alloc: Global, editor: &mut Editor, number: u64) -> Option<usize> {
 }
 
 // How many tracks were held, taken from the last to the first, and how many then became ready at once.
-fn taken_backwards(alloc: Global, count: u64) -> Option<(u64, usize)> {
-    let mut editor = newcomer(alloc, B).ok()?;
+fn take_backwards(editor: &mut Editor, alloc: Global, count: u64) -> Option<(u64, usize)> {
     for left in 0..count {
         let number = count.saturating_sub(left);
-        if let Some(ready) = ready_by(alloc, &mut editor, number) {
+        if let Some(ready) = ready_by(alloc, editor, number) {
             return Some((left, ready));
         }
     }
     None
+}
+
+// The same of an editor that begins with the empty log.
+fn taken_backwards(alloc: Global, count: u64) -> Option<(u64, usize)> {
+    with_newcomer(alloc, B, |editor| take_backwards(editor, alloc, count))?
 }
 
 #[test]

@@ -1,55 +1,49 @@
 //! Operations of a message that join an editor's log: one by one where they are few and follow, as a whole where not. Its joins tell
 //! which way it was: they are counted from 0 by an editor that is made anew.
-use super::swaps::{have_of, ops_for};
-use super::{editor_of, held, log_with};
+use crate::tests::editors::{with_log, with_markers};
+use super::held;
 use mt_opcodec::Log;
 use mt_replica::Editor;
 use mt_stamp::Stamp;
-use mt_sync::{TalkFault, take_ops};
-use mt_testkit::{A, B, Refusing};
+use mt_sync::{MessageFault, TalkFault, have_bytes, lack_bytes, take_ops};
+use mt_testkit::{A, B};
 use std::alloc::{Allocator, Global};
 use std::test::Fail;
 
 // What no refusal has for its number.
 const TAKEN: u8 = 255;
 
-// What came of a message.
-#[derive(Clone, Copy, PartialEq, Eq)]
-struct Joined {
-    // the refusal's number
-    number: u8,
-    // how many operations the editor has
-    held: Option<usize>,
-    // how many cells it has joined since it was made
-    joins: u64,
+/// What one of markers of the first stamps sends to one of markers of the others: the message, and Bye.
+pub(super) fn ops_for<M: Allocator + Copy>(
+    memory: M,
+    own: &[Stamp],
+    others: &[Stamp],
+) -> Option<Result<Vec<u8, M>, MessageFault>> {
+    match with_log(memory, others, |log| have_bytes(memory, log))? {
+        Ok(have) => with_log(memory, own, |log| lack_bytes(memory, log, &have)),
+        Err(fault) => Some(Err(fault)),
+    }
 }
 
-// A message with the operations of markers of these stamps, and Bye.
-fn message_of<M: Allocator + Clone>(memory: &M, stamps: &[Stamp]) -> Result<Vec<u8, M>, TalkFault> {
-    let have = have_of(memory, &[])?;
-    ops_for(memory, stamps, &have)
-}
+// What came of a message: the refusal's number, how many operations the editor has, and how many cells it has joined since it was made.
+type Joined = (u8, Option<usize>, u64);
 
 // What an editor comes to that is told a message.
-fn tell_message<M: Allocator + Clone>(
-    memory: &M,
-    frames: Global,
+fn join<M: Allocator + Copy>(
+    memory: M,
+    alloc: Global,
     editor: &mut Editor<M>,
     message: &[u8],
-) -> Result<Joined, TalkFault> {
-    let number = match take_ops(memory.clone()?, frames, editor, message) {
+) -> Joined {
+    let number = match take_ops(memory, alloc, editor, message) {
         Ok(()) => TAKEN,
         Err(fault) => fault.number(),
     };
-    Ok(Joined {
-        number,
-        held: held(editor),
-        joins: editor.joins(),
-    })
+    (number, held(editor), editor.joins())
 }
 
 // What an editor answers that takes a copy of an operation of a log.
-fn take_at<M: Allocator + Clone>(editor: &mut Editor<M>, ops: &Log<M>, place: usize) -> u8 {
+fn take_at(editor: &mut Editor, ops: &Log, place: usize) -> u8 {
     let Some(op) = ops.op_at(place) else {
         return 0;
     };
@@ -63,7 +57,7 @@ fn take_at<M: Allocator + Clone>(editor: &mut Editor<M>, ops: &Log<M>, place: us
 }
 
 // The same of all, one by one, up to the first that is refused.
-fn take_each<M: Allocator + Clone>(editor: &mut Editor<M>, ops: &Log<M>) -> u8 {
+fn take_each(editor: &mut Editor, ops: &Log) -> u8 {
     for place in 0..ops.len() {
         let number = take_at(editor, ops, place);
         if number != TAKEN {
@@ -74,146 +68,94 @@ fn take_each<M: Allocator + Clone>(editor: &mut Editor<M>, ops: &Log<M>) -> u8 {
 }
 
 // Whether an editor that takes markers of these stamps one by one is refused as this one was, and is then the same.
-fn is_alike<M: Allocator + Clone>(
-    memory: &M,
-    (editor, number): (&Editor<M>, u8),
-    beside: &mut Editor<M>,
+fn is_alike(
+    alloc: Global,
+    beside: &mut Editor,
     stamps: &[Stamp],
-) -> Result<bool, TalkFault> {
-    let ops = log_with(memory, stamps)?;
-    Ok(take_each(beside, &ops) == number && &*beside == editor)
+    (editor, number): (&Editor, u8),
+) -> bool {
+    let taken = with_log(alloc, stamps, |ops| take_each(beside, ops));
+    taken == Some(number) && &*beside == editor
 }
 
-// What an editor of markers of these stamps comes to that is told a message.
-fn join_message<M: Allocator + Clone>(
-    memory: &M,
-    frames: Global,
-    editor: &mut Editor<M>,
-    stamps: &[Stamp],
-) -> Result<Joined, TalkFault> {
-    let message = message_of(memory, stamps)?;
-    tell_message(memory, frames, editor, &message)
-}
-
-// The same, where it is then an editor that has taken the operations one by one.
-fn join_beside<M: Allocator + Clone>(
-    memory: &M,
-    frames: Global,
-    (editor, beside): (&mut Editor<M>, &mut Editor<M>),
-    stamps: &[Stamp],
-) -> Result<Option<Joined>, TalkFault> {
-    let joined = join_message(memory, frames, editor, stamps)?;
-    if is_alike(memory, (editor, joined.number), beside, stamps)? {
-        Ok(Some(joined))
-    } else {
-        Ok(None)
-    }
-}
-
-// The same of new editors of markers of the stamps before.
-fn joins<M: Allocator + Clone>(
-    memory: &M,
-    frames: Global,
+// What an editor comes to that is told of markers of these stamps, where another editor comes to the same by taking them one by one.
+fn join_beside(
+    alloc: Global,
+    editor: &mut Editor,
     before: &[Stamp],
     stamps: &[Stamp],
-) -> Result<Option<Joined>, TalkFault> {
-    let mut editor = editor_of(memory, before)?;
-    let mut beside = editor_of(memory, before)?;
-    join_beside(memory, frames, (&mut editor, &mut beside), stamps)
+) -> Option<Joined> {
+    let message = ops_for(alloc, stamps, &[])?.ok()?;
+    let joined = join(alloc, alloc, editor, &message);
+    let is_same = with_markers(alloc, before, |beside| {
+        is_alike(alloc, beside, stamps, (&*editor, joined.0))
+    });
+    if is_same == Some(true) {
+        Some(joined)
+    } else {
+        None
+    }
 }
 
 // The stamps of 32 operations of one replica, with the numbers 2 to 33.
-fn stamps_before(alloc: Global) -> Result<Vec<Stamp>, Fail> {
-    let mut stamps = Vec::new(alloc);
+fn stamps_before<M: Allocator>(memory: M) -> Option<Vec<Stamp, M>> {
+    let mut stamps = Vec::new(memory);
     for number in 2..34 {
-        stamps.push(Stamp::new(number, A, number)?)?;
+        stamps.push(Stamp::new(number, A, number).ok()?).ok()?;
     }
-    Ok(stamps)
+    Some(stamps)
 }
 
-// Whether an editor of 32 operations comes to this number, and has so many and has joined so many cells then.
-fn comes_to(
-    rt: &HostRuntime,
-    stamps: &[Stamp],
-    (number, held, joins): (u8, usize, u64),
-) -> Result<bool, Fail> {
-    let before = stamps_before(rt.alloc())?;
-    let wanted = Joined {
-        number,
-        held: Some(held),
-        joins,
-    };
-    Ok(self::joins(&rt.alloc(), rt.alloc(), &before, stamps) == Ok(Some(wanted)))
+// What such an editor of those comes to.
+fn told_of(alloc: Global, stamps: &[Stamp]) -> Option<Joined> {
+    let before = stamps_before(alloc)?;
+    with_markers(alloc, &before, |editor| {
+        join_beside(alloc, editor, &before, stamps)
+    })?
 }
 
 // A marker joins four cells: three fields and a tag.
 #[test]
 fn takes_a_few_that_follow_one_by_one(rt: HostRuntime) -> Result<(), Fail> {
     let of_another = [Stamp::new(34, B, 1)?, Stamp::new(35, B, 2)?];
-    assert!(rt; comes_to(&rt, &of_another, (TAKEN, 34, 8))?);
+    assert!(rt; told_of(rt.alloc(), &of_another) == Some((TAKEN, Some(34), 8)));
     let of_its_own = [Stamp::new(34, A, 34)?];
-    assert!(rt; comes_to(&rt, &of_its_own, (TAKEN, 33, 4))?);
+    assert!(rt; told_of(rt.alloc(), &of_its_own) == Some((TAKEN, Some(33), 4)));
     Ok(())
 }
 
 #[test]
 fn joins_others_as_a_whole(rt: HostRuntime) -> Result<(), Fail> {
     // one that stands before all others of its replica
-    assert!(rt; comes_to(&rt, &[Stamp::new(40, A, 1)?], (TAKEN, 33, 0))?);
+    let first = [Stamp::new(40, A, 1)?];
+    assert!(rt; told_of(rt.alloc(), &first) == Some((TAKEN, Some(33), 0)));
     // one that is there
-    assert!(rt; comes_to(&rt, &[Stamp::new(33, A, 33)?], (TAKEN, 32, 0))?);
+    let last = [Stamp::new(33, A, 33)?];
+    assert!(rt; told_of(rt.alloc(), &last) == Some((TAKEN, Some(32), 0)));
     // more than a sixteenth of those before
-    let three = [
-        Stamp::new(34, B, 1)?,
-        Stamp::new(35, B, 2)?,
-        Stamp::new(36, B, 3)?,
-    ];
-    assert!(rt; comes_to(&rt, &three, (TAKEN, 35, 0))?);
+    let three = [Stamp::new(34, B, 1)?, Stamp::new(35, B, 2)?, Stamp::new(36, B, 3)?];
+    assert!(rt; told_of(rt.alloc(), &three) == Some((TAKEN, Some(35), 0)));
     Ok(())
 }
 
 #[test]
 fn joins_those_before_a_conflict(rt: HostRuntime) -> Result<(), Fail> {
-    let other = Stamp::new(50, A, 2)?;
-    assert!(rt; comes_to(&rt, &[other], (17, 32, 0))?);
-    let (first, last) = (Stamp::new(40, A, 1)?, Stamp::new(51, B, 1)?);
-    assert!(rt; comes_to(&rt, &[first, other, last], (17, 33, 0))?);
+    let (first, other, last) = (Stamp::new(40, A, 1)?, Stamp::new(50, A, 2)?, Stamp::new(51, B, 1)?);
+    assert!(rt; told_of(rt.alloc(), &[other]) == Some((17, Some(32), 0)));
+    assert!(rt; told_of(rt.alloc(), &[first, other, last]) == Some((17, Some(33), 0)));
     Ok(())
 }
 
-// Whether a new editor of markers of the stamps before comes to that, if no growth is refused.
-fn joins_alone<M: Allocator + Clone>(
-    memory: &M,
-    frames: Global,
-    (before, stamps): (&[Stamp], &[Stamp]),
-    wanted: Joined,
-) -> Result<bool, TalkFault> {
-    let mut editor = editor_of(memory, before)?;
-    let joined = join_message(memory, frames, &mut editor, stamps)?;
-    if joined.number == TalkFault::Memory.number() {
-        Err(TalkFault::Memory)
-    } else {
-        Ok(joined == wanted)
-    }
-}
-
-#[test]
-fn refuses_each_growth_of_a_few_that_follow(rt: HostRuntime) -> Result<(), Fail> {
-    let before = stamps_before(rt.alloc())?;
-    let few = [Stamp::new(34, B, 1)?];
-    let wanted = Joined {
-        number: TAKEN,
-        held: Some(33),
-        joins: 4,
-    };
-    for at in 0..1000 {
-        let memory = Refusing::new(rt.alloc(), at);
-        let joined = joins_alone(&&memory, rt.alloc(), (&before, &few), wanted);
-        if !memory.has_refused() {
-            assert!(rt; joined == Ok(true));
-            return Ok(());
-        }
-        assert!(rt; joined == Err(TalkFault::Memory), "at {at}");
-    }
-    Err(Fail::from("each run met a refusal"))
+/// Whether an editor of 32 operations is told of one that follows.
+pub(super) fn joins_a_few<M: Allocator + Copy>(
+    memory: M,
+    alloc: Global,
+) -> Option<Result<bool, TalkFault>> {
+    let before = stamps_before(alloc)?;
+    let message = ops_for(alloc, &[Stamp::new(34, B, 1).ok()?], &[])?.ok()?;
+    let joined = with_markers(memory, &before, |editor| join(memory, alloc, editor, &message))?;
+    Some(match joined {
+        (0, held, _) if held.is_none() || held == Some(32) => Err(TalkFault::Memory),
+        _ => Ok(joined == (TAKEN, Some(33), 4)),
+    })
 }

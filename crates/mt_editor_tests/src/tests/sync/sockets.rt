@@ -1,6 +1,6 @@
 //! A conversation over a socket of this machine, in one process: the caller has written all that it sends before the answerer reads.
 
-use super::{ANSWERER, CALLER, editor_of, has_the_marker};
+use super::{ANSWERER, CALLER, has_the_marker, with_end};
 use mt_opcodec::Latch;
 use mt_replica::Editor;
 use mt_sync::{Side, converse};
@@ -9,30 +9,17 @@ use std::io::{Read, Write};
 use std::net::{Net, OpenListener, OpenStream, TcpListener, TcpStream};
 use std::test::Fail;
 
-// Answers over a stream, which is read and written by two handles of it.
-fn answer_over<S: Read + Write + OpenStream + Drop>(
+// Whether an answerer who answers over a stream, which is read and written by two handles of it, has the caller's marker then.
+fn answers_over<S: Read + Write + OpenStream + Drop>(
     alloc: Global,
     editor: &mut Editor,
     stream: S,
-) -> Option<()> {
+) -> Option<bool> {
     let other = stream.try_clone().ok()?;
     let (mut input, mut output) = (Latch::new(stream), Latch::new(other));
-    converse(
-        alloc,
-        alloc,
-        editor,
-        Side::Answerer,
-        &mut input,
-        &mut output,
-    )
-    .ok()
-}
-
-// Whether an editor of no operation who answers over a stream has the caller's marker then.
-fn answers_over<S: Read + Write + OpenStream + Drop>(alloc: Global, stream: S) -> Option<bool> {
-    let mut editor = editor_of(&alloc, &[]).ok()?;
-    answer_over(alloc, &mut editor, stream)?;
-    has_the_marker(alloc, &editor)
+    let side = Side::Answerer;
+    converse(alloc, alloc, editor, side, &mut input, &mut output).ok()?;
+    has_the_marker(alloc, editor)
 }
 
 #[test]
@@ -41,7 +28,11 @@ fn answers_a_caller_of_the_same_process(rt: HostRuntime) -> Result<(), Fail> {
     let mut caller = TcpStream::connect(&rt, listener.local_addr()?)?;
     caller.write_all(CALLER)?;
     let (stream, _) = listener.accept()?;
-    assert!(rt; answers_over(rt.alloc(), stream) == Some(true));
+    let alloc = rt.alloc();
+    let answered = with_end(alloc, Side::Answerer, |editor| {
+        answers_over(alloc, editor, stream)
+    });
+    assert!(rt; answered == Some(Some(true)));
     let mut reply = [0u8; 14];
     caller.read_exact(&mut reply)?;
     assert!(rt; reply.as_slice() == ANSWERER);

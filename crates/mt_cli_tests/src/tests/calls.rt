@@ -1,0 +1,314 @@
+//! The commands over a few texts, one of each, whatever the memory, the readers and the writer are.
+use super::texts::{
+    ANSWER, BOTH, EDITED, EMPTY, FILE, HAS_NEWS, HAS_NOTHING, LABELLED, LATE, LISTED, NEWS, PLAYED,
+    PULLED, SCRIPT, SENT, SHOWN, TOLD, VOICE,
+};
+use mt_cli::{
+    CliFault, bounce_logs, check_log, edit_log, have_log, lack_log, list_log, list_logs,
+    list_sources, merge_logs, pull_logs, read_editor, swap_log, take_log, view_log, view_logs,
+    write_info,
+};
+use mt_cuewrite::Head;
+use mt_opcodec::Latch;
+use mt_preflight::Listing;
+use mt_render::Format;
+use mt_replica::Editor;
+use mt_stamp::Replica;
+use mt_sync::Side;
+use mt_testkit::{A, RECORDING};
+use std::alloc::{Allocator, Global};
+use std::io::{Read, Write};
+
+/// A command. Of the two that also tell of what they write, the output is that of the log, or `told` the other one.
+#[derive(Clone, Copy, PartialEq, Eq)]
+pub(crate) enum Call {
+    ViewLog,
+    ViewLogs,
+    ListLog,
+    ListLogs,
+    Merge,
+    Pull { told: bool },
+    Have,
+    Lack,
+    Take,
+    Edit { told: bool },
+    Swap,
+    Sources,
+    Check,
+    Bounce,
+    Info,
+}
+
+/// All of them.
+pub(crate) const CALLS: [Call; 17] = [
+    Call::ViewLog,
+    Call::ViewLogs,
+    Call::ListLog,
+    Call::ListLogs,
+    Call::Merge,
+    Call::Pull { told: false },
+    Call::Pull { told: true },
+    Call::Have,
+    Call::Lack,
+    Call::Take,
+    Call::Edit { told: false },
+    Call::Edit { told: true },
+    Call::Swap,
+    Call::Sources,
+    Call::Check,
+    Call::Bounce,
+    Call::Info,
+];
+
+const NOTHING: &[u8] = b"";
+
+/// What it reads.
+pub(crate) fn inputs_of(call: Call) -> (&'static [u8], &'static [u8]) {
+    match call {
+        Call::ViewLog | Call::ListLog => (BOTH, NOTHING),
+        Call::ViewLogs | Call::ListLogs | Call::Merge | Call::Pull { .. } => (NEWS, LATE),
+        Call::Have => (NEWS, NOTHING),
+        Call::Lack => (NEWS, HAS_NOTHING),
+        Call::Take => (EMPTY, SENT),
+        Call::Edit { .. } => (EMPTY, SCRIPT),
+        Call::Swap => (NEWS, ANSWER),
+        Call::Sources | Call::Check | Call::Bounce => (VOICE, RECORDING),
+        Call::Info => (NOTHING, NOTHING),
+    }
+}
+
+// What it writes; `Bounce` writes the file.
+fn output_of(call: Call) -> &'static [u8] {
+    match call {
+        Call::ViewLog | Call::ViewLogs => SHOWN,
+        Call::ListLog | Call::ListLogs => LISTED,
+        Call::Merge | Call::Pull { told: false } => BOTH,
+        Call::Pull { told: true } => PULLED,
+        Call::Have => HAS_NEWS,
+        Call::Lack => SENT,
+        Call::Take | Call::Edit { told: false } | Call::Swap => NEWS,
+        Call::Edit { told: true } => EDITED,
+        Call::Sources => PLAYED,
+        Call::Check => b"warnings 0\n",
+        Call::Bounce => NOTHING,
+        Call::Info => TOLD,
+    }
+}
+
+// Whether the file begins with these bytes.
+fn is_front_of_file(bytes: &[u8]) -> bool {
+    let mut rest = bytes;
+    for piece in FILE {
+        match rest.strip_prefix(piece) {
+            Some(behind) => rest = behind,
+            None => return piece.starts_with(rest),
+        }
+    }
+    rest.is_empty()
+}
+
+/// How many bytes it writes.
+pub(crate) fn length_of(call: Call) -> usize {
+    match call {
+        Call::Bounce => 692,
+        _ => output_of(call).len(),
+    }
+}
+
+/// Whether these are the first so many bytes that it writes.
+pub(crate) fn is_front(call: Call, bytes: &[u8], count: usize) -> bool {
+    let begins = match call {
+        Call::Bounce => is_front_of_file(bytes),
+        _ => output_of(call).starts_with(bytes),
+    };
+    begins && bytes.len() == count
+}
+
+// Commands that write one text of some logs.
+fn run_on_logs<M: Allocator + Clone, R: Read + Drop, W: Write>(
+    memory: M,
+    call: Call,
+    (first, second): (R, R),
+    output: &mut Latch<W>,
+) -> Result<(), CliFault> {
+    let mut inputs = [Latch::new(first), Latch::new(second)];
+    match call {
+        Call::ViewLogs => view_logs(memory, &mut inputs, output),
+        Call::ListLogs => list_logs(memory, &mut inputs, output),
+        _ => merge_logs(memory, &mut inputs, output),
+    }
+}
+
+// Those of one log.
+fn run_on_log<M: Allocator + Clone, R: Read + Drop, W: Write>(
+    memory: M,
+    call: Call,
+    (input, _other): (R, R),
+    output: &mut Latch<W>,
+) -> Result<(), CliFault> {
+    let mut input = Latch::new(input);
+    match call {
+        Call::ViewLog => view_log(memory, &mut input, output),
+        Call::ListLog => list_log(memory, &mut input, output),
+        _ => have_log(memory, &mut input, output),
+    }
+}
+
+// Those of a log and what is carried by hand.
+fn run_by_hand<M: Allocator + Clone, R: Read + Drop, W: Write>(
+    memory: M,
+    alloc: Global,
+    call: Call,
+    (log, other): (R, R),
+    output: &mut Latch<W>,
+) -> Result<(), CliFault> {
+    let (mut log, mut other) = (Latch::new(log), Latch::new(other));
+    match call {
+        Call::Lack => lack_log(memory, &mut log, &mut other, output),
+        _ => take_log(memory, alloc, &mut log, &mut other, output),
+    }
+}
+
+// An answer, where the output beside that which is looked at has all of its text, or nothing where it is the last or all is refused; else none.
+fn beside(
+    answer: Result<(), CliFault>,
+    other: Latch<Vec<u8>>,
+    text: &[u8],
+) -> Option<Result<(), CliFault>> {
+    let written = other.into_inner();
+    let is_right = match answer {
+        Ok(()) | Err(CliFault::Print) => written.as_slice() == text,
+        Err(_) => written.is_empty(),
+    };
+    if is_right { Some(answer) } else { None }
+}
+
+fn edit<M: Allocator + Clone, R: Read + Drop, W: Write>(
+    memory: M,
+    alloc: Global,
+    told: bool,
+    (log, script): (R, R),
+    output: &mut Latch<W>,
+) -> Option<Result<(), CliFault>> {
+    let (mut log, mut script) = (Latch::new(log), Latch::new(script));
+    let mut other = Latch::new(Vec::new(alloc));
+    if told {
+        let answer = edit_log(memory, A, &mut log, &mut script, &mut other, output);
+        return beside(answer, other, NEWS);
+    }
+    let answer = edit_log(memory, A, &mut log, &mut script, output, &mut other);
+    beside(answer, other, EDITED)
+}
+
+fn pull<M: Allocator + Clone, R: Read + Drop, W: Write>(
+    memory: M,
+    alloc: Global,
+    told: bool,
+    (first, second): (R, R),
+    output: &mut Latch<W>,
+) -> Option<Result<(), CliFault>> {
+    let mut inputs = [Latch::new(first), Latch::new(second)];
+    let mut other = Latch::new(Vec::new(alloc));
+    if told {
+        let answer = pull_logs(memory, &["home.log"], &mut inputs, &mut other, output);
+        return beside(answer, other, BOTH);
+    }
+    let answer = pull_logs(memory, &["home.log"], &mut inputs, output, &mut other);
+    beside(answer, other, PULLED)
+}
+
+// Lets an editor meet one who has nothing, and gives the answer, where it has said what it has and sent what that one lacks, or a front of that where it is refused.
+fn meet<M: Allocator + Clone, R: Read + Drop, W: Write>(
+    memory: M,
+    alloc: Global,
+    editor: &mut Editor<M>,
+    reader: R,
+    output: &mut Latch<W>,
+) -> Option<Result<(), CliFault>> {
+    let (mut reader, mut writer) = (Latch::new(reader), Latch::new(Vec::new(alloc)));
+    let answer = swap_log(
+        memory,
+        alloc,
+        editor,
+        Side::Caller,
+        &mut reader,
+        &mut writer,
+        output,
+    );
+    let said = writer.into_inner();
+    let is_right = match said.strip_prefix(HAS_NEWS) {
+        Some(sent) => SENT.starts_with(sent) && (answer.is_err() || sent.len() == SENT.len()),
+        None => answer.is_err() && HAS_NEWS.starts_with(&said),
+    };
+    if is_right { Some(answer) } else { None }
+}
+
+fn swap<M: Allocator + Copy, R: Read + Drop, W: Write>(
+    memory: M,
+    alloc: Global,
+    (log, reader): (R, R),
+    output: &mut Latch<W>,
+) -> Option<Result<(), CliFault>> {
+    match read_editor(memory, Replica(0), &mut Latch::new(log)) {
+        Ok(mut editor) => meet(memory, alloc, &mut editor, reader, output),
+        Err(fault) => Some(Err(fault)),
+    }
+}
+
+fn list<M: Allocator + Clone, R: Read + Drop, W: Write>(
+    memory: M,
+    (log, source): (R, R),
+    output: &mut Latch<W>,
+) -> Result<(), CliFault> {
+    let (mut log, mut files) = (Latch::new(log), [Latch::new(source)]);
+    list_sources(
+        memory,
+        Listing::All,
+        &mut log,
+        &["voice.wav"],
+        &mut files,
+        output,
+    )
+}
+
+// Those of a log and its recording that are rendered, or checked before.
+fn render<M: Allocator + Clone, R: Read + Drop, W: Write>(
+    memory: M,
+    call: Call,
+    (log, source): (R, R),
+    output: &mut Latch<W>,
+) -> Option<Result<(), CliFault>> {
+    let head = Head::new("", "", "", "2000-01-01", "00:00:00", 0).ok()?;
+    let format = Format::new(48000, 24, 1).ok()?;
+    let (mut logs, mut sources) = ([Latch::new(log)], [Latch::new(source)]);
+    if call == Call::Check {
+        let log = &mut logs[0];
+        return Some(check_log(memory, log, &mut sources, &head, format, output));
+    }
+    Some(bounce_logs(memory, &mut logs, &mut sources, &head, format, output))
+}
+
+/// What it answers; none where what it writes beside the output is not right.
+pub(crate) fn run<M: Allocator + Copy, R: Read + Drop, W: Write>(
+    memory: M,
+    alloc: Global,
+    call: Call,
+    inputs: (R, R),
+    output: &mut Latch<W>,
+) -> Option<Result<(), CliFault>> {
+    match call {
+        Call::ViewLogs | Call::ListLogs | Call::Merge => {
+            Some(run_on_logs(memory, call, inputs, output))
+        }
+        Call::ViewLog | Call::ListLog | Call::Have => {
+            Some(run_on_log(memory, call, inputs, output))
+        }
+        Call::Lack | Call::Take => Some(run_by_hand(memory, alloc, call, inputs, output)),
+        Call::Edit { told } => edit(memory, alloc, told, inputs, output),
+        Call::Pull { told } => pull(memory, alloc, told, inputs, output),
+        Call::Swap => swap(memory, alloc, inputs, output),
+        Call::Sources => Some(list(memory, inputs, output)),
+        Call::Check | Call::Bounce => render(memory, call, inputs, output),
+        Call::Info => Some(write_info(memory, LABELLED, output)),
+    }
+}

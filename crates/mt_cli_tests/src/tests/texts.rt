@@ -1,0 +1,97 @@
+//! What the commands read and write, worked out by hand or by a second reading of the formats (`tests/formats`).
+
+/// The log of no operation.
+pub(crate) const EMPTY: &[u8] =
+    b"RMTS\x01\0\0\0\0\0\0\0\0\x11\x16\xdd\xab\xe2:a\xd2\xbd\xea\xf3\x06\x06\x0d\xd62;\xc4\xbc\xc6\xb9\xeb\xc9\x85\xe13n\x1a>\x85#Q";
+
+/// The log of `(1, A, 1)`, a marker at frame 480 with the title `News`.
+pub(crate) const NEWS: &[u8] =
+    b"RMTS\x01\0\0\0\0\0\0\0\x01\0\0\0\0\0\0\0\x01\0\0\0\0\0\0\0\0\0\0\0\0\0\0\0\n\0\0\0\0\0\0\0\x01\n\0\0\x01\xe0\x04NewsV\xbc\xa5\xd5\x94\x11\xf1\x8b%\xd0Kj\xc5\xc7y=\x90f+\xb3z,\x84'+3\x07Ox\x0e\x8f\x0c";
+
+/// The log of `(2, B, 1)`, which gives that marker the title `Late`.
+pub(crate) const LATE: &[u8] =
+    b"RMTS\x01\0\0\0\0\0\0\0\x01\0\0\0\0\0\0\0\x02\0\0\0\0\0\0\0\0\0\0\0\0\0\0\0\x0b\0\0\0\0\0\0\0\x01\x0c\0\0\0\0\0\0\0\x01\0\0\0\0\0\0\0\0\0\0\0\0\0\0\0\n\0\0\0\0\0\0\0\x01\x04Late\xe4\xe2\xb6\xe3\x80\x8c\x99\xd2nh;\x038C\xc6\x02\xe7\x7f\xd9\xbe\\\xcb\x15\xda\xc3pa2\xc5 4\xba";
+
+/// The log of both.
+pub(crate) const BOTH: &[u8] =
+    b"RMTS\x01\0\0\0\0\0\0\0\x02\0\0\0\0\0\0\0\x01\0\0\0\0\0\0\0\0\0\0\0\0\0\0\0\n\0\0\0\0\0\0\0\x01\n\0\0\x01\xe0\x04News\0\0\0\0\0\0\0\x02\0\0\0\0\0\0\0\0\0\0\0\0\0\0\0\x0b\0\0\0\0\0\0\0\x01\x0c\0\0\0\0\0\0\0\x01\0\0\0\0\0\0\0\0\0\0\0\0\0\0\0\n\0\0\0\0\0\0\0\x01\x04Later\xa1\xd5j\xe4\xce\x0d\xdf\x07\xd1z\x16\x9e\x1d\xa5\x91\x17\xd0\x81\xb5-s-\xc8\x169\x1c\xc8\xd4\xf4\xc6O";
+
+/// The session of both.
+pub(crate) const SHOWN: &[u8] =
+    b"marker 1.1.00000000-0000-0000-0000-00000000000a at 480 title Late\nheld 0\n";
+
+/// The list of both.
+pub(crate) const LISTED: &[u8] = b"\
+1.1.00000000-0000-0000-0000-00000000000a ready add-marker 480 News
+2.1.00000000-0000-0000-0000-00000000000b ready retitle 1.1.00000000-0000-0000-0000-00000000000a Late
+operations 2
+";
+
+/// What is told of the second, which was brought to the first.
+pub(crate) const PULLED: &[u8] = b"from home.log new 1 shared 0\nops 2\n";
+
+/// The script that makes the first, and what is told of it.
+pub(crate) const SCRIPT: &[u8] = b"add-marker 480 News\n";
+
+pub(crate) const EDITED: &[u8] = b"ops 1\n";
+
+/// What the editor of the first has.
+pub(crate) const HAS_NEWS: &[u8] =
+    b"\0\0\0!\x01\0\0\0\x01\0\0\0\0\0\0\0\0\0\0\0\0\0\0\0\n\0\0\0\0\0\0\0\x01\0\0\0\0";
+
+/// What the editor of none has.
+pub(crate) const HAS_NOTHING: &[u8] = b"\0\0\0\x05\x01\0\0\0\0";
+
+/// What that one answers in a conversation: that, and Bye.
+pub(crate) const ANSWER: &[u8] = b"\0\0\0\x05\x01\0\0\0\0\0\0\0\x01\x03";
+
+/// What is sent to that one: the first, and Bye.
+pub(crate) const SENT: &[u8] =
+    b"\0\0\0/\x02\0\0\0\x01\0\0\0\0\0\0\0\x01\0\0\0\0\0\0\0\0\0\0\0\0\0\0\0\n\0\0\0\0\0\0\0\x01\n\0\0\x01\xe0\x04News\0\0\0\x01\x03";
+
+/// The log of a track with a clip of mt_testkit's recording, of its three frames.
+pub(crate) const VOICE: &[u8] =
+    b"RMTS\x01\0\0\0\0\0\0\0\x02\0\0\0\0\0\0\0\x01\0\0\0\0\0\0\0\0\0\0\0\0\0\0\0\n\0\0\0\0\0\0\0\x01\x01\0\x05Voice\0\0\0\0\0\0\0\x02\0\0\0\0\0\0\0\0\0\0\0\0\0\0\0\n\0\0\0\0\0\0\0\x02\x03\xcc\n\x0e\x06Q\xf6\xe9\xe3\x04D&eCz\xb6\x1a\xc3\xb50+Q\xbbJ\x16\x1b\x14K\xf9\x98]\xfby\0\0\0\0\0\0\0\x01\0\0\0\0\0\0\0\0\0\0\0\0\0\0\0\n\0\0\0\0\0\0\0\x01\0\0\0\0\0\0\0\0\0\0\0\x03\xec!j\xa9@.\x0c\xb4\x15\xf4\xa9_\x1b\x01U:Y\xbe\x07\xf4F\xd4\xce\x92\x93OK2\xa26\x1f`";
+
+/// What is told of the recording that the log plays.
+pub(crate) const PLAYED: &[u8] =
+    b"source cc0a0e0651f6e9e304442665437ab61ac3b5302b51bb4a161b144bf9985dfb79 clips 1 audible 1 end 3 rate 48000 channels 1 frames 3 file voice.wav\nmissing 0\n";
+
+/// The file of that, of 692 bytes.
+pub(crate) const FILE: [&[u8]; 7] = [
+    b"RIFF\xac\x02\0\0WAVEbext\x75\x02\0\0",
+    &[0; 320],
+    b"2000-01-0100:00:00",
+    &[0; 264],
+    b"A=PCM,F=48000,W=24,M=mono\r\n\0",
+    b"fmt \x10\0\0\0\x01\0\x01\0\x80\xbb\0\0\x80\x32\x02\0\x03\0\x18\0",
+    b"data\x09\0\0\0\x01\0\0\x02\0\0\x03\0\0\0",
+];
+
+/// Two frames of 24 bits; three labels, of which two have one name and one that of no cue point; a length; three cue points, of which two
+/// have one name.
+pub(crate) const LABELLED: &[u8] =
+    b"RIFF\xe2\0\0\0WAVEfmt \x10\0\0\0\x01\0\x01\0\x80\xbb\0\0\x80\x32\x02\0\x03\0\x18\0data\x06\0\0\0\x01\0\0\xff\xff\xffLIST\x5c\0\0\0adtllabl\x0d\0\0\0\x01\0\0\0News\0left\0labl\x0a\0\0\0\x01\0\0\0Later\0labl\x0c\0\0\0\x09\0\0\0Nowhere\0ltxt\x14\0\0\0\x01\0\0\0\x03\0\0\0rgn \0\0\0\0\0\0\0\0cue \x4c\0\0\0\x03\0\0\0\x01\0\0\0\x07\0\0\0data\0\0\0\0\0\0\0\0\x05\0\0\0\x02\0\0\0\x07\0\0\0data\0\0\0\0\0\0\0\0\xff\xff\xff\xff\x01\0\0\0\x07\0\0\0data\0\0\0\0\0\0\0\0\0\0\0\0";
+
+/// What it says of itself.
+pub(crate) const TOLD: &[u8] = b"\
+digest 5d0f72386959c32dfd34c1abf6497c91c9a29f32a5bab5427ce1675cef9bd316
+rate 48000
+channels 1
+bits 24
+frames 2
+bext none
+cue 1 at 5 len 3 label News
+cue 2 at 4294967295
+cue 1 at 0 len 3 label News
+";
+
+/// One frame of 8 bits, and no pad byte after it; what it says of itself but for its digest.
+pub(crate) const SMALLEST: &[u8] =
+    b"RIFF\x25\0\0\0WAVEfmt \x10\0\0\0\x01\0\x01\0\x44\xac\0\0\x44\xac\0\0\x01\0\x08\0data\x01\0\0\0\0";
+
+pub(crate) const ONE_FRAME: &[u8] = b"\nrate 44100\nchannels 1\nbits 8\nframes 1\nbext none\n";
+
+/// The same with a count of 4,294,967,295 cue points, of which none is there, and with a label and a length that tell as many bytes.
+pub(crate) const PROMISING: &[u8] =
+    b"RIFF\xff\xff\0\0WAVEfmt \x10\0\0\0\x01\0\x01\0\x44\xac\0\0\x44\xac\0\0\x01\0\x08\0data\x01\0\0\0\0\0cue \x04\0\0\0\xff\xff\xff\xffLIST\x12\0\0\0adtllabl\xff\xff\xff\xff\x01\0\0\0N\0LIST\x12\0\0\0adtlltxt\xff\xff\xff\xff\x01\0\0\0\x03\0";

@@ -1,0 +1,273 @@
+//! Seventeen operations with all bodies, which an editor makes or takes, some of them early: what it answers, what it keeps, and what is left of it where a growth is
+//! refused.
+
+use crate::tests::editors::{with_editor, with_newcomer};
+use crate::tests::growth::{Work, refusals};
+use super::histories::{Answer, counts, edit, is_alike, take};
+use super::operations::{Act, Name, op_of};
+use mt_op::Op;
+use mt_opcodec::Log;
+use mt_replica::{Change, Editor, EditorFault};
+use mt_stamp::{Replica, Stamp, StampFault};
+use mt_testkit::{A, B, Refusing};
+use std::alloc::{Allocator, Global};
+
+// The operations, counted from 1.
+const STEPS: u64 = 17;
+
+// The stamp of an operation.
+fn made_at(step: u64) -> Result<Stamp, StampFault> {
+    Stamp::new(step, A, step)
+}
+
+// The first: two tracks, and a clip that is put on one and then on the other.
+fn placing(step: u64) -> Result<Act, StampFault> {
+    let (first, second, clip) = (made_at(1)?, made_at(2)?, made_at(3)?);
+    Ok(match step {
+        1 => Act::AddTrack(None),
+        2 => Act::AddTrack(Some(first)),
+        3 => Act::AddClip(first),
+        _ => Act::MoveClip(clip, second, 48),
+    })
+}
+
+// Those after them: the tracks change places, that of the clip is removed and returns, the clip is trimmed and muted.
+fn changing(step: u64) -> Result<Act, StampFault> {
+    let (first, second, clip) = (made_at(1)?, made_at(2)?, made_at(3)?);
+    Ok(match step {
+        5 => Act::MoveTrack(first, Some(second)),
+        6 => Act::Remove(second),
+        7 => Act::TrimClip(clip, 20),
+        8 => Act::Restore(second),
+        9 => Act::SetMute(clip),
+        10 => Act::SetGain(second),
+        _ => Act::Retitle(first, Name::Late),
+    })
+}
+
+// The last: a marker, which then moves, fades of the clip, and a length of the marker; a third track, and a clip on it.
+fn adding(step: u64) -> Result<Act, StampFault> {
+    let (clip, marker, third) = (made_at(3)?, made_at(12)?, made_at(16)?);
+    Ok(match step {
+        12 => Act::AddMarker(Name::News),
+        13 => Act::MoveMarker(marker),
+        14 => Act::SetFade(clip),
+        15 => Act::SetMarkerLength(marker),
+        16 => Act::AddTrack(None),
+        _ => Act::AddClip(third),
+    })
+}
+
+fn act_at(step: u64) -> Result<Act, StampFault> {
+    if step < 5 {
+        return placing(step);
+    }
+    if step > 11 {
+        return adding(step);
+    }
+    changing(step)
+}
+
+// How an editor comes to them: by taking what A made, or by edits, as A.
+#[derive(Clone, Copy, PartialEq, Eq)]
+enum Way {
+    Take,
+    Edit,
+}
+
+fn name_of(way: Way) -> Replica {
+    match way {
+        Way::Take => B,
+        Way::Edit => A,
+    }
+}
+
+// The operation that comes as this one. What is taken comes in another order: the move of the marker before the marker, and the last clip before its track.
+fn step_of(way: Way, number: u64) -> u64 {
+    match (way, number) {
+        (Way::Take, 12) => 13,
+        (Way::Take, 13) => 12,
+        (Way::Take, 16) => 17,
+        (Way::Take, 17) => 16,
+        _ => number,
+    }
+}
+
+// What an editor answers; none where the operation or the change is not made.
+fn answer_to<M: Allocator + Copy>(
+    editor: &mut Editor<M>,
+    memory: M,
+    way: Way,
+    number: u64,
+) -> Option<Result<Answer, EditorFault>> {
+    let step = step_of(way, number);
+    let (stamp, act) = (made_at(step).ok()?, act_at(step).ok()?);
+    match way {
+        Way::Take => take(editor, memory, stamp, act),
+        Way::Edit => edit(editor, memory, act),
+    }
+}
+
+// Whether it answers what it has to: an edit makes the operation of its stamp, and what is taken early is held until what it names comes.
+fn is_answer(way: Way, number: u64, answer: &Result<Answer, EditorFault>) -> bool {
+    let Ok(stamp) = made_at(number) else {
+        return false;
+    };
+    let wanted = match (way, number) {
+        (Way::Edit, _) => Answer::Made(stamp),
+        (Way::Take, 12 | 16) => Answer::Held,
+        (Way::Take, 13 | 17) => Answer::Applied(2),
+        _ => Answer::Applied(1),
+    };
+    *answer == Ok(wanted)
+}
+
+// How many are answered so, and leave the session that is made from nothing, until one is not.
+fn kept<M: Allocator + Copy>(editor: &mut Editor<M>, memory: M, way: Way) -> Option<u64> {
+    for before in 0..STEPS {
+        let number = before.saturating_add(1);
+        let answer = answer_to(editor, memory, way, number)?;
+        if !is_answer(way, number, &answer) || !is_alike(memory, editor) {
+            return Some(before);
+        }
+    }
+    Some(STEPS)
+}
+
+// The same of an editor that begins with the empty log.
+fn kept_by(alloc: Global, way: Way) -> Option<u64> {
+    with_newcomer(alloc, name_of(way), |editor| kept(editor, alloc, way))?
+}
+
+#[test]
+fn keeps_the_session_that_is_made_from_nothing(rt: HostRuntime) {
+    assert!(rt; kept_by(rt.alloc(), Way::Take) == Some(STEPS));
+    assert!(rt; kept_by(rt.alloc(), Way::Edit) == Some(STEPS));
+}
+
+fn op_at<M: Allocator>(memory: M, step: u64) -> Option<Op<M>> {
+    let (stamp, act) = (made_at(step).ok()?, act_at(step).ok()?);
+    op_of(memory, stamp, act).ok()
+}
+
+// The log of all, or of all but the marker and the third track.
+fn log_of<M: Allocator + Copy>(memory: M, is_whole: bool) -> Option<Log<M>> {
+    let mut log = Log::new(memory);
+    for before in 0..STEPS {
+        let step = before.saturating_add(1);
+        if is_whole || (step != 12 && step != 16) {
+            log.add(op_at(memory, step)?).ok()?;
+        }
+    }
+    Some(log)
+}
+
+// Whether an editor has that log and its session.
+fn is_editor_of<M: Allocator + Copy>(editor: &Editor<M>, memory: M, is_whole: bool) -> bool {
+    match (editor.log(), log_of(memory, is_whole)) {
+        (Some(log), Some(wanted)) => *log == wanted && is_alike(memory, editor),
+        _ => false,
+    }
+}
+
+// The same; none where a growth is refused meanwhile.
+fn is_left<M: Allocator + Copy>(
+    editor: &Editor<M>,
+    memory: M,
+    is_whole: bool,
+    tally: &Refusing<Global>,
+) -> Option<bool> {
+    let is_right = is_editor_of(editor, memory, is_whole);
+    if tally.has_refused() {
+        return None;
+    }
+    Some(is_right)
+}
+
+// Whether an editor has failed: it has neither log nor session, and is asked in vain.
+fn has_failed<M: Allocator + Copy>(editor: &mut Editor<M>) -> bool {
+    let Ok(item) = made_at(1) else {
+        return false;
+    };
+    let again = editor.edit(&Change::Restore { item }).err();
+    again == Some(EditorFault::Failed) && editor.log().is_none() && editor.session().is_none()
+}
+
+// Whether all are answered so, and leave the editor of the log of all; where a growth is refused in a call, whether it answers `Memory` and has then failed.
+fn comes_through<M: Allocator + Copy>(
+    editor: &mut Editor<M>,
+    memory: M,
+    way: Way,
+    tally: &Refusing<Global>,
+) -> Option<bool> {
+    for before in 0..STEPS {
+        let number = before.saturating_add(1);
+        let answer = answer_to(editor, memory, way, number)?;
+        if tally.has_refused() {
+            return Some(answer == Err(EditorFault::Memory) && has_failed(editor));
+        }
+        if !is_answer(way, number, &answer) {
+            return Some(false);
+        }
+    }
+    is_left(editor, memory, true, tally)
+}
+
+impl Work for Way {
+    fn is_right<M: Allocator + Copy>(
+        &self,
+        memory: M,
+        _alloc: Global,
+        tally: &Refusing<Global>,
+    ) -> Option<bool> {
+        let way = *self;
+        with_newcomer(memory, name_of(way), |editor| comes_through(editor, memory, way, tally))?
+    }
+}
+
+#[test]
+fn fails_at_each_refused_growth_of_a_take(rt: HostRuntime) {
+    assert!(rt; refusals(rt.alloc(), &Way::Take) > Some(50));
+}
+
+#[test]
+fn fails_at_each_refused_growth_of_an_edit(rt: HostRuntime) {
+    assert!(rt; refusals(rt.alloc(), &Way::Edit) > Some(50));
+}
+
+// An editor is made of a log of tracks, of a clip, and of what waits.
+#[derive(Clone, Copy)]
+struct Waiting;
+
+// Whether it has that, where no growth is refused.
+fn is_waiting<M: Allocator + Copy>(
+    editor: &Editor<M>,
+    memory: M,
+    tally: &Refusing<Global>,
+) -> Option<bool> {
+    if tally.has_refused() {
+        return Some(false);
+    }
+    let is_counted = counts(editor) == Some((15, 3, 0));
+    Some(is_left(editor, memory, false, tally)? && is_counted)
+}
+
+impl Work for Waiting {
+    fn is_right<M: Allocator + Copy>(
+        &self,
+        memory: M,
+        _alloc: Global,
+        tally: &Refusing<Global>,
+    ) -> Option<bool> {
+        let log = log_of(memory, false)?;
+        match with_editor(memory, B, log, |editor| is_waiting(editor, memory, tally)) {
+            Some(is_right) => is_right,
+            None => Some(tally.has_refused()),
+        }
+    }
+}
+
+#[test]
+fn refuses_each_growth_of_a_log_that_waits(rt: HostRuntime) {
+    assert!(rt; refusals(rt.alloc(), &Waiting) > Some(20));
+}
