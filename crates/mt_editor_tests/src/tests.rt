@@ -1,5 +1,4 @@
-mod editors;
-mod growth;
 mod replica;
 mod sync;
+mod works;
 mod world;

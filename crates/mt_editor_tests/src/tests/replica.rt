@@ -9,7 +9,7 @@ mod joins;
 mod operations;
 mod ready;
 
-use histories::{Answer, Step, history};
+use histories::{Answer, Step, is_history};
 use mt_replica::EditorFault;
 use mt_stamp::Stamp;
 use mt_testkit::{A, B};
@@ -28,7 +28,7 @@ fn takes_an_operation_once(rt: HostRuntime) -> Result<(), Fail> {
         (Step::Take(other, news), clash, (1, 0, 1)),
         (Step::Take(item, another), clash, (1, 0, 1)),
     ];
-    assert!(rt; history(rt.alloc(), B, &rows) == Some(4));
+    assert!(rt; is_history(rt.alloc(), &rows));
     Ok(())
 }
 
@@ -37,14 +37,25 @@ fn edits_what_is_there(rt: HostRuntime) -> Result<(), Fail> {
     let item = Stamp::new(1, A, 1)?;
     let missing = Err(EditorFault::NoSuchItem(item));
     let absent = Err(EditorFault::Absent(item));
-    let (second, third) = (Ok(Answer::Made(Stamp::new(2, B, 1)?)), Ok(Answer::Made(Stamp::new(3, B, 2)?)));
+    let (second, third) = (
+        Ok(Answer::Made(Stamp::new(2, B, 1)?)),
+        Ok(Answer::Made(Stamp::new(3, B, 2)?)),
+    );
     let rows = [
-        (Step::Take(item, Act::AddMarker(Name::News)), Ok(Answer::Applied(1)), (1, 0, 1)),
+        (
+            Step::Take(item, Act::AddMarker(Name::News)),
+            Ok(Answer::Applied(1)),
+            (1, 0, 1),
+        ),
         (Step::Edit(Act::SetFade(item)), missing, (1, 0, 1)),
         (Step::Edit(Act::Remove(item)), second, (2, 0, 0)),
-        (Step::Edit(Act::Retitle(item, Name::Late)), absent, (2, 0, 0)),
+        (
+            Step::Edit(Act::Retitle(item, Name::Late)),
+            absent,
+            (2, 0, 0),
+        ),
         (Step::Edit(Act::Restore(item)), third, (3, 0, 1)),
     ];
-    assert!(rt; history(rt.alloc(), B, &rows) == Some(5));
+    assert!(rt; is_history(rt.alloc(), &rows));
     Ok(())
 }

@@ -5,12 +5,12 @@ mod messages;
 mod sockets;
 mod streams;
 
-use super::editors::with_markers;
+use super::works::{Work, is_done};
 use mt_opcodec::Log;
 use mt_replica::Editor;
 use mt_stamp::Stamp;
 use mt_sync::{Side, Talk, TalkFault};
-use mt_testkit::{A, log_of};
+use mt_testkit::{A, Refusing, log_of};
 use std::alloc::{Allocator, Global};
 
 // All that the caller of the log of one marker sends: its Have, 37 bytes, the marker, 51 bytes, and Bye.
@@ -36,18 +36,11 @@ fn told_to(side: Side) -> &'static [u8] {
     }
 }
 
-// Lends the editor of an end, as it is before the conversation.
-fn with_end<M: Allocator + Copy, T, F: FnOnce(&mut Editor<M>) -> T>(
-    memory: M,
-    side: Side,
-    work: F,
-) -> Option<T>
-    requires { F.IsAlwaysCallable work }
-{
-    let marker = [Stamp::new(1, A, 1).ok()?];
+// The log of an end before the conversation.
+fn log_of_end<M: Allocator + Copy>(memory: M, side: Side) -> Option<Log<M>> {
     match side {
-        Side::Caller => with_markers(memory, &marker, work),
-        Side::Answerer => with_markers(memory, &[], work),
+        Side::Caller => log_of(&memory, &[Stamp::new(1, A, 1).ok()?]).ok(),
+        Side::Answerer => Some(Log::new(memory)),
     }
 }
 
@@ -68,9 +61,9 @@ fn is_left<M: Allocator + Clone>(editor: &Editor<M>, count: usize) -> bool {
     }
 }
 
-// Whether an editor has the log of one marker.
-fn has_the_marker(alloc: Global, editor: &Editor) -> Option<bool> {
-    let wanted: Log = log_of(&alloc, &[Stamp::new(1, A, 1).ok()?]).ok()?;
+// Whether an editor has the log of the marker.
+fn has_the_marker<M: Allocator + Copy>(memory: M, editor: &Editor<M>) -> Option<bool> {
+    let wanted = log_of_end(memory, Side::Caller)?;
     Some(*editor.log()? == wanted)
 }
 
@@ -147,10 +140,37 @@ fn talks<M: Allocator + Copy>(
     }
 }
 
-// Whether an end comes to its end that is told all in pieces of this size.
-fn ends_in_pieces(alloc: Global, side: Side, size: usize) -> bool {
-    let ended = with_end(alloc, side, |editor| talks(alloc, alloc, editor, (side, size)));
-    ended == Some(Ok(true))
+// An end of the conversation, told all in pieces of this size.
+#[derive(Clone, Copy)]
+struct End {
+    side: Side,
+    size: usize,
+}
+
+impl Work for End {
+    fn log<M: Allocator + Copy>(&self, memory: M) -> Option<Log<M>> {
+        log_of_end(memory, self.side)
+    }
+
+    fn is_right<M: Allocator + Copy>(
+        &self,
+        editor: &mut Editor<M>,
+        memory: M,
+        alloc: Global,
+        tally: &Refusing<Global>,
+    ) -> Option<bool> {
+        let told = talks(memory, alloc, editor, (self.side, self.size));
+        Some(is_wanted(told, tally))
+    }
+}
+
+// Whether what has to come comes, or a refusal where a growth is refused.
+fn is_wanted(told: Result<bool, TalkFault>, tally: &Refusing<Global>) -> bool {
+    if tally.has_refused() {
+        told == Err(TalkFault::Memory)
+    } else {
+        told == Ok(true)
+    }
 }
 
 // conversation, however it is cut
@@ -158,7 +178,7 @@ fn ends_in_pieces(alloc: Global, side: Side, size: usize) -> bool {
 fn ends_however_it_is_cut(rt: HostRuntime) {
     for side in [Side::Caller, Side::Answerer] {
         for size in 1..told_to(side).len() + 1 {
-            assert!(rt; ends_in_pieces(rt.alloc(), side, size), "of {size}");
+            assert!(rt; is_done(rt.alloc(), &End { side, size }), "of {size}");
         }
     }
 }

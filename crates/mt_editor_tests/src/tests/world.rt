@@ -1,9 +1,9 @@
 //! A run of a world: which world a list of events makes, its clauses and the law `worked_histories` say, and the stored run of world_histories shows
 //! it; here a run succeeds where there is memory, and each growth of it is refused in turn.
 
-use super::growth::{Work, refusals};
+use super::works::{Work, refusals};
 use mt_op::Title;
-use mt_replica::Change;
+use mt_replica::{Change, Editor};
 use mt_sessionview::{MarkerView, Session};
 use mt_stamp::{Dot, Replica, Stamp};
 use mt_testkit::{A, B, Refusing};
@@ -127,12 +127,14 @@ fn comes_to_it<M: Allocator + Copy>(memory: M, events: &[Event<M>]) -> Result<bo
     }
 }
 
+// A run has editors of its own.
 #[derive(Clone, Copy)]
 struct Run;
 
 impl Work for Run {
     fn is_right<M: Allocator + Copy>(
         &self,
+        _editor: &mut Editor<M>,
         memory: M,
         _alloc: Global,
         tally: &Refusing<Global>,

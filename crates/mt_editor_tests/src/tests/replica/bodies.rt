@@ -1,10 +1,9 @@
 //! Seventeen operations with all bodies, which an editor makes or takes, some of them early: what it answers, what it keeps, and what is left of it where a growth is
 //! refused.
 
-use crate::tests::editors::{with_editor, with_newcomer};
-use crate::tests::growth::{Work, refusals};
 use super::histories::{Answer, counts, edit, is_alike, take};
 use super::operations::{Act, Name, op_of};
+use crate::tests::works::{Work, is_done, refusals};
 use mt_op::Op;
 use mt_opcodec::Log;
 use mt_replica::{Change, Editor, EditorFault};
@@ -75,13 +74,6 @@ enum Way {
     Edit,
 }
 
-fn name_of(way: Way) -> Replica {
-    match way {
-        Way::Take => B,
-        Way::Edit => A,
-    }
-}
-
 // The operation that comes as this one. What is taken comes in another order: the move of the marker before the marker, and the last clip before its track.
 fn step_of(way: Way, number: u64) -> u64 {
     match (way, number) {
@@ -120,29 +112,6 @@ fn is_answer(way: Way, number: u64, answer: &Result<Answer, EditorFault>) -> boo
         _ => Answer::Applied(1),
     };
     *answer == Ok(wanted)
-}
-
-// How many are answered so, and leave the session that is made from nothing, until one is not.
-fn kept<M: Allocator + Copy>(editor: &mut Editor<M>, memory: M, way: Way) -> Option<u64> {
-    for before in 0..STEPS {
-        let number = before.saturating_add(1);
-        let answer = answer_to(editor, memory, way, number)?;
-        if !is_answer(way, number, &answer) || !is_alike(memory, editor) {
-            return Some(before);
-        }
-    }
-    Some(STEPS)
-}
-
-// The same of an editor that begins with the empty log.
-fn kept_by(alloc: Global, way: Way) -> Option<u64> {
-    with_newcomer(alloc, name_of(way), |editor| kept(editor, alloc, way))?
-}
-
-#[test]
-fn keeps_the_session_that_is_made_from_nothing(rt: HostRuntime) {
-    assert!(rt; kept_by(rt.alloc(), Way::Take) == Some(STEPS));
-    assert!(rt; kept_by(rt.alloc(), Way::Edit) == Some(STEPS));
 }
 
 fn op_at<M: Allocator>(memory: M, step: u64) -> Option<Op<M>> {
@@ -193,77 +162,86 @@ fn has_failed<M: Allocator + Copy>(editor: &mut Editor<M>) -> bool {
     again == Some(EditorFault::Failed) && editor.log().is_none() && editor.session().is_none()
 }
 
-// Whether all are answered so, and leave the editor of the log of all; where a growth is refused in a call, whether it answers `Memory` and has then failed.
-fn comes_through<M: Allocator + Copy>(
-    editor: &mut Editor<M>,
-    memory: M,
+// The operations come in this way, and after each the session is made from nothing where it is to be compared.
+#[derive(Clone, Copy)]
+struct Steps {
     way: Way,
-    tally: &Refusing<Global>,
-) -> Option<bool> {
-    for before in 0..STEPS {
-        let number = before.saturating_add(1);
-        let answer = answer_to(editor, memory, way, number)?;
-        if tally.has_refused() {
-            return Some(answer == Err(EditorFault::Memory) && has_failed(editor));
-        }
-        if !is_answer(way, number, &answer) {
-            return Some(false);
-        }
-    }
-    is_left(editor, memory, true, tally)
+    compares: bool,
 }
 
-impl Work for Way {
+// Whether all are answered so, and leave the editor of the log of all; where a growth is refused in a call, whether it answers `Memory` and has then failed.
+impl Work for Steps {
+    fn name(&self) -> Replica {
+        match self.way {
+            Way::Take => B,
+            Way::Edit => A,
+        }
+    }
+
     fn is_right<M: Allocator + Copy>(
         &self,
+        editor: &mut Editor<M>,
         memory: M,
         _alloc: Global,
         tally: &Refusing<Global>,
     ) -> Option<bool> {
-        let way = *self;
-        with_newcomer(memory, name_of(way), |editor| comes_through(editor, memory, way, tally))?
+        for before in 0..STEPS {
+            let number = before.saturating_add(1);
+            let answer = answer_to(editor, memory, self.way, number)?;
+            if tally.has_refused() {
+                return Some(answer == Err(EditorFault::Memory) && has_failed(editor));
+            }
+            let is_answered = is_answer(self.way, number, &answer);
+            if !is_answered || (self.compares && !is_alike(memory, editor)) {
+                return Some(false);
+            }
+        }
+        is_left(editor, memory, true, tally)
     }
 }
 
 #[test]
+fn keeps_the_session_that_is_made_from_nothing(rt: HostRuntime) {
+    for way in [Way::Take, Way::Edit] {
+        let compares = true;
+        assert!(rt; is_done(rt.alloc(), &Steps { way, compares }));
+    }
+}
+
+// How many growths there are in one way.
+fn refusals_in(alloc: Global, way: Way) -> Option<u64> {
+    let compares = false;
+    refusals(alloc, &Steps { way, compares })
+}
+
+#[test]
 fn fails_at_each_refused_growth_of_a_take(rt: HostRuntime) {
-    assert!(rt; refusals(rt.alloc(), &Way::Take) > Some(50));
+    assert!(rt; refusals_in(rt.alloc(), Way::Take) > Some(100));
 }
 
 #[test]
 fn fails_at_each_refused_growth_of_an_edit(rt: HostRuntime) {
-    assert!(rt; refusals(rt.alloc(), &Way::Edit) > Some(50));
+    assert!(rt; refusals_in(rt.alloc(), Way::Edit) > Some(100));
 }
 
 // An editor is made of a log of tracks, of a clip, and of what waits.
 #[derive(Clone, Copy)]
 struct Waiting;
 
-// Whether it has that, where no growth is refused.
-fn is_waiting<M: Allocator + Copy>(
-    editor: &Editor<M>,
-    memory: M,
-    tally: &Refusing<Global>,
-) -> Option<bool> {
-    if tally.has_refused() {
-        return Some(false);
-    }
-    let is_counted = counts(editor) == Some((15, 3, 0));
-    Some(is_left(editor, memory, false, tally)? && is_counted)
-}
-
 impl Work for Waiting {
+    fn log<M: Allocator + Copy>(&self, memory: M) -> Option<Log<M>> {
+        log_of(memory, false)
+    }
+
     fn is_right<M: Allocator + Copy>(
         &self,
+        editor: &mut Editor<M>,
         memory: M,
         _alloc: Global,
         tally: &Refusing<Global>,
     ) -> Option<bool> {
-        let log = log_of(memory, false)?;
-        match with_editor(memory, B, log, |editor| is_waiting(editor, memory, tally)) {
-            Some(is_right) => is_right,
-            None => Some(tally.has_refused()),
-        }
+        let is_counted = counts(editor) == Some((15, 3, 0));
+        Some(is_left(editor, memory, false, tally)? && is_counted)
     }
 }
 

@@ -2,12 +2,12 @@
 
 ghost use Rattle.std.specs.Prelude.{◌≢◌, None};
 
-use crate::tests::editors::with_markers;
-use crate::tests::growth::{Work, refusals};
 use super::histories::{EditorCounts, counts};
+use crate::tests::works::{Work, refusals};
+use mt_opcodec::Log;
 use mt_replica::{Change, Draft, Editor, EditorFault};
 use mt_stamp::Stamp;
-use mt_testkit::{A, Refusing};
+use mt_testkit::{A, Refusing, log_of};
 use std::alloc::{Allocator, Global};
 
 // What a copy that has joined nothing has once it removed an item.
@@ -58,14 +58,23 @@ fn remove_in<M: Allocator + Clone>(draft: &mut Draft<M>, item: Stamp) {
 }
 
 // What the copy of a draft has that removed this item.
+fn copy_of_draft_removes<M: Allocator + Clone>(
+    draft: &Draft<M>,
+    item: Stamp,
+) -> Result<Option<EditorCounts>, EditorFault> {
+    let mut copy = draft.try_clone()?;
+    remove_in(&mut copy, item);
+    counts_of_whole(copy)
+}
+
 fn draft_removes<M: Allocator + Clone>(
     editor: &Editor<M>,
     item: Stamp,
 ) -> Result<Option<EditorCounts>, EditorFault> {
-    let draft = editor.draft()?;
-    let mut copy = draft.try_clone()?;
-    remove_in(&mut copy, item);
-    counts_of_whole(copy)
+    match editor.draft() {
+        Ok(draft) => copy_of_draft_removes(&draft, item),
+        Err(fault) => Err(fault),
+    }
 }
 
 // What is made of an editor.
@@ -95,15 +104,19 @@ fn leaves<M: Allocator + Copy>(
 }
 
 impl Work for Made {
+    fn log<M: Allocator + Copy>(&self, memory: M) -> Option<Log<M>> {
+        log_of(&memory, &[Stamp::new(1, A, 1).ok()?]).ok()
+    }
+
     fn is_right<M: Allocator + Copy>(
         &self,
-        memory: M,
+        editor: &mut Editor<M>,
+        _memory: M,
         _alloc: Global,
         tally: &Refusing<Global>,
     ) -> Option<bool> {
         let item = Stamp::new(1, A, 1).ok()?;
-        let made = *self;
-        with_markers(memory, &[item], |editor| leaves(editor, item, made, tally))
+        Some(leaves(editor, item, *self, tally))
     }
 }
 

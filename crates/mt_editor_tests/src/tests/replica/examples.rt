@@ -1,11 +1,11 @@
 //! The session that an editor keeps through worked examples, in the order in which they are told and backwards.
 
-use crate::tests::editors::with_newcomer;
 use super::histories::{is_alike, take};
 use super::operations::{Act, Name};
+use crate::tests::works::{Work, is_done};
 use mt_replica::{Editor, EditorFault};
 use mt_stamp::{Stamp, StampFault};
-use mt_testkit::{A, B};
+use mt_testkit::{A, B, Refusing};
 use std::alloc::{Allocator, Global};
 use std::test::Fail;
 
@@ -23,36 +23,47 @@ fn is_alike_with<M: Allocator + Copy>(
     }
 }
 
-// The same of each of these operations.
-fn is_alike_with_each<M: Allocator + Copy>(
-    editor: &mut Editor<M>,
-    memory: M,
-    ops: &[(Stamp, Act)],
+// Operations, in their order or backwards.
+#[derive(Clone, Copy)]
+struct Example<'o> {
+    ops: &'o [(Stamp, Act)],
     backwards: bool,
-) -> bool {
-    for index in 0..ops.len() {
-        let op = if backwards {
-            &ops[ops.len() - 1 - index]
-        } else {
-            &ops[index]
-        };
-        if !is_alike_with(editor, memory, op) {
-            return false;
+}
+
+impl Work for Example<'_> {
+    fn is_right<M: Allocator + Copy>(
+        &self,
+        editor: &mut Editor<M>,
+        memory: M,
+        _alloc: Global,
+        _tally: &Refusing<Global>,
+    ) -> Option<bool> {
+        let ops = self.ops;
+        for index in 0..ops.len() {
+            let op = if self.backwards {
+                &ops[ops.len() - 1 - index]
+            } else {
+                &ops[index]
+            };
+            if !is_alike_with(editor, memory, op) {
+                return Some(false);
+            }
         }
+        Some(true)
     }
-    true
 }
 
-// The same of an editor that begins with the empty log.
-fn keeps(alloc: Global, ops: &[(Stamp, Act)], backwards: bool) -> Option<bool> {
-    with_newcomer(alloc, B, |editor| {
-        is_alike_with_each(editor, alloc, ops, backwards)
-    })
-}
-
-// The same in the order of the operations and backwards.
+// Whether that is so of each, in the order of the operations and backwards.
 fn keeps_both_ways(alloc: Global, ops: &[(Stamp, Act)]) -> bool {
-    keeps(alloc, ops, false) == Some(true) && keeps(alloc, ops, true) == Some(true)
+    let told = Example {
+        ops,
+        backwards: false,
+    };
+    let reversed = Example {
+        ops,
+        backwards: true,
+    };
+    is_done(alloc, &told) && is_done(alloc, &reversed)
 }
 
 // early_retitle, two_retitles and taken_again: a marker, two new titles of it, and the marker once more.

@@ -1,13 +1,14 @@
 //! What an editor answers step by step, and what there is after each.
 
-use crate::tests::editors::with_newcomer;
 use super::operations::{Act, change_of, op_of};
+use crate::tests::works::{Work, is_done};
 use mt_op::Op;
 use mt_opcodec::Log;
 use mt_replica::{Change, Editor, EditorFault, Taken};
 use mt_sessionview::{Session, from_scratch};
-use mt_stamp::{Replica, Stamp};
-use std::alloc::Allocator;
+use mt_stamp::Stamp;
+use mt_testkit::Refusing;
+use std::alloc::{Allocator, Global};
 
 /// An editor is asked to take an operation of this stamp, or to make an edit.
 #[derive(Clone, Copy)]
@@ -39,10 +40,7 @@ fn told<M: Allocator>(taken: &Taken<M>) -> Answer {
     }
 }
 
-fn take_op<M: Allocator + Copy>(
-    editor: &mut Editor<M>,
-    op: Op<M>,
-) -> Result<Answer, EditorFault> {
+fn take_op<M: Allocator + Copy>(editor: &mut Editor<M>, op: Op<M>) -> Result<Answer, EditorFault> {
     match editor.take(op) {
         Ok(taken) => Ok(told(&taken)),
         Err(fault) => Err(fault),
@@ -117,19 +115,29 @@ fn is_answered<M: Allocator + Copy>(editor: &mut Editor<M>, memory: M, row: &Row
     answer == Some(wanted) && counts(editor) == Some(left) && is_alike(memory, editor)
 }
 
-// How many of the rows are so until one is not.
-fn answered<M: Allocator + Copy>(editor: &mut Editor<M>, memory: M, rows: &[Row]) -> usize {
-    let mut number = 0usize;
-    for row in rows {
-        if !is_answered(editor, memory, row) {
-            return number;
-        }
-        number = number.saturating_add(1);
-    }
-    number
+#[derive(Clone, Copy)]
+struct History<'r> {
+    rows: &'r [Row],
 }
 
-/// The same of an editor of this name that begins with the empty log.
-pub(crate) fn history<M: Allocator + Copy>(memory: M, name: Replica, rows: &[Row]) -> Option<usize> {
-    with_newcomer(memory, name, |editor| answered(editor, memory, rows))
+impl Work for History<'_> {
+    fn is_right<M: Allocator + Copy>(
+        &self,
+        editor: &mut Editor<M>,
+        memory: M,
+        _alloc: Global,
+        _tally: &Refusing<Global>,
+    ) -> Option<bool> {
+        for row in self.rows {
+            if !is_answered(editor, memory, row) {
+                return Some(false);
+            }
+        }
+        Some(true)
+    }
+}
+
+/// Whether each row is so, of an editor that begins with the empty log.
+pub(crate) fn is_history(alloc: Global, rows: &[Row]) -> bool {
+    is_done(alloc, &History { rows })
 }

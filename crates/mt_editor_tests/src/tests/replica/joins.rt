@@ -1,8 +1,8 @@
 //! How many cells takes and edits join, and that they look at nothing else.
 
-use crate::tests::editors::with_newcomer;
 use super::histories::{Answer, edit, is_alike, take};
 use super::operations::{Act, Name};
+use mt_opcodec::Log;
 use mt_replica::{Editor, EditorFault};
 use mt_stamp::{Stamp, StampFault};
 use mt_testkit::{A, B, Refusing};
@@ -119,7 +119,10 @@ fn cost_to<M: Allocator + Copy>(
 
 // The same of an editor of A that begins with the empty log; none where it is refused memory before the work.
 fn cost_of<M: Allocator + Copy>(memory: M, tally: &Refusing<Global>, work: Work) -> Option<Cost> {
-    with_newcomer(memory, A, |editor| cost_to(editor, memory, tally, work))?
+    match Editor::from_log(memory, A, Log::new(memory)) {
+        Ok(mut editor) => cost_to(&mut editor, memory, tally, work),
+        Err(_) => None,
+    }
 }
 
 // The same where one growth is refused, and whether one was.

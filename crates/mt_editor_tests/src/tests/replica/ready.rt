@@ -1,77 +1,91 @@
 //! Which operations became ready by one that was taken, in small and in a long chain, and how many tags a removal lists.
 
-use crate::tests::editors::with_newcomer;
+use crate::tests::works::{Work, is_done};
 use mt_op::{Body, Op};
 use mt_opcodec::Log;
 use mt_replica::{Change, Draft, Editor, EditorFault, Taken};
 use mt_stamp::{List, Stamp};
-use mt_testkit::{A, B, add_track, marker, retitle};
-use std::alloc::Global;
-use std::test::Fail;
+use mt_testkit::{A, B, Refusing, add_track, marker, retitle};
+use std::alloc::{Allocator, Global};
 
 // That operations of these stamps became ready.
-fn applied(alloc: Global, stamps: &[Stamp]) -> Option<Taken> {
-    let mut rising = Vec::new(alloc);
+fn applied<M: Allocator>(memory: M, stamps: &[Stamp]) -> Option<Taken<M>> {
+    let mut rising = Vec::new(memory);
     rising.extend_from_slice(stamps).ok()?;
     Some(Taken::Applied(List::new(rising)))
 }
 
 // Whether an editor who takes a title before its marker is told of both, in the order of their stamps.
-fn tells_of_both(
-    editor: &mut Editor,
-    alloc: Global,
-    (item, early): (Stamp, Stamp),
-) -> Option<bool> {
-    let held = editor.take(retitle(alloc, early, item, "Weather").ok()?);
-    let both = editor.take(marker(alloc, item, "News").ok()?).ok()?;
-    Some(held == Ok(Taken::Held) && both == applied(alloc, &[item, early])?)
-}
-
-#[test]
-fn tells_the_stamps_that_became_ready(rt: HostRuntime) -> Result<(), Fail> {
-    let both = (Stamp::new(1, A, 1)?, Stamp::new(2, B, 1)?);
-    let alloc = rt.alloc();
-    let told = with_newcomer(alloc, B, |editor| tells_of_both(editor, alloc, both));
-    assert!(rt; told == Some(Some(true)));
-    Ok(())
+fn tells_of_both<M: Allocator + Copy>(editor: &mut Editor<M>, memory: M) -> Option<bool> {
+    let (item, early) = (Stamp::new(1, A, 1).ok()?, Stamp::new(2, B, 1).ok()?);
+    let held = editor.take(retitle(memory, early, item, "Weather").ok()?);
+    let both = editor.take(marker(memory, item, "News").ok()?).ok()?;
+    Some(held == Ok(Taken::Held) && both == applied(memory, &[item, early])?)
 }
 
 // The track of this number, whose place is behind that of the one before.
-fn track(alloc: Global, number: u64) -> Option<Op> {
+fn track<M: Allocator>(memory: M, number: u64) -> Option<Op<M>> {
+    let before = number.saturating_sub(1);
     let after = match number {
         1 => None,
-        _ => Some(Stamp::new(number.saturating_sub(1), A, number.saturating_sub(1)).ok()?),
+        _ => Some(Stamp::new(before, A, before).ok()?),
     };
-    add_track(alloc, Stamp::new(number, A, number).ok()?, after).ok()
+    add_track(memory, Stamp::new(number, A, number).ok()?, after).ok()
 }
 
 // How many became ready by the track of this number, where it is not held.
-fn ready_by(alloc: Global, editor: &mut Editor, number: u64) -> Option<usize> {
-    match editor.take(track(alloc, number)?).ok()? {
+fn ready_by<M: Allocator + Copy>(editor: &mut Editor<M>, memory: M, number: u64) -> Option<usize> {
+    match editor.take(track(memory, number)?).ok()? {
         Taken::Applied(stamps) => Some(stamps.items().len()),
         _ => None,
     }
 }
 
 // How many tracks were held, taken from the last to the first, and how many then became ready at once.
-fn take_backwards(editor: &mut Editor, alloc: Global, count: u64) -> Option<(u64, usize)> {
+fn taken_backwards<M: Allocator + Copy>(
+    editor: &mut Editor<M>,
+    memory: M,
+    count: u64,
+) -> Option<(u64, usize)> {
     for left in 0..count {
         let number = count.saturating_sub(left);
-        if let Some(ready) = ready_by(alloc, editor, number) {
+        if let Some(ready) = ready_by(editor, memory, number) {
             return Some((left, ready));
         }
     }
     None
 }
 
-// The same of an editor that begins with the empty log.
-fn taken_backwards(alloc: Global, count: u64) -> Option<(u64, usize)> {
-    with_newcomer(alloc, B, |editor| take_backwards(editor, alloc, count))?
+// A title that comes before its marker, and a chain of 10,000 tracks.
+#[derive(Clone, Copy)]
+enum Early {
+    Title,
+    Chain,
+}
+
+impl Work for Early {
+    fn is_right<M: Allocator + Copy>(
+        &self,
+        editor: &mut Editor<M>,
+        memory: M,
+        _alloc: Global,
+        _tally: &Refusing<Global>,
+    ) -> Option<bool> {
+        match self {
+            Early::Title => tells_of_both(editor, memory),
+            Early::Chain => Some(taken_backwards(editor, memory, 10_000)? == (9_999, 10_000)),
+        }
+    }
+}
+
+#[test]
+fn tells_the_stamps_that_became_ready(rt: HostRuntime) {
+    assert!(rt; is_done(rt.alloc(), &Early::Title));
 }
 
 #[test]
 fn holds_a_long_chain_until_its_first(rt: HostRuntime) {
-    assert!(rt; taken_backwards(rt.alloc(), 10_000) == Some((9_999, 10_000)));
+    assert!(rt; is_done(rt.alloc(), &Early::Chain));
 }
 
 // Gives the marker another tag, or makes it where the number is 1.

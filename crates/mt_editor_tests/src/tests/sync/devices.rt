@@ -1,10 +1,11 @@
 //! Both ends of a conversation, a byte at a time, whose reads and writes end or fail in turn.
-use super::{has_the_marker, said_by, told_to, with_end};
-use mt_opcodec::Latch;
+use super::{has_the_marker, is_left, log_of_end, said_by, told_to};
+use crate::tests::works::{Work, is_done};
+use mt_opcodec::{Latch, Log};
 use mt_replica::Editor;
 use mt_sync::{Side, converse};
-use mt_testkit::{FailingWriter, SlowReader};
-use std::alloc::Global;
+use mt_testkit::{FailingWriter, Refusing, SlowReader};
+use std::alloc::{Allocator, Global};
 use std::io::ErrorKind;
 
 // What an end came to.
@@ -27,68 +28,107 @@ fn front_of(side: Side, written: &[u8]) -> Option<usize> {
     }
 }
 
-// What an end comes to whose read and write of these numbers fail.
-fn conversed(
-    alloc: Global,
-    editor: &mut Editor,
+// An end whose read and write of these numbers fail, and what it is to come to.
+#[derive(Clone, Copy)]
+pub(super) struct Conversation<'s> {
     side: Side,
-    (stream, read_fails): (&[u8], usize),
+    stream: &'s [u8],
+    read_fails: usize,
     write_fails: usize,
+    wanted: Outcome,
+}
+
+// What it comes to.
+fn conversed<M: Allocator + Copy>(
+    memory: M,
+    alloc: Global,
+    editor: &mut Editor<M>,
+    told: Conversation<'_>,
 ) -> Outcome {
-    let mut input = Latch::new(SlowReader::new(stream, read_fails));
-    let mut output = Latch::new(FailingWriter::new(alloc, write_fails, ErrorKind::Other));
-    let number = match converse(alloc, alloc, editor, side, &mut input, &mut output) {
+    let (side, good) = (told.side, told.write_fails);
+    let mut input = Latch::new(SlowReader::new(told.stream, told.read_fails));
+    let mut output = Latch::new(FailingWriter::new(alloc, good, ErrorKind::Other));
+    let number = match converse(memory, alloc, editor, side, &mut input, &mut output) {
         Ok(()) => 255,
         Err(fault) => fault.number(),
     };
     Outcome {
         number,
         written: front_of(side, output.into_inner().written()),
-        has_it: has_the_marker(alloc, editor),
+        has_it: has_the_marker(memory, editor),
     }
 }
 
-// The same of an end as it is before the conversation.
-fn comes_to(alloc: Global, side: Side, reads: (&[u8], usize), write_fails: usize) -> Option<Outcome> {
-    with_end(alloc, side, |editor| {
-        conversed(alloc, editor, side, reads, write_fails)
-    })
+impl Work for Conversation<'_> {
+    fn log<M: Allocator + Copy>(&self, memory: M) -> Option<Log<M>> {
+        log_of_end(memory, self.side)
+    }
+
+    fn is_right<M: Allocator + Copy>(
+        &self,
+        editor: &mut Editor<M>,
+        memory: M,
+        alloc: Global,
+        tally: &Refusing<Global>,
+    ) -> Option<bool> {
+        let outcome = conversed(memory, alloc, editor, *self);
+        Some(if tally.has_refused() {
+            outcome.number == 0 && outcome.written.is_some() && is_left(editor, 1)
+        } else {
+            outcome == self.wanted
+        })
+    }
 }
 
 // What is to come of so many bytes that were read: the answer follows the other's Have, what that one lacks its Bye, and the marker is taken with its message.
-fn after(side: Side, number: u8, count: usize) -> Option<Outcome> {
+fn after(side: Side, number: u8, count: usize) -> Outcome {
     let (written, has_it) = match side {
         Side::Caller => (if count < 14 { 37 } else { 93 }, true),
         Side::Answerer => (if count < 37 { 0 } else { 14 }, count >= 88),
     };
-    Some(Outcome {
+    Outcome {
         number,
         written: Some(written),
         has_it: Some(has_it),
-    })
+    }
 }
 
 const NEVER: usize = usize::MAX;
+
+/// One in which none fails.
+pub(super) fn whole(side: Side) -> Conversation<'static> {
+    let stream = told_to(side);
+    Conversation {
+        side,
+        stream,
+        read_fails: NEVER,
+        write_fails: NEVER,
+        wanted: after(side, 255, stream.len()),
+    }
+}
 
 const SIDES: [Side; 2] = [Side::Caller, Side::Answerer];
 
 #[test]
 fn converses_over_a_reader_and_a_writer(rt: HostRuntime) {
     for side in SIDES {
-        let stream = told_to(side);
-        let ended = comes_to(rt.alloc(), side, (stream, NEVER), NEVER);
-        assert!(rt; ended == after(side, 255, stream.len()));
+        assert!(rt; is_done(rt.alloc(), &whole(side)));
     }
 }
 
 // Whether an end is refused where its input ends behind so many bytes, and where the read of that number fails.
 fn is_cut(alloc: Global, side: Side, end: usize) -> bool {
-    let stream = told_to(side);
-    let Some(front) = stream.get(..end) else {
-        return false;
+    let ends = Conversation {
+        stream: told_to(side).get(..end).unwrap_or(&[]),
+        wanted: after(side, 49, end),
+        ..whole(side)
     };
-    comes_to(alloc, side, (front, NEVER), NEVER) == after(side, 49, end)
-        && comes_to(alloc, side, (stream, end), NEVER) == after(side, 45, end)
+    let fails = Conversation {
+        read_fails: end,
+        wanted: after(side, 45, end),
+        ..whole(side)
+    };
+    is_done(alloc, &ends) && is_done(alloc, &fails)
 }
 
 #[test]
@@ -107,7 +147,12 @@ fn is_stopped(alloc: Global, side: Side, at: usize) -> bool {
         written: Some(at),
         has_it: Some(side == Side::Caller),
     };
-    comes_to(alloc, side, (told_to(side), NEVER), at) == Some(wanted)
+    let fails = Conversation {
+        write_fails: at,
+        wanted,
+        ..whole(side)
+    };
+    is_done(alloc, &fails)
 }
 
 #[test]

@@ -1,32 +1,14 @@
 //! What editors swap, with each growth refused in turn.
-use crate::tests::editors::with_markers;
-use crate::tests::growth::{Work, refusals};
-use super::messages::{joins_a_few, ops_for};
-use super::{CALLER, held, is_left, said_by, talks, told_to, with_end};
-use mt_opcodec::Latch;
+use super::devices::whole;
+use super::messages::{log_before, ops_for};
+use super::{CALLER, End, held, is_left, is_wanted, log_of_end};
+use crate::tests::works::{Work, refusals};
+use mt_opcodec::Log;
 use mt_replica::Editor;
 use mt_stamp::Stamp;
-use mt_sync::{MessageFault, Side, SyncFault, TalkFault, converse, exchange, take_ops};
-use mt_testkit::{A, B, FailingWriter, Refusing, SlowReader};
+use mt_sync::{MessageFault, Side, SyncFault, TalkFault, exchange, take_ops};
+use mt_testkit::{A, B, Refusing, log_of};
 use std::alloc::{Allocator, Global};
-use std::io::ErrorKind;
-
-// Whether an end says what it has to over a reader and a writer. Where it is refused memory, it holds a front of what it was told or has failed, and neither device has.
-fn converses<M: Allocator + Copy>(
-    memory: M,
-    alloc: Global,
-    editor: &mut Editor<M>,
-    side: Side,
-) -> Result<bool, TalkFault> {
-    let mut input = Latch::new(SlowReader::new(told_to(side), usize::MAX));
-    let mut output = Latch::new(FailingWriter::new(alloc, usize::MAX, ErrorKind::Other));
-    match converse(memory, alloc, editor, side, &mut input, &mut output) {
-        Ok(()) => Ok(output.into_inner().written() == said_by(side)),
-        Err(_) if input.failed() || output.failed() || !is_left(editor, 1) => Ok(false),
-        Err(SyncFault::Talk(fault)) => Err(fault),
-        Err(_) => Ok(false),
-    }
-}
 
 // Whether an editor that takes operations out of bytes has so many then. Where it is refused memory, it has those that it had or has failed.
 fn takes<M: Allocator + Copy>(
@@ -67,113 +49,120 @@ fn swaps_twice<M: Allocator + Copy>(
     Ok(swaps(memory, caller, answerer)? && swaps(memory, caller, answerer)?)
 }
 
+// The same with a new editor.
 fn swaps_with<M: Allocator + Copy>(
     memory: M,
     caller: &mut Editor<M>,
 ) -> Option<Result<bool, TalkFault>> {
-    let other = [Stamp::new(1, B, 1).ok()?];
-    with_markers(memory, &other, |answerer| {
-        swaps_twice(memory, caller, answerer)
-    })
+    let log = log_of(&memory, &[Stamp::new(1, B, 1).ok()?]).ok()?;
+    match Editor::from_log(memory, B, log) {
+        Ok(mut answerer) => Some(swaps_twice(memory, caller, &mut answerer)),
+        Err(_) => None,
+    }
 }
 
-// lacking_operations: two markers of 42 bytes in one message, and Bye
-fn takes_all<M: Allocator + Copy>(
+// Whether an editor of 32 operations takes one that follows.
+fn takes_a_few<M: Allocator + Copy>(
     memory: M,
     alloc: Global,
     editor: &mut Editor<M>,
-    ops: &[u8],
-) -> Result<bool, TalkFault> {
-    Ok(takes(memory, alloc, editor, (ops, 5))? && ops.len() == 98)
+) -> Option<Result<bool, TalkFault>> {
+    let ops = ops_for(alloc, &[Stamp::new(34, B, 1).ok()?], &[])?.ok()?;
+    let taken = takes(memory, alloc, editor, (&ops, 33));
+    Some(match taken {
+        Ok(is_right) => Ok(is_right && editor.joins() == 4),
+        Err(fault) => Err(fault),
+    })
 }
 
-fn carries<M: Allocator + Copy>(memory: M, alloc: Global) -> Option<Result<bool, TalkFault>> {
-    let (first, second) = (Stamp::new(1, A, 1).ok()?, Stamp::new(2, A, 2).ok()?);
-    let (third, fourth) = (Stamp::new(3, A, 3).ok()?, Stamp::new(4, A, 4).ok()?);
-    let own = [first, second, third, fourth, Stamp::new(5, B, 1).ok()?];
-    let others = [first, second, fourth];
-    match ops_for(memory, &own, &others)? {
-        Ok(ops) => with_markers(memory, &others, |editor| {
-            takes_all(memory, alloc, editor, &ops)
-        }),
+// The stamps of four operations of one replica, of which another editor lacks the third, and of one of another replica.
+fn stamps() -> Option<[Stamp; 5]> {
+    Some([
+        Stamp::new(1, A, 1).ok()?,
+        Stamp::new(2, A, 2).ok()?,
+        Stamp::new(4, A, 4).ok()?,
+        Stamp::new(3, A, 3).ok()?,
+        Stamp::new(5, B, 1).ok()?,
+    ])
+}
+
+// lacking_operations: two markers of 42 bytes in one message, and Bye
+fn carries<M: Allocator + Copy>(
+    memory: M,
+    alloc: Global,
+    editor: &mut Editor<M>,
+) -> Option<Result<bool, TalkFault>> {
+    let own = stamps()?;
+    match ops_for(memory, &own, &own[..3])? {
+        Ok(ops) => {
+            let taken = takes(memory, alloc, editor, (&ops, 5));
+            Some(if ops.len() == 98 { taken } else { Ok(false) })
+        }
         Err(MessageFault::Memory) => Some(Err(TalkFault::Memory)),
         Err(_) => Some(Ok(false)),
     }
 }
 
-// What is done.
+// What an editor does.
 #[derive(Clone, Copy)]
 enum Call {
-    Feed(Side),
-    Converse(Side),
     Take,
     Exchange,
     Carry,
     Message,
 }
 
-// What is answered, or whether it comes to what it has to; none where a growth is refused to an editor before.
-fn answer<M: Allocator + Copy>(
-    memory: M,
-    alloc: Global,
-    call: Call,
-) -> Option<Result<bool, TalkFault>> {
-    match call {
-        Call::Feed(side) => with_end(memory, side, |editor| {
-            talks(memory, alloc, editor, (side, 50))
-        }),
-        Call::Converse(side) => with_end(memory, side, |editor| {
-            converses(memory, alloc, editor, side)
-        }),
-        Call::Take => with_markers(memory, &[], |editor| {
-            takes(memory, alloc, editor, (&CALLER[37..], 1))
-        }),
-        Call::Exchange => with_end(memory, Side::Caller, |editor| swaps_with(memory, editor))?,
-        Call::Carry => carries(memory, alloc),
-        Call::Message => joins_a_few(memory, alloc),
-    }
-}
-
 impl Work for Call {
+    fn log<M: Allocator + Copy>(&self, memory: M) -> Option<Log<M>> {
+        match self {
+            Call::Take => Some(Log::new(memory)),
+            Call::Exchange => log_of_end(memory, Side::Caller),
+            Call::Carry => log_of(&memory, &stamps()?[..3]).ok(),
+            Call::Message => log_before(memory),
+        }
+    }
+
     fn is_right<M: Allocator + Copy>(
         &self,
+        editor: &mut Editor<M>,
         memory: M,
         alloc: Global,
         tally: &Refusing<Global>,
     ) -> Option<bool> {
-        let answer = answer(memory, alloc, *self)?;
-        Some(if tally.has_refused() {
-            answer == Err(TalkFault::Memory)
-        } else {
-            answer == Ok(true)
-        })
+        let told = match self {
+            Call::Take => takes(memory, alloc, editor, (&CALLER[37..], 1)),
+            Call::Exchange => swaps_with(memory, editor)?,
+            Call::Carry => carries(memory, alloc, editor)?,
+            Call::Message => takes_a_few(memory, alloc, editor)?,
+        };
+        Some(is_wanted(told, tally))
     }
 }
 
 #[test]
 fn refuses_each_growth_of_a_conversation(rt: HostRuntime) {
     for side in [Side::Caller, Side::Answerer] {
-        assert!(rt; refusals(rt.alloc(), &Call::Feed(side)) > Some(2));
-        assert!(rt; refusals(rt.alloc(), &Call::Converse(side)) > Some(2));
+        assert!(rt; refusals(rt.alloc(), &End { side, size: 50 }) > Some(5));
+        assert!(rt; refusals(rt.alloc(), &whole(side)) > Some(5));
     }
 }
 
 #[test]
 fn refuses_each_growth_of_a_take(rt: HostRuntime) {
-    assert!(rt; refusals(rt.alloc(), &Call::Take) > Some(2));
+    assert!(rt; refusals(rt.alloc(), &Call::Take) > Some(5));
 }
 
 #[test]
 fn refuses_each_growth_of_an_exchange(rt: HostRuntime) {
-    assert!(rt; refusals(rt.alloc(), &Call::Exchange) > Some(2));
+    assert!(rt; refusals(rt.alloc(), &Call::Exchange) > Some(5));
 }
 
 #[test]
 fn refuses_each_growth_of_what_is_carried(rt: HostRuntime) {
-    assert!(rt; refusals(rt.alloc(), &Call::Carry) > Some(2));
+    assert!(rt; refusals(rt.alloc(), &Call::Carry) > Some(5));
 }
 
 #[test]
 fn refuses_each_growth_of_a_few_that_follow(rt: HostRuntime) {
-    assert!(rt; refusals(rt.alloc(), &Call::Message) > Some(2));
+    assert!(rt; refusals(rt.alloc(), &Call::Message) > Some(5));
 }

@@ -1,32 +1,49 @@
 //! Streams that a talk refuses.
-use crate::tests::editors::with_markers;
 use super::held;
+use crate::tests::works::{Work, is_done};
 use mt_replica::Editor;
 use mt_sync::Talk;
-use std::alloc::{AllocError, Global};
+use mt_testkit::Refusing;
+use std::alloc::{AllocError, Allocator, Global};
 use std::test::Fail;
 
 // What feeding a piece answers: the refusal's number, or how many bytes.
-fn fed(talk: &mut Talk, editor: &mut Editor, piece: &[u8]) -> Result<usize, u8> {
+fn fed<M: Allocator + Clone>(
+    talk: &mut Talk<M>,
+    editor: &mut Editor<M>,
+    piece: &[u8],
+) -> Result<usize, u8> {
     match talk.feed(editor, piece) {
         Ok(reply) => Ok(reply.len()),
         Err(fault) => Err(fault.number()),
     }
 }
 
-// Whether a new answerer stops at a piece with this refusal, and for good.
-fn stops_in(alloc: Global, editor: &mut Editor, piece: &[u8], number: u8) -> bool {
-    let mut talk = Talk::answer(alloc, alloc);
-    fed(&mut talk, editor, piece) == Err(number)
-        && fed(&mut talk, editor, &[]) == Err(39)
-        && !talk.ended()
-        && held(editor) == Some(0)
+// A piece at which a new answerer stops with this refusal, and for good.
+#[derive(Clone, Copy)]
+struct Stop<'p> {
+    piece: &'p [u8],
+    number: u8,
 }
 
-// The same of an editor with no operation.
+impl Work for Stop<'_> {
+    fn is_right<M: Allocator + Copy>(
+        &self,
+        editor: &mut Editor<M>,
+        memory: M,
+        alloc: Global,
+        _tally: &Refusing<Global>,
+    ) -> Option<bool> {
+        let mut talk = Talk::answer(memory, alloc);
+        let first = fed(&mut talk, editor, self.piece);
+        let again = fed(&mut talk, editor, &[]);
+        let has_stopped = first == Err(self.number) && again == Err(39) && !talk.ended();
+        Some(has_stopped && held(editor) == Some(0))
+    }
+}
+
 fn stops(alloc: Global, piece: &[u8], number: u8) -> bool {
-    let stopped = with_markers(alloc, &[], |editor| stops_in(alloc, editor, piece, number));
-    stopped == Some(true)
+    is_done(alloc, &Stop { piece, number })
 }
 
 #[test]

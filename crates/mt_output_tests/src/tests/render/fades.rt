@@ -191,7 +191,10 @@ fn sounds_as_the_formula_says(rt: HostRuntime) -> Result<(), Fail> {
             (3, LONGEST),
         ] {
             let played = Played { clip, track, fades };
-            assert!(rt; sounds_plain(rt.alloc(), &bytes, played), "{clip:?} {track:?} {fades:?}");
+            assert!(rt;
+                sounds_plain(rt.alloc(), &bytes, played),
+                "{clip:?} {track:?} {fades:?}"
+            );
         }
     }
     Ok(())

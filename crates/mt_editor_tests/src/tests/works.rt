@@ -1,0 +1,86 @@
+//! What is done with an editor that another function owns, since what owns one is dear to prove; once with memory, or with each growth refused in turn.
+
+use mt_opcodec::Log;
+use mt_replica::{Editor, EditorFault};
+use mt_stamp::Replica;
+use mt_testkit::{B, Refusing};
+use std::alloc::{Allocator, Global};
+
+// More growths than a work asks for.
+const GROWTHS: u64 = 4000;
+
+/// What is done with an editor.
+pub(crate) trait Work {
+    /// The editor's name.
+    fn name(&self) -> Replica {
+        B
+    }
+
+    /// The log that it begins with; none where a growth is refused.
+    fn log<M: Allocator + Copy>(&self, memory: M) -> Option<Log<M>> {
+        Some(Log::new(memory))
+    }
+
+    /// Whether all is right: where no growth is refused, what comes of it; where one is refused in a call that is looked at, its
+    /// answer and what it leaves. None where one is refused outside of such a call. Which it is, the tally tells.
+    fn is_right<M: Allocator + Copy>(
+        &self,
+        editor: &mut Editor<M>,
+        memory: M,
+        alloc: Global,
+        tally: &Refusing<Global>,
+    ) -> Option<bool>;
+}
+
+// Whether all is right with an editor that was not refused a growth.
+fn looked_at<M: Allocator + Copy, W: Work>(
+    editor: &mut Editor<M>,
+    memory: M,
+    alloc: Global,
+    tally: &Refusing<Global>,
+    work: &W,
+) -> Option<bool> {
+    if tally.has_refused() {
+        return Some(false);
+    }
+    work.is_right(editor, memory, alloc, tally)
+}
+
+// The same of an editor that is made of the log, and refused memory just where a growth is.
+fn done<M: Allocator + Copy, W: Work>(
+    memory: M,
+    alloc: Global,
+    tally: &Refusing<Global>,
+    work: &W,
+) -> Option<bool> {
+    let log = work.log(memory)?;
+    match Editor::from_log(memory, work.name(), log) {
+        Ok(mut editor) => looked_at(&mut editor, memory, alloc, tally, work),
+        Err(EditorFault::Memory) => None,
+        Err(_) => Some(false),
+    }
+}
+
+// The same where one growth is refused, and whether one was.
+fn refused_at<W: Work>(alloc: Global, at: u64, work: &W) -> (Option<bool>, bool) {
+    let memory = Refusing::new(alloc, at);
+    let right = done(&memory, alloc, &memory, work);
+    (right, memory.has_refused())
+}
+
+/// Whether all is right where there is memory.
+pub(crate) fn is_done<W: Work>(alloc: Global, work: &W) -> bool {
+    refused_at(alloc, u64::MAX, work) == (Some(true), false)
+}
+
+/// How many growths there are, each of which is refused in a run of its own; none where a run is not right.
+pub(crate) fn refusals<W: Work>(alloc: Global, work: &W) -> Option<u64> {
+    for at in 0..GROWTHS {
+        match refused_at(alloc, at, work) {
+            (Some(true) | None, true) => {}
+            (Some(true), false) => return Some(at),
+            _ => return None,
+        }
+    }
+    None
+}
