@@ -65,21 +65,6 @@ fn agree(alloc: Global, left: &Editor, right: &Editor) -> bool {
         && left == right
 }
 
-// Lends an editor of this log.
-fn with_editor<T, F: FnOnce(&mut Editor) -> T>(
-    alloc: Global,
-    name: Replica,
-    log: Log,
-    work: F,
-) -> Option<T>
-    requires { F.IsAlwaysCallable work }
-{
-    match Editor::from_log(alloc, name, log) {
-        Ok(mut editor) => Some(work(&mut editor)),
-        Err(_) => None,
-    }
-}
-
 // Takes an operation twice.
 fn take_twice(editor: &mut Editor, op: Op) -> bool {
     let Ok(copy) = op.try_clone() else {
@@ -122,7 +107,10 @@ fn log_after(alloc: Global, editor: &mut Editor, script: &[u8]) -> Option<Log> {
 
 // The log of an editor that went on with a log by a script.
 fn went_on(alloc: Global, name: Replica, log: Log, script: &[u8]) -> Option<Log> {
-    with_editor(alloc, name, log, |editor| log_after(alloc, editor, script))?
+    match Editor::from_log(alloc, name, log) {
+        Ok(mut editor) => log_after(alloc, &mut editor, script),
+        Err(_) => None,
+    }
 }
 
 // The union of the logs of two editors: A begins with a script, B goes on with a copy by another, and A by a third.
@@ -150,13 +138,18 @@ fn agrees_after(alloc: Global, editor: &mut Editor, whole: &Editor, number: usiz
     Some(take_all(editor, ops, number) && agree(alloc, whole, editor))
 }
 
+// The same of a newcomer.
+fn agrees_in_order(alloc: Global, whole: &Editor, number: usize) -> Option<bool> {
+    match Editor::from_log(alloc, B, Log::new(alloc)) {
+        Ok(mut editor) => agrees_after(alloc, &mut editor, whole, number),
+        Err(_) => None,
+    }
+}
+
 // How many operations an editor's log has, where newcomers agree with the editor in each of so many orders.
 fn agreements_with(alloc: Global, whole: &Editor, orders: usize) -> Option<usize> {
     for number in 0..orders {
-        let agrees = with_editor(alloc, B, Log::new(alloc), |editor| {
-            agrees_after(alloc, editor, whole, number)
-        });
-        if agrees != Some(Some(true)) {
+        if agrees_in_order(alloc, whole, number) != Some(true) {
             return None;
         }
     }
@@ -165,8 +158,10 @@ fn agreements_with(alloc: Global, whole: &Editor, orders: usize) -> Option<usize
 
 // The same of an editor of the union of two editors' logs.
 fn agreements(alloc: Global, scripts: [&[u8]; 3], orders: usize) -> Option<usize> {
-    let log = union_of(alloc, scripts)?;
-    with_editor(alloc, B, log, |whole| agreements_with(alloc, whole, orders))?
+    match Editor::from_log(alloc, B, union_of(alloc, scripts)?) {
+        Ok(whole) => agreements_with(alloc, &whole, orders),
+        Err(_) => None,
+    }
 }
 
 // Each script of B ends with three_sample_file's track and clip: they are the last two operations of the union.
@@ -225,27 +220,25 @@ fn edits_as(
     editor.edit(change).is_ok() && run(alloc, other, script).is_ok() && agree(alloc, editor, other)
 }
 
-// The same of an editor of a log.
-fn edits_beside(
+// The same of an editor and its copy.
+fn edits_as_its_copy(
     alloc: Global,
-    log: Log,
+    editor: &mut Editor,
     change: &Change,
-    other: (&mut Editor, &[u8]),
+    script: &[u8],
 ) -> Option<bool> {
-    with_editor(
-        alloc,
-        A,
-        log,
-        |editor| edits_as(alloc, editor, change, other),
-    )
+    match editor.try_clone() {
+        Ok(mut copy) => Some(edits_as(alloc, editor, change, (&mut copy, script))),
+        Err(_) => None,
+    }
 }
 
-// The same of two editors of a log.
+// The same of an editor of a log.
 fn edits_as_scripted(alloc: Global, log: Log, change: &Change, script: &[u8]) -> Option<bool> {
-    let copy = log.try_clone().ok()?;
-    with_editor(alloc, A, copy, |other| {
-        edits_beside(alloc, log, change, (other, script))
-    })?
+    match Editor::from_log(alloc, A, log) {
+        Ok(mut editor) => edits_as_its_copy(alloc, &mut editor, change, script),
+        Err(_) => None,
+    }
 }
 
 // three_sample_file, moved by `edit`
