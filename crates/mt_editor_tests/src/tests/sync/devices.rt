@@ -16,7 +16,7 @@ struct Outcome {
     // how many bytes it has written, if they are those that it has to write
     written: Option<usize>,
     // whether it has the marker and nothing else
-    has_it: Option<bool>,
+    has_it: bool,
 }
 
 // How many bytes were written, if they are those of this end.
@@ -38,13 +38,13 @@ pub(super) struct Conversation<'s> {
     wanted: Outcome,
 }
 
-// What it comes to.
+// The number of its refusal, or 255, and how many bytes it has written, if they are those that it has to write.
 fn conversed<M: Allocator + Copy>(
     memory: M,
     alloc: Global,
     editor: &mut Editor<M>,
     told: Conversation<'_>,
-) -> Outcome {
+) -> (u8, Option<usize>) {
     let (side, good) = (told.side, told.write_fails);
     let mut input = Latch::new(SlowReader::new(told.stream, told.read_fails));
     let mut output = Latch::new(FailingWriter::new(alloc, good, ErrorKind::Other));
@@ -52,11 +52,7 @@ fn conversed<M: Allocator + Copy>(
         Ok(()) => 255,
         Err(fault) => fault.number(),
     };
-    Outcome {
-        number,
-        written: front_of(side, output.into_inner().written()),
-        has_it: has_the_marker(memory, editor),
-    }
+    (number, front_of(side, output.into_inner().written()))
 }
 
 impl Work for Conversation<'_> {
@@ -71,12 +67,16 @@ impl Work for Conversation<'_> {
         alloc: Global,
         tally: &Refusing<Global>,
     ) -> Option<bool> {
-        let outcome = conversed(memory, alloc, editor, *self);
-        Some(if tally.has_refused() {
-            outcome.number == 0 && outcome.written.is_some() && is_left(editor, 1)
-        } else {
-            outcome == self.wanted
-        })
+        let (number, written) = conversed(memory, alloc, editor, *self);
+        if tally.has_refused() {
+            return Some(number == 0 && written.is_some() && is_left(editor, 1));
+        }
+        let outcome = Outcome {
+            number,
+            written,
+            has_it: has_the_marker(memory, editor)?,
+        };
+        Some(outcome == self.wanted)
     }
 }
 
@@ -89,7 +89,7 @@ fn after(side: Side, number: u8, count: usize) -> Outcome {
     Outcome {
         number,
         written: Some(written),
-        has_it: Some(has_it),
+        has_it,
     }
 }
 
@@ -145,7 +145,7 @@ fn is_stopped(alloc: Global, side: Side, at: usize) -> bool {
     let wanted = Outcome {
         number: 37,
         written: Some(at),
-        has_it: Some(side == Side::Caller),
+        has_it: side == Side::Caller,
     };
     let fails = Conversation {
         write_fails: at,
