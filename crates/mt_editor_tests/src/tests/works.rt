@@ -56,8 +56,7 @@ fn done<M: Allocator + Copy, W: Work>(
     let log = work.log(memory)?;
     match Editor::from_log(memory, work.name(), log) {
         Ok(mut editor) => looked_at(&mut editor, memory, alloc, tally, work),
-        Err(EditorFault::Memory) => None,
-        Err(_) => Some(false),
+        Err(fault) => Some(tally.has_refused() && fault == EditorFault::Memory),
     }
 }
 
@@ -73,12 +72,14 @@ pub(crate) fn is_done<W: Work>(alloc: Global, work: &W) -> bool {
     refused_at(alloc, u64::MAX, work) == (Some(true), false)
 }
 
-/// How many growths there are, each of which is refused in a run of its own; none where a run is not right.
+/// How many growths are refused in the calls that are looked at, each in a run of its own; none where a run is not right.
 pub(crate) fn refusals<W: Work>(alloc: Global, work: &W) -> Option<u64> {
+    let mut number = 0u64;
     for at in 0..GROWTHS {
         match refused_at(alloc, at, work) {
-            (Some(true) | None, true) => {}
-            (Some(true), false) => return Some(at),
+            (Some(true), true) => number = number.saturating_add(1),
+            (Some(true), false) => return Some(number),
+            (None, true) => {}
             _ => return None,
         }
     }

@@ -208,7 +208,7 @@ fn keeps_the_session_that_is_made_from_nothing(rt: HostRuntime) {
     }
 }
 
-// How many growths there are in one way.
+// How many growths are refused in one way.
 fn refusals_in(alloc: Global, way: Way) -> Option<u64> {
     let compares = false;
     refusals(alloc, &Steps { way, compares })
@@ -216,12 +216,12 @@ fn refusals_in(alloc: Global, way: Way) -> Option<u64> {
 
 #[test]
 fn fails_at_each_refused_growth_of_a_take(rt: HostRuntime) {
-    assert!(rt; refusals_in(rt.alloc(), Way::Take) > Some(100));
+    assert!(rt; refusals_in(rt.alloc(), Way::Take) > Some(50));
 }
 
 #[test]
 fn fails_at_each_refused_growth_of_an_edit(rt: HostRuntime) {
-    assert!(rt; refusals_in(rt.alloc(), Way::Edit) > Some(100));
+    assert!(rt; refusals_in(rt.alloc(), Way::Edit) > Some(50));
 }
 
 // An editor is made of a log of tracks, of a clip, and of what waits.

@@ -122,6 +122,6 @@ impl Work for Made {
 
 #[test]
 fn refuses_each_growth_of_copies_and_drafts(rt: HostRuntime) {
-    assert!(rt; refusals(rt.alloc(), &Made::Copy) > Some(10));
-    assert!(rt; refusals(rt.alloc(), &Made::Draft) > Some(10));
+    assert!(rt; refusals(rt.alloc(), &Made::Copy) > Some(5));
+    assert!(rt; refusals(rt.alloc(), &Made::Draft) > Some(5));
 }

@@ -142,27 +142,27 @@ impl Work for Call {
 #[test]
 fn refuses_each_growth_of_a_conversation(rt: HostRuntime) {
     for side in [Side::Caller, Side::Answerer] {
-        assert!(rt; refusals(rt.alloc(), &End { side, size: 50 }) > Some(5));
-        assert!(rt; refusals(rt.alloc(), &whole(side)) > Some(5));
+        assert!(rt; refusals(rt.alloc(), &End { side, size: 50 }) > Some(2));
+        assert!(rt; refusals(rt.alloc(), &whole(side)) > Some(2));
     }
 }
 
 #[test]
 fn refuses_each_growth_of_a_take(rt: HostRuntime) {
-    assert!(rt; refusals(rt.alloc(), &Call::Take) > Some(5));
+    assert!(rt; refusals(rt.alloc(), &Call::Take) > Some(2));
 }
 
 #[test]
 fn refuses_each_growth_of_an_exchange(rt: HostRuntime) {
-    assert!(rt; refusals(rt.alloc(), &Call::Exchange) > Some(5));
+    assert!(rt; refusals(rt.alloc(), &Call::Exchange) > Some(2));
 }
 
 #[test]
 fn refuses_each_growth_of_what_is_carried(rt: HostRuntime) {
-    assert!(rt; refusals(rt.alloc(), &Call::Carry) > Some(5));
+    assert!(rt; refusals(rt.alloc(), &Call::Carry) > Some(2));
 }
 
 #[test]
 fn refuses_each_growth_of_a_few_that_follow(rt: HostRuntime) {
-    assert!(rt; refusals(rt.alloc(), &Call::Message) > Some(5));
+    assert!(rt; refusals(rt.alloc(), &Call::Message) > Some(2));
 }
