@@ -125,8 +125,8 @@ def widened(flags, others):
 
 
 HELPS = {
-    "have": ("Writes which operations a log has, for another editor to see what it lacks", [("LOG", "The log"), ("OUT", "The summary to write; one that is there is replaced")], "radio have home.log home.have"),
-    "lack": ("Writes the operations of a log that another editor lacks", [("LOG", "The log"), ("HAVE", "What the other editor has, as `radio have` wrote it"), ("OUT", "The operations to write; one that is there is replaced, also where it is HAVE")], "radio lack desk.log home.have for-home.ops"),
+    "have": ("Writes which operations a log has, for another editor to see what it lacks", [("LOG", "The log"), ("OUT", "The summary to write; one that is there is replaced, also where it is LOG")], "radio have home.log home.have"),
+    "lack": ("Writes the operations of a log that another editor lacks", [("LOG", "The log"), ("HAVE", "What the other editor has, as `radio have` wrote it"), ("OUT", "The operations to write; one that is there is replaced, also where it is LOG or HAVE")], "radio lack desk.log home.have for-home.ops"),
     "take": ("Takes the operations that another editor sent, and writes the new log", [("LOG", "The log to begin with"), ("OPS", "The operations, as `radio lack` wrote them"), ("OUT", "The log to write, which may be LOG; one that is there is replaced, also where it is OPS")], "radio take home.log for-home.ops home.log"),
     "serve": ("Waits for one editor who meets it, swaps operations, and writes the new log", [("ADDR", "The address to wait at, as 127.0.0.1:7000"), ("LOG", "The log to begin with"), ("OUT", "The log to write, which may be LOG")], "radio serve 127.0.0.1:7000 desk.log desk.log"),
     "meet": ("Meets an editor who serves, swaps operations, and writes the new log", [("ADDR", "The address of the editor who serves, as 127.0.0.1:7000"), ("LOG", "The log to begin with"), ("OUT", "The log to write, which may be LOG")], "radio meet 127.0.0.1:7000 home.log home.log"),

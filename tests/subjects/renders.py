@@ -172,7 +172,7 @@ HELP = """Writes the session of a log as a broadcast wave file, its markers as c
 Usage: radio render [OPTIONS] <OUT> <LOG> [SOURCE]...
 
 Arguments:
-  <OUT>        The wave file to write; one that is there is replaced, also where it is a SOURCE
+  <OUT>        The wave file to write; one that is there is replaced, also where it is LOG or a SOURCE
   <LOG>        The log
   [SOURCE]...  The recordings that clips name by their digests, in any order
 

@@ -20,7 +20,7 @@ pub(crate) const WORDS: Words = Words {
         },
         Word::Needed {
             name: "OUT",
-            help: "The summary to write; one that is there is replaced",
+            help: "The summary to write; one that is there is replaced, also where it is LOG",
         },
         NEW,
         NO_SYNC,

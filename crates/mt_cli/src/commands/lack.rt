@@ -24,7 +24,7 @@ pub(crate) const WORDS: Words = Words {
         },
         Word::Needed {
             name: "OUT",
-            help: "The operations to write; one that is there is replaced, also where it is HAVE",
+            help: "The operations to write; one that is there is replaced, also where it is LOG or HAVE",
         },
         NEW,
         NO_SYNC,

@@ -18,7 +18,7 @@ pub(crate) const WORDS: Words = Words {
     words: &[
         Word::Needed {
             name: "OUT",
-            help: "The wave file to write; one that is there is replaced, also where it is a SOURCE",
+            help: "The wave file to write; one that is there is replaced, also where it is LOG or a SOURCE",
         },
         Word::Needed {
             name: "LOG",
