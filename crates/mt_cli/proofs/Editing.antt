@@ -1,5 +1,5 @@
 -- What an edit makes, writes and tells.
-use Rattle.std.proofs.Common.{◌≡◌, ◌≢◌, ℕ, List, [], ◌∷◌, length, Option, Some, None, Result, Ok, Err, inl, inr, refl, sym, ap, subst, ◌∙◌}
+use Rattle.std.proofs.Common.{◌≡◌, ℕ, List, [], ◌∷◌, length, Option, Some, Result, Ok, Err, inr, refl, sym, ap, subst, ◌∙◌}
 use Rattle.std.specs.Prelude.{OnOk, IfErr, option_map}
 use Rattle.mt_latch.specs.Latch.{Latched}
 use Rattle.mt_stamp.specs.declared.name.Replica.{Replica}
@@ -10,7 +10,7 @@ use Rattle.mt_script.specs.declared.fault.ScriptFault.{ScriptFault}
 use Rattle.mt_script.specs.declared.fault.ScriptFault.TheVariants as script
 use Rattle.mt_script.specs.Script.{scripted, with_ops, counted, kept_with_ops, kept_with_all, RunGives, after_run}
 use Rattle.mt_cli.specs.declared.fault.CliFault.{CliFault}
-use Rattle.mt_cli.specs.declared.fault.CliFault.TheVariants.{Memory, Write, Print, Script}
+use Rattle.mt_cli.specs.declared.fault.CliFault.TheVariants.{Memory, Write, Print}
 use Rattle.mt_cli.specs.Faults.{script_fault}
 use Rattle.mt_cli.specs.Reading.{text_of, Gave, IsRead}
 use Rattle.mt_cli.specs.OneLog.{HasWritten, HasFailed}

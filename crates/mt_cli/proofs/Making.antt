@@ -1,6 +1,6 @@
 -- Files that are made of a log, and of what is read after it.
-use Rattle.std.proofs.Common.{◌≡◌, ◌≢◌, ℕ, true, false, List, [], Option, Some, None, Result, Ok, Err, inl, inr, refl, sym, ap, subst, ◌∙◌}
-use Rattle.std.specs.Prelude.{OnOk, IfOk, IfErr}
+use Rattle.std.proofs.Common.{◌≡◌, ℕ, false, List, [], Option, Some, None, Result, Ok, Err, inl, inr, refl, sym, subst}
+use Rattle.std.specs.Prelude.{OnOk, IfErr}
 use Rattle.std.specs.Io.KnownBytes.{Appends}
 use Rattle.mt_latch.specs.Latch.{Latched}
 use Rattle.mt_opcodec.specs.LogValue.{LogMap}
@@ -14,11 +14,11 @@ use Rattle.mt_sync.specs.Conversation.{takes, told}
 use Rattle.mt_sync.specs.Feeding.{end_at}
 use Rattle.mt_sync.specs.Conversing.{HasBytes, Lacks, TakesAll, AreSound, Blames}
 use Rattle.mt_cli.specs.declared.fault.CliFault.{CliFault}
-use Rattle.mt_cli.specs.declared.fault.CliFault.TheVariants.{Memory, Write, Message, Sync}
+use Rattle.mt_cli.specs.declared.fault.CliFault.TheVariants.{Memory, Write}
 use Rattle.mt_cli.specs.Faults.{message_fault, sync_fault}
 use Rattle.mt_cli.specs.Reading.{text_of, Gave, IsRead}
 use Rattle.mt_cli.specs.Writing.{WriteFails}
-use Rattle.mt_cli.specs.OneLog.{HasWritten, HasFailed, MadeWritten, MadeFails, OneLent, TwoLent, BothCause, OneWritten, OneFails, TwoWritten, BothFail, TwoFail}
+use Rattle.mt_cli.specs.OneLog.{HasWritten, HasFailed, MadeWritten, MadeFails, OneLent, TwoLent, OneWritten, OneFails, TwoWritten, TwoFail}
 use Rattle.mt_cli.specs.Swapping.{Having, Lacking, TakingIn, TalkLent, HasConversed, SwapWritten, SwapFails}
 use Rattle.mt_cli.specs.Working.{EditorWritten, EditorFails}
 

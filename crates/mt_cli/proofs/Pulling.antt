@@ -1,11 +1,10 @@
 -- Pulling logs into one.
-use Rattle.std.proofs.Common.{arith, ℕ, zero, suc, ◌≡◌, ◌≤◌, ◌++◌, List, [], ◌∷◌, length, inr, refl, sym, ap, ◌∙◌, append_assoc}
-use Rattle.std.specs.Prelude.{Option, Some, None, Result, Ok, Err, OnOk, IfErr}
+use Rattle.std.proofs.Common.{arith, ℕ, zero, suc, ◌≡◌, ◌≤◌, ◌++◌, List, [], ◌∷◌, length, inr, refl, ◌∙◌, append_assoc}
+use Rattle.std.specs.Prelude.{Option, Some, Result, Ok, Err, OnOk, IfErr}
 use Rattle.std.specs.List.{slice_get, zip}
 use Rattle.std.proofs.lemmas.Option.{none-some, same_Some}
-use Rattle.mt_latch.specs.Latch.{Latched}
 use Rattle.mt_opcodec.specs.LogValue.{LogMap}
-use Rattle.mt_opcodec.specs.Union.{Agree, union, union_all, AllAgree}
+use Rattle.mt_opcodec.specs.Union.{union, union_all, AllAgree}
 use Rattle.mt_opcodec.proofs.JoiningAll.{HasJoined}
 use Rattle.mt_cli.specs.declared.fault.CliFault.{CliFault}
 use Rattle.mt_cli.specs.declared.pull.Share.{Share}

@@ -1,16 +1,15 @@
 -- Texts that are told.
-use Rattle.std.proofs.Common.{◌≡◌, ◌++◌, ◌+◌, ℕ, Bool, true, false, [], List, Option, Result, Ok, Err, refl, sym, ap, subst, ◌∙◌, arith, length, take, append_assoc}
-use Rattle.std.specs.Prelude.{min, OnOk, IfErr}
-use Rattle.std.proofs.lemmas.List.{take_all, take-append-le, take_min}
+use Rattle.std.proofs.Common.{◌≡◌, ◌++◌, ◌+◌, ℕ, Bool, true, false, [], List, Option, refl, sym, ap, subst, ◌∙◌, arith, length, take, append_assoc}
+use Rattle.std.specs.Prelude.{min}
+use Rattle.std.proofs.lemmas.List.{take-append-le, take_min}
 use Rattle.std.proofs.Math.Seq.{take-append-add}
-use Rattle.std.specs.Io.KnownBytes.{Appends}
 use Rattle.std.proofs.KnownBytes.{Appends-nil, Appends-trans}
-use Rattle.mt_latch.specs.Latch.{Latched, AppendsPrefix}
+use Rattle.mt_latch.specs.Latch.{Latched}
 use Rattle.mt_latch.specs.declared.buffered.BufferedLatch.{BufferedLatch}
 use Rattle.mt_latch.specs.Buffered.{Handed}
 use Rattle.mt_latch.proofs.Putting.{all_written, prefix_written}
 use Rattle.mt_cli.specs.declared.fault.CliFault.{CliFault}
-use Rattle.mt_cli.specs.Telling.{fault_line, why_line, HasTold, TellsText, TellsCauses, IsRefusal, TellsFault, TellsRefusal}
+use Rattle.mt_cli.specs.Telling.{fault_line, why_line, HasTold, TellsText, TellsCauses, TellsFault, TellsRefusal}
 
 module _ {E : Type 0} (contents : E → Option (List ℕ)) where
   -- what was handed over from an empty buffer to an empty one was told

@@ -1,5 +1,5 @@
 -- What `edit` writes and tells of a log and a script, and why it is refused.
-use Rattle.std.specs.Prelude.{◌≡◌, ◌≢◌, ℕ, List, [], ◌∷◌, ◌++◌, length, codes, Option, Some, None, Ok, Err, ◌⊎◌}
+use Rattle.std.specs.Prelude.{◌≡◌, ◌≢◌, ℕ, List, [], ◌∷◌, ◌++◌, length, codes, Option, Ok, Err, ◌⊎◌}
 use Rattle.std.specs.Fmt.{decimal}
 use Rattle.mt_latch.specs.Latch.{Latched}
 use Rattle.mt_stamp.specs.declared.name.Replica.{Replica}

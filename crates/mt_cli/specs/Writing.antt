@@ -5,7 +5,7 @@ use Rattle.mt_opcodec.specs.LogValue.{LogMap}
 use Rattle.mt_opcodec.specs.Union.{union_all, AllAgree, FirstClash}
 use Rattle.mt_cli.specs.declared.fault.CliFault.{CliFault}
 use Rattle.mt_cli.specs.declared.fault.CliFault.TheVariants.{Memory, Merge, Write}
-use Rattle.mt_cli.specs.Reading.{text_of, GaveLog, GaveLogs, IsRead, AreRead, IsCause, HasCause}
+use Rattle.mt_cli.specs.Reading.{GaveLog, GaveLogs, IsRead, AreRead, IsCause, HasCause}
 
 module _ (text : LogMap → List ℕ) {W : Type 0} (contents : W → Option (List ℕ)) where
   -- what refuses to write the text of a log: memory, with the output as it was, or the output, which holds a prefix of the text

@@ -1,4 +1,4 @@
-use Rattle.std.proofs.Common.{subst, List, ◌++◌, ◌≡◌, sym}
+use Rattle.std.proofs.Common.{subst, List, ◌++◌, ◌≡◌}
 use Rattle.mt_opcodec.specs.LogValue.{LogMap}
 use Rattle.mt_opcodec.proofs.JoiningAll.{HasJoined, one_joined}
 use Rattle.mt_cli.specs.Pulling.{shares, shares_from}

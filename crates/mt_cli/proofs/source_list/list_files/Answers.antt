@@ -1,13 +1,9 @@
-use Rattle.std.proofs.Common.{List, map, sym, subst, refl, inl}
-use Rattle.std.specs.Prelude.{Result}
-use Rattle.mt_bwfread.specs.declared.fault.WaveFault.{WaveFault}
-use Rattle.mt_preflight.specs.declared.given.Recording.{Recording}
+use Rattle.std.proofs.Common.{map, refl, inl}
 use Rattle.mt_cli.specs.declared.fault.CliFault.TheVariants.{Memory}
 use Rattle.mt_cli.specs.LogAndFiles.{lent_files}
-use Rattle.mt_cli.specs.Reading.{GaveEach}
-use Rattle.mt_cli.specs.SourcesListing.{GaveRecording, FilesFail}
+use Rattle.mt_cli.specs.SourcesListing.{FilesFail}
 use Rattle.mt_cli.proofs.Readers.{told_as}
-use Rattle.mt_cli.proofs.SourcesListing.{HasFileCause-memory, files_listed, files_not_listed}
+use Rattle.mt_cli.proofs.SourcesListing.{HasFileCause-memory}
 use Rattle.mt_cli.proofs.source_list.list_files.Goals as goal
 
 pub returns-in_err-clone-clause-err : goal.returns-in_err-clone-clause-err
