@@ -124,19 +124,34 @@ pub(crate) fn is_front(call: Call, bytes: &[u8], count: usize) -> bool {
     begins && bytes.len() == count
 }
 
+// One reader.
+fn one<R: Read + Drop>(alloc: Global, input: R) -> Option<Vec<Latch<R>>> {
+    let mut inputs = Vec::new(alloc);
+    inputs.push(Latch::new(input)).ok()?;
+    Some(inputs)
+}
+
+// Two of them.
+fn two<R: Read + Drop>(alloc: Global, (first, second): (R, R)) -> Option<Vec<Latch<R>>> {
+    let mut inputs = one(alloc, first)?;
+    inputs.push(Latch::new(second)).ok()?;
+    Some(inputs)
+}
+
 // Commands that write one text of some logs.
 fn run_on_logs<M: Allocator + Clone, R: Read + Drop, W: Write>(
     memory: M,
+    alloc: Global,
     call: Call,
-    (first, second): (R, R),
+    inputs: (R, R),
     output: &mut Latch<W>,
-) -> Result<(), CliFault> {
-    let mut inputs = [Latch::new(first), Latch::new(second)];
-    match call {
+) -> Option<Result<(), CliFault>> {
+    let mut inputs = two(alloc, inputs)?;
+    Some(match call {
         Call::ViewLogs => view_logs(memory, &mut inputs, output),
         Call::ListLogs => list_logs(memory, &mut inputs, output),
         _ => merge_logs(memory, &mut inputs, output),
-    }
+    })
 }
 
 // Those of one log.
@@ -204,10 +219,10 @@ fn pull<M: Allocator + Clone, R: Read + Drop, W: Write>(
     memory: M,
     alloc: Global,
     told: bool,
-    (first, second): (R, R),
+    inputs: (R, R),
     output: &mut Latch<W>,
 ) -> Option<Result<(), CliFault>> {
-    let mut inputs = [Latch::new(first), Latch::new(second)];
+    let mut inputs = two(alloc, inputs)?;
     let mut other = Latch::new(Vec::new(alloc));
     if told {
         let answer = pull_logs(memory, &["home.log"], &mut inputs, &mut other, output);
@@ -257,34 +272,37 @@ fn swap<M: Allocator + Copy, R: Read + Drop, W: Write>(
 
 fn list<M: Allocator + Clone, R: Read + Drop, W: Write>(
     memory: M,
+    alloc: Global,
     (log, source): (R, R),
     output: &mut Latch<W>,
-) -> Result<(), CliFault> {
-    let (mut log, mut files) = (Latch::new(log), [Latch::new(source)]);
-    list_sources(
+) -> Option<Result<(), CliFault>> {
+    let mut files = one(alloc, source)?;
+    Some(list_sources(
         memory,
         Listing::All,
-        &mut log,
+        &mut Latch::new(log),
         &["voice.wav"],
         &mut files,
         output,
-    )
+    ))
 }
 
 // Those of a log and its recording that are rendered, or checked before.
 fn render<M: Allocator + Clone, R: Read + Drop, W: Write>(
     memory: M,
+    alloc: Global,
     call: Call,
     (log, source): (R, R),
     output: &mut Latch<W>,
 ) -> Option<Result<(), CliFault>> {
     let head = Head::new("", "", "", "2000-01-01", "00:00:00", 0).ok()?;
     let format = Format::new(48000, 24, 1).ok()?;
-    let (mut logs, mut sources) = ([Latch::new(log)], [Latch::new(source)]);
+    let mut sources = one(alloc, source)?;
     if call == Call::Check {
-        let log = &mut logs[0];
-        return Some(check_log(memory, log, &mut sources, &head, format, output));
+        let mut log = Latch::new(log);
+        return Some(check_log(memory, &mut log, &mut sources, &head, format, output));
     }
+    let mut logs = one(alloc, log)?;
     Some(bounce_logs(memory, &mut logs, &mut sources, &head, format, output))
 }
 
@@ -298,7 +316,7 @@ pub(crate) fn run<M: Allocator + Copy, R: Read + Drop, W: Write>(
 ) -> Option<Result<(), CliFault>> {
     match call {
         Call::ViewLogs | Call::ListLogs | Call::Merge => {
-            Some(run_on_logs(memory, call, inputs, output))
+            run_on_logs(memory, alloc, call, inputs, output)
         }
         Call::ViewLog | Call::ListLog | Call::Have => {
             Some(run_on_log(memory, call, inputs, output))
@@ -307,8 +325,8 @@ pub(crate) fn run<M: Allocator + Copy, R: Read + Drop, W: Write>(
         Call::Edit { told } => edit(memory, alloc, told, inputs, output),
         Call::Pull { told } => pull(memory, alloc, told, inputs, output),
         Call::Swap => swap(memory, alloc, inputs, output),
-        Call::Sources => Some(list(memory, inputs, output)),
-        Call::Check | Call::Bounce => render(memory, call, inputs, output),
+        Call::Sources => list(memory, alloc, inputs, output),
+        Call::Check | Call::Bounce => render(memory, alloc, call, inputs, output),
         Call::Info => Some(write_info(memory, LABELLED, output)),
     }
 }
