@@ -11,7 +11,7 @@ ghost use Rattle.mt_cli.specs.Writing.{WriteFails, InputsFail, InputFails};
 use crate::fault::CliFault;
 use crate::tell::{Telling, tell_log, tell_logs};
 use mt_opcodec::{Latch, Log};
-use mt_sessionview::{SessionFault, from_scratch, write_text};
+use mt_sessionview::{from_scratch, write_text};
 use std::alloc::Allocator;
 use std::io::{Read, Write};
 
@@ -30,13 +30,12 @@ impl Telling for Sessions {
         log: &Log<A>,
         output: &mut Latch<W>,
     ) -> Result<(), CliFault> {
-        let Ok(session) = from_scratch(alloc.clone()?, log) else {
+        let Ok(session) = from_scratch(alloc, log) else {
             return Err(CliFault::Memory);
         };
-        match write_text(alloc, &session, output) {
+        match write_text(&session, output) {
             Ok(()) => Ok(()),
-            Err(SessionFault::Memory) => Err(CliFault::Memory),
-            Err(SessionFault::Write) => Err(CliFault::Write),
+            Err(_) => Err(CliFault::Write),
         }
     }
 }

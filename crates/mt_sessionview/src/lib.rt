@@ -21,7 +21,7 @@
 //!     let session = from_scratch(rt.alloc(), &log)?;
 //!     assert_eq!(rt; session.markers.items()[0].at, 960);
 //!     let mut output = Latch::new(Vec::new(rt.alloc()));
-//!     write_text(rt.alloc(), &session, &mut output)?;
+//!     write_text(&session, &mut output)?;
 //!     assert!(rt; output.into_inner().as_slice() == TEXT);
 //!     Ok(())
 //! }

@@ -10,8 +10,8 @@ ghost use Rattle.mt_sessionview.specs.SessionText.{session_text};
 use crate::build::session_of_log;
 use crate::fault::SessionFault;
 use crate::session::Session;
-use crate::text::{append_session_text, room_for};
-use mt_opcodec::{Latch, Log};
+use crate::text::put_session;
+use mt_opcodec::{BufferedLatch, Latch, Log};
 use std::alloc::Allocator;
 use std::io::Write;
 
@@ -28,27 +28,25 @@ pub fn from_scratch<A: Allocator + Clone>(
 }
 
 /// Writes a session's text: a line for each track, followed by one for each of its clips, a line for each marker, all
-/// in order, then `held N`, each ended by a line feed.
+/// in order, then `held N`, each ended by a line feed. It is handed over in pieces as it is made, and takes no memory.
 ///
-/// `Write` (37) where the output's latch has failed, before or in this call; the output then holds a prefix of
-/// the text, and is as it was where the latch had failed before. `Memory` (0) where a growth was refused; the output is
-/// then as it was.
-pub fn write_text<A: Allocator, B: Allocator, W: Write>(
-    alloc: A,
-    session: &Session<B>,
+/// Refused only as `Write` (37), where the output's latch has failed, before or in this call; the output then holds a prefix of
+/// the text, and is as it was where the latch had failed before.
+#[tactic(auto, unfolding(mt_latch::specs::Buffered::Puts))]
+pub fn write_text<A: Allocator, W: Write>(
+    session: &Session<A>,
     output: &mut Latch<W>,
 ) -> Result<(), SessionFault>
     ensures whole { OnOk result (Appends (W.contents output.old.inner) (W.contents output.new.inner) (session_text session.now)) }
     ensures prefix { AppendsPrefix (W.contents output.old.inner) (W.contents output.new.inner) (session_text session.now) }
     ensures sound { OnOk result (output.new.failed ≡ false) }
-    ensures write { IfErr result (λ fault. fault ≡ SessionFault.Write → output.new.failed ≡ true) }
+    ensures err { IfErr result (λ fault. (fault ≡ SessionFault.Write) × (output.new.failed ≡ true)) }
     ensures stays_failed { output.old.failed ≡ true → output.new ≡ output.old }
-    ensures memory { IfErr result (λ fault. fault ≡ SessionFault.Memory → output.new ≡ output.old) }
 {
-    let mut text = String::with_capacity(&alloc, room_for(session))?;
-    append_session_text(&alloc, &mut text, session)?;
-    match output.put(text.as_bytes()) {
-        Ok(()) => Ok(()),
-        Err(_) => Err(SessionFault::Write),
+    let mut lines = BufferedLatch::new(output);
+    put_session(&mut lines, session);
+    if lines.flush().is_err() {
+        return Err(SessionFault::Write);
     }
+    Ok(())
 }

@@ -1,281 +1,243 @@
-//! Sessions as text.
+//! Sessions as text, in pieces that are handed over as they are made: no memory is taken.
 
-ghost use Rattle.std.specs.Prelude.{◌≡◌, ◌++◌, ◌∷◌, [], List, OnOk, codes, if◌then◌else◌};
+ghost use Rattle.std.specs.Prelude.{◌++◌, ◌∷◌, [], List, codes, if◌then◌else◌};
 ghost use Rattle.std.specs.Fmt.{decimal};
-ghost use Rattle.mt_stamp.specs.Texts.{stamp_text};
-ghost use Rattle.mt_op.specs.Digest.{digest_text};
 ghost use Rattle.std.specs.List.{flat_map};
-ghost use Rattle.std.specs.String.{string_bytes};
+ghost use Rattle.mt_stamp.specs.Texts.{replica_text, stamp_text};
+ghost use Rattle.mt_op.specs.Digest.{digest_text};
+ghost use Rattle.mt_latch.specs.Buffered.{Puts};
 ghost use Rattle.mt_sessionview.specs.Content.{Clip};
 ghost use Rattle.mt_sessionview.specs.SessionText.{newline, sound_text, fade_text, len_text, clip_line, track_line, track_lines, marker_line, held_line, session_text};
 
 use crate::session::{ClipView, MarkerView, Session, TrackView};
-use itoa::Buffer;
 use mt_op::{Digest, Gain};
-use mt_stamp::Stamp;
-use std::alloc::{AllocError, Allocator};
+use mt_opcodec::BufferedLatch;
+use mt_stamp::{Replica, Stamp};
+use std::alloc::Allocator;
+use std::io::Write;
+use uuid::Uuid;
 
-// How many bytes the lines of a track, a clip and a marker take at a guess, and that of the number held.
-const ROOM_FOR_TRACK: usize = 112;
-
-const ROOM_FOR_CLIP: usize = 256;
-
-const ROOM_FOR_MARKER: usize = 96;
-
-const ROOM_FOR_HELD: usize = 32;
-
-// Writes a label and a stamp.
-fn append_stamp<A: Allocator>(
-    text: &mut String<A>,
-    label: &str,
-    stamp: Stamp,
-) -> Result<(), AllocError>
-    ensures { OnOk result (string_bytes text.new ≡ string_bytes text.old ++ (label.now ++ stamp_text stamp)) }
+// Puts a replica, hyphenated and in lower case.
+fn put_replica<W: Write>(output: &mut BufferedLatch<'_, W>, replica: Replica)
+    ensures { Puts W.contents output.old output.new (replica_text replica) }
 {
-    text.push_str(label)?;
-    stamp.append_text(text)
+    let mut buffer = Uuid::encode_buffer();
+    let uuid = Uuid::from_u128(replica.0);
+    output.put(uuid.hyphenated().encode_lower(&mut buffer).as_bytes());
 }
 
-// Writes a label and a number in decimal.
-fn append_number<A: Allocator>(
-    text: &mut String<A>,
-    label: &str,
-    number: u32,
-) -> Result<(), AllocError>
-    ensures { OnOk result (string_bytes text.new ≡ string_bytes text.old ++ (label.now ++ decimal number)) }
+// Puts a label and a stamp.
+fn put_stamp<W: Write>(output: &mut BufferedLatch<'_, W>, label: &str, stamp: Stamp)
+    ensures { Puts W.contents output.old output.new (label.now ++ stamp_text stamp) }
 {
-    let mut digits = Buffer::new();
-    text.push_str(label)?;
-    text.push_str(digits.format(number))
+    output.put(label.as_bytes());
+    output.put_decimal(stamp.clock());
+    output.put(b".");
+    output.put_decimal(stamp.seq());
+    output.put(b".");
+    put_replica(output, stamp.replica());
 }
 
-// Writes ` mute on` or ` mute off`.
-fn append_mute<A: Allocator>(text: &mut String<A>, mute: bool) -> Result<(), AllocError>
-    ensures { OnOk result (string_bytes text.new ≡ string_bytes text.old ++ (if mute then codes " mute on" else codes " mute off")) }
+// Puts a label and a number in decimal.
+fn put_number<W: Write>(output: &mut BufferedLatch<'_, W>, label: &str, number: u32)
+    ensures { Puts W.contents output.old output.new (label.now ++ decimal number) }
+{
+    output.put(label.as_bytes());
+    output.put_decimal(u64::from(number));
+}
+
+// Puts ` mute on` or ` mute off`.
+fn put_mute<W: Write>(output: &mut BufferedLatch<'_, W>, mute: bool)
+    ensures { Puts W.contents output.old output.new (if mute then codes " mute on" else codes " mute off") }
 {
     if mute {
-        text.push_str(" mute on")
+        output.put(b" mute on");
     } else {
-        text.push_str(" mute off")
+        output.put(b" mute off");
     }
 }
 
-// Writes ` gain NUM/DEN mute on` or ` gain NUM/DEN mute off`.
-fn append_sound<A: Allocator>(
-    text: &mut String<A>,
-    gain: Gain,
-    mute: bool,
-) -> Result<(), AllocError>
-    ensures { OnOk result (string_bytes text.new ≡ string_bytes text.old ++ sound_text gain mute) }
+// Puts ` gain NUM/DEN mute on` or ` gain NUM/DEN mute off`.
+fn put_sound<W: Write>(output: &mut BufferedLatch<'_, W>, gain: Gain, mute: bool)
+    ensures { Puts W.contents output.old output.new (sound_text gain mute) }
 {
-    append_number(text, " gain ", u32::from(gain.num()))?;
-    append_number(text, "/", u32::from(gain.den()))?;
-    append_mute(text, mute)?;
-    Ok(())
+    output.put(b" gain ");
+    output.put_decimal(u64::from(gain.num()));
+    output.put(b"/");
+    output.put_decimal(u64::from(gain.den()));
+    put_mute(output, mute);
 }
 
-// Writes ` fade IN OUT`, in frames, where one of them is not 0.
-fn append_fades<A: Allocator>(
-    text: &mut String<A>,
-    fade_in: u32,
-    fade_out: u32,
-) -> Result<(), AllocError>
-    ensures { OnOk result (string_bytes text.new ≡ string_bytes text.old ++ fade_text fade_in fade_out) }
+// Puts ` fade IN OUT`, in frames, where one of them is not 0.
+#[tactic(auto, using(mt_latch::proofs::Putting::then_puts, mt_latch::proofs::Putting::puts_none))]
+fn put_fades<W: Write>(output: &mut BufferedLatch<'_, W>, fade_in: u32, fade_out: u32)
+    ensures { Puts W.contents output.old output.new (fade_text fade_in fade_out) }
 {
     if fade_in == 0 && fade_out == 0 {
-        return Ok(());
+        return;
     }
-    append_number(text, " fade ", fade_in)?;
-    append_number(text, " ", fade_out)?;
-    Ok(())
+    output.put(b" fade ");
+    output.put_decimal(u64::from(fade_in));
+    output.put(b" ");
+    output.put_decimal(u64::from(fade_out));
 }
 
-// Writes ` len N`, in frames, where it is not 0.
-fn append_len<A: Allocator>(text: &mut String<A>, len: u32) -> Result<(), AllocError>
-    ensures { OnOk result (string_bytes text.new ≡ string_bytes text.old ++ len_text len) }
+// Puts ` len N`, in frames, where it is not 0.
+#[tactic(auto, using(mt_latch::proofs::Putting::then_puts, mt_latch::proofs::Putting::puts_none))]
+fn put_len<W: Write>(output: &mut BufferedLatch<'_, W>, len: u32)
+    ensures { Puts W.contents output.old output.new (len_text len) }
 {
     if len == 0 {
-        return Ok(());
+        return;
     }
-    append_number(text, " len ", len)
+    output.put(b" len ");
+    output.put_decimal(u64::from(len));
 }
 
-// Writes a digest in hex digits and a line feed.
-fn append_digest<A: Allocator, B: Allocator>(
-    alloc: &A,
-    text: &mut String<B>,
-    digest: Digest,
-) -> Result<(), AllocError>
-    ensures { OnOk result (string_bytes text.new ≡ string_bytes text.old ++ (digest_text digest ++ newline ∷ [])) }
+// Puts a digest in hex digits and a line feed.
+#[tactic(auto, using(mt_latch::proofs::Putting::then_puts))]
+fn put_digest<W: Write>(output: &mut BufferedLatch<'_, W>, digest: Digest)
+    ensures { Puts W.contents output.old output.new (digest_text digest ++ newline ∷ []) }
 {
-    let Ok(digits) = digest.text(alloc) else {
-        return Err(AllocError);
-    };
-    text.push_str(digits.as_str())?;
-    text.push_str("\n")
+    let mut digits = [0; 64];
+    let _ = hex::encode_to_slice(digest.0, &mut digits);
+    output.put(&digits);
+    output.put(b"\n");
 }
 
-// Writes `clip STAMP place STAMP at N offset N len N gain NUM/DEN mute on|off source DIGEST` and a line feed, with the fades before
+// Puts `clip STAMP place STAMP at N offset N len N gain NUM/DEN mute on|off source DIGEST` and a line feed, with the fades before
 // the source: positions and lengths in frames, in decimal.
-fn append_clip_line<A: Allocator, B: Allocator>(
-    alloc: &A,
-    text: &mut String<B>,
-    view: &ClipView,
-) -> Result<(), AllocError>
-    ensures { OnOk result (string_bytes text.new ≡ string_bytes text.old ++ clip_line view.now) }
+fn put_clip_line<W: Write>(output: &mut BufferedLatch<'_, W>, view: &ClipView)
+    ensures { Puts W.contents output.old output.new (clip_line view.now) }
 {
-    append_stamp(text, "clip ", view.clip)?;
-    append_stamp(text, " place ", view.place)?;
-    append_number(text, " at ", view.at)?;
-    append_number(text, " offset ", view.offset)?;
-    append_number(text, " len ", view.len)?;
-    append_sound(text, view.gain, view.mute)?;
-    append_fades(text, view.fade_in, view.fade_out)?;
-    text.push_str(" source ")?;
-    append_digest(alloc, text, view.source)?;
-    Ok(())
+    put_stamp(output, "clip ", view.clip);
+    put_stamp(output, " place ", view.place);
+    put_number(output, " at ", view.at);
+    put_number(output, " offset ", view.offset);
+    put_number(output, " len ", view.len);
+    put_sound(output, view.gain, view.mute);
+    put_fades(output, view.fade_in, view.fade_out);
+    output.put(b" source ");
+    put_digest(output, view.source);
 }
 
-// Writes `track STAMP gain NUM/DEN mute on|off title TITLE` and a line feed, the title as it is.
-fn append_track_line<A: Allocator>(
-    text: &mut String<A>,
+// Puts ` title TITLE` and a line feed, the title as it is.
+#[tactic(auto, using(mt_latch::proofs::Putting::then_puts))]
+fn put_title<W: Write>(output: &mut BufferedLatch<'_, W>, title: &str)
+    ensures { Puts W.contents output.old output.new (codes " title " ++ (title.now ++ newline ∷ [])) }
+{
+    output.put(b" title ");
+    output.put(title.as_bytes());
+    output.put(b"\n");
+}
+
+// Puts `track STAMP gain NUM/DEN mute on|off title TITLE` and a line feed.
+fn put_track_line<W: Write>(
+    output: &mut BufferedLatch<'_, W>,
     track: Stamp,
     gain: Gain,
     mute: bool,
     title: &str,
-) -> Result<(), AllocError>
-    ensures { OnOk result ((clips : List Clip) → string_bytes text.new ≡ string_bytes text.old ++ track_line (record { track = track; title = title.now; gain = gain; mute = mute; clips = clips })) }
+)
+    ensures { (clips : List Clip) → Puts W.contents output.old output.new (track_line (record { track = track; title = title.now; gain = gain; mute = mute; clips = clips })) }
 {
-    append_stamp(text, "track ", track)?;
-    append_sound(text, gain, mute)?;
-    text.push_str(" title ")?;
-    text.push_str(title)?;
-    text.push_str("\n")
+    put_stamp(output, "track ", track);
+    put_sound(output, gain, mute);
+    put_title(output, title);
 }
 
-// Writes the lines of clips, in order.
-fn append_clip_lines<A: Allocator, B: Allocator>(
-    alloc: &A,
-    text: &mut String<B>,
-    clips: &[ClipView],
-) -> Result<(), AllocError>
-    ensures { OnOk result (string_bytes text.new ≡ string_bytes text.old ++ flat_map clip_line clips.now) }
+// Puts the lines of clips, in order.
+#[tactic(auto, using(mt_latch::proofs::Putting::puts_none))]
+fn put_clip_lines<W: Write>(output: &mut BufferedLatch<'_, W>, clips: &[ClipView])
+    ensures { Puts W.contents output.old output.new (flat_map clip_line clips.now) }
 {
     for view in clips {
-        append_clip_line(alloc, text, view)?;
+        put_clip_line(output, view);
     }
-    Ok(())
 }
 
-// Writes the line of a track and those of its clips.
-fn append_track_lines<A: Allocator, B: Allocator, C: Allocator>(
-    alloc: &A,
-    text: &mut String<B>,
-    view: &TrackView<C>,
-) -> Result<(), AllocError>
-    ensures { OnOk result (string_bytes text.new ≡ string_bytes text.old ++ track_lines view.now) }
+// Puts the line of a track and those of its clips.
+fn put_track_lines<A: Allocator, W: Write>(
+    output: &mut BufferedLatch<'_, W>,
+    view: &TrackView<A>,
+)
+    ensures { Puts W.contents output.old output.new (track_lines view.now) }
 {
-    append_track_line(text, view.track, view.gain, view.mute, view.title.text())?;
-    append_clip_lines(alloc, text, view.clips.items())?;
-    Ok(())
+    put_track_line(output, view.track, view.gain, view.mute, view.title.text());
+    put_clip_lines(output, view.clips.items());
 }
 
-/// Writes `marker STAMP at N title TITLE` and a line feed after what `text` holds, with the length after the position: both in frames, in
-/// decimal, and the title as it is.
-pub(crate) fn append_marker_line<A: Allocator, B: Allocator>(
-    text: &mut String<A>,
-    view: &MarkerView<B>,
-) -> Result<(), AllocError>
-    ensures { OnOk result (string_bytes text.new ≡ string_bytes text.old ++ marker_line view.now) }
-{
-    append_parts(text, view.marker, view.at, view.len, view.title.text())
-}
-
-// Writes the line of a marker of these parts.
-fn append_parts<A: Allocator>(
-    text: &mut String<A>,
+// Puts the line of a marker of these parts.
+fn put_parts<W: Write>(
+    output: &mut BufferedLatch<'_, W>,
     marker: Stamp,
     at: u32,
     len: u32,
     title: &str,
-) -> Result<(), AllocError>
-    ensures { OnOk result (string_bytes text.new ≡ string_bytes text.old ++ marker_line (record { marker = marker; at = at; len = len; title = title.now })) }
+)
+    ensures { Puts W.contents output.old output.new (marker_line (record { marker = marker; at = at; len = len; title = title.now })) }
 {
-    append_stamp(text, "marker ", marker)?;
-    append_number(text, " at ", at)?;
-    append_len(text, len)?;
-    text.push_str(" title ")?;
-    text.push_str(title)?;
-    text.push_str("\n")?;
-    Ok(())
+    put_stamp(output, "marker ", marker);
+    put_number(output, " at ", at);
+    put_len(output, len);
+    put_title(output, title);
 }
 
-/// Writes `held N` and a line feed after what `text` holds.
-pub(crate) fn append_held_line<A: Allocator>(
-    text: &mut String<A>,
-    held: u64,
-) -> Result<(), AllocError>
-    ensures { OnOk result (string_bytes text.new ≡ string_bytes text.old ++ held_line held) }
+// Puts `marker STAMP at N title TITLE` and a line feed, with the length after the position: both in frames, in decimal, and the
+// title as it is.
+fn put_marker_line<A: Allocator, W: Write>(
+    output: &mut BufferedLatch<'_, W>,
+    view: &MarkerView<A>,
+)
+    ensures { Puts W.contents output.old output.new (marker_line view.now) }
 {
-    let mut number = Buffer::new();
-    text.push_str("held ")?;
-    text.push_str(number.format(held))?;
-    text.push_str("\n")?;
-    Ok(())
+    put_parts(output, view.marker, view.at, view.len, view.title.text());
 }
 
-// Writes the lines of tracks and their clips, in order.
-fn append_tracks<A: Allocator, B: Allocator, C: Allocator>(
-    alloc: &A,
-    text: &mut String<B>,
-    tracks: &[TrackView<C>],
-) -> Result<(), AllocError>
-    ensures { OnOk result (string_bytes text.new ≡ string_bytes text.old ++ flat_map track_lines tracks.now) }
+// Puts `held N` and a line feed.
+fn put_held_line<W: Write>(output: &mut BufferedLatch<'_, W>, held: u64)
+    ensures { Puts W.contents output.old output.new (held_line held) }
+{
+    output.put(b"held ");
+    output.put_decimal(held);
+    output.put(b"\n");
+}
+
+// Puts the lines of tracks and their clips, in order.
+#[tactic(auto, using(mt_latch::proofs::Putting::puts_none))]
+fn put_tracks<A: Allocator, W: Write>(
+    output: &mut BufferedLatch<'_, W>,
+    tracks: &[TrackView<A>],
+)
+    ensures { Puts W.contents output.old output.new (flat_map track_lines tracks.now) }
 {
     for view in tracks {
-        append_track_lines(alloc, text, view)?;
+        put_track_lines(output, view);
     }
-    Ok(())
 }
 
-// Writes the lines of markers, in order.
-fn append_markers<A: Allocator, B: Allocator>(
-    text: &mut String<A>,
-    markers: &[MarkerView<B>],
-) -> Result<(), AllocError>
-    ensures { OnOk result (string_bytes text.new ≡ string_bytes text.old ++ flat_map marker_line markers.now) }
+// Puts the lines of markers, in order.
+#[tactic(auto, using(mt_latch::proofs::Putting::puts_none))]
+fn put_markers<A: Allocator, W: Write>(
+    output: &mut BufferedLatch<'_, W>,
+    markers: &[MarkerView<A>],
+)
+    ensures { Puts W.contents output.old output.new (flat_map marker_line markers.now) }
 {
     for view in markers {
-        append_marker_line(text, view)?;
+        put_marker_line(output, view);
     }
-    Ok(())
 }
 
-// A guess of the bytes that a session's text takes: a text that is longer grows.
-pub(crate) fn room_for<A: Allocator>(session: &Session<A>) -> usize {
-    let markers = session
-        .markers
-        .items()
-        .len()
-        .saturating_mul(ROOM_FOR_MARKER);
-    let mut room = markers.saturating_add(ROOM_FOR_HELD);
-    for view in session.tracks.items() {
-        let clips = view.clips.items().len().saturating_mul(ROOM_FOR_CLIP);
-        room = room.saturating_add(clips).saturating_add(ROOM_FOR_TRACK);
-    }
-    room
-}
-
-/// Writes a session after what `text` holds: a line for each track, followed by one for each of its clips, a line for
-/// each marker, all in order, then `held N`. Each line ends with a line feed.
-pub(crate) fn append_session_text<A: Allocator, B: Allocator, C: Allocator>(
-    alloc: &A,
-    text: &mut String<B>,
-    session: &Session<C>,
-) -> Result<(), AllocError>
-    ensures { OnOk result (string_bytes text.new ≡ string_bytes text.old ++ session_text session.now) }
+/// Puts a session: a line for each track, followed by one for each of its clips, a line for each marker, all in order, then
+/// `held N`. Each line ends with a line feed.
+pub(crate) fn put_session<A: Allocator, W: Write>(
+    output: &mut BufferedLatch<'_, W>,
+    session: &Session<A>,
+)
+    ensures { Puts W.contents output.old output.new (session_text session.now) }
 {
-    append_tracks(alloc, text, session.tracks.items())?;
-    append_markers(text, session.markers.items())?;
-    append_held_line(text, session.held)
+    put_tracks(output, session.tracks.items());
+    put_markers(output, session.markers.items());
+    put_held_line(output, session.held);
 }

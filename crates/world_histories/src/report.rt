@@ -33,7 +33,7 @@ fn put_op<W: Write>(alloc: Global, op: &Op, output: &mut Latch<W>) -> Option<()>
 fn put_editor<W: Write>(alloc: Global, editor: &Editor, output: &mut Latch<W>) -> Option<()> {
     let log = editor.log()?.write().ok()?;
     put_line(alloc, "log", &log, output)?;
-    write_text(alloc, editor.session()?, output).ok()
+    write_text(editor.session()?, output).ok()
 }
 
 /// Puts what was sent, and what each editor has and shows.

@@ -23,7 +23,7 @@ fn put_mix(
     let Ok(head) = Head::new("", "", "", "2000-01-01", "00:00:00", 0) else {
         return false;
     };
-    write_text(alloc, session, output).is_ok()
+    write_text(session, output).is_ok()
         && bounce(alloc, mix, session.markers.items(), &head, output).is_ok()
 }
 

@@ -1,6 +1,6 @@
 use Rattle.std.proofs.Common.{arith}
 use Rattle.std.specs.String.{string_bytes}
-use Rattle.mt_sessionview.proofs.SessionText.{one_more_text}
+use Rattle.mt_logtext.proofs.Words.{one_more_text}
 use Rattle.mt_logtext.specs.LogText.{stamp_word}
 use Rattle.mt_logtext.proofs.act.append_stamps.Goals as goal
 

@@ -5,7 +5,7 @@ use Rattle.mt_op.specs.declared.op.Op.{Op}
 use Rattle.mt_op.specs.Operation.{Operation}
 use Rattle.mt_op.specs.Presence.{is_listed}
 use Rattle.std.proofs.lemmas.List.{take_all}
-use Rattle.mt_sessionview.proofs.SessionText.{one_more_text}
+use Rattle.mt_logtext.proofs.Words.{one_more_text}
 use Rattle.mt_logtext.specs.LogText.{line_of}
 use Rattle.mt_logtext.proofs.Lines.{of_each}
 use Rattle.mt_logtext.proofs.line.append_lines.Goals as goal

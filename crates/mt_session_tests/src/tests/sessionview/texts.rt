@@ -36,9 +36,9 @@ fn front_of(written: &[u8]) -> Option<usize> {
 type Written = (Result<(), SessionFault>, bool, Option<usize>);
 
 // Writes a session's text to an output that fails at the write of this number, each of one byte.
-fn written<M: Allocator>(memory: M, alloc: Global, session: &Session, good: usize) -> Written {
+fn written(alloc: Global, session: &Session, good: usize) -> Written {
     let mut output = Latch::new(FailingWriter::new(alloc, good, ErrorKind::Other));
-    let answer = write_text(memory, session, &mut output);
+    let answer = write_text(session, &mut output);
     let failed = output.failed();
     (answer, failed, front_of(output.into_inner().written()))
 }
@@ -46,46 +46,20 @@ fn written<M: Allocator>(memory: M, alloc: Global, session: &Session, good: usiz
 // How many writes fail in turn, until the whole text is written; none where a failed write is answered otherwise.
 fn failed_writes(alloc: Global, session: &Session) -> Option<usize> {
     for good in 0..TEXT.len() {
-        if written(alloc, alloc, session, good) != (Err(SessionFault::Write), true, Some(good)) {
+        if written(alloc, session, good) != (Err(SessionFault::Write), true, Some(good)) {
             return None;
         }
     }
-    match written(alloc, alloc, session, TEXT.len()) {
+    match written(alloc, session, TEXT.len()) {
         (Ok(()), false, front) => front,
         _ => None,
     }
-}
-
-// Writes it where the growth of this number is refused, and tells whether one was.
-fn written_without(alloc: Global, session: &Session, at: u64) -> (bool, Written) {
-    let memory = Refusing::new(alloc, at);
-    let told = written(&memory, alloc, session, usize::MAX);
-    (memory.has_refused(), told)
-}
-
-// How many growths are refused in turn, none of which lets anything be written, until the whole text is written.
-fn refused_growths(alloc: Global, session: &Session) -> Option<u64> {
-    for at in 0..20 {
-        match written_without(alloc, session, at) {
-            (true, (Err(SessionFault::Memory), false, Some(0))) => {}
-            (false, (Ok(()), false, Some(len))) if len == TEXT.len() => return Some(at),
-            _ => return None,
-        }
-    }
-    None
 }
 
 #[test]
 fn writes_a_front_where_the_output_fails(rt: HostRuntime) -> Result<(), Fail> {
     let session = session_of(&rt.alloc(), &ITEMS)?;
     assert!(rt; failed_writes(rt.alloc(), &session) == Some(TEXT.len()));
-    Ok(())
-}
-
-#[test]
-fn writes_nothing_without_memory(rt: HostRuntime) -> Result<(), Fail> {
-    let session = session_of(&rt.alloc(), &ITEMS)?;
-    assert!(rt; refused_growths(rt.alloc(), &session) > Some(0));
     Ok(())
 }
 

@@ -7,4 +7,4 @@ use Rattle.mt_cli.proofs.view.SessionsTelling.tell.Goals as goal
 pub returns-clause-err : goal.returns-clause-err
 returns-clause-err g c =
     let prefix : Content → Type 0 = λ s. AppendsPrefix (g.W.Write.contents c.args.output.now.inner) (g.W.Write.contents c.write_text.new.output.inner) (session_text s) in
-    (c.in-Err-Write.ensures.write c.in-Err-Write.field-0-is, subst prefix c.in-Ok.ensures.ok c.in-Err-Write.ensures.prefix)
+    (c.in-Err.ensures.err.1, subst prefix c.in-Ok.ensures.ok c.in-Err.ensures.prefix)
