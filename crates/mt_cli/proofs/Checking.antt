@@ -1,22 +1,29 @@
 -- Sessions that are checked before they are rendered.
-use Rattle.std.proofs.Common.{◌≡◌, ℕ, List, Option, Result, Ok, Err, inr}
+use Rattle.std.proofs.Common.{◌≡◌, ℕ, List, Option, Result, Ok, Err, inr, subst}
 use Rattle.std.specs.Prelude.{OnOk, IfErr}
+use Rattle.std.specs.Io.KnownBytes.{Appends}
 use Rattle.mt_op.specs.declared.digest.Digest.{Digest}
 use Rattle.mt_op.specs.Operation.{Operation}
 use Rattle.mt_opcodec.specs.LogValue.{LogMap, operations}
-use Rattle.mt_sessionview.specs.Content.{Track, Marker}
+use Rattle.mt_sessionview.specs.Content.{Content, Track, Marker}
 use Rattle.mt_sessionview.specs.Session.{session_of}
 use Rattle.mt_render.specs.Alike.{over}
 use Rattle.mt_render.specs.Layout.{Layout}
-use Rattle.mt_render.specs.Sources.{Sources, found}
+use Rattle.mt_render.specs.Sources.{Sources, found, sources_of}
 use Rattle.mt_cuewrite.specs.Head.{HeadText}
+use Rattle.mt_preflight.specs.Played.{is_audible}
 use Rattle.mt_preflight.specs.WarningsText.{warnings_text}
 use Rattle.mt_preflight.proofs.Alike.{only_audible_are_told}
 use Rattle.mt_cli.specs.declared.fault.CliFault.{CliFault}
-use Rattle.mt_cli.specs.Checking.{SessionChecked, SessionNotChecked, FilesChecked, FilesNotChecked}
+use Rattle.mt_cli.specs.declared.fault.CliFault.TheVariants as cli
+use Rattle.mt_cli.specs.Checking.{warnings, SessionChecked, SessionNotChecked, FilesChecked, FilesNotChecked}
+use Rattle.mt_cli.specs.Headline.{HearAlike, RenderAlike}
 use Rattle.mt_cli.specs.LogAndFiles.{FilesLent}
+use Rattle.mt_cli.specs.OneLog.{HasFailed}
 use Rattle.mt_cli.specs.Reading.{AreRead}
-use Rattle.mt_cli.specs.Sources.{GaveWaves}
+use Rattle.mt_cli.specs.Sources.{GaveKept}
+use Rattle.mt_cli.proofs.Headline.{render_alike}
+use Rattle.mt_cli.proofs.Keeping.{heard_alike}
 
 -- only what is found under digests counts of the recordings
 pub warnings_same : (a b : Sources) → ((d : Digest) → found a d ≡ found b d) → (tracks : List Track) (layout : Layout) (markers : List Marker) (ops : List Operation) → warnings_text (over tracks layout a) markers ops ≡ warnings_text (over tracks layout b) markers ops
@@ -24,13 +31,32 @@ warnings_same a b same tracks layout markers ops = only_audible_are_told tracks 
 
 -- ---- of a log and the recordings that files gave
 
-module _ {R W : Type 0} (remaining : R → Option (List ℕ)) (contents : W → Option (List ℕ)) (layout : Layout) (head : HeadText) (log : LogMap) (before after : FilesLent R W) (texts : List (List ℕ)) where
-  pub files_checked : (result : Result (Unit {0}) CliFault) → GaveWaves remaining before.files texts → OnOk result (SessionChecked contents (session_of (operations log)) (operations log) layout head texts before.output after.output)
-      → OnOk result (FilesChecked remaining contents layout head log before after)
-  files_checked (Ok unit) gave checked = (texts, (gave, checked))
-  files_checked (Err fault) gave checked = checked
+module _ {R W : Type 0} (remaining : R → Option (List ℕ)) (contents : W → Option (List ℕ)) (layout : Layout) (head : HeadText) (log : LogMap) (session : Content) (is : session ≡ session_of (operations log)) (before after : FilesLent R W) (kept : List (List ℕ))
+    (gave : GaveKept remaining (is_audible session.tracks) before.files kept) where
+  abbrev same : HearAlike session kept gave.0
+  same = heard_alike session kept gave.0 gave.1.1
 
-  pub files_not_checked : (result : Result (Unit {0}) CliFault) → GaveWaves remaining before.files texts → AreRead remaining after.files
-      → IfErr result (SessionNotChecked contents (session_of (operations log)) (operations log) layout head texts before.output after.output) → IfErr result (FilesNotChecked remaining contents layout head log before after)
-  files_not_checked (Ok unit) gave read fails = fails
-  files_not_checked (Err fault) gave read fails = inr (texts, (gave, (read, fails)))
+  abbrev alike : RenderAlike session session kept gave.0 layout head
+  alike = render_alike session layout head kept gave.0 same
+
+  text : warnings session (operations log) kept layout ≡ warnings session (operations log) gave.0 layout
+  text = only_audible_are_told session.tracks layout (sources_of kept) (sources_of gave.0) session.markers (operations log) same
+
+  pub files_checked : (result : Result (Unit {0}) CliFault) → OnOk result (SessionChecked contents session (operations log) layout head kept before.output after.output)
+      → OnOk result (FilesChecked remaining contents layout head log before after)
+  files_checked (Ok unit) done =
+      (gave.0, (gave.1.0, subst (λ (s : Content). SessionChecked contents s (operations log) layout head gave.0 before.output after.output) is
+      (alike.written.0 done.0, subst (λ (l : List ℕ). Appends (contents before.output.inner) (contents after.output.inner) l) text done.1)))
+  files_checked (Err fault) done = done
+
+  also_fails : (fault : CliFault) → SessionNotChecked contents session (operations log) layout head kept before.output after.output fault → SessionNotChecked contents session (operations log) layout head gave.0 before.output after.output fault
+  also_fails cli.Memory fails = fails
+  also_fails (cli.Mix fault) fails = ((alike.refused fault).0 fails.0, fails.1)
+  also_fails cli.Write fails = (alike.written.0 fails.0, subst (λ (l : List ℕ). HasFailed contents l before.output after.output) text fails.1)
+  also_fails _ fails = absurd fails
+
+  pub files_not_checked : (result : Result (Unit {0}) CliFault) → AreRead remaining after.files → IfErr result (SessionNotChecked contents session (operations log) layout head kept before.output after.output)
+      → IfErr result (FilesNotChecked remaining contents layout head log before after)
+  files_not_checked (Ok unit) read fails = fails
+  files_not_checked (Err fault) read fails =
+      inr (gave.0, (gave.1.0, (read, subst (λ (s : Content). SessionNotChecked contents s (operations log) layout head gave.0 before.output after.output fault) is (also_fails fault fails))))

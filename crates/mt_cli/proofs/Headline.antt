@@ -174,7 +174,7 @@ module _ (session : Content) (layout : Layout) (head : HeadText) where
     never can fault (some, inl mix) = some (answers.mixed can.mixable fault mix)
     never can fault (some, inr long) = not_both _ _ can.fits long.2
 
-  render_alike : (texts others : List (List ℕ)) → HearAlike session texts others → RenderAlike session session texts others layout head
+  pub render_alike : (texts others : List (List ℕ)) → HearAlike session texts others → RenderAlike session session texts others layout head
   render_alike texts others same =
       let back = turned session.tracks (sources_of texts) (sources_of others) same in
       record {

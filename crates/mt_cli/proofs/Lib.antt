@@ -2,9 +2,9 @@ pub mod Readers
 pub mod Writing
 pub mod Firsts
 pub mod Recordings
-pub mod SameSources
-pub mod Rendering
 pub mod Headline
+mod Keeping
+pub mod Rendering
 mod Making
 mod Editing
 pub mod Telling

@@ -18,6 +18,7 @@ use Rattle.mt_cli.specs.declared.fault.CliFault.{CliFault}
 use Rattle.mt_cli.specs.declared.fault.CliFault.TheVariants.{Memory, Mix, Write}
 use Rattle.mt_cli.specs.Reading.{GaveLogs, AreRead}
 use Rattle.mt_cli.specs.Joining.{UnionFails}
+use Rattle.mt_cli.specs.LogAndFiles.{FilesLent}
 use Rattle.mt_render.specs.Sources.{sources_of}
 use Rattle.mt_cli.specs.Sources.{GaveWaves, HasSourceCause}
 
@@ -52,6 +53,20 @@ module _ {W : Type 0} (contents : W → Option (List ℕ)) where
   SessionFails session texts layout head old new (Mix fault) = IsMixRefusal session texts layout head fault × (new ≡ old)
   SessionFails session texts layout head old new Write = CanBounce session texts layout head × (new.failed ≡ true) × AppendsPrefix (contents old.inner) (contents new.inner) (session_file session texts layout head)
   SessionFails session texts layout head old new _ = ⊥
+
+  module _ {R : Type 0} (remaining : R → Option (List ℕ)) (layout : Layout) (head : HeadText) (session : Content) where
+    -- the files gave recordings, and the file of a session over them was appended, and nothing else
+    abbrev pub FilesBounced : FilesLent R W → FilesLent R W → Type 0
+    FilesBounced before after =
+        (texts : List (List ℕ))
+        × (GaveWaves remaining before.files texts × (CanBounce session texts layout head × Appends (contents before.output.inner) (contents after.output.inner) (session_file session texts layout head)))
+
+    -- a recording was not read, behind so many other inputs: the output is as it was; or all were, and the file was not written
+    abbrev pub FilesNotBounced : ℕ → FilesLent R W → FilesLent R W → CliFault → Type 0
+    FilesNotBounced others before after fault =
+        (HasSourceCause remaining others 0 before.files after.files fault × (after.output ≡ before.output))
+        ⊎ ((texts : List (List ℕ))
+        × (GaveWaves remaining before.files texts × (AreRead remaining after.files × SessionFails session texts layout head before.output after.output fault)))
 
   module _ {R : Type 0} (remaining : R → Option (List ℕ)) (logs_old logs_new sources_old sources_new : List (Latched R)) (layout : Layout) (head : HeadText) (old new : Latched W) where
     -- the logs are not read, or do not go together: no recording was asked for, and the output is as it was

@@ -6,16 +6,15 @@ ghost use Rattle.mt_sessionview.specs.Session.{session_of};
 ghost use Rattle.mt_cli.specs.Checking.{SessionChecked, SessionNotChecked, FilesChecked, FilesNotChecked};
 ghost use Rattle.mt_cli.specs.LogAndFiles.{lent_files, lent_log_and_files, LogDone, LogNotDone};
 ghost use Rattle.mt_cli.specs.Reading.{IsRead, AreRead};
-ghost use Rattle.mt_cli.specs.Sources.{bytes_in};
 
 use crate::fault::CliFault;
 use crate::read::read_log;
 use crate::render::{refused_file, refused_mix};
-use crate::sources::{catalogue_of, read_sources};
+use crate::sources::{catalogue_of, read_audible};
 use mt_cuewrite::{Head, check_size};
 use mt_opcodec::{Latch, Log};
-use mt_preflight::write_warnings;
-use mt_render::{Format, Mix};
+use mt_preflight::{Audible, write_warnings};
+use mt_render::{Format, HashedFile, Mix};
 use mt_sessionview::{Session, SessionFault, from_scratch};
 use std::alloc::Allocator;
 use std::io::{Read, Write};
@@ -25,17 +24,17 @@ fn check_session<A: Allocator + Clone, W: Write>(
     alloc: A,
     log: &Log<A>,
     session: &Session<A>,
-    texts: &[Vec<u8, A>],
+    kept: &[HashedFile<A>],
     head: &Head<'_>,
     format: Format,
     output: &mut Latch<W>,
 ) -> Result<(), CliFault>
-    ensures ok { OnOk result (SessionChecked W.contents session.now (operations log.now) format head.now (bytes_in texts.now) output.old output.new) }
-    ensures err { IfErr result (SessionNotChecked W.contents session.now (operations log.now) format head.now (bytes_in texts.now) output.old output.new) }
+    ensures ok { OnOk result (SessionChecked W.contents session.now (operations log.now) format head.now kept.now output.old output.new) }
+    ensures err { IfErr result (SessionNotChecked W.contents session.now (operations log.now) format head.now kept.now output.old output.new) }
     ensures sound { OnOk result (output.new.failed ≡ false) }
     ensures stays_failed { output.old.failed ≡ true → output.new ≡ output.old }
 {
-    let catalogue = catalogue_of(alloc.clone()?, texts)?;
+    let catalogue = catalogue_of(alloc.clone()?, kept)?;
     let mix = match Mix::new(alloc.clone()?, session, &catalogue, format) {
         Ok(mix) => mix,
         Err(fault) => return Err(refused_mix(fault)),
@@ -50,27 +49,33 @@ fn check_session<A: Allocator + Clone, W: Write>(
     }
 }
 
-// Checks a log's session over these recordings.
-fn check_texts<A: Allocator + Clone, W: Write>(
+// Reads recordings, and checks the session of a log over those that are audible.
+fn check_audible<A: Allocator + Clone, R: Read, W: Write>(
     alloc: A,
     log: &Log<A>,
-    texts: &[Vec<u8, A>],
+    session: &Session<A>,
+    sources: &mut [Latch<R>],
     head: &Head<'_>,
     format: Format,
     output: &mut Latch<W>,
 ) -> Result<(), CliFault>
-    ensures ok { OnOk result (SessionChecked W.contents (session_of (operations log.now)) (operations log.now) format head.now (bytes_in texts.now) output.old output.new) }
-    ensures err { IfErr result (SessionNotChecked W.contents (session_of (operations log.now)) (operations log.now) format head.now (bytes_in texts.now) output.old output.new) }
+    requires session { session.now ≡ session_of (operations log.now) }
+    ensures ok { OnOk result (FilesChecked R.remaining W.contents format head.now log.now
+        (lent_files sources.old output.old) (lent_files sources.new output.new)) }
+    ensures read { OnOk result (AreRead R.remaining sources.new) }
+    ensures err { IfErr result (FilesNotChecked R.remaining W.contents format head.now log.now
+        (lent_files sources.old output.old) (lent_files sources.new output.new)) }
     ensures sound { OnOk result (output.new.failed ≡ false) }
     ensures stays_failed { output.old.failed ≡ true → output.new ≡ output.old }
 {
-    let Ok(session) = from_scratch(alloc.clone()?, log) else {
-        return Err(CliFault::Memory);
-    };
-    check_session(alloc, log, &session, texts, head, format, output)
+    let audible = Audible::of(alloc.clone()?, session)?;
+    match read_audible(alloc.clone()?, 1, &audible, sources) {
+        Ok(kept) => check_session(alloc, log, session, &kept, head, format, output),
+        Err(fault) => Err(fault),
+    }
 }
 
-// Reads recordings, and checks a log's session over them.
+// The same of a log, of which the session is made.
 fn check_files<A: Allocator + Clone, R: Read, W: Write>(
     alloc: A,
     log: &Log<A>,
@@ -87,10 +92,10 @@ fn check_files<A: Allocator + Clone, R: Read, W: Write>(
     ensures sound { OnOk result (output.new.failed ≡ false) }
     ensures stays_failed { output.old.failed ≡ true → output.new ≡ output.old }
 {
-    match read_sources(alloc.clone()?, 1, sources) {
-        Ok(texts) => check_texts(alloc, log, &texts, head, format, output),
-        Err(fault) => Err(fault),
-    }
+    let Ok(session) = from_scratch(alloc.clone()?, log) else {
+        return Err(CliFault::Memory);
+    };
+    check_audible(alloc, log, &session, sources, head, format, output)
 }
 
 /// Writes what sounds otherwise than one may think where the session of the log of an input is rendered from recordings, in a format and with a head: the

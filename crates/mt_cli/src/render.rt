@@ -2,20 +2,19 @@
 
 ghost use Rattle.std.specs.Prelude.{◌≡◌, ◌≢◌, false, true, ◌+◌, ◌<◌, ◌^◌, length, IfErr, OnOk};
 ghost use Rattle.std.specs.Io.KnownBytes.{Appends};
-ghost use Rattle.mt_opcodec.specs.LogValue.{operations};
-ghost use Rattle.mt_sessionview.specs.Session.{session_of};
 ghost use Rattle.mt_render.specs.declared.fault.MixFault.TheVariants as mix;
 ghost use Rattle.mt_cli.specs.Faults.{file_fault};
-ghost use Rattle.mt_cli.specs.Bouncing.{CanBounce, session_file, SessionFails, BounceFails, HasBounced};
+ghost use Rattle.mt_cli.specs.Bouncing.{CanBounce, session_file, SessionFails, FilesBounced, FilesNotBounced, BounceFails, HasBounced};
+ghost use Rattle.mt_cli.specs.LogAndFiles.{lent_files};
 ghost use Rattle.mt_cli.specs.Reading.{AreRead};
-ghost use Rattle.mt_cli.specs.Sources.{bytes_in};
 
 use crate::fault::CliFault;
-use crate::sources::{catalogue_of, read_sources};
+use crate::sources::{catalogue_of, read_audible};
 use crate::union::union_of;
 use mt_cuewrite::{BounceFault, Head, bounce};
-use mt_opcodec::{Latch, Log};
-use mt_render::{Format, Mix, MixFault};
+use mt_opcodec::Latch;
+use mt_preflight::Audible;
+use mt_render::{Format, HashedFile, Mix, MixFault};
 use mt_sessionview::{Session, from_scratch};
 use std::alloc::Allocator;
 use std::io::{Read, Write};
@@ -46,18 +45,18 @@ pub(crate) fn refused_file(fault: BounceFault) -> CliFault
 fn put_session<A: Allocator + Clone, W: Write>(
     alloc: A,
     session: &Session<A>,
-    texts: &[Vec<u8, A>],
+    kept: &[HashedFile<A>],
     head: &Head<'_>,
     format: Format,
     output: &mut Latch<W>,
 ) -> Result<(), CliFault>
-    ensures can { OnOk result (CanBounce session.now (bytes_in texts.now) format head.now) }
-    ensures ok { OnOk result (Appends (W.contents output.old.inner) (W.contents output.new.inner) (session_file session.now (bytes_in texts.now) format head.now)) }
-    ensures err { IfErr result (SessionFails W.contents session.now (bytes_in texts.now) format head.now output.old output.new) }
+    ensures can { OnOk result (CanBounce session.now kept.now format head.now) }
+    ensures ok { OnOk result (Appends (W.contents output.old.inner) (W.contents output.new.inner) (session_file session.now kept.now format head.now)) }
+    ensures err { IfErr result (SessionFails W.contents session.now kept.now format head.now output.old output.new) }
     ensures sound { OnOk result (output.new.failed ≡ false) }
     ensures stays_failed { output.old.failed ≡ true → output.new ≡ output.old }
 {
-    let catalogue = catalogue_of(alloc.clone()?, texts)?;
+    let catalogue = catalogue_of(alloc.clone()?, kept)?;
     let mix = match Mix::new(alloc.clone()?, session, &catalogue, format) {
         Ok(mix) => mix,
         Err(fault) => return Err(refused_mix(fault)),
@@ -68,25 +67,30 @@ fn put_session<A: Allocator + Clone, W: Write>(
     }
 }
 
-// Writes the file of a log's session over these recordings.
-fn put_log<A: Allocator + Clone, W: Write>(
+// Reads recordings, which stand behind so many other inputs, and writes the file of a session over those that are audible.
+fn put_audible<A: Allocator + Clone, R: Read, W: Write>(
     alloc: A,
-    log: &Log<A>,
-    texts: &[Vec<u8, A>],
+    others: usize,
+    session: &Session<A>,
+    sources: &mut [Latch<R>],
     head: &Head<'_>,
     format: Format,
     output: &mut Latch<W>,
 ) -> Result<(), CliFault>
-    ensures can { OnOk result (CanBounce (session_of (operations log.now)) (bytes_in texts.now) format head.now) }
-    ensures ok { OnOk result (Appends (W.contents output.old.inner) (W.contents output.new.inner) (session_file (session_of (operations log.now)) (bytes_in texts.now) format head.now)) }
-    ensures err { IfErr result (SessionFails W.contents (session_of (operations log.now)) (bytes_in texts.now) format head.now output.old output.new) }
+    requires few { others + length sources.old < 2 ^ 64 }
+    ensures ok { OnOk result (FilesBounced W.contents R.remaining format head.now session.now
+        (lent_files sources.old output.old) (lent_files sources.new output.new)) }
+    ensures read { OnOk result (AreRead R.remaining sources.new) }
+    ensures err { IfErr result (FilesNotBounced W.contents R.remaining format head.now session.now others
+        (lent_files sources.old output.old) (lent_files sources.new output.new)) }
     ensures sound { OnOk result (output.new.failed ≡ false) }
     ensures stays_failed { output.old.failed ≡ true → output.new ≡ output.old }
 {
-    let Ok(session) = from_scratch(alloc.clone()?, log) else {
-        return Err(CliFault::Memory);
-    };
-    put_session(alloc, &session, texts, head, format, output)
+    let audible = Audible::of(alloc.clone()?, session)?;
+    match read_audible(alloc.clone()?, others, &audible, sources) {
+        Ok(kept) => put_session(alloc, session, &kept, head, format, output),
+        Err(fault) => Err(fault),
+    }
 }
 
 /// Writes the file of the session of the union of the logs' sets, played from the recordings, in a format and with a head, and
@@ -99,7 +103,8 @@ fn put_log<A: Allocator + Clone, W: Write>(
 /// failed, which then holds a front of the file. Nothing is written before all else has passed. `Memory` where a growth was
 /// refused, and nothing was written then. Each input is read to its end, but for those behind one at fault, which are not asked.
 ///
-/// The memory is that of the logs, of the session and of the recordings, which are kept whole; not of the programme.
+/// The memory is that of the logs, and then that of the session, of the recordings that its audible clips play, which are kept whole, and of eight
+/// others; not of the programme.
 pub fn bounce_logs<A: Allocator + Clone, R: Read, W: Write>(
     alloc: A,
     logs: &mut [Latch<R>],
@@ -120,9 +125,9 @@ pub fn bounce_logs<A: Allocator + Clone, R: Read, W: Write>(
         Ok(log) => log,
         Err(fault) => return Err(fault),
     };
-    let texts = match read_sources(alloc.clone()?, count, sources) {
-        Ok(texts) => texts,
-        Err(fault) => return Err(fault),
+    let Ok(session) = from_scratch(alloc.clone()?, &log) else {
+        return Err(CliFault::Memory);
     };
-    put_log(alloc, &log, &texts, head, format, output)
+    drop(log);
+    put_audible(alloc, count, &session, sources, head, format, output)
 }

@@ -1,18 +1,27 @@
 //! Reading recordings.
 
-ghost use Rattle.std.specs.Prelude.{◌≡◌, ◌+◌, ◌<◌, ◌^◌, length, IfOk, IfErr, OnOk};
+ghost use Rattle.std.specs.Prelude.{◌≡◌, ◌+◌, ◌++◌, ◌∷◌, [], ◌<◌, ◌^◌, length, map, if◌then◌else◌, IfOk, IfErr, OnOk};
+ghost use Rattle.sha2.specs.Sha256.{sha256};
 ghost use Rattle.mt_bwfread.specs.Wave.{IsWave};
 ghost use Rattle.mt_op.specs.declared.digest.Digest.{Digest as DigestOf};
+ghost use Rattle.mt_preflight.specs.Using.{plays};
 ghost use Rattle.mt_render.specs.Sources.{found, sources_of};
 ghost use Rattle.mt_cli.specs.Reading.{Gave, IsRead, IsRest, AreRead};
-ghost use Rattle.mt_cli.specs.Sources.{GaveWaves, IsSourceCause, HasSourceCause, bytes_in};
+ghost use Rattle.mt_cli.specs.Sources.{IsSourceCause, HasSourceCause, HoldWanted, GaveKept, bytes_in};
 
 use crate::fault::CliFault;
 use mt_bwfread::Wave;
+use mt_digests::digests_of;
+use mt_op::Digest;
 use mt_opcodec::{Latch, LatchFault};
-use mt_render::Catalogue;
-use std::alloc::Allocator;
+use mt_preflight::Audible;
+use mt_render::{Catalogue, HashedFile};
+use std::alloc::{AllocError, Allocator};
 use std::io::Read;
+use std::mem;
+
+// How many recordings are held until they are hashed together and those that are not audible are let go.
+const GROUP: usize = 8;
 
 // Reads the wave file of the recording of this index, which stands behind so many other inputs.
 fn read_source<A: Allocator, R: Read>(
@@ -38,41 +47,130 @@ fn read_source<A: Allocator, R: Read>(
     }
 }
 
-/// Reads the wave file of each recording, from left to right. They stand behind so many other inputs.
-pub(crate) fn read_sources<A: Allocator + Clone, R: Read>(
+// The digests of recordings.
+fn digests_in<A: Allocator + Clone>(
     alloc: A,
-    others: usize,
-    inputs: &mut [Latch<R>],
-) -> Result<Vec<Vec<u8, A>, A>, CliFault>
-    requires few { others + length inputs.old < 2 ^ 64 }
-    ensures read { OnOk result (AreRead R.remaining inputs.new) }
-    ensures ok { IfOk result (λ texts. GaveWaves R.remaining inputs.old (bytes_in texts.items)) }
-    ensures err { IfErr result (HasSourceCause R.remaining others 0 inputs.old inputs.new) }
-{
-    let mut texts = Vec::new(alloc.clone()?);
-    for place in 0..inputs.len() {
-        let input = &mut inputs[place];
-        let text = read_source(alloc.clone()?, others, place, input)?;
-        texts.push(text)?;
-    }
-    Ok(texts)
-}
-
-/// The recordings under their digests. Each was read as a wave file before, so that only memory refuses it.
-pub(crate) fn catalogue_of<'a, A: Allocator + Clone>(
-    alloc: A,
-    texts: &'a [Vec<u8, A>],
-) -> Result<Catalogue<'a, A>, CliFault>
-    ensures ok { IfOk result (λ c. (d : DigestOf) → found c d ≡ found (sources_of (bytes_in texts.now)) d) }
-    ensures err { IfErr result (λ fault. fault ≡ CliFault.Memory) }
+    texts: &[Vec<u8, A>],
+) -> Result<Vec<[u8; 32], A>, AllocError>
+    ensures { IfOk result (λ digests. digests.items ≡ map sha256 (bytes_in texts.now)) }
 {
     let mut files = Vec::new(alloc.clone()?);
     for text in texts {
         files.push(text.as_slice())?;
     }
-    let mut catalogue = Catalogue::new(alloc.clone()?);
-    match catalogue.add_all(alloc, &files) {
-        Ok(()) => Ok(catalogue),
-        Err(_) => Err(CliFault::Memory),
+    let digests = digests_of(alloc, &files)?;
+    Ok(digests)
+}
+
+// Moves a recording behind what is kept, if it is audible.
+fn keep_one<A: Allocator + Clone>(
+    alloc: &A,
+    audible: &Audible<A>,
+    digest: Digest,
+    text: &mut Vec<u8, A>,
+    kept: &mut Vec<HashedFile<A>, A>,
+) -> Result<(), AllocError>
+    requires hashed { digest.0 ≡ sha256 text.old.items }
+    ensures { OnOk result (kept.new.items ≡ (if plays audible.now.uses digest then kept.old.items ++ text.old.items ∷ [] else kept.old.items)) }
+{
+    if !audible.plays(&digest) {
+        return Ok(());
     }
+    let bytes = mem::replace(text, Vec::new(alloc.clone()?));
+    kept.push(HashedFile::new(digest, bytes))?;
+    Ok(())
+}
+
+// Moves those recordings of these digests that are audible behind what is kept.
+fn keep_each<A: Allocator + Clone>(
+    alloc: &A,
+    audible: &Audible<A>,
+    digests: &[[u8; 32]],
+    group: &mut [Vec<u8, A>],
+    kept: &mut Vec<HashedFile<A>, A>,
+) -> Result<(), AllocError>
+    requires digests { digests.now ≡ map sha256 (bytes_in group.old) }
+    ensures { OnOk result (HoldWanted (plays audible.now.uses) kept.new.items (kept.old.items ++ bytes_in group.old)) }
+{
+    for index in 0..group.len() {
+        let digest = Digest(digests[index]);
+        let text = &mut group[index];
+        keep_one(alloc, audible, digest, text, kept)?;
+    }
+    Ok(())
+}
+
+// Moves those recordings of a group that are audible behind what is kept, and lets the others go.
+fn keep_group<A: Allocator + Clone>(
+    alloc: &A,
+    audible: &Audible<A>,
+    group: &mut Vec<Vec<u8, A>, A>,
+    kept: &mut Vec<HashedFile<A>, A>,
+) -> Result<(), AllocError>
+    ensures holds { OnOk result (HoldWanted (plays audible.now.uses) kept.new.items (kept.old.items ++ bytes_in group.old.items)) }
+    ensures empty { OnOk result (group.new.items ≡ []) }
+{
+    let digests = digests_in(alloc.clone()?, group)?;
+    keep_each(alloc, audible, &digests, group, kept)?;
+    group.clear();
+    Ok(())
+}
+
+// The same of a group that is whole; of another nothing.
+fn keep_whole<A: Allocator + Clone>(
+    alloc: &A,
+    audible: &Audible<A>,
+    group: &mut Vec<Vec<u8, A>, A>,
+    kept: &mut Vec<HashedFile<A>, A>,
+) -> Result<(), AllocError>
+    ensures { OnOk result (HoldWanted (plays audible.now.uses) (kept.new.items ++ bytes_in group.new.items) (kept.old.items ++ bytes_in group.old.items)) }
+{
+    if group.len() < GROUP {
+        return Ok(());
+    }
+    keep_group(alloc, audible, group, kept)?;
+    Ok(())
+}
+
+/// Reads the wave file of each recording, from left to right, and keeps those that are audible, each with its digest. They stand behind so many other
+/// inputs. In memory are at most eight at a time beside those that are kept.
+pub(crate) fn read_audible<A: Allocator + Clone, R: Read>(
+    alloc: A,
+    others: usize,
+    audible: &Audible<A>,
+    inputs: &mut [Latch<R>],
+) -> Result<Vec<HashedFile<A>, A>, CliFault>
+    requires few { others + length inputs.old < 2 ^ 64 }
+    ensures read { OnOk result (AreRead R.remaining inputs.new) }
+    ensures ok { IfOk result (λ kept. GaveKept R.remaining (plays audible.now.uses) inputs.old kept.items) }
+    ensures err { IfErr result (HasSourceCause R.remaining others 0 inputs.old inputs.new) }
+{
+    let mut kept = Vec::new(alloc.clone()?);
+    let mut group = Vec::new(alloc.clone()?);
+    for place in 0..inputs.len() {
+        let input = &mut inputs[place];
+        let text = read_source(alloc.clone()?, others, place, input)?;
+        group.push(text)?;
+        keep_whole(&alloc, audible, &mut group, &mut kept)?;
+    }
+    keep_group(&alloc, audible, &mut group, &mut kept)?;
+    Ok(kept)
+}
+
+/// The recordings under their digests. Each was read as a wave file before, so that only memory refuses it.
+pub(crate) fn catalogue_of<'a, A: Allocator + Clone>(
+    alloc: A,
+    kept: &'a [HashedFile<A>],
+) -> Result<Catalogue<'a, A>, CliFault>
+    ensures ok { IfOk result (λ c. (d : DigestOf) → found c d ≡ found (sources_of kept.now) d) }
+    ensures err { IfErr result (λ fault. fault ≡ CliFault.Memory) }
+{
+    let mut catalogue = Catalogue::new(alloc);
+    for file in kept {
+        match catalogue.add_hashed(file) {
+            Ok(()) => {}
+            Err(_) => return Err(CliFault::Memory),
+        }
+    }
+    Ok(catalogue)
 }

@@ -3,6 +3,7 @@ mod Ends
 mod HeldLines
 mod Adding
 mod Noting
+pub mod Sounding
 mod Pieces
 mod Silent
 mod OnTop

@@ -1,10 +1,11 @@
 -- One clip, and one file, more.
 use Rattle.std.proofs.Common.{◌≡◌, ℕ, ◌+◌, ◌<◌, ◌≤◌, max, inl, inr, Bool, true, false, List, [], ◌∷◌, ◌++◌, length, length-append, map, take, get_or, Option, Some, None, unwrap_or, refl, sym, ◌∙◌, ap, subst, arith, append_assoc, Bor}
-use Rattle.std.specs.Prelude.{filter, Result, Ok, Err, if◌then◌else◌}
+use Rattle.std.specs.Prelude.{filter, not, ◌==◌, Result, Ok, Err, if◌then◌else◌}
+use lib.Dec.{eqb-suc-zero}
 use Rattle.std.specs.BTreeMap.{BTreeMap, get}
 use Rattle.std.specs.Cmp.{IsTotalOrder}
 use Rattle.std.specs.FinMap.{slice_cmp-IsAntisymmetric, nat_cmp-IsAntisymmetric}
-use Rattle.std.specs.List.{dedup, flat_map}
+use Rattle.std.specs.List.{dedup, flat_map, list_any}
 use Rattle.std.specs.List.Retain.{IsFiltered, DiffersFromLast}
 use Rattle.std.specs.List.Sorted.{IsPermutation, IsSorted}
 use Rattle.std.specs.Option.{option_or}
@@ -123,6 +124,11 @@ few_clips d xs i heard uses below are = let same = ap (λ (u : Use). u.clips) (a
 
 pub few_audible : (d : Digest) (xs : List (Bor Clip)) (i : ℕ) (clips : List Clip) (uses : BTreeMap Digest Use) → i < length xs → AreUses clips (map (λ c. c.now) (take i xs)) uses → (noted uses d).audible < length xs
 few_audible d xs i clips uses below are = let same = ap (λ (u : Use). u.audible) (are d) in omega (arith, same, taken_few d xs i below)
+
+-- some are kept where one passes
+pub some_kept : {X : Type 0} (f : X → Bool) (xs : List X) → not (length (filter f xs) == 0) ≡ list_any f xs
+some_kept f [] = refl
+some_kept f (x ∷ xs) = elim (cases_Bool (f x)) [ inl keeps ↦ rw keeps (ap not (eqb-suc-zero (length (filter f xs)))) | inr drops ↦ rw drops (some_kept f xs) ]
 
 -- ---- files
 

@@ -1,6 +1,6 @@
 -- The recordings that the clips of a session play, and what the session makes of each (profile).
-use Rattle.std.specs.Prelude.{ℕ, ◌+◌, max, List, [], ◌∷◌, map, filter, length}
-use Rattle.std.specs.List.{flat_map, dedup}
+use Rattle.std.specs.Prelude.{ℕ, ◌+◌, max, Bool, List, [], ◌∷◌, map, filter, length}
+use Rattle.std.specs.List.{flat_map, dedup, list_any}
 use Rattle.mt_stamp.specs.Sorting.{sort_by}
 use Rattle.mt_op.specs.declared.digest.Digest.{Digest}
 use Rattle.mt_sessionview.specs.Content.{Clip, Track}
@@ -37,3 +37,11 @@ use_by clips heard d = record { clips = length (playing d clips); audible = leng
 -- others may lie over them), and how far into the recording they go.
 abbrev pub use_of : List Track → Digest → Use
 use_of tracks d = use_by (all_clips tracks) (audible tracks) d
+
+-- one of these clips plays the recording
+abbrev pub is_played : List Clip → Digest → Bool
+is_played clips d = list_any (λ c. is_same c.source d) clips
+
+-- a clip that is audible plays it
+abbrev pub is_audible : List Track → Digest → Bool
+is_audible tracks d = is_played (audible tracks) d

@@ -1,5 +1,5 @@
 -- What the maps hold that the lines are made of: no definition of the subject.
-use Rattle.std.specs.Prelude.{◌≡◌, ℕ, List, [], slice_index_or, Option, Some, None, unwrap_or, Result, Ok, Err}
+use Rattle.std.specs.Prelude.{◌≡◌, ℕ, ◌==◌, Bool, not, List, [], slice_index_or, Option, Some, None, unwrap_or, Result, Ok, Err}
 use Rattle.std.specs.BTreeMap.{BTreeMap, get}
 use Rattle.mt_op.specs.declared.digest.Digest.{Digest}
 use Rattle.mt_bwfread.specs.declared.fault.WaveFault.{WaveFault}
@@ -17,6 +17,10 @@ no_use = record { clips = 0; audible = 0; end = 0 }
 -- what is noted of a digest
 abbrev pub noted : BTreeMap Digest Use → Digest → Use
 noted uses d = unwrap_or (get digest_cmp uses d) no_use
+
+-- an audible clip is noted under the digest
+abbrev pub plays : BTreeMap Digest Use → Digest → Bool
+plays uses d = not ((noted uses d).audible == 0)
 
 -- the recording that a file is, if it is one
 abbrev pub wave_of : Result Recording WaveFault → Option Recording

@@ -59,6 +59,7 @@
 //! `specs/WarningsText.antt` is that text, and `laws` says what a line stands for.
 #![tactic(auto)]
 
+mod audible;
 mod behind;
 mod channels;
 mod clips;
@@ -78,6 +79,7 @@ mod uses;
 mod warning_line;
 mod warnings;
 
+pub use audible::Audible;
 pub use given::{Given, Recording, describe};
 pub use listing::Listing;
 pub use sources::write_sources;

@@ -26,7 +26,7 @@ tie d e h = same_digest d e (slice_cmp-IsAntisymmetric nat_cmp-IsAntisymmetric d
 no_tie : (d e : Digest) → is_eq (digest_cmp d e) ≡ false → d ≢ e
 no_tie d e h same = unlike (bytes_eq d.0 e.0) d.0 e.0 (sym (is_eq-slice_cmp d.0 e.0) ∙ h) refl (ap (λ (k : Digest). k.0) same)
 
-found_append : (a b : Sources) (d : Digest) → found (a ++ b) d ≡ option_or (found a d) (found b d)
+pub found_append : (a b : Sources) (d : Digest) → found (a ++ b) d ≡ option_or (found a d) (found b d)
 found_append [] b d = refl
 found_append (x ∷ a) b d = elim (cases_Bool (is_eq (digest_cmp d x.0))) [
   | inl same ↦ rw same refl

@@ -1,6 +1,6 @@
 //! The recordings that are at hand.
 
-ghost use Rattle.std.specs.Prelude.{◌≡◌, ◌≢◌, ℕ, Some, None, IfOk, OnOk, OnErr, IfErr, map, unwrap_or};
+ghost use Rattle.std.specs.Prelude.{◌≡◌, ◌≢◌, ℕ, ◌∷◌, [], Some, None, IfOk, OnOk, OnErr, IfErr, map, unwrap_or};
 ghost use Rattle.std.specs.List.{AllByRecursion};
 ghost use Rattle.sha2.specs.Sha256.{sha256};
 ghost use Rattle.mt_op.specs.declared.digest.Digest.{Digest as DigestOf};
@@ -9,6 +9,7 @@ ghost use Rattle.mt_render.specs.Faults.{IsSourceFault};
 ghost use Rattle.mt_render.specs.declared.fault.SourceFault.TheVariants as source;
 
 use crate::fault::SourceFault;
+use crate::hashed::HashedFile;
 use mt_bwfread::Wave;
 use mt_digests::digests_of;
 use mt_op::Digest;
@@ -95,6 +96,21 @@ impl<'a, A: Allocator> Catalogue<'a, A> {
                 Ok(())
             }
             Err(fault) => Err(SourceFault::Wave(fault)),
+        }
+    }
+
+    /// Puts a wave file under its digest, which is at hand, as `add` does. Refused as `add` is; nothing is changed then.
+    pub fn add_hashed<B: Allocator>(&mut self, file: &'a HashedFile<B>) -> Result<(), SourceFault>
+    where
+        A: Clone,
+        ensures ok { OnOk result (HasAdded self.old (file.now ∷ []) self.new) }
+        ensures wave { OnOk result (IsWave file.now) }
+        ensures fault { IfErr result (IsSourceFault file.now) }
+        ensures refused { OnErr result ((e : DigestOf) → found self.new e ≡ found self.old e) }
+    {
+        match self.add_under(file.digest(), file.bytes()) {
+            Ok(()) => Ok(()),
+            Err(fault) => Err(fault),
         }
     }
 

@@ -1,12 +1,14 @@
-use Rattle.std.proofs.Common.{List, ℕ, map, ap, ◌∙◌, arith}
+use Rattle.std.proofs.Common.{ℕ, List, sym, ap, ◌∙◌, arith}
 use Rattle.std.proofs.lemmas.List.{take_all}
 use Rattle.mt_render.specs.Sources.{found, sources_of}
-use Rattle.mt_render.proofs.Gathered.{added_to_none}
-use Rattle.mt_cli.specs.Sources.{bytes_in}
+use Rattle.mt_cli.proofs.Keeping.{found_more}
 use Rattle.mt_cli.proofs.sources.catalogue_of.Goals as goal
 
-pub returns-in-Ok-clause-ok : goal.returns-in-Ok-clause-ok
-returns-in-Ok-clause-ok g c = λ d.
-    let texts = c.args.texts.now in
-    let files = ap (map (λ file. file.now)) c.deref.ensures.value ∙ c.loop-text.invariant ∙ ap bytes_in (take_all c.loop-text.text-index texts (omega arith)) in
-    added_to_none _ c.add_all.new.self _ c.new-catalogue.ensures c.in-Ok.ensures.ok d ∙ ap (λ (fs : List (List ℕ)). found (sources_of fs) d) files
+pub loop-file-init : goal.loop-file-init
+loop-file-init g c = λ d. c.new-catalogue.ensures d
+
+pub loop-file-preserved : goal.loop-file-preserved
+loop-file-preserved g c = found_more c.args.kept.now c.loop-file.file-index _ c.loop-file.catalogue c.add_hashed.new.self c.loop-file-test.true c.file-item.is c.loop-file.invariant c.in-Ok.ensures.ok
+
+pub returns-clause-ok : goal.returns-clause-ok
+returns-clause-ok g c = λ d. c.loop-file.invariant d ∙ ap (λ (fs : List (List ℕ)). found (sources_of fs) d) (take_all c.loop-file.file-index c.args.kept.now (omega arith))

@@ -1,0 +1,34 @@
+use Rattle.std.proofs.Common.{refl, inl}
+use Rattle.mt_cli.specs.declared.fault.CliFault.TheVariants.{Memory}
+use Rattle.mt_cli.specs.Bouncing.{FilesNotBounced}
+use Rattle.mt_cli.specs.LogAndFiles.{lent_files}
+use Rattle.mt_cli.proofs.Keeping.{gave_audible}
+use Rattle.mt_cli.proofs.Readers.{told_as}
+use Rattle.mt_cli.proofs.Recordings.{HasSourceCause-memory}
+use Rattle.mt_cli.proofs.Rendering.{files_bounced, files_not_bounced}
+use Rattle.mt_cli.proofs.render.put_audible.Goals as goal
+
+pub returns-in_err-clone-clause-err : goal.returns-in_err-clone-clause-err
+returns-in_err-clone-clause-err g c =
+    told_as c.from_residual.result (FilesNotBounced g.W.Write.contents g.R.Read.remaining c.args.format c.args.head.now c.args.session.now c.args.others (lent_files c.args.sources.now c.args.output.now) (lent_files c.args.sources.now c.args.output.now)) Memory c.from_residual.ensures.1
+    (inl (HasSourceCause-memory g.R.Read.remaining c.args.others 0 c.args.sources.now, refl))
+
+pub returns-in_err-audible-clause-err : goal.returns-in_err-audible-clause-err
+returns-in_err-audible-clause-err g c =
+    told_as c.from_residual-in_err-audible.result (FilesNotBounced g.W.Write.contents g.R.Read.remaining c.args.format c.args.head.now c.args.session.now c.args.others (lent_files c.args.sources.now c.args.output.now) (lent_files c.args.sources.now c.args.output.now)) Memory c.from_residual-in_err-audible.ensures.1
+    (inl (HasSourceCause-memory g.R.Read.remaining c.args.others 0 c.args.sources.now, refl))
+
+pub returns-in_err-clone-2-clause-err : goal.returns-in_err-clone-2-clause-err
+returns-in_err-clone-2-clause-err g c =
+    told_as c.from_residual-in_err-clone-2.result (FilesNotBounced g.W.Write.contents g.R.Read.remaining c.args.format c.args.head.now c.args.session.now c.args.others (lent_files c.args.sources.now c.args.output.now) (lent_files c.args.sources.now c.args.output.now)) Memory c.from_residual-in_err-clone-2.ensures.1
+    (inl (HasSourceCause-memory g.R.Read.remaining c.args.others 0 c.args.sources.now, refl))
+
+pub returns-in-Ok-clause-ok : goal.returns-in-Ok-clause-ok
+returns-in-Ok-clause-ok g c =
+    files_bounced g.W.Write.contents g.R.Read.remaining c.args.format c.args.head.now c.args.session.now c.args.others (lent_files c.args.sources.now c.args.output.now) (lent_files c.read_audible.new.inputs c.put_session.new.output) c.deref.result.now
+    (gave_audible g.R.Read.remaining c.args.session.now c.args.sources.now c.in_ok-audible.audible.uses c.in-Ok.kept.items c.deref.result.now c.in_ok-audible.ensures c.deref.ensures.value c.in-Ok.ensures.ok) c.put_session.result c.put_session.ensures.can c.put_session.ensures.ok
+
+pub returns-in-Ok-clause-err : goal.returns-in-Ok-clause-err
+returns-in-Ok-clause-err g c =
+    files_not_bounced g.W.Write.contents g.R.Read.remaining c.args.format c.args.head.now c.args.session.now c.args.others (lent_files c.args.sources.now c.args.output.now) (lent_files c.read_audible.new.inputs c.put_session.new.output) c.deref.result.now
+    (gave_audible g.R.Read.remaining c.args.session.now c.args.sources.now c.in_ok-audible.audible.uses c.in-Ok.kept.items c.deref.result.now c.in_ok-audible.ensures c.deref.ensures.value c.in-Ok.ensures.ok) c.put_session.result c.in-Ok.ensures.read c.put_session.ensures.err

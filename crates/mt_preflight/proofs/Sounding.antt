@@ -1,0 +1,15 @@
+-- Clips that play a recording.
+use Rattle.std.proofs.Common.{◌≡◌, inl, inr, Bool, true, false, List, [], ◌∷◌, refl, sym, ap, ◌∙◌}
+use Rattle.std.proofs.lemmas.Bool.{cases_Bool}
+use Rattle.mt_op.specs.declared.digest.Digest.{Digest}
+use Rattle.mt_sessionview.specs.Content.{Clip}
+use Rattle.mt_render.specs.Refusals.{IsAmong}
+use Rattle.mt_preflight.specs.Files.{is_same}
+use Rattle.mt_preflight.specs.Played.{is_played}
+use Rattle.mt_preflight.proofs.Noting.{is_self}
+
+-- the recording of a clip is played
+pub audible_is : (clips : List Clip) (c : Clip) → IsAmong c clips → is_played clips c.source ≡ true
+audible_is [] c none = absurd none
+audible_is (d ∷ clips) c (inl is) = rw (ap (λ (x : Clip). is_same x.source c.source) (sym is) ∙ is_self c.source) refl
+audible_is (d ∷ clips) c (inr later) = elim (cases_Bool (is_same d.source c.source)) [ inl same ↦ rw same refl | inr other ↦ rw other (audible_is clips c later) ]
