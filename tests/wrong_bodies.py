@@ -467,7 +467,8 @@ def try_crate(name, folder):
         print("%s: %s: %s" % (name, edit, wrong[edit]))
     for edit in sorted(weak):
         print("%s: %s: %s" % (name, edit, "let through by its contract" if weak[edit] == "let through" else "refused only since names of its proof are gone"))
-    print("%s: %d wrong bodies in %d checks, %d not refused" % (name, len(edits), checks, len(wrong)), flush=True)
+    told = (name, len(edits), checks, len(wrong), list(weak.values()).count("let through"), list(weak.values()).count("names"))
+    print("%s: %d wrong bodies in %d checks, %d not refused, %d let through, %d refused by names alone" % told, flush=True)
     if folder == "wrong-bodies" and not wrong and not weak and made == sum_of(name):
         note_tried(name, len(edits), made)
     return len(wrong) + len(weak)
