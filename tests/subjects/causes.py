@@ -2,9 +2,10 @@
 from hashlib import sha256
 
 from subjects.case import LATE, NEWS, ONE, case
+from subjects.logs import FADED, ON_V, SPAN, V, in_version
 from subjects.waves import SMALLEST
 from formats.exchange import BYE, have, ops
-from formats.logs import A, B, add_clip, add_marker, add_track, head, log, seal
+from formats.logs import A, B, add_clip, add_marker, add_track, head, log, seal, set_fade
 
 EDITOR = "00000000-0000-0000-0000-%012x" % A
 CUT = ONE[:-1]
@@ -41,6 +42,9 @@ caused("damaged_log", 13, "log bad", ["view", "log", "bad"], {"log": ONE, "bad":
 caused("wave_for_a_log", 11, "log wave", ["merge", "out", "wave"], {"wave": SMALLEST})
 caused("damaged_standard_input", 13, "log standard input", ["view"], stdin=CUT)
 caused("bad_record", 14, "log log record 0", ["view", "log"], {"log": seal(head(1) + b"\0" * 41)})
+caused("a_fade_in_version_1", 14, "log log record 2", ["view", "log"], {"log": in_version(1, V, ON_V, FADED)})
+caused("a_length_in_version_2", 14, "log log record 1", ["view", "log"], {"log": in_version(2, NEWS, SPAN)})
+caused("a_fade_too_long", 14, "log log record 2", ["view", "log"], {"log": in_version(2, V, ON_V, set_fade((3, A, 3), (2, A, 2), 1048577, 0))})
 SWAPPED = ONE[13:-32]
 caused("log_out_of_order", 15, "log log record 1", ["view", "log"], {"log": seal(head(2) + SWAPPED + SWAPPED)})
 caused("clash_of_two", 17, "log home operation 1.%s" % EDITOR, ["merge", "out", "desk", "home"], {"desk": ONE, "home": OTHER})

@@ -91,6 +91,11 @@ assert [len(op[1]) for op in (V, ON_V, FADED, SPAN)] == [36, 109, 73, 69]
 assert [(len(text), text[4]) for text in (log([V, ON_V, FADED]), log([V, ON_V]), log([NEWS, SPAN]))] == [(263, 2), (190, 1), (156, 3)]
 V_LINE, clip = track_line((1, A, 1), "V"), lambda **how: clip_line((2, A, 2), (2, A, 2), 0, 0, 3, bytes(32), **how)
 both_of("a_fade_in_one_of_two_logs", ["faded", "plain"], [V, ON_V, FADED], V_LINE + clip(fades=(2, 1)) + "held 0\n", files={"faded": log([V, ON_V, FADED]), "plain": log([V, ON_V])})
+# of two fades of one clock the one of the greater replica is shown, whichever log comes first
+TWO_FADES = [set_fade((3, A, 3), (2, A, 2), 1, 0), set_fade((3, B, 1), (2, A, 2), 5, 0)]
+for order in ("ab", "ba"):
+    both_of("two_fades_in_logs_" + order, list(order), [V, ON_V] + TWO_FADES, V_LINE + clip(fades=(5, 0)) + "held 0\n",
+            files={"a": log([V, ON_V, TWO_FADES[0]]), "b": log([V, ON_V, TWO_FADES[1]])})
 both_of("a_fade_that_waits_alone", ["log"], [FADED], "held 1\n", held=[(3, A, 3)], files={"log": log([FADED])})
 both_of("a_length_that_waits_alone", ["log"], [SPAN], "held 1\n", held=[(2, A, 2)], files={"log": log([SPAN])})
 

@@ -110,8 +110,10 @@ span = lambda own, length: set_marker_length(own, M, length)
 both("marker_with_a_length", [NEWS, span((2, A, 2), 96)], marker_line(M, 480, "News", 96) + "held 0\n")
 both("marker_with_the_greatest_length", [NEWS, span((2, A, 2), 2**32 - 1)], marker_line(M, 480, "News", 2**32 - 1) + "held 0\n")
 both("marker_that_is_a_point_again", [NEWS, span((2, A, 2), 96), span((3, B, 1), 0)], SHOWN + "held 0\n")
-for order, name in ((1, "lengths_of_one_clock"), (-1, "lengths_of_one_clock_turned")):
-    view(name, [NEWS] + [span((2, A, 2), 3), span((2, B, 1), 2)][::order], marker_line(M, 480, "News", 2) + "held 0\n")
+spans = [span((2, A, 2), 3), span((2, B, 1), 2)]
+view("lengths_of_one_clock", [NEWS] + spans, marker_line(M, 480, "News", 2) + "held 0\n")
+for order in ["ab", "ba"]:
+    both_of("lengths_of_one_clock_in_logs_" + order, list(order), [NEWS] + spans, marker_line(M, 480, "News", 2) + "held 0\n", files={"a": log([NEWS, spans[0]]), "b": log([NEWS, spans[1]])})
 view("marker_with_a_length_that_moved", [NEWS, span((2, A, 2), 96), move_marker((3, B, 1), M, 5), retitle((4, B, 2), M, "Late")], marker_line(M, 5, "Late", 96) + "held 0\n")
 view("length_set_while_absent", [NEWS, remove((2, A, 2), M, [M]), span((3, B, 1), 96), restore((4, C, 1), M)], marker_line(M, 480, "News", 96) + "held 0\n")
 both("length_of_a_retitle_waits", [NEWS, LATE, set_marker_length((3, C, 1), (2, B, 1), 96)], marker_line(M, 480, "Late") + "held 1\n", held=[(3, C, 1)])

@@ -106,8 +106,8 @@ for name, text in [("greek", "Ειδήσεις"), ("arabic", "أخبار"), ("ha
 
 # fades: of two that were set the one of the greater stamp is shown, and none where both are 0
 fade = lambda own, fade_in, fade_out: set_fade(own, (2, A, 2), fade_in, fade_out)
-for order, name in ((1, "faded_clip"), (-1, "faded_clip_turned")):
-    view(name, [p, clip] + [fade((3, A, 3), 1, 0), fade((3, B, 1), 5, 0)][::order], shown((2, A, 2), 1, fades=(5, 0)))
+view("faded_clip", [p, clip, fade((3, A, 3), 1, 0), fade((3, B, 1), 5, 0)], shown((2, A, 2), 1, fades=(5, 0)))
+view("faded_clip_by_clock", [p, clip, fade((4, A, 3), 1, 0), fade((3, B, 1), 5, 0)], shown((2, A, 2), 1, fades=(1, 0)))
 both("clip_that_fades_out", [p, clip, fade((3, B, 1), 0, 7)], shown((2, A, 2), 1, fades=(0, 7)))
 both("clip_that_fades_longest", [p, clip, fade((3, B, 1), 1048576, 1048576)], shown((2, A, 2), 1, fades=(1048576, 1048576)))
 both("clip_that_fades_no_more", [p, clip, fade((3, B, 1), 5, 6), fade((4, A, 3), 0, 0)], shown((2, A, 2), 1))
