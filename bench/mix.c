@@ -1,10 +1,10 @@
 /* The formula of the mix in plain C, for bench/mix: one thread, whole numbers, blocks of 1,024 frames.
 
-   mix PLAN WAVE CHANNELS BITS TURNS
+   mix PLAN WAVE CHANNELS BITS TURNS [divided]
 
    PLAN is a text with a line for each segment, `track start end offset num den at len in out`, by tracks and by starts, a gain in lowest terms, and
    where the clip begins, how long it is and how long its fades are; the first line gives the programme's frames. WAVE is a file whose samples begin at byte 44. A segment plays from frame `offset` on. With one turn the samples
-   are summed up as the bench's other program does it; with more the last sample of each block of 4,096 samples is. */
+   are summed up as the bench's other program does it; with more the last sample of each block of 4,096 samples is. With `divided` each sample under a fade is divided in 128 bits. */
 #include <stddef.h>
 #include <stdint.h>
 #include <stdio.h>
@@ -63,6 +63,9 @@ static void add(int64_t *restrict sums, const int32_t *restrict x, int n, uint64
   }
 }
 
+/* whether no fade is quickened */
+static int divided;
+
 static int64_t level(int64_t fade, int64_t i) { return fade == 0 ? 1 : i < fade ? i : fade; }
 
 /* the same under fades, from frame i of a clip: p = num level(in, i) level(out, len - i) x, q = den in out, without the fade that is 0 */
@@ -71,7 +74,7 @@ static void add_faded(int64_t *restrict sums, const int32_t *restrict x, int n, 
   __int128 d = (__int128)den * full;
   if (in == 0 && out == 0) {
     add(sums, x, n, num, den);
-  } else if (d > 1 && d <= (int64_t)1 << 53 && (__int128)num * full <= 1 << 30) {
+  } else if (!divided && d > 1 && d <= (int64_t)1 << 53 && (__int128)num * full <= 1 << 30) {
     /* a product with the inverse and a shift, of what is lifted above zero */
     int shift = 63 - __builtin_clzll((uint64_t)d - 1);
     uint64_t inverse = (uint64_t)((((unsigned __int128)1 << (64 + shift)) + (unsigned __int128)(d - 1)) / (unsigned __int128)d);
@@ -135,7 +138,8 @@ static void block(const struct wave *w, int64_t first, int frames, int channels,
 }
 
 int main(int argc, char **argv) {
-  if (argc != 6) return 2;
+  if (argc != 6 && (argc != 7 || strcmp(argv[6], "divided") != 0)) return 2;
+  divided = argc == 7;
   FILE *plan = fopen(argv[1], "r"), *file = fopen(argv[2], "rb");
   long long length;
   if (!plan || !file || fscanf(plan, "%lld", &length) != 1) return 1;
