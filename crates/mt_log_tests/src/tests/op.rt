@@ -114,6 +114,26 @@ fn needs_a_clip_and_its_track(rt: HostRuntime) -> Result<(), Fail> {
     Ok(())
 }
 
+// What fades of so many frames are refused as.
+fn fade_fault(own: Stamp, clip: Stamp, fade_in: u32, fade_out: u32) -> Option<OpFault> {
+    let body: Body<Global> = Body::SetFade {
+        clip,
+        fade_in,
+        fade_out,
+    };
+    Op::new(own, body).err()
+}
+
+#[test]
+fn makes_the_longest_fades(rt: HostRuntime) -> Result<(), Fail> {
+    let (clip, own) = (Stamp::new(2, A, 2)?, Stamp::new(3, A, 3)?);
+    let too_long = Some(OpFault::FadeTooLong);
+    assert!(rt; fade_fault(own, clip, 1_048_576, 1_048_576).is_none());
+    assert!(rt; fade_fault(own, clip, 1_048_577, 0) == too_long);
+    assert!(rt; fade_fault(own, clip, 0, 1_048_577) == too_long);
+    Ok(())
+}
+
 // Whether a dot stands at this place beside an operation of this stamp.
 fn is_beside(
     alloc: Global,

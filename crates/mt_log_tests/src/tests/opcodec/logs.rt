@@ -1,5 +1,5 @@
 //! Logs as bytes.
-use mt_opcodec::{Log, LogFault, read_op};
+use mt_opcodec::{Log, LogFault, ReadFault, read_op};
 use mt_stamp::Dot;
 use mt_testkit::A;
 use std::alloc::Global;
@@ -81,4 +81,31 @@ fn refuses_each_cut_operation(rt: HostRuntime) {
         assert!(rt; op_refusal(rt.alloc(), &news[..len]) == 8, "of {len}");
     }
     assert!(rt; op_refusal(rt.alloc(), news) == 255);
+}
+
+/// The log of a track, a clip on it and a fade of that, in the version that knows no fade.
+const A_FADE_IN_VERSION_1: &[u8] =
+    b"RMTS\x01\0\0\0\0\0\0\0\x03\0\0\0\0\0\0\0\x01\0\0\0\0\0\0\0\0\0\0\0\0\0\0\0\n\0\0\0\0\0\0\0\x01\x01\0\x01V\0\0\0\0\0\0\0\x02\0\0\0\0\0\0\0\0\0\0\0\0\0\0\0\n\0\0\0\0\0\0\0\x02\x03\0\0\0\0\0\0\0\0\0\0\0\0\0\0\0\0\0\0\0\0\0\0\0\0\0\0\0\0\0\0\0\0\0\0\0\0\0\0\0\x01\0\0\0\0\0\0\0\0\0\0\0\0\0\0\0\n\0\0\0\0\0\0\0\x01\0\0\0\0\0\0\0\0\0\0\0\x03\0\0\0\0\0\0\0\x03\0\0\0\0\0\0\0\0\0\0\0\0\0\0\0\n\0\0\0\0\0\0\0\x03\x0d\0\0\0\0\0\0\0\x02\0\0\0\0\0\0\0\0\0\0\0\0\0\0\0\n\0\0\0\0\0\0\0\x02\0\0\0\x02\0\0\0\x01\xd5]V\xb7#\xf8z\x8b:,\xf8\xda\x97\xab\xe8\xba\xf8\xf0\x95Wt\x9c\x88\xe5\xcf\xe5\x87\x86d2\xdf2";
+
+/// The log of a marker and a length of it, in the version that knows no length.
+const A_LENGTH_IN_VERSION_2: &[u8] =
+    b"RMTS\x02\0\0\0\0\0\0\0\x02\0\0\0\0\0\0\0\x01\0\0\0\0\0\0\0\0\0\0\0\0\0\0\0\n\0\0\0\0\0\0\0\x01\n\0\0\x01\xe0\x04News\0\0\0\0\0\0\0\x02\0\0\0\0\0\0\0\0\0\0\0\0\0\0\0\n\0\0\0\0\0\0\0\x02\x0e\0\0\0\0\0\0\0\x01\0\0\0\0\0\0\0\0\0\0\0\0\0\0\0\n\0\0\0\0\0\0\0\x01\0\0\0`\xf9Z\x0f\xd7\xc0\0 \xab\x12\x16S!\xed$\0\0n\xaa\xe4\xc9q9?\x9b\xf2\xd1\x11\x14\xbbX\xc2\xfe";
+
+/// The log of a track and a clip on it that fades in over 1,048,577 frames.
+const A_FADE_TOO_LONG: &[u8] =
+    b"RMTS\x02\0\0\0\0\0\0\0\x03\0\0\0\0\0\0\0\x01\0\0\0\0\0\0\0\0\0\0\0\0\0\0\0\n\0\0\0\0\0\0\0\x01\x01\0\x01V\0\0\0\0\0\0\0\x02\0\0\0\0\0\0\0\0\0\0\0\0\0\0\0\n\0\0\0\0\0\0\0\x02\x03\0\0\0\0\0\0\0\0\0\0\0\0\0\0\0\0\0\0\0\0\0\0\0\0\0\0\0\0\0\0\0\0\0\0\0\0\0\0\0\x01\0\0\0\0\0\0\0\0\0\0\0\0\0\0\0\n\0\0\0\0\0\0\0\x01\0\0\0\0\0\0\0\0\0\0\0\x03\0\0\0\0\0\0\0\x03\0\0\0\0\0\0\0\0\0\0\0\0\0\0\0\n\0\0\0\0\0\0\0\x03\x0d\0\0\0\0\0\0\0\x02\0\0\0\0\0\0\0\0\0\0\0\0\0\0\0\n\0\0\0\0\0\0\0\x02\0\x10\0\x01\0\0\0\x0075\x81]}\xfb\x03\xe1`\x10Si\x11\xbbn\xb5\x99\xefN\xc0\xc6\xe7\x0d\x90\xa3zSg\xa0\x04<\xfa";
+
+// What bytes are refused as.
+fn log_fault(alloc: Global, bytes: &[u8]) -> Option<LogFault> {
+    Log::read(alloc, bytes).err()
+}
+
+#[test]
+fn tells_which_record_is_none_and_why(rt: HostRuntime) {
+    let unknown_fade = log_fault(rt.alloc(), A_FADE_IN_VERSION_1);
+    assert!(rt; unknown_fade == Some(LogFault::BadRecord(2, ReadFault::BadTag)));
+    let unknown_length = log_fault(rt.alloc(), A_LENGTH_IN_VERSION_2);
+    assert!(rt; unknown_length == Some(LogFault::BadRecord(1, ReadFault::BadTag)));
+    let long = log_fault(rt.alloc(), A_FADE_TOO_LONG);
+    assert!(rt; long == Some(LogFault::BadRecord(2, ReadFault::BadField)));
 }
