@@ -1,5 +1,5 @@
 //! What no clause says: that every call succeeds where there is memory and is refused where there is none, and that a count in a body takes none. Which
-//! message a body is, the clauses say of every one; the cases of `radio have`, `radio lack` and `radio take` show it.
+//! message a body is, the clauses say of every one: the worked bodies are read here, and the cases of `radio have`, `radio lack` and `radio take` show others.
 use mt_stamp::{Dot, Stamp};
 use mt_summary::{Message, MessageFault, Summary, lacking};
 use mt_testkit::{A, B, Refusing, log_of};
@@ -110,6 +110,32 @@ fn refused_read(alloc: Global, body: &[u8]) -> (Option<u8>, u64) {
         Err(fault) => Some(fault.number()),
     };
     (number, memory.allocations())
+}
+
+// Whether a body is read as the Have of a log without operations.
+fn is_empty_have(alloc: Global, body: &[u8]) -> Result<bool, MessageFault> {
+    let Ok(log) = log_of(&alloc, &[]) else {
+        return Err(MessageFault::Memory);
+    };
+    let empty = Message::Have(Summary::of(alloc, &log)?);
+    Ok(Message::read(alloc, body)? == empty)
+}
+
+// The worked bodies: a Have of nothing and a Bye; a byte alone, a replica of which nothing is said, no operation, a byte behind Bye.
+#[test]
+fn reads_the_worked_bodies(rt: HostRuntime) {
+    assert!(rt; is_empty_have(rt.alloc(), &[1, 0, 0, 0, 0]) == Ok(true));
+    assert!(rt; is_empty_have(rt.alloc(), &[3]) == Ok(false));
+    let alone = [1];
+    let silent = [
+        1, 0, 0, 0, 1, 0, 0, 0, 0, 0, 0, 0, 0, 0, 0, 0, 0, 0, 0, 0, 10, 0, 0, 0, 0, 0, 0, 0, 0, 0,
+        0, 0, 0,
+    ];
+    let no_ops = [2, 0, 0, 0, 0];
+    let behind_bye = [3, 0];
+    for body in [alone.as_slice(), &silent, &no_ops, &behind_bye] {
+        assert!(rt; refused_read(rt.alloc(), body).0 == Some(38));
+    }
 }
 
 // A count alone takes no memory: of replicas, of a replica's numbers beside its run, of operations.
