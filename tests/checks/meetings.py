@@ -4,8 +4,8 @@
 `radio serve` and `radio meet` over loopback on logs of several sizes with what they share: both end with the union, byte for byte as
 `radio merge` gives it, and what `have`, `lack` and `take` do by files gives the same. Then peers that cut, that send one byte at a
 time, that send what is no message: a clear status, and the files that were there whole; a meeting of which one side is killed at
-a random moment, which a second meeting completes; ends that wait no longer than is said; and one who serves many in turn, edits made meanwhile going
-along, whom callers that say garbage or nothing do not end.
+a random moment, which a second meeting completes; an OUT that neither side can make after the meeting, which is told at both; ends that wait no longer
+than is said; and one who serves many in turn, edits made meanwhile going along, whom callers that say garbage or nothing do not end.
 """
 import os
 import random
@@ -51,6 +51,10 @@ class Desk:
     def bytes_of(self, name):
         with open(self.path(name), "rb") as file:
             return file.read()
+
+    def files(self):
+        """The bytes of each file, by its name."""
+        return {name: self.bytes_of(name) for name in os.listdir(self.folder)}
 
     def start(self, *words):
         return subprocess.Popen([self.program, *words], cwd=self.folder, stdout=subprocess.PIPE, stderr=subprocess.PIPE, text=True)
@@ -172,6 +176,24 @@ def check_killed(program, seed):
     desk.close()
 
 
+def check_refused_outputs(program):
+    """OUT is made after the conversation: where its part is there, or its folder is not, both ends are refused (37), and each file is as it was."""
+    outputs = [("left", "right"), ("left.new", "right.new"), ("no/left", "no/right")]
+    for out, other in outputs:
+        desk = Desk(program, markers(A, 3), markers(B, 2))
+        for name in (out, other):
+            if os.path.isdir(os.path.dirname(desk.path(name))):
+                with open(desk.path(name + ".part"), "wb") as file:
+                    file.write(b"left by a crash")
+        before = desk.files()
+        child, port = desk.serving(out)
+        mine = desk.run("meet", "127.0.0.1:%d" % port, "right", other)
+        assert (told(child), mine) == (37, 37), out
+        assert desk.files() == before, out
+        desk.close()
+    return 2 * len(outputs)
+
+
 def check_waits(program):
     """Ends that wait a second: for one to come, or to call, and for what the other end says."""
     desk = Desk(program, markers(A, 3), markers(B, 2))
@@ -269,8 +291,8 @@ def main():
     rounds = 50
     for seed in range(rounds):
         check_killed(program, seed)
-    waits, callers = check_waits(program), check_many(program)
-    print("%d meetings of two processes agree with merging and with files, %d peers are told as they are, %d killed meetings were completed, %d waits ended or did not, %d callers were served in turn" % (len(sizes) + 1, len(peers), rounds, waits, callers))
+    outputs, waits, callers = check_refused_outputs(program), check_waits(program), check_many(program)
+    print("%d meetings of two processes agree with merging and with files, %d peers are told as they are, %d killed meetings were completed, %d ends refused an output, %d waits ended or did not, %d callers were served in turn" % (len(sizes) + 1, len(peers), rounds, outputs, waits, callers))
 
 
 if __name__ == "__main__":
