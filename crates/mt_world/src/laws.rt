@@ -1,7 +1,11 @@
-//! What holds of every world, whatever happened in it, and histories that are worked out: the contracts of functions that do nothing.
+//! What holds of every world, whatever happened in it, histories that are worked out, and when faults are equal: each law is the contract of a small
+//! function, which does nothing or only compares.
 
+ghost use Rattle.std.specs.Prelude.{◌≡◌, ◌↔◌, IsTrue};
 ghost use Rattle.mt_world.specs.Examples.{RestartedWorld, LostRemoval, HeldRetitle, MetRetitle, SavedTwice};
 ghost use Rattle.mt_world.specs.Laws.{InEveryWorld, OneUnderEachDot, SentOnce, NoTakeConflicts, MadeIsTaken, StaysUntilRestart, ReadyAtItsAuthor, NothingHeldBack};
+
+use crate::fault::WorldFault;
 
 /// After every list of events between editors whose names differ, what was sent and all that was taken has one operation under each dot,
 /// and each stands once in the list of what was sent, so no take meets another operation under its dot. What an edit makes is in its author's
@@ -26,3 +30,10 @@ pub fn worked_histories()
     ensures met_retitle { MetRetitle }
     ensures saved_twice { SavedTwice }
 {}
+
+/// Faults are equal where they are of one case and name the same index.
+pub fn equal_world_faults(fault: &WorldFault, other: &WorldFault) -> bool
+    ensures { IsTrue result ↔ (fault.now ≡ other.now) }
+{
+    fault == other
+}
