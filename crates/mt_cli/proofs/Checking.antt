@@ -44,9 +44,14 @@ module _ {R W : Type 0} (remaining : R → Option (List ℕ)) (contents : W → 
 
   pub files_checked : (result : Result (Unit {0}) CliFault) → OnOk result (SessionChecked contents session (operations log) layout head kept before.output after.output)
       → OnOk result (FilesChecked remaining contents layout head log before after)
-  files_checked (Ok unit) done =
-      (gave.0, (gave.1.0, subst (λ (s : Content). SessionChecked contents s (operations log) layout head gave.0 before.output after.output) is
-      (alike.written.0 done.0, subst (λ (l : List ℕ). Appends (contents before.output.inner) (contents after.output.inner) l) text done.1)))
+  files_checked (Ok unit) done = (
+    gave.0,
+    (
+      gave.1.0,
+      subst (λ (s : Content). SessionChecked contents s (operations log) layout head gave.0 before.output after.output) is
+          (alike.written.0 done.0, subst (λ (l : List ℕ). Appends (contents before.output.inner) (contents after.output.inner) l) text done.1),
+    ),
+  )
   files_checked (Err fault) done = done
 
   also_fails : (fault : CliFault) → SessionNotChecked contents session (operations log) layout head kept before.output after.output fault → SessionNotChecked contents session (operations log) layout head gave.0 before.output after.output fault

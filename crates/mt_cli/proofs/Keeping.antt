@@ -1,5 +1,5 @@
 -- Recordings that are kept, and those that are let go.
-use Rattle.std.proofs.Common.{◌≡◌, ◌≢◌, ℕ, ◌+◌, ◌<◌, true, false, Bool, List, [], ◌∷◌, ◌++◌, length, get_or, take, drop, Option, refl, sym, ap, subst, ◌∙◌, append_assoc, append-nil, inl, inr, map, Bor}
+use Rattle.std.proofs.Common.{◌≡◌, ℕ, ◌+◌, ◌<◌, false, Bool, List, [], ◌∷◌, ◌++◌, length, get_or, take, drop, Option, refl, sym, ap, subst, ◌∙◌, append_assoc, inl, inr, map, Bor}
 use Rattle.std.specs.Prelude.{Vec, if◌then◌else◌}
 use Rattle.std.specs.Option.{option_or}
 use Rattle.std.specs.Ordering.{is_eq}
@@ -8,13 +8,13 @@ use Rattle.std.proofs.lemmas.List.{drop_more, get_or-map, map-append, take_more}
 use Rattle.sha2.specs.Sha256.{sha256}
 use Rattle.mt_latch.specs.Latch.{Latched}
 use Rattle.mt_op.specs.declared.digest.Digest.{Digest}
-use Rattle.mt_sessionview.specs.Content.{Content, Clip}
+use Rattle.mt_sessionview.specs.Content.{Content}
 use Rattle.std.specs.BTreeMap.{BTreeMap}
 use Rattle.mt_preflight.specs.declared.uses.Use.{Use}
 use Rattle.mt_preflight.specs.Played.{is_audible}
 use Rattle.mt_preflight.specs.Using.{plays}
 use Rattle.mt_preflight.proofs.Sounding.{audible_is}
-use Rattle.mt_render.specs.Refusals.{IsAmong, audible}
+use Rattle.mt_render.specs.Refusals.{audible}
 use Rattle.mt_render.specs.Sources.{Sources, found, digest_cmp, under_digest, sources_of, HasAdded}
 use Rattle.mt_render.proofs.Digests.{same_digest, digests_apart}
 use Rattle.mt_render.proofs.Gathered.{found_append}

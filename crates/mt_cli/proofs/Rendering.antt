@@ -27,7 +27,7 @@ use Rattle.mt_cli.specs.Faults.{file_fault}
 use Rattle.mt_cli.specs.Reading.{AreRead}
 use Rattle.mt_cli.specs.Headline.{HearAlike, RenderAlike}
 use Rattle.mt_cli.specs.LogAndFiles.{FilesLent}
-use Rattle.mt_cli.specs.Sources.{GaveWaves, GaveKept}
+use Rattle.mt_cli.specs.Sources.{GaveKept}
 use Rattle.mt_cli.specs.Bouncing.{CanBounce, IsMixRefusal, programme, session_of_logs, session_file, SessionFails, FilesBounced, FilesNotBounced, BounceFails, HasBounced}
 use Rattle.mt_cli.proofs.Headline.{render_alike}
 use Rattle.mt_cli.proofs.Keeping.{heard_alike}

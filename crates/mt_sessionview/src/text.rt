@@ -157,10 +157,7 @@ fn put_clip_lines<W: Write>(output: &mut BufferedLatch<'_, W>, clips: &[ClipView
 }
 
 // Puts the line of a track and those of its clips.
-fn put_track_lines<A: Allocator, W: Write>(
-    output: &mut BufferedLatch<'_, W>,
-    view: &TrackView<A>,
-)
+fn put_track_lines<A: Allocator, W: Write>(output: &mut BufferedLatch<'_, W>, view: &TrackView<A>)
     ensures { Puts W.contents output.old output.new (track_lines view.now) }
 {
     put_track_line(output, view.track, view.gain, view.mute, view.title.text());
@@ -185,10 +182,7 @@ fn put_parts<W: Write>(
 
 // Puts `marker STAMP at N title TITLE` and a line feed, with the length after the position: both in frames, in decimal, and the
 // title as it is.
-fn put_marker_line<A: Allocator, W: Write>(
-    output: &mut BufferedLatch<'_, W>,
-    view: &MarkerView<A>,
-)
+fn put_marker_line<A: Allocator, W: Write>(output: &mut BufferedLatch<'_, W>, view: &MarkerView<A>)
     ensures { Puts W.contents output.old output.new (marker_line view.now) }
 {
     put_parts(output, view.marker, view.at, view.len, view.title.text());
@@ -205,10 +199,7 @@ fn put_held_line<W: Write>(output: &mut BufferedLatch<'_, W>, held: u64)
 
 // Puts the lines of tracks and their clips, in order.
 #[tactic(auto, using(mt_latch::proofs::Putting::puts_none))]
-fn put_tracks<A: Allocator, W: Write>(
-    output: &mut BufferedLatch<'_, W>,
-    tracks: &[TrackView<A>],
-)
+fn put_tracks<A: Allocator, W: Write>(output: &mut BufferedLatch<'_, W>, tracks: &[TrackView<A>])
     ensures { Puts W.contents output.old output.new (flat_map track_lines tracks.now) }
 {
     for view in tracks {
@@ -218,10 +209,7 @@ fn put_tracks<A: Allocator, W: Write>(
 
 // Puts the lines of markers, in order.
 #[tactic(auto, using(mt_latch::proofs::Putting::puts_none))]
-fn put_markers<A: Allocator, W: Write>(
-    output: &mut BufferedLatch<'_, W>,
-    markers: &[MarkerView<A>],
-)
+fn put_markers<A: Allocator, W: Write>(output: &mut BufferedLatch<'_, W>, markers: &[MarkerView<A>])
     ensures { Puts W.contents output.old output.new (flat_map marker_line markers.now) }
 {
     for view in markers {

@@ -1,4 +1,4 @@
-use Rattle.std.proofs.Common.{ℕ, List, sym, ap, ◌∙◌, arith}
+use Rattle.std.proofs.Common.{ℕ, List, ap, ◌∙◌, arith}
 use Rattle.std.proofs.lemmas.List.{take_all}
 use Rattle.mt_render.specs.Sources.{found, sources_of}
 use Rattle.mt_cli.proofs.Keeping.{found_more}

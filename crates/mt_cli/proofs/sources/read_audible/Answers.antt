@@ -50,8 +50,10 @@ loop-place-preserved g c =
     record {
       gave = (
         was.0 ++ c.in_ok-text.text.items ∷ [],
-        (gave_more g.R.Read.remaining c.args.inputs.now c.loop-place.inputs c.loop-place.place c.index-inputs-place.result c.read_source.new.input c.loop-place.auto.inputs c.loop-place-test.true (GaveWave g.R.Read.remaining) was.0 c.in_ok-text.text.items c.loop-place.invariant.left c.index-inputs-place.is was.1.0 c.in_ok-text.ensures.ok,
-        group_more (plays c.args.audible.now.uses) c.loop-place.kept.items c.keep_whole.new.kept.items c.loop-place.group.items c.push.new.self.items c.keep_whole.new.group.items c.in_ok-text.text was.0 c.in_ok-push.ensures.items c.in_ok-keep_whole.ensures was.1.1),
+        (
+          gave_more g.R.Read.remaining c.args.inputs.now c.loop-place.inputs c.loop-place.place c.index-inputs-place.result c.read_source.new.input c.loop-place.auto.inputs c.loop-place-test.true (GaveWave g.R.Read.remaining) was.0 c.in_ok-text.text.items c.loop-place.invariant.left c.index-inputs-place.is was.1.0 c.in_ok-text.ensures.ok,
+          group_more (plays c.args.audible.now.uses) c.loop-place.kept.items c.keep_whole.new.kept.items c.loop-place.group.items c.push.new.self.items c.keep_whole.new.group.items c.in_ok-text.text was.0 c.in_ok-push.ensures.items c.in_ok-keep_whole.ensures was.1.1,
+        ),
       );
       read = read_more g.R.Read.remaining c.args.inputs.now c.loop-place.inputs c.loop-place.place c.index-inputs-place.result c.read_source.new.input c.loop-place.auto.inputs c.loop-place-test.true c.loop-place.invariant.read c.in_ok-text.ensures.read;
       left = left_more c.loop-place.place c.loop-place.inputs c.args.inputs.now c.read_source.new.input c.loop-place.invariant.left;
@@ -66,6 +68,10 @@ returns-in_err-keep_group-clause-err g c =
 
 pub returns-clause-ok : goal.returns-clause-ok
 returns-clause-ok g c =
-    let was = c.loop-place.invariant.gave in
-    (was.0, (subst (λ (l : List (Latched _)). GaveWaves g.R.Read.remaining l was.0) (take_all c.loop-place.place c.args.inputs.now (omega arith)) was.1.0,
-    hold_through (plays c.args.audible.now.uses) c.keep_group.new.kept.items (c.loop-place.kept.items ++ bytes_in c.loop-place.group.items) was.0 c.in_ok-keep_group.ensures.holds was.1.1))
+    let was = c.loop-place.invariant.gave in (
+      was.0,
+      (
+        subst (λ (l : List (Latched _)). GaveWaves g.R.Read.remaining l was.0) (take_all c.loop-place.place c.args.inputs.now (omega arith)) was.1.0,
+        hold_through (plays c.args.audible.now.uses) c.keep_group.new.kept.items (c.loop-place.kept.items ++ bytes_in c.loop-place.group.items) was.0 c.in_ok-keep_group.ensures.holds was.1.1,
+      ),
+    )
