@@ -12,4 +12,5 @@ pub mod Stopping
 mod Pulling
 mod LogAndFiles
 mod SourcesListing
+mod Finding
 mod Checking

@@ -1,6 +1,7 @@
 -- The number of each refusal.
 use Rattle.std.specs.Prelude.{ℕ}
 use Rattle.mt_stamp.specs.Faults.{number_of as stamp_number}
+use Rattle.mt_op.specs.Faults.{number_of as op_number}
 use Rattle.mt_opcodec.specs.Faults.{log_fault_number}
 use Rattle.mt_bwfread.specs.Fault.{number_of as wave_fault_number}
 use Rattle.mt_render.specs.Refusals.{mix_number}
@@ -18,7 +19,7 @@ use Rattle.mt_sync.specs.declared.fault.TalkFault.TheVariants as talk
 use Rattle.mt_sync.specs.declared.fault.SyncFault.{SyncFault}
 use Rattle.mt_sync.specs.declared.fault.SyncFault.TheVariants as sync
 use Rattle.mt_cli.specs.declared.fault.CliFault.{CliFault}
-use Rattle.mt_cli.specs.declared.fault.CliFault.TheVariants.{Memory, Read, Log, Merge, Source, Mix, Write, Part, Print, Name, Head, Format, Script, Message, Sync, Net}
+use Rattle.mt_cli.specs.declared.fault.CliFault.TheVariants.{Memory, Read, Log, Merge, Source, Mix, Write, Part, Print, Name, Digest, NoSuchItem, Head, Format, Script, Message, Sync, Net}
 
 -- of a refusal inside another the inner one's
 abbrev pub number_of : CliFault → ℕ
@@ -32,6 +33,8 @@ number_of Write = 37
 number_of (Part fault) = 37
 number_of Print = 37
 number_of (Name fault) = stamp_number fault
+number_of (Digest fault) = op_number fault
+number_of (NoSuchItem count) = 21
 number_of (Head fault) = 36
 number_of (Format fault) = 47
 number_of (Script fault) = script_number fault

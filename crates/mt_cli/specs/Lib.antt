@@ -8,6 +8,7 @@ pub mod Info
 pub mod Sources
 pub mod LogAndFiles
 pub mod SourcesListing
+pub mod Finding
 pub mod Bouncing
 pub mod Checking
 pub mod Headline

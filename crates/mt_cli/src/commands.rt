@@ -20,6 +20,7 @@ use std::time::Duration;
 pub(crate) mod check;
 pub(crate) mod edit;
 pub(crate) mod explain;
+pub(crate) mod find;
 pub(crate) mod have;
 pub(crate) mod id;
 pub(crate) mod info;

@@ -6,6 +6,7 @@ ghost use Rattle.mt_cli.specs.declared.fault.CliFault.TheVariants.{Memory};
 
 use mt_bwfread::WaveFault;
 use mt_cuewrite::HeadFault;
+use mt_op::OpFault;
 use mt_opcodec::LogFault;
 use mt_render::{FormatFault, MixFault};
 use mt_script::ScriptFault;
@@ -78,6 +79,12 @@ pub enum CliFault {
     /// A word that is to name an editor is no UUID.
     #[error("the editor's name: {0}")]
     Name(StampFault),
+    /// A word that is to name a recording is no digest.
+    #[error("the recording's name: {0}")]
+    Digest(OpFault),
+    /// So many items have what is looked for, where it has to be one.
+    #[error("{0} items have what is looked for")]
+    NoSuchItem(usize),
     /// A text of the head of a wave file is not taken.
     #[error("{0}")]
     Head(HeadFault),
@@ -113,6 +120,8 @@ impl CliFault {
             CliFault::Write | CliFault::Print => 37,
             CliFault::Part(fault) => fault.number(),
             CliFault::Name(fault) => fault.number(),
+            CliFault::Digest(fault) => fault.number(),
+            CliFault::NoSuchItem(_) => 21,
             CliFault::Head(fault) => fault.number(),
             CliFault::Format(fault) => fault.number(),
             CliFault::Script(fault) => fault.number(),

@@ -1,6 +1,6 @@
 //! The commands of `radio`.
 //!
-//! `view_logs`, `list_logs`, `merge_logs`, `pull_logs`, `list_sources`, `check_log`, `bounce_logs`, `write_info`, `edit_log`, `have_log`, `lack_log`, `take_log` and
+//! `view_logs`, `list_logs`, `merge_logs`, `pull_logs`, `list_sources`, `find_items`, `check_log`, `bounce_logs`, `write_info`, `edit_log`, `have_log`, `lack_log`, `take_log` and
 //! `swap_log` do the work of commands over any readers and writers, of which each is in a latch:
 //!
 //! ```rust
@@ -47,6 +47,7 @@ mod commands;
 mod edit;
 mod fault;
 mod files;
+mod find;
 mod have;
 mod info;
 mod lack;
@@ -76,6 +77,7 @@ pub use both::read_editor;
 pub use check::check_log;
 pub use edit::edit_log;
 pub use fault::{CliFault, PartFault};
+pub use find::{Wanted, find_items};
 pub use have::have_log;
 pub use info::write_info;
 pub use lack::lack_log;

@@ -5,8 +5,8 @@ ghost use Rattle.mt_cli.specs.Telling.{asks_why, TellsCauses, TellsFault, TellsR
 ghost use Rattle.mt_cli.specs.Mistakes.{IsMistake};
 
 use crate::commands::{
-    check, edit, explain, have, id, info, lack, log, meet, merge, pull, render, serve, sources,
-    take, view,
+    check, edit, explain, find, have, id, info, lack, log, meet, merge, pull, render, serve,
+    sources, take, view,
 };
 use crate::fault::CliFault;
 use crate::refusal_lines::{asks_why, put_cause, put_refusal, put_text};
@@ -168,6 +168,7 @@ fn print<
         "view" => stopped_by(view::run(rt, words, input, output)),
         "log" => stopped_by(log::run(rt, words, input, output)),
         "sources" => stopped_by(sources::run(rt, words, output)),
+        "find" => stopped_by(find::run(rt, words, output)),
         "check" => stopped_by(check::run(rt, words, output)),
         "info" => stopped_by(info::run(rt, words, output)),
         "explain" => explain::run(rt.alloc(), words, output),
@@ -238,13 +239,14 @@ fn of_logs() -> &'static [Words] {
     &OF_LOGS
 }
 
-const OF_LOGS: [Words; 8] = [
+const OF_LOGS: [Words; 9] = [
     view::WORDS,
     log::WORDS,
     pull::WORDS,
     merge::WORDS,
     edit::WORDS,
     sources::WORDS,
+    find::WORDS,
     check::WORDS,
     render::WORDS,
 ];

@@ -158,8 +158,8 @@ const OF_EDITS: [Refusal; 5] = [
     Refusal {
         number: 21,
         name: "NoSuchItem",
-        meaning: "a change names a stamp that no ready operation gives to such an item",
-        advice: "Look the item up with `radio view`: its stamp stands after `track`, `clip` or `marker`. A marker has no gain, and a clip no title.",
+        meaning: "a change names a stamp that no ready operation gives to such an item, or not exactly one item has what `find --one` looks for",
+        advice: "Look the item up with `radio view`: its stamp stands after `track`, `clip` or `marker`. A marker has no gain, and a clip no title. Of `find --one` tells `--why` how many items there are, and `radio find` without it prints them.",
     },
     Refusal {
         number: 22,
@@ -345,7 +345,7 @@ const OF_FILES_AND_PARTS: [Refusal; 16] = [
         number: 50,
         name: "BadDigest",
         meaning: "a text is no digest",
-        advice: "Write a digest as the 64 hex digits that `radio info` prints.",
+        advice: "Write a digest as the 64 hex digits that `radio info` prints. `radio find LOG clip` takes a digest, and no file's name.",
     },
     Refusal {
         number: 51,

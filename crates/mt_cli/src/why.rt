@@ -164,6 +164,8 @@ fn cause_of<F: Files + AllocGlobal>(
         CliFault::Print => output_cause(alloc, STANDARD_OUTPUT, "cannot be written"),
         CliFault::Part(fault) => part_cause(alloc, call.output(), fault),
         CliFault::Name(_) => told(alloc, "word ", call.word("REPLICA")),
+        CliFault::Digest(_) => told(alloc, "word ", call.word("WHAT")),
+        CliFault::NoSuchItem(count) => found_cause(alloc, call.word("LOG"), count),
         CliFault::Head(fault) => told(alloc, "option --", head_option(fault)),
         CliFault::Format(_) => told(alloc, "option --", call.format_option()),
         CliFault::Script(fault) => script_cause(alloc, call.word("SCRIPT"), fault),
@@ -186,6 +188,11 @@ fn log_cause(alloc: Global, name: &str, fault: LogFault) -> Option<String> {
         }
         _ => told(alloc, "log ", name),
     }
+}
+
+// A log, and how many items were found in it.
+fn found_cause(alloc: Global, name: &str, count: usize) -> Option<String> {
+    format!(in alloc; "log {name} items {count}").ok()
 }
 
 // A log, and the operation in it that has another's name.

@@ -21,6 +21,12 @@ pub(crate) enum Word {
         name: &'static str,
         help: &'static str,
     },
+    /// One of these names, which has to be there.
+    OneOf {
+        name: &'static str,
+        names: &'static [&'static str],
+        help: &'static str,
+    },
     /// As many as are named, or none.
     Any {
         name: &'static str,
@@ -152,6 +158,7 @@ fn word_of<'a>(alloc: Global, word: &Word) -> Result<Arg<'a>, AllocError> {
 fn free_word_of<'a>(alloc: Global, word: &Word) -> Arg<'a> {
     match word {
         Word::Needed { name, help } => needed(alloc, name, help),
+        Word::OneOf { name, names, help } => one_of(alloc, name, names, help),
         Word::Any { name, help } => any(alloc, name, help),
         Word::Many { name, help } => many(alloc, name, help),
         Word::Number {
@@ -183,6 +190,15 @@ fn free_word_of<'a>(alloc: Global, word: &Word) -> Arg<'a> {
 
 fn needed<'a>(alloc: Global, name: &'a str, help: &'a str) -> Arg<'a> {
     Arg::new(alloc, name).required(true).help(help)
+}
+
+fn one_of<'a>(
+    alloc: Global,
+    name: &'a str,
+    names: &'static [&'static str],
+    help: &'a str,
+) -> Arg<'a> {
+    needed(alloc, name, help).value_parser(ValueParser::Names(names))
 }
 
 fn any<'a>(alloc: Global, name: &'a str, help: &'a str) -> Arg<'a> {
