@@ -19,6 +19,7 @@ import subjects.pulls
 import subjects.waves
 import subjects.renders
 import subjects.sources
+import subjects.finds
 import subjects.warnings
 import subjects.command_lines
 import subjects.edits

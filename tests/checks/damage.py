@@ -3,11 +3,12 @@
 
 Logs, scripts, messages and wave files are drawn at random, damaged (formats/mutations.py: bits, bytes, numbers, counts and sizes changed, parts cut, put in,
 doubled, and spliced with others; the digest of a log, the frames of messages and the digests that a session names are mended, mostly, so that what is behind them
-is reached) and put through each command that reads them: view, log and merge; edit; have, lack and take; info, render, check and sources. So are the files of the stored cases. The second reading, of docs/formats.md
+is reached) and put through each command that reads them: view, log and merge; edit; have, lack and take; info, render, check, sources and find. So are the files of the stored cases. The second reading, of docs/formats.md
 alone, is formats/answers.py. Status, standard output, the refusal's line and every file of the folder have to be the same, byte for byte. First the reading itself is
 compared with the stored cases of these commands. Stops at the first that differs, and prints what repeats it."""
 import argparse
 import collections
+import hashlib
 import os
 import random
 import subprocess
@@ -133,7 +134,14 @@ def read_session(draw, cases):
     files = {"log": log, **waves}
     listing = ["sources", *draw.choice([[], [], ["--missing"], ["--files"]]), "log", *draw.sample(list(waves), draw.randint(0, len(waves)))]
     options = drawings.options(draw, rate)
-    return [(["render", "out", "log", *waves, *options], files), (["check", "log", *waves, *options], files), (listing, files)]
+    return [(["render", "out", "log", *waves, *options], files), (["check", "log", *waves, *options], files), (listing, files), finding(draw, waves, files)]
+
+
+def finding(draw, waves, files):
+    """What plays a recording, or has a title that sessions have."""
+    what = hashlib.sha256(files[draw.choice(list(waves))]).hexdigest()
+    kind = draw.choice(["track", "marker", "clip", "clip"])
+    return (["find", *draw.choice([[], ["--one"]]), "log", kind, what if kind == "clip" else draw.choice(["T", "T", "News", ""])], files)
 
 
 def read_have(draw, cases):

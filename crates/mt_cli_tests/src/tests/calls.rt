@@ -1,14 +1,15 @@
 //! The commands over a few texts, one of each, whatever the memory, the readers and the writer are.
 use super::texts::{
-    ANSWER, BOTH, EDITED, EMPTY, FILE, HAS_NEWS, HAS_NOTHING, LABELLED, LATE, LISTED, NEWS, PLAYED,
-    PULLED, SCRIPT, SENT, SHOWN, TOLD, VOICE,
+    ANSWER, BOTH, EDITED, EMPTY, FILE, FOUND_CLIP, FOUND_MARKER, HAS_NEWS, HAS_NOTHING, LABELLED,
+    LATE, LISTED, NEWS, PLAYED, PULLED, SCRIPT, SENT, SHOWN, TOLD, VOICE,
 };
 use mt_cli::{
-    CliFault, bounce_logs, check_log, edit_log, have_log, lack_log, list_log, list_logs,
-    list_sources, merge_logs, pull_logs, read_editor, swap_log, take_log, view_log, view_logs,
-    write_info,
+    CliFault, Wanted, bounce_logs, check_log, edit_log, find_items, have_log, lack_log, list_log,
+    list_logs, list_sources, merge_logs, pull_logs, read_editor, swap_log, take_log, view_log,
+    view_logs, write_info,
 };
 use mt_cuewrite::Head;
+use mt_op::Digest;
 use mt_opcodec::Latch;
 use mt_preflight::Listing;
 use mt_render::Format;
@@ -34,13 +35,15 @@ pub(crate) enum Call {
     Edit { told: bool },
     Swap,
     Sources,
+    FindMarker,
+    FindClip,
     Check,
     Bounce,
     Info,
 }
 
 /// All of them.
-pub(crate) const CALLS: [Call; 17] = [
+pub(crate) const CALLS: [Call; 19] = [
     Call::ViewLog,
     Call::ViewLogs,
     Call::ListLog,
@@ -55,6 +58,8 @@ pub(crate) const CALLS: [Call; 17] = [
     Call::Edit { told: true },
     Call::Swap,
     Call::Sources,
+    Call::FindMarker,
+    Call::FindClip,
     Call::Check,
     Call::Bounce,
     Call::Info,
@@ -65,7 +70,8 @@ const NOTHING: &[u8] = b"";
 /// What it reads.
 pub(crate) fn inputs_of(call: Call) -> (&'static [u8], &'static [u8]) {
     match call {
-        Call::ViewLog | Call::ListLog => (BOTH, NOTHING),
+        Call::ViewLog | Call::ListLog | Call::FindMarker => (BOTH, NOTHING),
+        Call::FindClip => (VOICE, NOTHING),
         Call::ViewLogs | Call::ListLogs | Call::Merge | Call::Pull { .. } => (NEWS, LATE),
         Call::Have => (NEWS, NOTHING),
         Call::Lack => (NEWS, HAS_NOTHING),
@@ -89,6 +95,8 @@ fn output_of(call: Call) -> &'static [u8] {
         Call::Take | Call::Edit { told: false } | Call::Swap => NEWS,
         Call::Edit { told: true } => EDITED,
         Call::Sources => PLAYED,
+        Call::FindMarker => FOUND_MARKER,
+        Call::FindClip => FOUND_CLIP,
         Call::Check => b"warnings 0\n",
         Call::Bounce => NOTHING,
         Call::Info => TOLD,
@@ -165,6 +173,13 @@ fn run_on_log<M: Allocator + Clone, R: Read + Drop, W: Write>(
     match call {
         Call::ViewLog => view_log(memory, &mut input, output),
         Call::ListLog => list_log(memory, &mut input, output),
+        Call::FindMarker => {
+            find_items(memory, true, &Wanted::Marker("Late"), &mut input, output)
+        }
+        Call::FindClip => {
+            let source = Digest::of(RECORDING);
+            find_items(memory, true, &Wanted::Clip(source), &mut input, output)
+        }
         _ => have_log(memory, &mut input, output),
     }
 }
@@ -318,7 +333,7 @@ pub(crate) fn run<M: Allocator + Copy, R: Read + Drop, W: Write>(
         Call::ViewLogs | Call::ListLogs | Call::Merge => {
             run_on_logs(memory, alloc, call, inputs, output)
         }
-        Call::ViewLog | Call::ListLog | Call::Have => {
+        Call::ViewLog | Call::ListLog | Call::FindMarker | Call::FindClip | Call::Have => {
             Some(run_on_log(memory, call, inputs, output))
         }
         Call::Lack | Call::Take => Some(run_by_hand(memory, alloc, call, inputs, output)),

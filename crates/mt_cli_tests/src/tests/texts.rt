@@ -57,6 +57,11 @@ pub(crate) const VOICE: &[u8] =
 pub(crate) const PLAYED: &[u8] =
     b"source cc0a0e0651f6e9e304442665437ab61ac3b5302b51bb4a161b144bf9985dfb79 clips 1 audible 1 end 3 rate 48000 channels 1 frames 3 file voice.wav\nmissing 0\n";
 
+/// The stamps of the marker of both, and of the clip of that recording.
+pub(crate) const FOUND_MARKER: &[u8] = b"1.1.00000000-0000-0000-0000-00000000000a\n";
+
+pub(crate) const FOUND_CLIP: &[u8] = b"2.2.00000000-0000-0000-0000-00000000000a\n";
+
 /// The file of that, of 692 bytes.
 pub(crate) const FILE: [&[u8]; 7] = [
     b"RIFF\xac\x02\0\0WAVEbext\x75\x02\0\0",

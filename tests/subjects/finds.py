@@ -1,0 +1,100 @@
+"""Cases of `radio find`: the stamps of the items that have a title, or of the clips that play a recording."""
+from subjects.case import ONE, case, fault
+from subjects.renders import CLIP, OTHER, TENS, THREE, TRACK, TWENTIES, named
+from formats.logs import A, B, add_clip, add_marker, add_track, log, move_clip, move_track, remove, restore, retitle, stamp_text
+
+SECOND, THIRD, FOURTH, POINT, LATER = (5, B, 1), (7, B, 3), (8, B, 4), (8, A, 8), (9, A, 9)
+TRACKS = [add_track(TRACK, None, "Voice"), add_track(SECOND, TRACK, "Music"), add_track(THIRD, SECOND, "Voice"), add_track(FOURTH, THIRD, "Voice of the north")]
+MARKERS = [add_marker(POINT, 480, "News at nine"), add_marker(LATER, 240, "News at nine"), add_marker((10, A, 10), 0, "News")]
+CLIPS = [add_clip(CLIP, named(THREE), TRACK, 9, 0, 3), add_clip(OTHER, named(TENS), TRACK, 0, 0, 2), add_clip((7, A, 7), named(THREE), SECOND, 0, 0, 1), add_clip((11, A, 11), named(THREE), TRACK, 1, 0, 1)]
+ALL = TRACKS + MARKERS + CLIPS
+VOICE, MUSIC, TITLE = named(THREE).hex(), named(TENS).hex(), "News at nine"
+
+
+def finds(name, ops, kind, what, found, flags=()):
+    case("find_" + name, ["find", *flags, "log", kind, what], files={"log": log(ops)}, stdout="".join(stamp_text(*own) + "\n" for own in found))
+
+
+def refused(name, number, words, ops=ALL, **more):
+    fault("find_" + name, number, ["find"] + words, files={"log": log(ops)}, **more)
+
+
+# the exact title, in the order of the session
+finds("one_track", ALL, "track", "Music", [SECOND])
+finds("two_tracks", ALL, "track", "Voice", [TRACK, THIRD])
+finds("two_tracks_in_another_order", ALL + [move_track((12, A, 12), THIRD, None)], "track", "Voice", [THIRD, TRACK])
+finds("a_track_of_a_title_with_spaces", ALL, "track", "Voice of the north", [FOURTH])
+finds("no_track_by_the_front_of_its_title", ALL, "track", "Voice of the", [])
+finds("no_track_in_other_letters", ALL, "track", "voice", [])
+finds("no_track_by_the_title_of_a_marker", ALL, "track", TITLE, [])
+finds("no_marker_by_the_title_of_a_track", ALL, "marker", "Voice", [])
+finds("a_track_by_its_last_title", ALL + [retitle((12, A, 12), TRACK, "Köln")], "track", "Köln", [TRACK])
+finds("no_track_by_an_older_title", ALL + [retitle((12, A, 12), TRACK, "Köln")], "track", "Voice", [THIRD])
+finds("a_track_without_a_title", [add_track(TRACK, None, "")], "track", "", [TRACK])
+finds("no_track_by_a_title_that_none_has", ALL, "track", "x" * 256, [])
+finds("no_track_of_an_empty_log", [], "track", "Voice", [])
+finds("two_markers", ALL, "marker", TITLE, [LATER, POINT])
+finds("one_marker", ALL, "marker", "News", [(10, A, 10)])
+finds("no_held_track", [add_track((10, B, 10), (9, B, 9), "Music")], "track", "Music", [])
+
+# only what is there
+GONE = remove((12, A, 12), TRACK, [TRACK])
+finds("no_absent_track", ALL + [GONE], "track", "Voice", [THIRD])
+finds("a_restored_track", ALL + [GONE, restore((13, A, 13), TRACK)], "track", "Voice", [TRACK, THIRD])
+finds("no_absent_marker", ALL + [remove((12, A, 12), POINT, [POINT])], "marker", TITLE, [LATER])
+finds("no_absent_clip", ALL + [remove((12, A, 12), CLIP, [CLIP])], "clip", VOICE, [(11, A, 11), (7, A, 7)])
+finds("no_clip_of_an_absent_track", ALL + [GONE], "clip", VOICE, [(7, A, 7)])
+
+# the clips of a recording, track by track
+finds("clips", ALL, "clip", VOICE, [(11, A, 11), CLIP, (7, A, 7)])
+finds("clips_in_capitals", ALL, "clip", VOICE.upper(), [(11, A, 11), CLIP, (7, A, 7)])
+finds("one_clip", ALL, "clip", MUSIC, [OTHER])
+finds("a_clip_that_was_moved", ALL + [move_clip((12, A, 12), CLIP, SECOND, 5)], "clip", VOICE, [(11, A, 11), (7, A, 7), CLIP])
+finds("no_clip", ALL, "clip", named(TWENTIES).hex(), [])
+
+# exactly one
+finds("the_one_track", ALL, "track", "Music", [SECOND], ["--one"])
+finds("the_one_marker", ALL, "marker", "News", [(10, A, 10)], ["--one"])
+finds("the_one_clip", ALL, "clip", MUSIC, [OTHER], ["--one"])
+refused("the_one_of_no_tracks", 21, ["--one", "log", "track", "Silence"])
+refused("the_one_of_two_tracks", 21, ["--one", "log", "track", "Voice"])
+refused("the_one_of_two_markers", 21, ["--one", "log", "marker", TITLE])
+refused("the_one_of_three_clips", 21, ["--one", "log", "clip", VOICE])
+refused("the_one_of_no_clips", 21, ["log", "clip", named(TWENTIES).hex(), "--one"])
+
+# the digest is looked at before the log
+for name, what in [("no_digest", "voice.wav"), ("an_empty_digest", ""), ("a_short_digest", VOICE[:-1]), ("a_long_digest", VOICE + "0"), ("a_digest_of_other_letters", VOICE[:-1] + "g"), ("a_digest_with_a_space", VOICE[:-1] + " ")]:
+    refused(name, 50, ["log", "clip", what])
+refused("no_digest_of_no_log", 50, ["nothing", "clip", "x"])
+finds("a_title_that_is_a_digest", [add_marker(POINT, 0, VOICE)], "marker", VOICE, [POINT])
+refused("in_no_log", 45, ["nothing", "track", "Voice"])
+fault("find_in_a_damaged_log", 13, ["find", "log", "track", "Voice"], files={"log": ONE[:-1]})
+fault("find_the_one_in_a_damaged_log", 13, ["find", "--one", "log", "track", "Silence"], files={"log": ONE[:-1]})
+refused("told_nowhere", 37, ["log", "track", "Voice"], output="closed")
+refused("told_to_a_full_disk", 37, ["log", "track", "Voice"], output="full")
+refused("told_to_a_closed_pipe", 37, ["log", "track", "Voice"], output="pipe")
+
+USAGE = "\nFor more information, try '--help'.\n"
+case("find_of_nothing", ["find"], status=2, stderr="error: the following required arguments were not provided:\n  <LOG>\n  <KIND>\n  <WHAT>\n\nUsage: radio find <LOG> <KIND> <WHAT>\n" + USAGE)
+case("find_of_another_kind", ["find", "log", "item", "Voice"], status=2, files={"log": ONE}, stderr="error: invalid value 'item' for '<KIND>'\n  [possible values: track, marker, clip]\n" + USAGE)
+HELP = """Prints the stamps of the items that have a title, or of the clips that play a recording
+
+Usage: radio find [OPTIONS] <LOG> <KIND> <WHAT>
+
+Arguments:
+  <LOG>   The log
+  <KIND>  What is looked for [possible values: track, marker, clip]
+  <WHAT>  The exact title of tracks or markers; of clips the digest of the recording that they play, as `radio info` prints it
+
+Options:
+      --one   Be refused (21) where it is not exactly one item
+      --why   Behind a refusal tell in one more line what it is about
+  -h, --help  Print help
+
+Example: radio find --one desk.log track Music
+
+Prints a line for each, in the session's order; where there is none it prints nothing, and is done.
+
+Exit status: 0 done, 1 refused (the line `radio: fault N`; `radio explain N` tells why), 2 the command line does not parse.
+"""
+case("find_help", ["find", "--help"], stdout=HELP)
