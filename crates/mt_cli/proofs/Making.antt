@@ -1,5 +1,5 @@
 -- Files that are made of a log, and of what is read after it.
-use Rattle.std.proofs.Common.{◌≡◌, ℕ, false, List, [], Option, Some, None, Result, Ok, Err, inl, inr, refl, sym, subst}
+use Rattle.std.proofs.Common.{◌≡◌, ℕ, false, List, [], Option, Some, None, Result, Ok, Err, inl, inr, refl, sym, subst, ◌∙◌}
 use Rattle.std.specs.Prelude.{OnOk, IfErr}
 use Rattle.std.specs.Io.KnownBytes.{Appends}
 use Rattle.mt_latch.specs.Latch.{Latched}
@@ -19,24 +19,30 @@ use Rattle.mt_cli.specs.Faults.{message_fault, sync_fault}
 use Rattle.mt_cli.specs.Reading.{text_of, Gave, IsRead}
 use Rattle.mt_cli.specs.Writing.{WriteFails}
 use Rattle.mt_cli.specs.OneLog.{HasWritten, HasFailed, MadeWritten, MadeFails, OneLent, TwoLent, OneWritten, OneFails, TwoWritten, TwoFail}
-use Rattle.mt_cli.specs.Swapping.{Having, Lacking, TakingIn, TalkLent, HasConversed, SwapWritten, SwapFails}
-use Rattle.mt_cli.specs.Working.{EditorWritten, EditorFails}
+use Rattle.mt_cli.specs.Swapping.{Having, Lacking, TakingIn, TalkLent, HasConversedTo, HasConversed, SwapWritten, SwapFails}
+use Rattle.mt_cli.specs.Working.{HeldWritten, HeldFails, LendLeaves}
 
--- the log of an editor
+-- the log of a holder
 module _ {W : Type 0} (contents : W → Option (List ℕ)) (old new : Latched W) (set : Option LogMap) (log : LogMap) where
-  pub editor_written : (result : Result (Unit {0}) CliFault) → Some log ≡ set → OnOk result (new.failed ≡ false) → OnOk result (Appends (contents old.inner) (contents new.inner) (text_of log))
-      → OnOk result (EditorWritten contents set old new)
-  editor_written (Ok unit) same sound written = (log, (sym same, (sound, written)))
-  editor_written (Err fault) same sound written = written
+  pub held_written : (result : Result (Unit {0}) CliFault) → Some log ≡ set → OnOk result (new.failed ≡ false) → OnOk result (Appends (contents old.inner) (contents new.inner) (text_of log))
+      → OnOk result (HeldWritten contents set old new)
+  held_written (Ok unit) same sound written = (log, (sym same, (sound, written)))
+  held_written (Err fault) same sound written = written
 
-  not_written : (fault : CliFault) → Some log ≡ set → WriteFails text_of contents log old new fault → EditorFails contents set old new fault
+  not_written : (fault : CliFault) → Some log ≡ set → WriteFails text_of contents log old new fault → HeldFails contents set old new fault
   not_written Memory same fails = fails
   not_written Write same fails = (log, (sym same, fails))
   not_written _ same fails = absurd fails
 
-  pub editor_not_written : (result : Result (Unit {0}) CliFault) → Some log ≡ set → IfErr result (WriteFails text_of contents log old new) → IfErr result (EditorFails contents set old new)
-  editor_not_written (Ok unit) same fails = fails
-  editor_not_written (Err fault) same fails = not_written fault same fails
+  pub held_not_written : (result : Result (Unit {0}) CliFault) → Some log ≡ set → IfErr result (WriteFails text_of contents log old new) → IfErr result (HeldFails contents set old new)
+  held_not_written (Ok unit) same fails = fails
+  held_not_written (Err fault) same fails = not_written fault same fails
+
+-- a log that was lent is still there
+pub lend_leaves : (old new : Option LogMap) (result : Result (Unit {0}) CliFault) → new ≡ old → IfErr result (LendLeaves old new)
+lend_leaves old new (Ok unit) same = tt
+lend_leaves old new (Err Memory) same = inl same
+lend_leaves old new (Err _) same = same
 
 module _ {W : Type 0} (contents : W → Option (List ℕ)) (old new : Latched W) where
   pub made_written : (Makes : Result (List ℕ) CliFault → Type 0) (bytes : List ℕ) (result : Result (Unit {0}) CliFault) → Makes (Ok bytes)
@@ -49,22 +55,22 @@ module _ {W : Type 0} (contents : W → Option (List ℕ)) (old new : Latched W)
   made_failed Makes bytes (Ok unit) makes fails = fails
   made_failed Makes bytes (Err fault) makes fails = subst (MadeFails contents Makes old new) (sym fails.0) (bytes, (makes, fails.1))
 
-  -- an editor that has taken what was sent, and its log
+  -- a holder that has taken what was sent, and its log
   pub taken_written : (kept set : Option LogMap) (sent : List ℕ) (result : Result (Unit {0}) CliFault) → TakesAll (told (end_at (takes None) [] kept) sent) (Ok tt) set
-      → OnOk result (EditorWritten contents set old new) → OnOk result (MadeWritten contents (TakingIn kept sent) old new)
+      → OnOk result (HeldWritten contents set old new) → OnOk result (MadeWritten contents (TakingIn kept sent) old new)
   taken_written kept set sent (Ok unit) takes_all (log, (same, written)) =
       (text_of log, ((log, (subst (TakesAll (told (end_at (takes None) [] kept) sent) (Ok tt)) same takes_all, refl)), written))
   taken_written kept set sent (Err fault) takes_all written = written
 
   taken_failed : (kept set : Option LogMap) (sent : List ℕ) (fault : CliFault) → TakesAll (told (end_at (takes None) [] kept) sent) (Ok tt) set
-      → EditorFails contents set old new fault → MadeFails contents (TakingIn kept sent) old new fault
+      → HeldFails contents set old new fault → MadeFails contents (TakingIn kept sent) old new fault
   taken_failed kept set sent Memory takes_all fails = fails
   taken_failed kept set sent Write takes_all (log, (same, failed)) =
       (text_of log, ((log, (subst (TakesAll (told (end_at (takes None) [] kept) sent) (Ok tt)) same takes_all, refl)), failed))
   taken_failed kept set sent _ takes_all fails = absurd fails
 
   pub taken_not_written : (kept set : Option LogMap) (sent : List ℕ) (result : Result (Unit {0}) CliFault) → TakesAll (told (end_at (takes None) [] kept) sent) (Ok tt) set
-      → IfErr result (EditorFails contents set old new) → IfErr result (MadeFails contents (TakingIn kept sent) old new)
+      → IfErr result (HeldFails contents set old new) → IfErr result (MadeFails contents (TakingIn kept sent) old new)
   taken_not_written kept set sent (Ok unit) takes_all fails = fails
   taken_not_written kept set sent (Err fault) takes_all fails = taken_failed kept set sent fault takes_all fails
 
@@ -113,21 +119,23 @@ module _ {R W : Type 0} (remaining : R → Option (List ℕ)) (contents : W → 
 -- ---- after a conversation
 
 module _ {R W O : Type 0} (remaining : R → Option (List ℕ)) (written : W → Option (List ℕ)) (contents : O → Option (List ℕ)) (side : Side) (before after : TalkLent R W O) where
-  pub swap_written : (result : Result (Unit {0}) CliFault) → HasConversed remaining written contents side before after (Ok tt) → AreSound after.reader after.writer
-      → OnOk result (EditorWritten contents after.set before.output after.output) → OnOk result (SwapWritten remaining written contents side before after)
-  swap_written (Ok unit) conversed sound (log, (same, put)) = (log, ((same, (conversed, sound)), put))
-  swap_written (Err fault) conversed sound put = put
+  pub swap_written : (set : Option LogMap) (result : Result (Unit {0}) CliFault) → HasConversedTo remaining written contents side before after set (Ok tt) → AreSound after.reader after.writer
+      → OnOk result (HeldWritten contents set before.output after.output) → OnOk result (after.set ≡ set) → OnOk result (SwapWritten remaining written contents side before after)
+  swap_written set (Ok unit) conversed sound (log, (same, put)) stays =
+      (log, ((stays ∙ same, (subst (λ (s : Option LogMap). HasConversedTo remaining written contents side before after s (Ok tt)) (sym stays) conversed, sound)), put))
+  swap_written set (Err fault) conversed sound put stays = put
 
-  not_swapped : (fault : CliFault) → HasConversed remaining written contents side before after (Ok tt) → AreSound after.reader after.writer
-      → EditorFails contents after.set before.output after.output fault → SwapFails remaining written contents side before after fault
-  not_swapped Memory conversed sound fails = (inr conversed, fails)
-  not_swapped Write conversed sound (log, (same, failed)) = (log, ((same, (conversed, sound)), failed))
-  not_swapped _ conversed sound fails = absurd fails
+  not_swapped : (set : Option LogMap) (fault : CliFault) → HasConversedTo remaining written contents side before after set (Ok tt) → AreSound after.reader after.writer
+      → HeldFails contents set before.output after.output fault → LendLeaves set after.set fault → SwapFails remaining written contents side before after fault
+  not_swapped set Memory conversed sound fails left = (inr (set, (conversed, left)), fails)
+  not_swapped set Write conversed sound (log, (same, failed)) left =
+      (log, ((left ∙ same, (subst (λ (s : Option LogMap). HasConversedTo remaining written contents side before after s (Ok tt)) (sym left) conversed, sound)), failed))
+  not_swapped set _ conversed sound fails left = absurd fails
 
-  pub swap_not_written : (result : Result (Unit {0}) CliFault) → HasConversed remaining written contents side before after (Ok tt) → AreSound after.reader after.writer
-      → IfErr result (EditorFails contents after.set before.output after.output) → IfErr result (SwapFails remaining written contents side before after)
-  swap_not_written (Ok unit) conversed sound fails = fails
-  swap_not_written (Err fault) conversed sound fails = not_swapped fault conversed sound fails
+  pub swap_not_written : (set : Option LogMap) (result : Result (Unit {0}) CliFault) → HasConversedTo remaining written contents side before after set (Ok tt) → AreSound after.reader after.writer
+      → IfErr result (HeldFails contents set before.output after.output) → IfErr result (LendLeaves set after.set) → IfErr result (SwapFails remaining written contents side before after)
+  swap_not_written set (Ok unit) conversed sound fails left = fails
+  swap_not_written set (Err fault) conversed sound fails left = not_swapped set fault conversed sound fails left
 
   pub swap_refused : (fault : SyncFault) → HasConversed remaining written contents side before after (Err fault) → Blames remaining after.reader after.writer fault → after.output ≡ before.output
       → SwapFails remaining written contents side before after (sync_fault fault)

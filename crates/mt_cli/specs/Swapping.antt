@@ -10,6 +10,7 @@ use Rattle.mt_sync.specs.declared.fault.SyncFault.TheVariants as sync
 use Rattle.mt_sync.specs.Conversation.{takes, told}
 use Rattle.mt_sync.specs.Feeding.{end_at}
 use Rattle.mt_sync.specs.Conversing.{HasBytes, Lacks, TakesAll, ConversesAs, AreSound, Blames}
+use Rattle.mt_sync.specs.Leaving.{StaysOrFails}
 use Rattle.mt_cli.specs.declared.fault.CliFault.{CliFault}
 use Rattle.mt_cli.specs.declared.fault.CliFault.TheVariants.{Memory, Write, Message, Sync}
 use Rattle.mt_cli.specs.Reading.{text_of}
@@ -40,7 +41,7 @@ Taking log sent made = TakingIn (Some log) sent made
 
 -- ---- by a conversation
 
--- what is lent to it, before or after: the editor's set, which is gone where the editor has failed, what is read from the other end and
+-- what is lent to it, before or after: the holder's set, which is gone where the holder has failed, what is read from the other end and
 -- written to it, and the output
 pub record TalkLent (R W O : Type 0) : Type 0 where
   pub set : Option LogMap
@@ -52,10 +53,18 @@ abbrev pub lent_talk : {R W O : Type 0} → Option LogMap → Latched R → Latc
 lent_talk set reader writer output = record { set = set; reader = reader; writer = writer; output = output }
 
 module _ {R W O : Type 0} (remaining : R → Option (List ℕ)) (written : W → Option (List ℕ)) (contents : O → Option (List ℕ)) (side : Side) (before after : TalkLent R W O) where
-  -- the conversation has read, written and left what `converse` says of this answer
+  -- the conversation has read, written and left what `converse` says of this answer, this set among it
+  abbrev pub HasConversedTo : Option LogMap → Result (Unit {0}) SyncFault → Type 0
+  HasConversedTo set answer =
+      ConversesAs side before.set (remaining before.reader.inner) (remaining after.reader.inner)
+      (written before.writer.inner) (written after.writer.inner) answer set
+
   abbrev pub HasConversed : Result (Unit {0}) SyncFault → Type 0
-  HasConversed answer =
-      ConversesAs side before.set (remaining before.reader.inner) (remaining after.reader.inner) (written before.writer.inner) (written after.writer.inner) answer after.set
+  HasConversed answer = HasConversedTo after.set answer
+
+  -- it came to its end, and memory ran out after it, by which the set may be gone
+  abbrev pub HasConversedInVain : Type 0
+  HasConversedInVain = (set : Option LogMap) × (HasConversedTo set (Ok tt) × StaysOrFails set after.set)
 
   -- it came to its end with both its streams sound, and left this set
   abbrev pub HasMet : LogMap → Type 0
@@ -67,7 +76,7 @@ module _ {R W O : Type 0} (remaining : R → Option (List ℕ)) (written : W →
 
   -- It stopped, with its cause, or memory ran out in it or after it, each with the output as it was; or the output has failed.
   abbrev pub SwapFails : CliFault → Type 0
-  SwapFails Memory = (HasConversed (Err (sync.Talk talk.Memory)) ⊎ HasConversed (Ok tt)) × (after.output ≡ before.output)
+  SwapFails Memory = (HasConversed (Err (sync.Talk talk.Memory)) ⊎ HasConversedInVain) × (after.output ≡ before.output)
   SwapFails (Sync fault) = (fault ≢ sync.Talk talk.Memory) × ((HasConversed (Err fault) × Blames remaining after.reader after.writer fault) × (after.output ≡ before.output))
   SwapFails Write = (set : LogMap) × (HasMet set × HasFailed contents (text_of set) before.output after.output)
   SwapFails _ = ⊥

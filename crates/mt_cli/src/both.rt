@@ -1,6 +1,6 @@
 //! Reading a log, and other bytes after it.
 
-ghost use Rattle.std.specs.Prelude.{◌≡◌, IfOk, IfErr, OnOk, Some};
+ghost use Rattle.std.specs.Prelude.{◌≡◌, true, IfOk, IfErr, OnOk, Some};
 ghost use Rattle.mt_opcodec.specs.LogValue.{LogMap};
 ghost use Rattle.mt_cli.specs.Reading.{text_of, Gave, IsRead, IsCause};
 ghost use Rattle.mt_cli.specs.OneLog.{BothCause};
@@ -8,8 +8,7 @@ ghost use Rattle.mt_cli.specs.OneLog.{BothCause};
 use crate::fault::CliFault;
 use crate::read::{read_all, read_log};
 use mt_opcodec::{Latch, Log};
-use mt_replica::Editor;
-use mt_stamp::Replica;
+use mt_sync::GrowingLog;
 use std::alloc::Allocator;
 use std::io::Read;
 
@@ -41,17 +40,16 @@ pub(crate) fn read_both<A: Allocator + Clone, R: Read>(
     }
 }
 
-/// Reads the log of an input, and makes an editor of it.
+/// Reads the log of an input, to let it grow.
 ///
 /// Refused as `Read` where the input's latch has failed, and as `Log` where its bytes are no log's text, each with index 0; as `Memory`
 /// where a growth was refused. The input is read to its end, unless its latch has failed or memory ran out.
-pub fn read_editor<A: Allocator + Clone, R: Read>(
+pub fn read_growing<A: Allocator + Clone, R: Read>(
     alloc: A,
-    name: Replica,
     input: &mut Latch<R>,
-) -> Result<Editor<A>, CliFault>
-    ensures ok { IfOk result (λ editor. (log : LogMap) × (Gave R.remaining input.old (text_of log)
-        × (editor ≡ record { name = name; log = Some log; joins = 0 }))) }
+) -> Result<GrowingLog<A>, CliFault>
+    ensures ok { IfOk result (λ growing. (log : LogMap) × (Gave R.remaining input.old (text_of log)
+        × (growing ≡ record { set = Some log; whole = true }))) }
     ensures read { OnOk result (IsRead R.remaining input.new) }
     ensures err { IfErr result (IsCause R.remaining 0 input.old input.new) }
 {
@@ -59,8 +57,8 @@ pub fn read_editor<A: Allocator + Clone, R: Read>(
         Ok(log) => log,
         Err(fault) => return Err(fault),
     };
-    match Editor::from_log(alloc, name, log) {
-        Ok(editor) => Ok(editor),
+    match GrowingLog::new(alloc, log) {
+        Ok(growing) => Ok(growing),
         Err(_) => Err(CliFault::Memory),
     }
 }

@@ -1,16 +1,14 @@
 //! The commands, a file each: its words, and what it runs.
 
 use crate::base::Base;
-use crate::both::read_editor;
+use crate::both::read_growing;
 use crate::fault::CliFault;
 use crate::files::{OpenLog, open_log};
 use crate::part::{Naming, Part};
 use crate::swap::swap_log;
-use crate::take::NOBODY;
 use clap::ArgMatches;
 use mt_opcodec::Latch;
-use mt_replica::Editor;
-use mt_sync::Side;
+use mt_sync::{GrowingLog, Side};
 use std::fs::File;
 use std::io::{Read, Write};
 use std::net::OpenStream;
@@ -35,21 +33,21 @@ pub(crate) mod sources;
 pub(crate) mod take;
 pub(crate) mod view;
 
-// An editor of the log in a file, who makes nothing of its own, and the file where it is OUT.
+// The log in a file, which is to grow, and the file where it is OUT.
 #[derive(Drop)]
-struct OpenEditor {
-    editor: Editor,
+struct OpenGrowing {
+    growing: GrowingLog,
     base: Option<Base>,
 }
 
-fn open_editor<F: Files<File = File> + AllocGlobal>(
+fn open_growing<F: Files<File = File> + AllocGlobal>(
     rt: &F,
     path: &str,
     out: &str,
-) -> Result<OpenEditor, CliFault> {
+) -> Result<OpenGrowing, CliFault> {
     let OpenLog { mut log, base } = open_log(rt, 0, path, out)?;
-    let editor = read_editor(rt.alloc(), NOBODY, &mut log)?;
-    Ok(OpenEditor { editor, base })
+    let growing = read_growing(rt.alloc(), &mut log)?;
+    Ok(OpenGrowing { growing, base })
 }
 
 // How long is waited for the other end, where that is said.
@@ -74,18 +72,18 @@ fn limit<S: OpenStream>(stream: &S, wait: Option<Duration>) -> Result<(), CliFau
     }
 }
 
-// Swaps operations with the other end of a stream, which is read and written by two handles of it, and writes the editor's log into a
-// file.
+// Swaps operations with the other end of a stream, which is read and written by two handles of it, and writes the log that has grown
+// into a file.
 fn swap<F: Files<File = File> + AllocGlobal, S: Read + Write + OpenStream + Drop>(
     rt: &F,
-    opened: OpenEditor,
+    opened: OpenGrowing,
     side: Side,
     stream: S,
     out: &str,
     naming: Naming,
 ) -> Result<(), CliFault> {
     let alloc = rt.alloc();
-    let OpenEditor { mut editor, base } = opened;
+    let OpenGrowing { mut growing, base } = opened;
     let Ok(other) = stream.try_clone() else {
         return Err(CliFault::Net);
     };
@@ -95,7 +93,7 @@ fn swap<F: Files<File = File> + AllocGlobal, S: Read + Write + OpenStream + Drop
     let swapped = swap_log(
         alloc,
         alloc,
-        &mut editor,
+        &mut growing,
         side,
         &mut reader,
         &mut writer,

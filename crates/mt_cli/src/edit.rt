@@ -9,10 +9,10 @@ ghost use Rattle.mt_cli.specs.Working.{EditedWritten, EditedFails};
 
 use crate::both::read_both;
 use crate::fault::CliFault;
-use crate::put::{put_editor, put_number_line};
+use crate::put::{put_held, put_number_line};
 use mt_opcodec::{Latch, Log};
-use mt_replica::Editor;
-use mt_script::{ScriptFault, run};
+use mt_replica::Draft;
+use mt_script::{ScriptFault, run_draft};
 use mt_stamp::Replica;
 use std::alloc::Allocator;
 use std::io::{Read, Write};
@@ -39,25 +39,25 @@ fn put_count<T: Write>(count: usize, told: &mut Latch<T>) -> Result<(), CliFault
     }
 }
 
-// Writes an editor's log, and then tells how many changes were made.
+// Writes a draft's log, and then tells how many changes were made.
 fn put_edited<A: Allocator + Clone, W: Write, T: Write>(
-    editor: &Editor<A>,
+    draft: &Draft<A>,
     count: usize,
     output: &mut Latch<W>,
     told: &mut Latch<T>,
 ) -> Result<(), CliFault>
-    ensures ok { OnOk result (EditedWritten W.contents editor.now.log T.contents count output.old output.new told.old told.new) }
-    ensures err { IfErr result (EditedFails W.contents editor.now.log T.contents count output.old output.new told.old told.new) }
+    ensures ok { OnOk result (EditedWritten W.contents draft.now.log T.contents count output.old output.new told.old told.new) }
+    ensures err { IfErr result (EditedFails W.contents draft.now.log T.contents count output.old output.new told.old told.new) }
     ensures output_stays_failed { output.old.failed ≡ true → output.new ≡ output.old }
     ensures told_stays_failed { told.old.failed ≡ true → told.new ≡ told.old }
 {
-    match put_editor(editor, output) {
+    match put_held(draft, output) {
         Ok(()) => put_count(count, told),
         Err(fault) => Err(fault),
     }
 }
 
-// Writes what an editor of this name makes of a log by a script, and tells it.
+// Writes what an editor of this name makes of a log by a script, in a draft, and tells it.
 fn put_edit<A: Allocator + Clone, W: Write, T: Write>(
     alloc: A,
     name: Replica,
@@ -71,9 +71,9 @@ fn put_edit<A: Allocator + Clone, W: Write, T: Write>(
     ensures output_stays_failed { output.old.failed ≡ true → output.new ≡ output.old }
     ensures told_stays_failed { told.old.failed ≡ true → told.new ≡ told.old }
 {
-    match Editor::from_log(alloc.clone()?, name, log) {
-        Ok(mut editor) => match run(alloc, &mut editor, script) {
-            Ok(count) => put_edited(&editor, count, output, told),
+    match Draft::new(alloc.clone()?, name, log) {
+        Ok(draft) => match run_draft(alloc, draft, script) {
+            Ok((made, count)) => put_edited(&made, count, output, told),
             Err(fault) => Err(refused_script(fault)),
         },
         Err(_) => Err(CliFault::Memory),

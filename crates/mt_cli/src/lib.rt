@@ -73,7 +73,7 @@ mod view;
 mod why;
 mod words;
 
-pub use both::read_editor;
+pub use both::read_growing;
 pub use check::check_log;
 pub use edit::edit_log;
 pub use fault::{CliFault, PartFault};

@@ -4,12 +4,12 @@ ghost use Rattle.std.specs.Prelude.{◌≡◌, true, OnOk, IfErr};
 ghost use Rattle.mt_latch.specs.Buffered.{Puts};
 ghost use Rattle.mt_cli.specs.OneLog.{HasWritten, HasFailed};
 ghost use Rattle.mt_cli.specs.Editing.{number_line};
-ghost use Rattle.mt_cli.specs.Working.{EditorWritten, EditorFails};
+ghost use Rattle.mt_cli.specs.Working.{HeldWritten, HeldFails, LendLeaves};
 
 use crate::fault::CliFault;
 use crate::merge::put_log;
 use mt_opcodec::{BufferedLatch, Latch, LatchFault};
-use mt_replica::Editor;
+use mt_sync::{Holder, HoldsLog};
 use std::alloc::Allocator;
 use std::io::Write;
 
@@ -25,18 +25,36 @@ pub(crate) fn put_bytes<W: Write>(bytes: &[u8], output: &mut Latch<W>) -> Result
     }
 }
 
-/// Writes the text of an editor's log. `Memory` also where the editor has failed, so that there is none.
-pub(crate) fn put_editor<A: Allocator + Clone, W: Write>(
-    editor: &Editor<A>,
+/// Writes the text of the log that a holder has. `Memory` also where it has failed, so that there is none.
+pub(crate) fn put_held<A: Allocator + Clone, W: Write, H: HoldsLog<A>>(
+    holder: &H,
     output: &mut Latch<W>,
 ) -> Result<(), CliFault>
-    ensures ok { OnOk result (EditorWritten W.contents editor.now.log output.old output.new) }
-    ensures err { IfErr result (EditorFails W.contents editor.now.log output.old output.new) }
+    ensures ok { OnOk result (HeldWritten W.contents (H.held holder.now) output.old output.new) }
+    ensures err { IfErr result (HeldFails W.contents (H.held holder.now) output.old output.new) }
     ensures stays_failed { output.old.failed ≡ true → output.new ≡ output.old }
 {
-    match editor.log() {
+    match holder.log() {
         Some(log) => put_log(log, output),
         None => Err(CliFault::Memory),
+    }
+}
+
+/// Writes the text of the log that a holder lends. `Memory` also where it lends none, since it has failed or a growth was refused.
+pub(crate) fn put_lent<A: Allocator + Clone, W: Write, H: Holder<A>>(
+    holder: &mut H,
+    output: &mut Latch<W>,
+) -> Result<(), CliFault>
+    ensures ok { OnOk result (HeldWritten W.contents (H.held holder.old) output.old output.new) }
+    ensures err { IfErr result (HeldFails W.contents (H.held holder.old) output.old output.new) }
+    ensures held { OnOk result (H.held holder.new ≡ H.held holder.old) }
+    ensures left { IfErr result (LendLeaves (H.held holder.old) (H.held holder.new)) }
+    ensures name { H.named holder.new ≡ H.named holder.old }
+    ensures stays_failed { output.old.failed ≡ true → output.new ≡ output.old }
+{
+    match holder.lent() {
+        Ok(log) => put_log(log, output),
+        Err(_) => Err(CliFault::Memory),
     }
 }
 

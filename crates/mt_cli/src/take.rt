@@ -8,16 +8,11 @@ ghost use Rattle.mt_cli.specs.Swapping.{Taking, TakingIn};
 
 use crate::both::read_both;
 use crate::fault::CliFault;
-use crate::put::put_editor;
+use crate::put::put_lent;
 use mt_opcodec::{Latch, Log};
-use mt_replica::Editor;
-use mt_stamp::Replica;
-use mt_sync::{SyncFault, TalkFault, take_ops};
+use mt_sync::{GrowingLog, SyncFault, TalkFault, take_ops};
 use std::alloc::{Allocator, Global};
 use std::io::{Read, Write};
-
-/// The name of an editor that makes nothing of its own.
-pub(crate) const NOBODY: Replica = Replica(0);
 
 /// Why a conversation stopped, or operations were not taken.
 pub(crate) fn refused_sync(fault: SyncFault) -> CliFault
@@ -29,20 +24,20 @@ pub(crate) fn refused_sync(fault: SyncFault) -> CliFault
     }
 }
 
-// Lets an editor take these operations, and writes its log.
-fn put_editor_taking<A: Allocator + Clone, W: Write>(
+// Lets a log grow by these operations, and writes it.
+fn put_growing<A: Allocator + Clone, W: Write>(
     alloc: A,
     frames: Global,
-    editor: &mut Editor<A>,
+    growing: &mut GrowingLog<A>,
     ops: &[u8],
     output: &mut Latch<W>,
 ) -> Result<(), CliFault>
-    ensures ok { OnOk result (MadeWritten W.contents (TakingIn editor.old.log ops.now) output.old output.new) }
-    ensures err { IfErr result (MadeFails W.contents (TakingIn editor.old.log ops.now) output.old output.new) }
+    ensures ok { OnOk result (MadeWritten W.contents (TakingIn growing.old.set ops.now) output.old output.new) }
+    ensures err { IfErr result (MadeFails W.contents (TakingIn growing.old.set ops.now) output.old output.new) }
     ensures stays_failed { output.old.failed ≡ true → output.new ≡ output.old }
 {
-    match take_ops(alloc, frames, editor, ops) {
-        Ok(()) => put_editor(editor, output),
+    match take_ops(alloc, frames, growing, ops) {
+        Ok(()) => put_lent(growing, output),
         Err(fault) => Err(refused_sync(fault)),
     }
 }
@@ -59,8 +54,8 @@ fn put_taking<A: Allocator + Clone, W: Write>(
     ensures err { IfErr result (MadeFails W.contents (Taking log ops.now) output.old output.new) }
     ensures stays_failed { output.old.failed ≡ true → output.new ≡ output.old }
 {
-    match Editor::from_log(alloc.clone()?, NOBODY, log) {
-        Ok(mut editor) => put_editor_taking(alloc, frames, &mut editor, ops, output),
+    match GrowingLog::new(alloc.clone()?, log) {
+        Ok(mut growing) => put_growing(alloc, frames, &mut growing, ops, output),
         Err(_) => Err(CliFault::Memory),
     }
 }

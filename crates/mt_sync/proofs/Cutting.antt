@@ -8,12 +8,12 @@ use Rattle.std.proofs.lemmas.Option.{none-some, same_Some}
 use Rattle.mt_op.specs.Operation.{Operation}
 use Rattle.mt_op.specs.Dots.{op_dot, dots_rise}
 use Rattle.mt_op.specs.Valid.{IsOperation}
-use Rattle.mt_opcodec.specs.Clashing.{HasAnother}
 use Rattle.mt_opcodec.specs.LogValue.{LogMap, AreLogged, log_of, operations}
 use Rattle.mt_opcodec.specs.Union.{Agree, union}
 use Rattle.mt_opcodec.proofs.Logs.{get-log_of}
 use Rattle.mt_opcodec.proofs.Union.{get-union}
 use Rattle.mt_sync.specs.Conversation.{clashes, with_op, joined}
+use Rattle.mt_sync.specs.Joining.{HasAnotherOperation}
 use Rattle.mt_sync.proofs.Honest.{all_front, rise_front}
 use Rattle.mt_sync.proofs.Joined.{is_other, joined_behind}
 use Rattle.mt_opcodec.proofs.Sets.{found_in}
@@ -35,15 +35,15 @@ logged_before list i is =
     record { rise = rise_front (take i list) (drop i list) logged.rise; valid = all_front IsOperation (take i list) (drop i list) logged.valid }
 
 -- those before the first that clashes make the union with the set
-pub joined_cut : (set : LogMap) (list : List Operation) (i : ℕ) (o : Operation) → i < length list → o ≡ get_or list i o → AreLogged list → AllByRecursion IsOperation (operations set) → IsOperation o
-    → AllByRecursion (Meets set) (take i list) → HasAnother set o true → joined set list ≡ (union set (log_of (take i list)), Some (op_dot o))
-joined_cut set list i o lt is logged all valid before other =
+pub joined_cut : (set : LogMap) (list : List Operation) (i : ℕ) (o : Operation) → i < length list → o ≡ get_or list i o → AreLogged list → IsOperation o
+    → AllByRecursion (Meets set) (take i list) → HasAnotherOperation set o true → joined set list ≡ (union set (log_of (take i list)), Some (op_dot o))
+joined_cut set list i o lt is logged valid before other =
     let front = take i list in
     let mid = union set (log_of front) in
     let rest = drop (i + 1) list in
     let parts : list ≡ front ++ (o ∷ rest) = sym (take-append-drop i list) ∙ ap (λ (l : List Operation). front ++ l) (drop_more list i o lt ∙ ap (λ (x : Operation). x ∷ rest) (sym is)) in
     let there : fin.get mid (op_dot o) ≡ Some other.0 = get-union set (log_of front) (op_dot o) ∙ ap (λ (x : Option Operation). cond (is_some x) x (fin.get (log_of front) (op_dot o))) other.1.0 in
-    let clash : clashes (fin.get mid (op_dot o)) o ≡ true = ap (λ (x : Option Operation). clashes x o) (there ∙ sym other.1.0) ∙ is_other set o other.0 (op_dot o) refl other.1.0 other.1.1 valid all in
+    let clash : clashes (fin.get mid (op_dot o)) o ≡ true = ap (λ (x : Option Operation). clashes x o) (there ∙ sym other.1.0) ∙ is_other set o other.0 (op_dot o) refl other.1.0 other.1.1.0 valid other.1.1.1 in
     ap (joined set) parts
     ∙ joined_behind set mid front (o ∷ rest) (joined_meeting set front (logged_before list i logged).rise before)
     ∙ ap (λ (b : Bool). cond b (mid, Some (op_dot o)) (joined (with_op mid o) rest)) clash

@@ -34,7 +34,7 @@ found_valid dot p (e ∷ es) is valid = by (is_eq (dot_cmp dot e.0)) refl (λ mo
     by true at next h = subst IsOperation (same_Some e.1 p h) valid.0
     by false at next h = next h
 
-member_valid : (set : LogMap) (dot : Dot) (p : Operation) → fin.get set dot ≡ Some p → AllByRecursion IsOperation (operations set) → IsOperation p
+pub member_valid : (set : LogMap) (dot : Dot) (p : Operation) → fin.get set dot ≡ Some p → AllByRecursion IsOperation (operations set) → IsOperation p
 member_valid set dot p is valid = found_valid dot p (fin.entries set) (sym (fin.get-entries set dot) ∙ is) valid
 
 pub is_new : (set new : LogMap) (o : Operation) → fin.get set (op_dot o) ≡ None → new ≡ fin.insert set (op_dot o) o → (clashes (fin.get set (op_dot o)) o ≡ false) × (new ≡ with_op set o)
@@ -44,8 +44,8 @@ pub is_there : (set new : LogMap) (o : Operation) → fin.get set (op_dot o) ≡
 is_there set new o there is =
     (ap (λ (x : Option Operation). clashes x o) there ∙ ap not (bytes_itself (op_text o)), is ∙ ap (λ (x : Option Operation). cond (is_some x) set (fin.insert set (op_dot o) o)) (sym there))
 
-pub is_other : (set : LogMap) (o other : Operation) (dot : Dot) → dot ≡ op_dot o → fin.get set dot ≡ Some other → other ≢ o → IsOperation o → AllByRecursion IsOperation (operations set) → clashes (fin.get set (op_dot o)) o ≡ true
-is_other set o other dot at there differs valid all =
+pub is_other : (set : LogMap) (o other : Operation) (dot : Dot) → dot ≡ op_dot o → fin.get set dot ≡ Some other → other ≢ o → IsOperation o → IsOperation other → clashes (fin.get set (op_dot o)) o ≡ true
+is_other set o other dot at there differs valid other_valid =
     let here : fin.get set (op_dot o) ≡ Some other = ap (fin.get set) (sym at) ∙ there in
     ap (λ (x : Option Operation). clashes x o) here ∙ by (pointwise eqb (op_text other) (op_text o)) refl
   where
@@ -53,7 +53,7 @@ is_other set o other dot at there differs valid all =
     by false is = refl
     by true is =
         let same = bytes_same (op_text other) (op_text o) is in
-        let apart = op_text-apart other o [] [] (member_valid set dot other there all) valid (append-nil (op_text other) ∙ same ∙ sym (append-nil (op_text o))) in
+        let apart = op_text-apart other o [] [] other_valid valid (append-nil (op_text other) ∙ same ∙ sym (append-nil (op_text o))) in
         absurd (differs apart.0)
 
 -- what joins behind operations that have all joined
@@ -97,7 +97,7 @@ one_taken kept new o (Applied stamps) gives holds = subst (λ (k : Kept). TakesI
 one_other : (A : Type 0) (kept new : Kept) (set : LogMap) (o : Operation) (dot : Dot) → kept.log ≡ Some set → IsOperation o → AllByRecursion IsOperation (operations set)
     → TakeOf {A = A} set o (Err (editor.Conflict dot)) → new ≡ kept → TakesIn (Some set) (o ∷ []) (Err (Conflict dot)) new.log
 one_other A kept new set o dot at valid all h holds =
-    let clash : clashes (fin.get set (op_dot o)) o ≡ true = is_other set o h.1.0 dot h.0 h.1.1.0 h.1.1.1 valid all in
+    let clash : clashes (fin.get set (op_dot o)) o ≡ true = is_other set o h.1.0 dot h.0 h.1.1.0 h.1.1.1 valid (member_valid set dot h.1.0 h.1.1.0 all) in
     (ap (λ (b : Bool). (one_of set o b).1) clash ∙ ap Some (sym h.0), ap (λ (k : Kept). k.log) holds ∙ at ∙ sym (ap (λ (b : Bool). Some (one_of set o b).0) clash))
 
 pub one_untaken : (A : Type 0) (kept new : Kept) (set : LogMap) (o : Operation) (fault : EditorFault) → kept.log ≡ Some set → IsOperation o → AllByRecursion IsOperation (operations set)

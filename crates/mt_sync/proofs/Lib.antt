@@ -13,4 +13,5 @@ pub mod Leaving
 pub mod Unions
 pub mod Turns
 pub mod Cutting
+pub mod LogsTogether
 pub mod Stops

@@ -127,12 +127,16 @@ HearsAll view t (Err BadMessage) turn rest set = t.0 ≡ (stop BadMessage set).0
 HearsAll view t (Err OutOfTurn) turn rest set = t.0 ≡ (stop OutOfTurn set).0
 HearsAll view t (Err FrameTooLong) turn rest set = t.0 ≡ (stop FrameTooLong set).0
 
+-- why a call of an editor that has not failed is refused
+abbrev pub CallRefused : LogMap → TalkFault → Type 0
+CallRefused set Memory = Unit {0}
+CallRefused set FrameTooLong = can_say (summary_of set) ≡ false
+CallRefused set _ = ⊥
+
 -- what a call answers of the set of its editor: a talk that waits for a Have, and the frame of its own
 abbrev pub CallsFrom : {X : Type 0} → (X → Talking) → (X → List ℕ) → LogMap → Result X TalkFault → Type 0
 CallsFrom talk bytes set (Ok x) = (talk x ≡ record { turn = greets Caller; rest = [] }) × (can_say (summary_of set) ≡ true) × (bytes x ≡ frame_text (have_text (summary_of set)))
-CallsFrom talk bytes set (Err Memory) = Unit {0}
-CallsFrom talk bytes set (Err FrameTooLong) = can_say (summary_of set) ≡ false
-CallsFrom talk bytes set (Err _) = ⊥
+CallsFrom talk bytes set (Err fault) = CallRefused set fault
 
 abbrev pub Calls : {X : Type 0} → (X → Talking) → (X → List ℕ) → Option LogMap → Result X TalkFault → Type 0
 Calls talk bytes None result = result ≡ Err Failed

@@ -2,6 +2,8 @@ pub mod Faults
 pub mod Conversation
 pub mod Feeding
 pub mod Leaving
+pub mod Holding
+pub mod Codes
 pub mod Conversing
 pub mod Joining
 pub mod Taking

@@ -5,10 +5,10 @@ ghost use Rattle.mt_sync.specs.Feeding.{end_of, IsOpen};
 ghost use Rattle.mt_sync.specs.declared.fault.SyncFault.TheVariants.{Write as WriteFault};
 ghost use Rattle.mt_sync.specs.Conversing.{AreSound, BeginsWith, Blames, Converses, ConversesAs};
 
-use crate::fault::{Side, SyncFault};
+use crate::fault::{Side, SyncFault, TalkFault};
+use crate::holder::Holder;
 use crate::talk::Talk;
 use mt_opcodec::Latch;
-use mt_replica::Editor;
 use std::alloc::{Allocator, Global};
 use std::io::{Read, Write};
 
@@ -23,46 +23,51 @@ const PIECE: usize = 65_536;
 /// failed is not asked and stays as it was; after `Ok` neither has failed. After a refusal the writer holds a prefix of the bytes
 /// that the conversation calls for, and the editor its own operations and those that came before; where a growth was refused while operations
 /// joined, the editor has failed.
-pub fn converse<A: Allocator + Clone, R: Read, W: Write>(
+pub fn converse<A: Allocator + Clone, R: Read, W: Write, H: Holder<A>>(
     alloc: A,
     frames: Global,
-    editor: &mut Editor<A>,
+    holder: &mut H,
     side: Side,
     reader: &mut Latch<R>,
     writer: &mut Latch<W>,
 ) -> Result<(), SyncFault>
-    ensures converses { ConversesAs side editor.old.log (R.remaining reader.old.inner) (R.remaining reader.new.inner) (W.contents writer.old.inner) (W.contents writer.new.inner) result editor.new.log }
-    ensures name { editor.new.name ≡ editor.old.name }
+    requires whole { H.whole holder.old ≡ true }
+    ensures converses { ConversesAs side (H.held holder.old) (R.remaining reader.old.inner) (R.remaining reader.new.inner) (W.contents writer.old.inner) (W.contents writer.new.inner) result (H.held holder.new) }
+    ensures name { H.named holder.new ≡ H.named holder.old }
     ensures sound { OnOk result (AreSound reader.new writer.new) }
     ensures blames { IfErr result (Blames R.remaining reader.new writer.new) }
     ensures reader_stays_failed { reader.old.failed ≡ true → reader.new ≡ reader.old }
     ensures writer_stays_failed { writer.old.failed ≡ true → writer.new ≡ writer.old }
 {
     match side {
-        Side::Caller => match begin(alloc, frames, editor, writer) {
-            Ok(mut talk) => hold_on(&mut talk, editor, reader, writer),
+        Side::Caller => match begin(alloc, frames, holder, writer) {
+            Ok(mut talk) => hold_on(&mut talk, holder, reader, writer),
             Err(fault) => Err(fault),
         },
         Side::Answerer => {
             let mut talk = Talk::answer(alloc, frames);
-            hold_on(&mut talk, editor, reader, writer)
+            hold_on(&mut talk, holder, reader, writer)
         }
     }
 }
 
 // Begins as the caller: writes the frame of its summary.
-fn begin<A: Allocator + Clone, W: Write>(
+fn begin<A: Allocator + Clone, W: Write, H: Holder<A>>(
     alloc: A,
     frames: Global,
-    editor: &Editor<A>,
+    holder: &H,
     writer: &mut Latch<W>,
 ) -> Result<Talk<A>, SyncFault>
-    ensures begins { BeginsWith (λ talk. talk) editor.now.log (W.contents writer.old.inner) (W.contents writer.new.inner) result }
+    requires whole { H.whole holder.now ≡ true }
+    ensures begins { BeginsWith (λ talk. talk) (H.held holder.now) (W.contents writer.old.inner) (W.contents writer.new.inner) result }
     ensures sound { OnOk result (writer.new.failed ≡ false) }
     ensures blames { IfErr result (λ fault. fault ≡ WriteFault → writer.new.failed ≡ true) }
     ensures stays_failed { writer.old.failed ≡ true → writer.new ≡ writer.old }
 {
-    let (talk, bytes) = match Talk::call(alloc, frames, editor) {
+    let Some(log) = holder.whole_log() else {
+        return Err(SyncFault::Talk(TalkFault::Failed));
+    };
+    let (talk, bytes) = match Talk::call(alloc, frames, log) {
         Ok(begun) => begun,
         Err(fault) => return Err(SyncFault::Talk(fault)),
     };
@@ -73,15 +78,15 @@ fn begin<A: Allocator + Clone, W: Write>(
 }
 
 // Reads and answers until the talk has ended.
-fn hold_on<A: Allocator + Clone, R: Read, W: Write>(
+fn hold_on<A: Allocator + Clone, R: Read, W: Write, H: Holder<A>>(
     talk: &mut Talk<A>,
-    editor: &mut Editor<A>,
+    holder: &mut H,
     reader: &mut Latch<R>,
     writer: &mut Latch<W>,
 ) -> Result<(), SyncFault>
     requires { IsOpen talk.old.turn }
-    ensures converses { Converses (end_of talk.old editor.old.log) (R.remaining reader.old.inner) (R.remaining reader.new.inner) (W.contents writer.old.inner) (W.contents writer.new.inner) result editor.new.log }
-    ensures name { editor.new.name ≡ editor.old.name }
+    ensures converses { Converses (end_of talk.old (H.held holder.old)) (R.remaining reader.old.inner) (R.remaining reader.new.inner) (W.contents writer.old.inner) (W.contents writer.new.inner) result (H.held holder.new) }
+    ensures name { H.named holder.new ≡ H.named holder.old }
     ensures sound { OnOk result (AreSound reader.new writer.new) }
     ensures blames { IfErr result (Blames R.remaining reader.new writer.new) }
     ensures reader_stays_failed { reader.old.failed ≡ true → reader.new ≡ reader.old }
@@ -99,7 +104,7 @@ fn hold_on<A: Allocator + Clone, R: Read, W: Write>(
         if count == 0 {
             return Err(SyncFault::Ended);
         }
-        match talk.feed(editor, &piece[..count]) {
+        match talk.feed(holder, &piece[..count]) {
             Ok(reply) => match writer.put(reply.as_slice()) {
                 Ok(()) => {}
                 Err(_) => return Err(SyncFault::Write),

@@ -1,16 +1,16 @@
 //! An exchange between two editors in memory.
 
-ghost use Rattle.std.specs.Prelude.{◌≡◌, ◌≢◌, None};
+ghost use Rattle.std.specs.Prelude.{◌≡◌, ◌≢◌, ◌⊎◌, None, IsErrOf};
 ghost use Rattle.mt_opcodec.specs.LogValue.{AreLogged};
 ghost use Rattle.mt_sync.specs.Taking.{TakesIn};
 ghost use Rattle.mt_sync.specs.Exchanging.{Exchanges, FindsLacking, FindsMissing};
+ghost use Rattle.mt_sync.specs.Leaving.{StaysOrFails};
 
 use crate::fault::TalkFault;
+use crate::holder::Holder;
 use crate::replying::put_have;
-use crate::taking::take_all;
 use mt_op::Op;
 use mt_opcodec::Log;
-use mt_replica::Editor;
 use mt_summary::{Summary, lacking};
 use std::alloc::Allocator;
 
@@ -21,14 +21,14 @@ use std::alloc::Allocator;
 /// Refused, in this order, as `Failed` (20) where one of them has failed and as `FrameTooLong` (40) where the summary of one of them
 /// does not fit a frame: then both are unchanged. `Memory` (0) where a growth was refused: then each is unchanged, has all that it
 /// lacked, or has failed. `Conflict` (17) is never answered. What it does is what a conversation does (`laws::conversations`).
-pub fn exchange<A: Allocator + Clone>(
+pub fn exchange<A: Allocator + Clone, H: Holder<A>, K: Holder<A>>(
     alloc: A,
-    caller: &mut Editor<A>,
-    answerer: &mut Editor<A>,
+    caller: &mut H,
+    answerer: &mut K,
 ) -> Result<(), TalkFault>
-    ensures swapped { Exchanges caller.old.log answerer.old.log result caller.new.log answerer.new.log }
-    ensures caller_name { caller.new.name ≡ caller.old.name }
-    ensures answerer_name { answerer.new.name ≡ answerer.old.name }
+    ensures swapped { Exchanges (H.held caller.old) (K.held answerer.old) result (H.held caller.new) (K.held answerer.new) }
+    ensures caller_name { H.named caller.new ≡ H.named caller.old }
+    ensures answerer_name { K.named answerer.new ≡ K.named answerer.old }
 {
     let for_caller = lacks_of(&alloc, caller, answerer)?;
     let for_answerer = lacks_of(&alloc, answerer, caller)?;
@@ -36,18 +36,29 @@ pub fn exchange<A: Allocator + Clone>(
     take_some(&alloc, answerer, for_answerer)
 }
 
-// What an editor lacks of another one's operations, where its summary, which tells that, fits a frame.
-fn lacks_of<A: Allocator + Clone>(
+// What a holder lacks of another one's operations, where its summary, which tells that, fits a frame.
+fn lacks_of<A: Allocator + Clone, H: Holder<A>, K: Holder<A>>(
     alloc: &A,
-    editor: &Editor<A>,
-    other: &Editor<A>,
+    holder: &mut H,
+    other: &mut K,
 ) -> Result<Vec<Op<A>, A>, TalkFault>
-    ensures { FindsLacking (λ ops. ops.items) editor.now.log other.now.log result }
+    ensures finds { FindsLacking (λ ops. ops.items) (H.held holder.old) (K.held other.old) result }
+    ensures own_left { StaysOrFails (H.held holder.old) (H.held holder.new) }
+    ensures other_left { StaysOrFails (K.held other.old) (K.held other.new) }
+    ensures own_held { H.held holder.new ≡ H.held holder.old ⊎ IsErrOf result TalkFault.Memory }
+    ensures other_held { K.held other.new ≡ K.held other.old ⊎ IsErrOf result TalkFault.Memory }
+    ensures own_name { H.named holder.new ≡ H.named holder.old }
+    ensures other_name { K.named other.new ≡ K.named other.old }
 {
-    let Some(own) = editor.log() else {
+    if holder.has_failed() || other.has_failed() {
+        return Err(TalkFault::Failed);
+    }
+    holder.settle()?;
+    let Some(own) = holder.whole_log() else {
         return Err(TalkFault::Failed);
     };
-    let Some(others) = other.log() else {
+    other.settle()?;
+    let Some(others) = other.whole_log() else {
         return Err(TalkFault::Failed);
     };
     missing_of(alloc, own, others)
@@ -75,19 +86,19 @@ fn missing_of<A: Allocator + Clone>(
     }
 }
 
-// Takes operations, if there are any, into an editor that has not failed.
-fn take_some<A: Allocator + Clone>(
+// Takes operations, if there are any, into a holder that has not failed.
+fn take_some<A: Allocator + Clone, H: Holder<A>>(
     alloc: &A,
-    editor: &mut Editor<A>,
+    holder: &mut H,
     ops: Vec<Op<A>, A>,
 ) -> Result<(), TalkFault>
     requires rising { AreLogged ops.items }
-    requires going { editor.old.log ≢ None }
-    ensures takes { TakesIn editor.old.log ops.items result editor.new.log }
-    ensures name { editor.new.name ≡ editor.old.name }
+    requires going { H.held holder.old ≢ None }
+    ensures takes { TakesIn (H.held holder.old) ops.items result (H.held holder.new) }
+    ensures name { H.named holder.new ≡ H.named holder.old }
 {
     if ops.is_empty() {
         return Ok(());
     }
-    take_all(alloc, editor, ops)
+    holder.take_all(alloc, ops)
 }

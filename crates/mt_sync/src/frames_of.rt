@@ -7,12 +7,12 @@ ghost use Rattle.mt_sync.specs.Conversing.{HasBytes, Lacks, TakesAll};
 ghost use Rattle.mt_sync.specs.Leaving.{IsLeft};
 
 use crate::fault::{SyncFault, TalkFault};
+use crate::holder::Holder;
 use crate::replying::{put_answer, put_have};
 use crate::talk::Talk;
 use crate::turn::Turn;
 use mt_frames::{FrameFault, sole_body};
 use mt_opcodec::Log;
-use mt_replica::Editor;
 use mt_summary::{Message, MessageFault};
 use std::alloc::{Allocator, Global};
 
@@ -66,18 +66,18 @@ pub fn lack_bytes<A: Allocator + Clone>(
 /// operations: 40, 38, 39 (so too for a byte after Bye), 20, 17 or 0; and as `Ended` (49) where the bytes end before Bye. After a
 /// refusal the editor holds its own operations and those before the fault; where a growth was refused while operations joined it has failed.
 /// `frames` is where the bytes are kept while they are read.
-pub fn take_ops<A: Allocator + Clone>(
+pub fn take_ops<A: Allocator + Clone, H: Holder<A>>(
     alloc: A,
     frames: Global,
-    editor: &mut Editor<A>,
+    holder: &mut H,
     bytes: &[u8],
 ) -> Result<(), SyncFault>
-    ensures takes { TakesAll (told (end_at (takes None) [] editor.old.log) bytes.now) result editor.new.log }
-    ensures left { IfErr result (λ fault. fault ≡ SyncFault.Talk TalkFault.Memory → IsLeft (end_at (takes None) [] editor.old.log) bytes.now editor.new.log) }
-    ensures name { editor.new.name ≡ editor.old.name }
+    ensures takes { TakesAll (told (end_at (takes None) [] (H.held holder.old)) bytes.now) result (H.held holder.new) }
+    ensures left { IfErr result (λ fault. fault ≡ SyncFault.Talk TalkFault.Memory → IsLeft (end_at (takes None) [] (H.held holder.old)) bytes.now (H.held holder.new)) }
+    ensures name { H.named holder.new ≡ H.named holder.old }
 {
     let mut talk = Talk::waiting(alloc, frames, Turn::Takes(None));
-    match talk.feed(editor, bytes) {
+    match talk.feed(holder, bytes) {
         Ok(_) => {
             if talk.ended() {
                 Ok(())

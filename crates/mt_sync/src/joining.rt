@@ -1,13 +1,16 @@
 //! Operations that join the log of an editor as a whole.
 
-ghost use Rattle.std.specs.Prelude.{◌≡◌, ◌≢◌, IfOk, IfErr, OnOk, Some};
+ghost use Rattle.std.specs.Prelude.{◌≡◌, ◌≢◌, ◌∷◌, IfOk, IfErr, OnOk, Some};
 ghost use Rattle.mt_opcodec.specs.Clashing.{HasAnother};
 ghost use Rattle.mt_opcodec.specs.LogValue.{AreLogged, log_of};
-ghost use Rattle.mt_opcodec.specs.Union.{Agree, union};
+ghost use Rattle.mt_opcodec.specs.Laws.{PairsAgree};
+ghost use Rattle.mt_opcodec.specs.Union.{Agree, union, union_all};
 ghost use Rattle.mt_sync.specs.Conversation.{joined};
-ghost use Rattle.mt_sync.specs.Joining.{JoinsIn};
+ghost use Rattle.mt_sync.specs.Joining.{HasAnotherOperation, JoinsIn};
 
 use crate::fault::TalkFault;
+use crate::growing_log::GrowingLog;
+use crate::holder::Holder;
 use mt_op::Op;
 use mt_op::laws::equal_ops;
 use mt_opcodec::Log;
@@ -25,19 +28,42 @@ fn has_another<A: Allocator>(log: &Log<A>, op: &Op<A>) -> bool
     }
 }
 
-// Cuts operations, which rise by dot, before the first whose dot names another one in the log, and gives that dot: what is left agrees
-// with the log.
-fn cut_at_clash<A: Allocator>(log: &Log<A>, ops: &mut Vec<Op<A>, A>) -> Option<Dot>
+// Whether a log or one of others, every two of which agree, has another operation under this one's dot.
+fn have_another<A: Allocator>(log: &Log<A>, others: &[Log<A>], op: &Op<A>) -> bool
+    requires agree { PairsAgree (log.now ∷ others.now) }
+    ensures { HasAnotherOperation (union_all (log.now ∷ others.now)) op.now result }
+{
+    // for the proof: what each log has are operations
+    let _ = log.runs();
+    if has_another(log, op) {
+        return true;
+    }
+    for other in others {
+        let _ = other.runs();
+        if has_another(other, op) {
+            return true;
+        }
+    }
+    false
+}
+
+// Cuts operations, which rise by dot, before the first whose dot names another one in a log or in others, every two of which agree, and
+// gives that dot: what is left agrees with them.
+pub(crate) fn cut_at_clash<A: Allocator>(
+    log: &Log<A>,
+    others: &[Log<A>],
+    ops: &mut Vec<Op<A>, A>,
+) -> Option<Dot>
+    requires agree { PairsAgree (log.now ∷ others.now) }
     requires rising { AreLogged ops.old.items }
     ensures rising { AreLogged ops.new.items }
-    ensures agree { Agree log.now (log_of ops.new.items) }
-    ensures joined { joined log.now ops.old.items ≡ (union log.now (log_of ops.new.items), result) }
+    ensures agree { Agree (union_all (log.now ∷ others.now)) (log_of ops.new.items) }
+    ensures joined { joined (union_all (log.now ∷ others.now)) ops.old.items
+        ≡ (union (union_all (log.now ∷ others.now)) (log_of ops.new.items), result) }
 {
-    // each is an operation of the log
-    let _ = log.runs();
     for place in 0..ops.len() {
         let op = &ops[place];
-        if has_another(log, op) {
+        if have_another(log, others, op) {
             let dot = op.dot();
             ops.truncate(place);
             return Some(dot);
@@ -47,28 +73,13 @@ fn cut_at_clash<A: Allocator>(log: &Log<A>, ops: &mut Vec<Op<A>, A>) -> Option<D
 }
 
 // The log of operations that rise by dot.
-fn log_of<A: Allocator + Clone>(alloc: &A, ops: Vec<Op<A>, A>) -> Result<Log<A>, TalkFault>
+pub(crate) fn log_of<A: Allocator + Clone>(alloc: &A, ops: Vec<Op<A>, A>) -> Result<Log<A>, TalkFault>
     requires rising { AreLogged ops.items }
     ensures ok { IfOk result (λ log. log ≡ log_of ops.items) }
     ensures err { IfErr result (λ fault. fault ≡ TalkFault.Memory) }
 {
     match Log::of_ops(alloc.clone()?, ops) {
         Ok(log) => Ok(log),
-        Err(_) => Err(TalkFault::Memory),
-    }
-}
-
-// The union of a log, of which a copy is made, and of one that agrees with it.
-fn union_of<A: Allocator + Clone>(log: &Log<A>, more: Log<A>) -> Result<Log<A>, TalkFault>
-    requires agree { Agree log.now more }
-    ensures ok { IfOk result (λ all. all ≡ union log.now more) }
-    ensures err { IfErr result (λ fault. fault ≡ TalkFault.Memory) }
-{
-    let Ok(copy) = log.try_clone() else {
-        return Err(TalkFault::Memory);
-    };
-    match copy.join_agreeing(more) {
-        Ok(all) => Ok(all),
         Err(_) => Err(TalkFault::Memory),
     }
 }
@@ -106,13 +117,14 @@ pub(crate) fn join_ops<A: Allocator + Clone>(
     let Some(log) = editor.log() else {
         return Err(TalkFault::Failed);
     };
-    let mut ops = ops;
-    let clash = cut_at_clash(log, &mut ops);
-    let more = log_of(alloc, ops)?;
-    let all = union_of(log, more)?;
+    let Ok(copy) = log.try_clone() else {
+        return Err(TalkFault::Memory);
+    };
+    let mut growing = GrowingLog::new(alloc.clone()?, copy)?;
+    let taken = growing.take_all(alloc, ops);
+    let Ok(all) = growing.into_log() else {
+        return Err(TalkFault::Memory);
+    };
     replace(alloc, editor, all)?;
-    match clash {
-        Some(dot) => Err(TalkFault::Conflict(dot)),
-        None => Ok(()),
-    }
+    taken
 }

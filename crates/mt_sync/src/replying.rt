@@ -6,11 +6,12 @@ ghost use Rattle.mt_summary.specs.Summary.{summary_of};
 ghost use Rattle.mt_summary.specs.Messages.{have_text};
 ghost use Rattle.mt_sync.specs.Conversation.{answer, greets_back, answers_back, can_say};
 ghost use Rattle.mt_sync.specs.Feeding.{Replies, Says};
+ghost use Rattle.mt_sync.specs.Leaving.{StaysOrFails};
 
 use crate::fault::TalkFault;
+use crate::holder::Holder;
 use mt_frames::put_frame;
 use mt_opcodec::Log;
-use mt_replica::Editor;
 use mt_summary::{Message, MessageFault, Summary, lacking, put_ops_frames};
 use std::alloc::Allocator;
 
@@ -54,15 +55,18 @@ pub(crate) fn put_answer<A: Allocator + Clone, B: Allocator>(
 }
 
 // Appends the answerer's first reply.
-pub(crate) fn put_greeting<A: Allocator + Clone, B: Allocator>(
+pub(crate) fn put_greeting<A: Allocator + Clone, B: Allocator, H: Holder<A>>(
     alloc: &A,
-    editor: &Editor<A>,
+    holder: &mut H,
     summary: &Summary<B>,
     out: &mut Vec<u8, A>,
 ) -> Result<(), TalkFault>
-    ensures { Replies (greets_back editor.now.log summary.now) result editor.now.log out.old.items out.new.items }
+    ensures replies { Replies (greets_back (H.held holder.old) summary.now) result (H.held holder.new) out.old.items out.new.items }
+    ensures left { StaysOrFails (H.held holder.old) (H.held holder.new) }
+    ensures name { H.named holder.new ≡ H.named holder.old }
 {
-    let Some(log) = editor.log() else {
+    holder.settle()?;
+    let Some(log) = holder.whole_log() else {
         return Err(TalkFault::Failed);
     };
     put_have(alloc, log, out)?;
@@ -71,15 +75,18 @@ pub(crate) fn put_greeting<A: Allocator + Clone, B: Allocator>(
 }
 
 // Appends the caller's reply to Bye.
-pub(crate) fn put_farewell<A: Allocator + Clone, B: Allocator>(
+pub(crate) fn put_farewell<A: Allocator + Clone, B: Allocator, H: Holder<A>>(
     alloc: &A,
-    editor: &Editor<A>,
+    holder: &mut H,
     summary: &Summary<B>,
     out: &mut Vec<u8, A>,
 ) -> Result<(), TalkFault>
-    ensures { Replies (answers_back editor.now.log summary.now) result editor.now.log out.old.items out.new.items }
+    ensures replies { Replies (answers_back (H.held holder.old) summary.now) result (H.held holder.new) out.old.items out.new.items }
+    ensures left { StaysOrFails (H.held holder.old) (H.held holder.new) }
+    ensures name { H.named holder.new ≡ H.named holder.old }
 {
-    let Some(log) = editor.log() else {
+    holder.settle()?;
+    let Some(log) = holder.whole_log() else {
         return Err(TalkFault::Failed);
     };
     put_answer(alloc, log, summary, out)?;

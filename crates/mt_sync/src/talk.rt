@@ -10,11 +10,10 @@ ghost use Rattle.mt_sync.specs.Feeding.{turn_of, IsOpen, IsGoing, Waits, end_at,
 ghost use Rattle.mt_sync.specs.Leaving.{IsLeft, StaysOrFails};
 
 use crate::fault::{Side, TalkFault};
+use crate::holder::{Holder, HoldsLog};
 use crate::replying::{put_farewell, put_greeting, put_have};
-use crate::taking::take_all;
 use crate::turn::Turn;
 use mt_frames::{FrameFault, Unread};
-use mt_replica::Editor;
 use mt_summary::laws::texts;
 use mt_summary::{Message, MessageFault};
 use std::alloc::{Allocator, Global};
@@ -59,14 +58,14 @@ impl<A: Allocator + Clone> Talk<A> {
     /// The caller's end, and the bytes that begin the conversation: the frame of its summary. `frames` is where the bytes of a frame that
     /// is not whole are kept. Refused, in this order, as `Failed` (20) where the editor has failed and as `FrameTooLong`
     /// (40) where its summary does not fit a frame; as `Memory` (0) where a growth was refused.
-    pub fn call(
+    pub fn call<H: HoldsLog<A>>(
         alloc: A,
         frames: Global,
-        editor: &Editor<A>,
+        holder: &H,
     ) -> Result<(Talk<A>, Vec<u8, A>), TalkFault>
-        ensures { Calls (λ x. x.0) (λ x. x.1.items) editor.now.log result }
+        ensures { Calls (λ x. x.0) (λ x. x.1.items) (H.held holder.now) result }
     {
-        let Some(log) = editor.log() else {
+        let Some(log) = holder.log() else {
             return Err(TalkFault::Failed);
         };
         let mut out = Vec::new(alloc.clone()?);
@@ -101,15 +100,15 @@ impl<A: Allocator + Clone> Talk<A> {
     /// needed; `Conflict` (17) where an operation's dot names another one in the log; `FrameTooLong` (40) where the own
     /// summary does not fit a frame. `Memory` (0) where a growth was refused. After a fault the editor holds its own operations and those before
     /// the fault, and the talk answers 39 from then on; where a growth was refused while operations joined, the editor has failed.
-    pub fn feed(&mut self, editor: &mut Editor<A>, piece: &[u8]) -> Result<Vec<u8, A>, TalkFault>
-        ensures told { Feeds (λ out. out.items) (end_of self.old editor.old.log) piece.now result (end_of self.new editor.new.log) }
-        ensures left { IfErr result (λ fault. fault ≡ TalkFault.Memory → IsLeft (end_of self.old editor.old.log) piece.now editor.new.log) }
-        ensures name { editor.new.name ≡ editor.old.name }
+    pub fn feed<H: Holder<A>>(&mut self, holder: &mut H, piece: &[u8]) -> Result<Vec<u8, A>, TalkFault>
+        ensures told { Feeds (λ out. out.items) (end_of self.old (H.held holder.old)) piece.now result (end_of self.new (H.held holder.new)) }
+        ensures left { IfErr result (λ fault. fault ≡ TalkFault.Memory → IsLeft (end_of self.old (H.held holder.old)) piece.now (H.held holder.new)) }
+        ensures name { H.named holder.new ≡ H.named holder.old }
     {
         if self.turn.has_stopped() {
             return Err(TalkFault::OutOfTurn);
         }
-        match hear_all(&self.alloc, &mut self.turn, &mut self.unread, editor, piece) {
+        match hear_all(&self.alloc, &mut self.turn, &mut self.unread, holder, piece) {
             Ok(out) => Ok(out),
             Err(fault) => {
                 self.turn = Turn::Stopped(fault);
@@ -121,69 +120,69 @@ impl<A: Allocator + Clone> Talk<A> {
 }
 
 // Hears one piece, and gives the replies.
-fn hear_all<A: Allocator + Clone>(
+fn hear_all<A: Allocator + Clone, H: Holder<A>>(
     alloc: &A,
     turn: &mut Turn<A>,
     unread: &mut Unread,
-    editor: &mut Editor<A>,
+    holder: &mut H,
     piece: &[u8],
 ) -> Result<Vec<u8, A>, TalkFault>
     requires going { IsGoing (turn_of turn.old) }
     requires waits { Waits (turn_of turn.old) unread.old }
-    ensures told { HearsAll (λ out. out.items) (told (end_at (turn_of turn.old) unread.old editor.old.log) piece.now) result (turn_of turn.new) unread.new editor.new.log }
-    ensures left { IfErr result (λ fault. fault ≡ TalkFault.Memory → IsLeft (end_at (turn_of turn.old) unread.old editor.old.log) piece.now editor.new.log) }
-    ensures name { editor.new.name ≡ editor.old.name }
+    ensures told { HearsAll (λ out. out.items) (told (end_at (turn_of turn.old) unread.old (H.held holder.old)) piece.now) result (turn_of turn.new) unread.new (H.held holder.new) }
+    ensures left { IfErr result (λ fault. fault ≡ TalkFault.Memory → IsLeft (end_at (turn_of turn.old) unread.old (H.held holder.old)) piece.now (H.held holder.new)) }
+    ensures name { H.named holder.new ≡ H.named holder.old }
 {
     let mut out = Vec::new(alloc.clone()?);
-    match hear(alloc, turn, unread, editor, piece, &mut out) {
+    match hear(alloc, turn, unread, holder, piece, &mut out) {
         Ok(()) => Ok(out),
         Err(fault) => Err(fault),
     }
 }
 
 // Hears one piece, and appends the replies.
-fn hear<A: Allocator + Clone>(
+fn hear<A: Allocator + Clone, H: Holder<A>>(
     alloc: &A,
     turn: &mut Turn<A>,
     unread: &mut Unread,
-    editor: &mut Editor<A>,
+    holder: &mut H,
     piece: &[u8],
     out: &mut Vec<u8, A>,
 ) -> Result<(), TalkFault>
     requires going { IsGoing (turn_of turn.old) }
     requires waits { Waits (turn_of turn.old) unread.old }
     requires empty { out.old.items ≡ [] }
-    ensures told { Hears (told (end_at (turn_of turn.old) unread.old editor.old.log) piece.now) result (turn_of turn.new) unread.new editor.new.log out.new.items }
-    ensures left { IfErr result (λ fault. fault ≡ TalkFault.Memory → IsLeft (end_at (turn_of turn.old) unread.old editor.old.log) piece.now editor.new.log) }
-    ensures name { editor.new.name ≡ editor.old.name }
+    ensures told { Hears (told (end_at (turn_of turn.old) unread.old (H.held holder.old)) piece.now) result (turn_of turn.new) unread.new (H.held holder.new) out.new.items }
+    ensures left { IfErr result (λ fault. fault ≡ TalkFault.Memory → IsLeft (end_at (turn_of turn.old) unread.old (H.held holder.old)) piece.now (H.held holder.new)) }
+    ensures name { H.named holder.new ≡ H.named holder.old }
 {
     if turn.is_open() {
-        hear_frames(alloc, turn, unread, editor, piece, out)
+        hear_frames(alloc, turn, unread, holder, piece, out)
     } else {
         end_of_turn(piece.is_empty())
     }
 }
 
 // The same, where it reads frames.
-fn hear_frames<A: Allocator + Clone>(
+fn hear_frames<A: Allocator + Clone, H: Holder<A>>(
     alloc: &A,
     turn: &mut Turn<A>,
     unread: &mut Unread,
-    editor: &mut Editor<A>,
+    holder: &mut H,
     piece: &[u8],
     out: &mut Vec<u8, A>,
 ) -> Result<(), TalkFault>
     requires reads { IsOpen (turn_of turn.old) }
     requires waits { Waits (turn_of turn.old) unread.old }
     requires empty { out.old.items ≡ [] }
-    ensures told { Hears (told (end_at (turn_of turn.old) unread.old editor.old.log) piece.now) result (turn_of turn.new) unread.new editor.new.log out.new.items }
-    ensures left { IfErr result (λ fault. fault ≡ TalkFault.Memory → IsLeft (end_at (turn_of turn.old) unread.old editor.old.log) piece.now editor.new.log) }
-    ensures name { editor.new.name ≡ editor.old.name }
+    ensures told { Hears (told (end_at (turn_of turn.old) unread.old (H.held holder.old)) piece.now) result (turn_of turn.new) unread.new (H.held holder.new) out.new.items }
+    ensures left { IfErr result (λ fault. fault ≡ TalkFault.Memory → IsLeft (end_at (turn_of turn.old) unread.old (H.held holder.old)) piece.now (H.held holder.new)) }
+    ensures name { H.named holder.new ≡ H.named holder.old }
 {
     unread.push(piece)?;
     loop {
         match unread.next() {
-            Ok(Some(body)) => match take_body(alloc, turn, editor, body.bytes.as_slice(), out) {
+            Ok(Some(body)) => match take_body(alloc, turn, holder, body.bytes.as_slice(), out) {
                 Ok(()) if turn.is_open() => {}
                 Ok(()) => return end_of_turn(body.is_last),
                 Err(fault) => return Err(fault),
@@ -216,23 +215,23 @@ fn fault_of(fault: FrameFault) -> TalkFault
 
 // Reads the body of a frame, and appends the reply.
 #[tactic(auto, unfolding(crate::specs::Conversation::body_in))]
-fn take_body<A: Allocator + Clone>(
+fn take_body<A: Allocator + Clone, H: Holder<A>>(
     alloc: &A,
     turn: &mut Turn<A>,
-    editor: &mut Editor<A>,
+    holder: &mut H,
     body: &[u8],
     out: &mut Vec<u8, A>,
 ) -> Result<(), TalkFault>
     requires { IsOpen (turn_of turn.old) }
-    ensures told { TakesBody (body_in (turn_of turn.old) editor.old.log body.now) result (turn_of turn.new) editor.new.log out.old.items out.new.items }
-    ensures left { IfErr result (λ fault. fault ≡ TalkFault.Memory → StaysOrFails editor.old.log editor.new.log) }
-    ensures name { editor.new.name ≡ editor.old.name }
+    ensures told { TakesBody (body_in (turn_of turn.old) (H.held holder.old) body.now) result (turn_of turn.new) (H.held holder.new) out.old.items out.new.items }
+    ensures left { IfErr result (λ fault. fault ≡ TalkFault.Memory → StaysOrFails (H.held holder.old) (H.held holder.new)) }
+    ensures name { H.named holder.new ≡ H.named holder.old }
 {
     // what is read is a message
     are_bytes(body);
     texts();
     match Message::read(alloc.clone()?, body) {
-        Ok(message) => take_message(alloc, turn, editor, message, out),
+        Ok(message) => take_message(alloc, turn, holder, message, out),
         Err(MessageFault::BadMessage) => Err(TalkFault::BadMessage),
         Err(_) => Err(TalkFault::Memory),
     }
@@ -244,18 +243,18 @@ fn are_bytes(bytes: &[u8])
 {}
 
 // What a message does, by turns.
-fn take_message<A: Allocator + Clone>(
+fn take_message<A: Allocator + Clone, H: Holder<A>>(
     alloc: &A,
     turn: &mut Turn<A>,
-    editor: &mut Editor<A>,
+    holder: &mut H,
     message: Message<A>,
     out: &mut Vec<u8, A>,
 ) -> Result<(), TalkFault>
     requires open { IsOpen (turn_of turn.old) }
     requires sound { IsMessage (message_of message) }
-    ensures told { TakesBody (hears (turn_of turn.old) (message_of message) editor.old.log) result (turn_of turn.new) editor.new.log out.old.items out.new.items }
-    ensures left { IfErr result (λ fault. fault ≡ TalkFault.Memory → StaysOrFails editor.old.log editor.new.log) }
-    ensures name { editor.new.name ≡ editor.old.name }
+    ensures told { TakesBody (hears (turn_of turn.old) (message_of message) (H.held holder.old)) result (turn_of turn.new) (H.held holder.new) out.old.items out.new.items }
+    ensures left { IfErr result (λ fault. fault ≡ TalkFault.Memory → StaysOrFails (H.held holder.old) (H.held holder.new)) }
+    ensures name { H.named holder.new ≡ H.named holder.old }
 {
     match mem::replace(turn, Turn::Ended) {
         Turn::Greets(Side::Caller) => match message {
@@ -267,7 +266,7 @@ fn take_message<A: Allocator + Clone>(
         },
         Turn::Greets(Side::Answerer) => match message {
             Message::Have(summary) => {
-                put_greeting(alloc, editor, &summary, out)?;
+                put_greeting(alloc, holder, &summary, out)?;
                 *turn = Turn::Takes(None);
                 Ok(())
             }
@@ -277,15 +276,15 @@ fn take_message<A: Allocator + Clone>(
             Message::Have(_) => Err(TalkFault::OutOfTurn),
             Message::Ops(list) => {
                 *turn = Turn::Takes(Some(summary));
-                take_all(alloc, editor, list.into_vec())
+                holder.take_all(alloc, list.into_vec())
             }
-            Message::Bye => put_farewell(alloc, editor, &summary, out),
+            Message::Bye => put_farewell(alloc, holder, &summary, out),
         },
         Turn::Takes(None) => match message {
             Message::Have(_) => Err(TalkFault::OutOfTurn),
             Message::Ops(list) => {
                 *turn = Turn::Takes(None);
-                take_all(alloc, editor, list.into_vec())
+                holder.take_all(alloc, list.into_vec())
             }
             Message::Bye => Ok(()),
         },

@@ -1,6 +1,6 @@
 //! `radio meet`.
 
-use super::{limit, open_editor, swap, wait_of};
+use super::{limit, open_growing, swap, wait_of};
 use crate::fault::CliFault;
 use crate::part::Naming;
 use crate::words::{NEW, NO_SYNC, WAIT, Word, Words};
@@ -59,7 +59,7 @@ pub(crate) fn run<F: Files<File = File> + Net + AllocGlobal>(
     words: &ArgMatches<'_>,
 ) -> Result<(), CliFault> {
     let out = words.get_str("OUT").unwrap_or("");
-    let opened = open_editor(rt, words.get_str("LOG").unwrap_or(""), out)?;
+    let opened = open_growing(rt, words.get_str("LOG").unwrap_or(""), out)?;
     let wait = wait_of(words);
     let stream = connected(rt, words.get_str("ADDR").unwrap_or(""), wait)?;
     limit(&stream, wait)?;

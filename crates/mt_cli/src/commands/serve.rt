@@ -2,7 +2,7 @@
 
 ghost use Rattle.mt_cli.specs.Telling.{TellsCauses};
 
-use super::{limit, open_editor, swap, wait_of};
+use super::{limit, open_growing, swap, wait_of};
 use crate::fault::{CliFault, PartFault};
 use crate::part::Naming;
 use crate::refusal_lines::put_cause;
@@ -93,7 +93,7 @@ fn serve_one<F: Files<File = File> + AllocGlobal>(
     let words = serving.words;
     let out = words.get_str("OUT").unwrap_or("");
     let stream = accepted(serving.listener, serving.wait)?;
-    let opened = open_editor(rt, words.get_str("LOG").unwrap_or(""), out)?;
+    let opened = open_growing(rt, words.get_str("LOG").unwrap_or(""), out)?;
     swap(rt, opened, Side::Answerer, stream, out, Naming::of(words))
 }
 
@@ -158,7 +158,7 @@ pub(crate) fn run<
 {
     let out = words.get_str("OUT").unwrap_or("");
     let wait = wait_of(words);
-    let opened = open_editor(rt, words.get_str("LOG").unwrap_or(""), out)?;
+    let opened = open_growing(rt, words.get_str("LOG").unwrap_or(""), out)?;
     let listener = listening(rt, words.get_str("ADDR").unwrap_or(""), wait)?;
     match words.get_one::<u64>("meetings") {
         None => {

@@ -10,27 +10,27 @@ loop-piece-init g c = (open_goes c.args.talk.now.turn c.requires, refl, starts _
 
 pub returns-then-ended-clause-converses : goal.returns-then-ended-clause-converses
 returns-then-ended-clause-converses g c =
-    is_done _ _ _ _ _ (end_of c.loop-piece.talk c.loop-piece.editor.log) c.loop-piece.invariant.2 (c.ended.ensures.0 c.if-ended.true)
+    is_done _ _ _ _ _ (end_of c.loop-piece.talk (g.H.Holder.held c.loop-piece.holder)) c.loop-piece.invariant.2 (c.ended.ensures.0 c.if-ended.true)
 
 pub returns-in-Err-clause-converses : goal.returns-in-Err-clause-converses
 returns-in-Err-clause-converses g c =
-    is_unread (end_of c.args.talk.now c.args.editor.now.log) (g.R.Read.remaining c.args.reader.now.inner) (g.R.Read.remaining c.loop-piece.reader.inner) (g.R.Read.remaining c.get.new.self.inner)
-    (g.W.Write.contents c.args.writer.now.inner) (g.W.Write.contents c.loop-piece.writer.inner) (end_of c.loop-piece.talk c.loop-piece.editor.log) c.loop-piece.invariant.2 c.in-Err.ensures.bytes
+    is_unread (end_of c.args.talk.now (g.H.Holder.held c.args.holder.now)) (g.R.Read.remaining c.args.reader.now.inner) (g.R.Read.remaining c.loop-piece.reader.inner) (g.R.Read.remaining c.get.new.self.inner)
+    (g.W.Write.contents c.args.writer.now.inner) (g.W.Write.contents c.loop-piece.writer.inner) (end_of c.loop-piece.talk (g.H.Holder.held c.loop-piece.holder)) c.loop-piece.invariant.2 c.in-Err.ensures.bytes
 
 pub returns-then-count-eq0-clause-converses : goal.returns-then-count-eq0-clause-converses
 returns-then-count-eq0-clause-converses g c =
-    is_unfinished (end_of c.args.talk.now c.args.editor.now.log) (g.R.Read.remaining c.args.reader.now.inner) (g.R.Read.remaining c.loop-piece.reader.inner) (g.R.Read.remaining c.get.new.self.inner)
-    (g.W.Write.contents c.args.writer.now.inner) (g.W.Write.contents c.loop-piece.writer.inner) (end_of c.loop-piece.talk c.loop-piece.editor.log) c.loop-piece.invariant.2
+    is_unfinished (end_of c.args.talk.now (g.H.Holder.held c.args.holder.now)) (g.R.Read.remaining c.args.reader.now.inner) (g.R.Read.remaining c.loop-piece.reader.inner) (g.R.Read.remaining c.get.new.self.inner)
+    (g.W.Write.contents c.args.writer.now.inner) (g.W.Write.contents c.loop-piece.writer.inner) (end_of c.loop-piece.talk (g.H.Holder.held c.loop-piece.holder)) c.loop-piece.invariant.2
     (read_of (g.R.Read.remaining c.loop-piece.reader.inner) (g.R.Read.remaining c.get.new.self.inner) c.in-Ok.count c.get.new.buffer [] c.in-Ok.ensures.bytes.0 (ap (λ (n : ℕ). take n c.get.new.buffer) (sym c.if-count-eq0.true)))
     (λ is. let on = c.ended.ensures.1 is in let off = c.if-ended.false in cc)
 
 pub loop-piece-preserved : goal.loop-piece-preserved
 loop-piece-preserved g c =
-    let fed = fed_going (λ v. v.items) (end_of c.loop-piece.talk c.loop-piece.editor.log) (take c.in-Ok.count c.get.new.buffer) (Ok c.in-Ok-feed.reply) (end_of c.feed.new.self c.feed.new.editor.log) c.loop-piece.invariant.0 c.in-Ok-feed.ensures.told in (
+    let fed = fed_going (λ v. v.items) (end_of c.loop-piece.talk (g.H.Holder.held c.loop-piece.holder)) (take c.in-Ok.count c.get.new.buffer) (Ok c.in-Ok-feed.reply) (end_of c.feed.new.self (g.H.Holder.held c.feed.new.holder)) c.loop-piece.invariant.0 c.in-Ok-feed.ensures.told in (
       fed.0,
       c.in-Ok-feed.ensures.name ∙ c.loop-piece.invariant.1,
-      goes_on (end_of c.args.talk.now c.args.editor.now.log) (g.R.Read.remaining c.args.reader.now.inner) (g.R.Read.remaining c.loop-piece.reader.inner) (g.R.Read.remaining c.get.new.self.inner)
-          (g.W.Write.contents c.args.writer.now.inner) (g.W.Write.contents c.loop-piece.writer.inner) (g.W.Write.contents c.put.new.self.inner) (end_of c.loop-piece.talk c.loop-piece.editor.log) (end_of c.feed.new.self c.feed.new.editor.log)
+      goes_on (end_of c.args.talk.now (g.H.Holder.held c.args.holder.now)) (g.R.Read.remaining c.args.reader.now.inner) (g.R.Read.remaining c.loop-piece.reader.inner) (g.R.Read.remaining c.get.new.self.inner)
+          (g.W.Write.contents c.args.writer.now.inner) (g.W.Write.contents c.loop-piece.writer.inner) (g.W.Write.contents c.put.new.self.inner) (end_of c.loop-piece.talk (g.H.Holder.held c.loop-piece.holder)) (end_of c.feed.new.self (g.H.Holder.held c.feed.new.holder))
           (take c.in-Ok.count c.get.new.buffer) c.in-Ok-feed.reply.items c.loop-piece.invariant.2 c.in-Ok.ensures.bytes.0 fed.1 (subst (Appends (g.W.Write.contents c.loop-piece.writer.inner) (g.W.Write.contents c.put.new.self.inner)) c.as_slice.ensures.value c.in-Ok-put.ensures.whole),
       search rules,
       search rules,
@@ -39,14 +39,14 @@ loop-piece-preserved g c =
 
 pub returns-in-Err-put-clause-converses : goal.returns-in-Err-put-clause-converses
 returns-in-Err-put-clause-converses g c =
-    let fed = fed_going (λ v. v.items) (end_of c.loop-piece.talk c.loop-piece.editor.log) (take c.in-Ok.count c.get.new.buffer) (Ok c.in-Ok-feed.reply) (end_of c.feed.new.self c.feed.new.editor.log) c.loop-piece.invariant.0 c.in-Ok-feed.ensures.told in
-    is_unwritten (end_of c.args.talk.now c.args.editor.now.log) (g.R.Read.remaining c.args.reader.now.inner) (g.R.Read.remaining c.loop-piece.reader.inner) (g.R.Read.remaining c.get.new.self.inner)
-    (g.W.Write.contents c.args.writer.now.inner) (g.W.Write.contents c.loop-piece.writer.inner) (g.W.Write.contents c.put.new.self.inner) (end_of c.loop-piece.talk c.loop-piece.editor.log) (end_of c.feed.new.self c.feed.new.editor.log)
+    let fed = fed_going (λ v. v.items) (end_of c.loop-piece.talk (g.H.Holder.held c.loop-piece.holder)) (take c.in-Ok.count c.get.new.buffer) (Ok c.in-Ok-feed.reply) (end_of c.feed.new.self (g.H.Holder.held c.feed.new.holder)) c.loop-piece.invariant.0 c.in-Ok-feed.ensures.told in
+    is_unwritten (end_of c.args.talk.now (g.H.Holder.held c.args.holder.now)) (g.R.Read.remaining c.args.reader.now.inner) (g.R.Read.remaining c.loop-piece.reader.inner) (g.R.Read.remaining c.get.new.self.inner)
+    (g.W.Write.contents c.args.writer.now.inner) (g.W.Write.contents c.loop-piece.writer.inner) (g.W.Write.contents c.put.new.self.inner) (end_of c.loop-piece.talk (g.H.Holder.held c.loop-piece.holder)) (end_of c.feed.new.self (g.H.Holder.held c.feed.new.holder))
     (take c.in-Ok.count c.get.new.buffer) c.in-Ok-feed.reply.items c.loop-piece.invariant.2 c.in-Ok.ensures.bytes.0 fed.1 (subst (AppendsPrefix (g.W.Write.contents c.loop-piece.writer.inner) (g.W.Write.contents c.put.new.self.inner)) c.as_slice.ensures.value c.in-Err-put.ensures.prefix)
 
 pub returns-in-Err-feed-clause-converses : goal.returns-in-Err-feed-clause-converses
 returns-in-Err-feed-clause-converses g c =
-    is_stopped (end_of c.args.talk.now c.args.editor.now.log) (g.R.Read.remaining c.args.reader.now.inner) (g.R.Read.remaining c.loop-piece.reader.inner) (g.R.Read.remaining c.get.new.self.inner)
-    (g.W.Write.contents c.args.writer.now.inner) (g.W.Write.contents c.loop-piece.writer.inner) (end_of c.loop-piece.talk c.loop-piece.editor.log) (end_of c.feed.new.self c.feed.new.editor.log)
+    is_stopped (end_of c.args.talk.now (g.H.Holder.held c.args.holder.now)) (g.R.Read.remaining c.args.reader.now.inner) (g.R.Read.remaining c.loop-piece.reader.inner) (g.R.Read.remaining c.get.new.self.inner)
+    (g.W.Write.contents c.args.writer.now.inner) (g.W.Write.contents c.loop-piece.writer.inner) (end_of c.loop-piece.talk (g.H.Holder.held c.loop-piece.holder)) (end_of c.feed.new.self (g.H.Holder.held c.feed.new.holder))
     (take c.in-Ok.count c.get.new.buffer) c.in-Err-feed.fault c.loop-piece.invariant.2 c.in-Ok.ensures.bytes.0
-    (feed_stopped _ (end_of c.loop-piece.talk c.loop-piece.editor.log) (take c.in-Ok.count c.get.new.buffer) c.in-Err-feed.fault (end_of c.feed.new.self c.feed.new.editor.log) c.loop-piece.invariant.0 c.in-Err-feed.ensures.told) c.in-Err-feed.ensures.left
+    (feed_stopped _ (end_of c.loop-piece.talk (g.H.Holder.held c.loop-piece.holder)) (take c.in-Ok.count c.get.new.buffer) c.in-Err-feed.fault (end_of c.feed.new.self (g.H.Holder.held c.feed.new.holder)) c.loop-piece.invariant.0 c.in-Err-feed.ensures.told) c.in-Err-feed.ensures.left

@@ -7,9 +7,9 @@ use Rattle.mt_sync.proofs.talk.hear_frames.Given as goal
 
 abbrev pub invariant-loop-body : goal.invariant-loop-body
 invariant-loop-body g l =
-    IsOpen (turn_of l.turn) × (l.editor.name ≡ l.fn.editor.name)
-    × (still (turn_of l.turn) l.unread l.editor.log l.out.items ≡ told (end_at (turn_of l.fn.turn) l.fn.unread l.fn.editor.log) l.piece)
-    × IsToldTo (end_at (turn_of l.fn.turn) [] l.fn.editor.log) (l.fn.unread ++ l.piece) (turn_of l.turn) l.unread l.editor.log
+    IsOpen (turn_of l.turn) × (g.H.Holder.named l.holder ≡ g.H.Holder.named l.fn.holder)
+    × (still (turn_of l.turn) l.unread (g.H.Holder.held l.holder) l.out.items ≡ told (end_at (turn_of l.fn.turn) l.fn.unread (g.H.Holder.held l.fn.holder)) l.piece)
+    × IsToldTo (end_at (turn_of l.fn.turn) [] (g.H.Holder.held l.fn.holder)) (l.fn.unread ++ l.piece) (turn_of l.turn) l.unread (g.H.Holder.held l.holder)
 
 abbrev pub decreases-loop-body : goal.decreases-loop-body
 decreases-loop-body g l = length l.unread

@@ -1,0 +1,119 @@
+//! Who holds operations.
+
+ghost use Rattle.std.specs.Prelude.{◌≡◌, ◌↔◌, Bool, true, Option, Some, None, IsTrue, IfErr, OnOk, Ok};
+ghost use Rattle.std.specs.Option.{option_copied};
+ghost use Rattle.mt_stamp.specs.declared.name.Replica.{Replica as Name};
+ghost use Rattle.mt_opcodec.specs.LogValue.{LogMap, AreLogged};
+ghost use Rattle.mt_sync.specs.Leaving.{StaysOrFails};
+ghost use Rattle.mt_sync.specs.Taking.{TakesIn};
+
+use crate::fault::TalkFault;
+use crate::taking::take_all_in_editor;
+use mt_op::Op;
+use mt_opcodec::Log;
+use mt_replica::{Draft, Editor};
+use std::alloc::Allocator;
+
+/// Whoever has a log: a log itself, a draft or an editor.
+pub trait HoldsLog<A: Allocator> {
+    /// The set of its operations; none where it has failed.
+    ghost held: { Self → Option LogMap };
+
+    /// Its log; `None` where it has failed.
+    fn log(&self) -> Option<&Log<A>>
+        ensures { option_copied result ≡ held self.now };
+}
+
+impl<A: Allocator> HoldsLog<A> for Log<A> {
+    ghost held = { λ l. Some l };
+
+    fn log(&self) -> Option<&Log<A>> {
+        Some(self)
+    }
+}
+
+impl<A: Allocator> HoldsLog<A> for Draft<A> {
+    ghost held = { λ d. d.log };
+
+    fn log(&self) -> Option<&Log<A>> {
+        self.log()
+    }
+}
+
+impl<A: Allocator> HoldsLog<A> for Editor<A> {
+    ghost held = { λ e. e.log };
+
+    fn log(&self) -> Option<&Log<A>> {
+        self.log()
+    }
+}
+
+/// Whoever takes part in a conversation: it lends the log that it has, and takes the operations of a message. An editor, or a log
+/// that grows.
+pub trait Holder<A: Allocator + Clone> {
+    /// The set of its operations; none where it has failed.
+    ghost held: { Self → Option LogMap };
+
+    /// The name of its editor, which nothing here changes.
+    ghost named: { Self → Name };
+
+    /// Whether it has failed.
+    fn has_failed(&self) -> bool
+        ensures { IsTrue result ↔ (held self.now ≡ None) };
+
+    /// Whether its operations are in one log, which it can lend.
+    ghost whole: { Self → Bool };
+
+    /// Brings its operations into one log. Refused as `Memory` (0) where they were not in one and a growth was refused: then it is as it
+    /// was, or has failed.
+    fn settle(&mut self) -> Result<(), TalkFault>
+        ensures whole { OnOk result (whole self.new ≡ true) }
+        ensures held { OnOk result (held self.new ≡ held self.old) }
+        ensures err { IfErr result (λ fault. fault ≡ TalkFault.Memory) }
+        ensures left { StaysOrFails (held self.old) (held self.new) }
+        ensures settled { whole self.old ≡ true → result ≡ Ok tt }
+        ensures name { named self.new ≡ named self.old };
+
+    /// Its log, where its operations are in one; `None` where it has failed.
+    fn whole_log(&self) -> Option<&Log<A>>
+        requires whole { whole self.now ≡ true }
+        ensures log { option_copied result ≡ held self.now };
+
+    /// Takes operations that rise by dot, up to the first whose dot names another one there. Refused as `Failed` (20) where it has failed,
+    /// as `Conflict` (17) with that dot, and as `Memory` (0) where a growth was refused: then it has failed.
+    fn take_all(&mut self, alloc: &A, ops: Vec<Op<A>, A>) -> Result<(), TalkFault>
+        requires rising { AreLogged ops.items }
+        ensures takes { TakesIn (held self.old) ops.items result (held self.new) }
+        ensures name { named self.new ≡ named self.old };
+}
+
+impl<A: Allocator + Clone> Holder<A> for Editor<A> {
+    ghost held = { λ e. e.log };
+
+    ghost named = { λ e. e.name };
+
+    ghost whole = { λ e. true };
+
+    fn has_failed(&self) -> bool {
+        self.log().is_none()
+    }
+
+    fn settle(&mut self) -> Result<(), TalkFault> {
+        Ok(())
+    }
+
+    fn whole_log(&self) -> Option<&Log<A>>
+        requires whole { true ≡ true }
+        ensures log { option_copied result ≡ self.now.log }
+    {
+        self.log()
+    }
+
+    fn take_all(&mut self, alloc: &A, ops: Vec<Op<A>, A>) -> Result<(), TalkFault>
+        requires rising { AreLogged ops.items }
+        ensures takes { TakesIn self.old.log ops.items result self.new.log }
+        ensures name { self.new.name ≡ self.old.name }
+    {
+        take_all_in_editor(alloc, self, ops)
+    }
+}
