@@ -4,12 +4,13 @@ ghost use Rattle.std.specs.Prelude.{◌≡◌, ◌≢◌, ◌↔◌, ◌++◌, �
 ghost use Rattle.std.specs.Option.{option_copied};
 ghost use Rattle.std.specs.FinMap as map;
 ghost use Rattle.mt_op.specs.Dots.{op_dot, IsGapFor};
+ghost use Rattle.mt_opcodec.specs.Clashing.{HasAnother};
 ghost use Rattle.mt_opcodec.specs.LogValue.{Adds, AreLogged, log_of, operations};
 ghost use Rattle.mt_opcodec.specs.LogText.{log_body, log_text, op_texts};
 ghost use Rattle.mt_opcodec.specs.Versions.{version_of};
 ghost use Rattle.mt_opcodec.specs.Runs.{AreRuns, run_ops};
 
-use crate::clash::first_other;
+use crate::clash::{first_other, is_another};
 use crate::fault::LogFault;
 use crate::find::find_run;
 use crate::join::joined_runs;
@@ -108,6 +109,13 @@ impl<A: Allocator> Log<A> {
             Ok(place) => runs[place].get(dot),
             Err(_) => None,
         }
+    }
+
+    /// Whether the log has another operation under this one's dot.
+    pub fn has_another(&self, op: &Op<A>) -> bool
+        ensures { HasAnother self.now op.now result }
+    {
+        is_another(self.get(&op.dot()), op)
     }
 
     /// The operation at place `i`, counted from 0 by rising dot, or `None` where `i` is `len()` or more. Counts the operations

@@ -1,7 +1,6 @@
 //! Operations that join the log of an editor as a whole.
 
 ghost use Rattle.std.specs.Prelude.{◌≡◌, ◌≢◌, IfOk, IfErr, OnOk, Some};
-ghost use Rattle.mt_opcodec.specs.Clashing.{HasAnother};
 ghost use Rattle.mt_opcodec.specs.LogValue.{AreLogged, log_of};
 ghost use Rattle.mt_opcodec.specs.Union.{Agree, union};
 ghost use Rattle.mt_sync.specs.Conversation.{joined};
@@ -9,21 +8,10 @@ ghost use Rattle.mt_sync.specs.Joining.{JoinsIn};
 
 use crate::fault::TalkFault;
 use mt_op::Op;
-use mt_op::laws::equal_ops;
 use mt_opcodec::Log;
 use mt_replica::Editor;
 use mt_stamp::Dot;
 use std::alloc::Allocator;
-
-// Whether a log has another operation under this one's dot.
-fn has_another<A: Allocator>(log: &Log<A>, op: &Op<A>) -> bool
-    ensures { HasAnother log.now op.now result }
-{
-    match log.get(&op.dot()) {
-        Some(there) => !equal_ops(there, op),
-        None => false,
-    }
-}
 
 // Cuts operations, which rise by dot, before the first whose dot names another one in the log, and gives that dot: what is left agrees
 // with the log.
@@ -37,7 +25,7 @@ fn cut_at_clash<A: Allocator>(log: &Log<A>, ops: &mut Vec<Op<A>, A>) -> Option<D
     let _ = log.runs();
     for place in 0..ops.len() {
         let op = &ops[place];
-        if has_another(log, op) {
+        if log.has_another(op) {
             let dot = op.dot();
             ops.truncate(place);
             return Some(dot);
