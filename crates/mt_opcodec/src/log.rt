@@ -72,6 +72,7 @@ impl<A: Allocator> Log<A> {
         ensures logged { AreLogged (operations self.now) }
         ensures whole { log_of (operations self.now) ≡ self.now }
     {
+        // for the proof: that the runs are those of a log
         let _ = self.count;
         &self.runs
     }
@@ -89,6 +90,7 @@ impl<A: Allocator> Log<A> {
     pub fn len(&self) -> usize
         ensures { result ≡ map.len self.now }
     {
+        // for the proof: that the count is that of the operations in the runs
         let _ = &self.runs;
         self.count
     }
@@ -216,6 +218,7 @@ impl<A: Allocator + Clone> Log<A> {
             match rest.pop_front() {
                 Some(op) => add_last(&mut log, op)?,
                 None => {
+                    // for the proof: that the log is the one of its operations
                     let _ = log.runs();
                     return Ok(log);
                 }
@@ -299,6 +302,7 @@ pub(crate) fn add_last<A: Allocator + Clone>(log: &mut Log<A>, op: Op<A>) -> Res
     ensures ok { OnOk result (operations log.new ≡ operations log.old ++ (op ∷ [])) }
     ensures err { IfErr result (λ fault. fault ≡ LogFault.Memory) }
 {
+    // for the proof: that the operation is one, and that those of the log rise by dot
     let _ = op.dot();
     let _ = log.runs();
     match log.add(op) {
