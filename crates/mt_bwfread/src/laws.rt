@@ -28,6 +28,7 @@ pub fn walk_splits(bytes: &[u8])
     ensures only { (cs : List Chunk) (rest : List ℕ) → Splits bytes.now cs rest → has_chunk rest ≡ false
         → chunks_of bytes.now ≡ cs }
 {
+    // for the proof: that what a slice of bytes holds are bytes
     let _ = bytes;
 }
 
@@ -41,6 +42,7 @@ pub fn is_wave(wave: &Wave<'_>)
     ensures width { IsTrue (is_width (bits_of wave.now)) }
     ensures frames { frames_of wave.now < 2 ^ 32 }
 {
+    // for the proof: that what a `Wave` keeps is a wave file
     let _ = &wave.text;
 }
 
@@ -49,6 +51,7 @@ pub fn is_wave(wave: &Wave<'_>)
 fn scaled_small(bytes: &[u8])
     ensures { (bits at : ℕ) → unsigned_abs (scaled bits (drop at bytes.now)) ≤ 2 ^ 31 }
 {
+    // for the proof: that what a slice of bytes holds are bytes
     let _ = bytes;
 }
 

@@ -41,6 +41,7 @@ pub(crate) fn bext_size(format: Format, head: &Head<'_>) -> u32
     ensures value { result ≡ length (bext format head.now) }
     ensures small { result ≤ 1000 }
 {
+    // for the proof: that the texts of a head fit their fields
     let _ = &head.date;
     602 + history_size(format)
 }

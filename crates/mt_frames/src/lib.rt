@@ -146,6 +146,7 @@ fn fault_of(error: io::Error) -> FrameFault
 fn are_bytes(bytes: &[u8])
     ensures { (i : ℕ) → slice_index bytes.now i < 256 }
 {
+    // for the proof: that what a slice of bytes holds are bytes
     let _ = bytes;
 }
 

@@ -95,7 +95,7 @@ fn admit<T: Waits + Drop, A: Allocator + Clone>(
     ensures passes { OnOk result (passed T.key_of T.needs_of T.fits_role released.old.items (queued T.key_of T.needs_of T.fits_role item (items_of queue.old.items.entries)) ≡ passed T.key_of T.needs_of T.fits_role released.new.items (items_of queue.new.items.entries)) }
     ensures leaves { OnOk result (left T.key_of T.needs_of T.fits_role released.old.items (queued T.key_of T.needs_of T.fits_role item (items_of queue.old.items.entries)) ≡ left T.key_of T.needs_of T.fits_role released.new.items (items_of queue.new.items.entries)) }
 {
-    // brings that it names older ones
+    // for the proof: that it names older ones
     let _ = item.key();
     match lack_of(released, &queue.places, &item, is_met) {
         None => release(alloc, released, queue, item),

@@ -246,6 +246,7 @@ impl<A: Allocator> Items<A> {
         ensures met { result ≡ are_needs_met self.now op.now }
         ensures noted { AreNoted self.now }
     {
+        // for the proof: that the cells are those of the operations noted
         let _ = &self.noted;
         for i in 0..op.need_count() {
             if !self.is_met_at(op, i) {
@@ -275,6 +276,7 @@ impl<A: Allocator> Items<A> {
         ensures err { IfErr result (λ fault. fault ≡ ItemsFault.Memory) }
         ensures noted { AreNoted self.now }
     {
+        // for the proof: that the cells are those of the operations noted
         let _ = &self.noted;
         match self.presence(item) {
             Some(presence) => Ok(presence.live_tags(&self.alloc)?),
@@ -411,6 +413,7 @@ impl<A: Allocator> Items<A> {
     pub fn track_cells(&self, track: Stamp) -> Option<&TrackCells<A>>
         ensures { MatchOption result (is_need_met self.now (need_of Track track) ≡ false) (λ cells. HoldsTrack track self.now cells.now) }
     {
+        // for the proof: that the cells are those of the operations noted
         let _ = &self.noted;
         self.tracks.get(track)
     }
@@ -420,6 +423,7 @@ impl<A: Allocator> Items<A> {
         ensures clips { keys_of result.now ≡ items_of Clip self.now }
         ensures each { AllByRecursion (λ e. HoldsClip e.0 self.now e.1) result.now }
     {
+        // for the proof: that the cells are those of the operations noted
         let _ = &self.noted;
         self.clips.entries()
     }
@@ -429,6 +433,7 @@ impl<A: Allocator> Items<A> {
         ensures markers { keys_of result.now ≡ items_of Marker self.now }
         ensures each { AllByRecursion (λ e. HoldsMarker e.0 self.now e.1) result.now }
     {
+        // for the proof: that the cells are those of the operations noted
         let _ = &self.noted;
         self.markers.entries()
     }

@@ -22,6 +22,7 @@ fn pass<A: Allocator + Clone>(alloc: A, ops: &[&Op<A>]) -> Result<Items<A>, Item
 {
     let mut items = Items::with_room_for(alloc, ops)?;
     for op in ops {
+        // for the proof: that the operation names older ones
         let _ = op.stamp();
         if items.are_needs_met(op) {
             items = items.note(op)?;

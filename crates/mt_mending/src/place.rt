@@ -12,28 +12,18 @@ ghost use Rattle.mt_mending.specs.Before.{ArePlacesOf, placed_of, with_placed};
 
 use mt_items::Items;
 use mt_op::{Body, Op};
-use mt_sessionview::SessionFault;
+use mt_sessionview::{SessionFault, placed_by};
 use mt_tracklist::{Placed, TrackList, TrackListFault};
 use std::alloc::Allocator;
 
 // The place that an operation gives a track, if it gives one.
-fn placed_by<A: Allocator>(op: &Op<A>) -> Option<Placed>
+fn place_given<A: Allocator>(op: &Op<A>) -> Option<Placed>
     ensures place { option_map tree_place result ≡ place_added op.now }
     ensures placed { result ≡ placed_of op.now.stamp op.now.act }
     ensures valid { IsOperation op.now }
 {
-    let place = op.stamp();
     match op.body() {
-        Body::AddTrack { after, .. } => Some(Placed {
-            place,
-            after: *after,
-            track: place,
-        }),
-        Body::MoveTrack { track, after } => Some(Placed {
-            place,
-            after: *after,
-            track: *track,
-        }),
+        Body::AddTrack { .. } | Body::MoveTrack { .. } => Some(placed_by(op)),
         _ => None,
     }
 }
@@ -69,7 +59,7 @@ pub fn add_place<A: Allocator>(
     ensures err { IfErr result (λ fault. fault ≡ SessionFault.Memory) }
     ensures refused { OnErr result (list.new ≡ list.old) }
 {
-    match placed_by(op) {
+    match place_given(op) {
         Some(placed) => put_place(list, placed),
         None => Ok(()),
     }

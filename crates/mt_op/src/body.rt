@@ -130,7 +130,7 @@ impl<A: Allocator> Body<A> {
         ensures stamp { IsMoment stamp }
         ensures fields { IsTrue result → AreFields (act_of self.now) }
     {
-        // The reads that are let go bring the ranges of what is read.
+        // for the proof: the reads that are let go bring the ranges of what is read
         let clock = stamp.clock();
         match self {
             Body::AddTrack { after, title } => {

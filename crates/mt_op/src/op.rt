@@ -129,6 +129,7 @@ impl<A: Allocator> Op<A> {
         ensures value { result ≡ self.now.stamp }
         ensures valid { IsOperation self.now }
     {
+        // for the proof: that stamp and body are those of an operation
         let _ = &self.body;
         self.stamp
     }
@@ -138,6 +139,7 @@ impl<A: Allocator> Op<A> {
         ensures value { result ≡ op_dot self.now }
         ensures valid { IsOperation self.now }
     {
+        // for the proof: that stamp and body are those of an operation
         let _ = &self.body;
         self.stamp.dot()
     }

@@ -71,6 +71,7 @@ impl<A: Allocator> Title<A> {
         ensures text { result.now ≡ self.now }
         ensures title { IsTrue (is_title self.now) }
     {
+        // for the proof: that the text is a title
         let _ = &self.text;
         self.text.as_str()
     }

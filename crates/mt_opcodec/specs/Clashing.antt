@@ -1,4 +1,4 @@
--- Which operation of a list is the first that a log has another one for (working predicates).
+-- Whether a log has another operation under the dot of one (profile), and which of a list is the first for which it has one.
 use Rattle.std.specs.Prelude.{◌≡◌, ◌≢◌, List, [], ◌∷◌, Bool, true, false, Option, Some, None, ◌⊎◌}
 use Rattle.std.specs.FinMap as map
 use Rattle.mt_stamp.specs.declared.name.Dot.{Dot}
@@ -11,7 +11,7 @@ abbrev pub HasAnother : LogMap → Operation → Bool → Type 0
 HasAnother log o true = (p : Operation) × ((map.get log (op_dot o) ≡ Some p) × (p ≢ o))
 HasAnother log o false = (p : Operation) → map.get log (op_dot o) ≡ Some p → p ≡ o
 
--- the dot of the first operation of a list that the log has another one for, or none
+-- the dot of the first operation of a list that the log has another one for, or none (working predicate)
 abbrev pub FirstOther : LogMap → List Operation → Option Dot → Type 0
 FirstOther log [] r = r ≡ None
 FirstOther log (o ∷ ops) r = (HasAnother log o true × (r ≡ Some (op_dot o))) ⊎ (HasAnother log o false × FirstOther log ops r)

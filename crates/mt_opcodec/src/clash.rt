@@ -1,6 +1,10 @@
 //! The first dot under which two logs have different operations.
 
 ghost use Rattle.std.specs.Prelude.{◌≡◌, ◌≢◌, Some, None};
+ghost use Rattle.std.specs.FinMap as map;
+ghost use Rattle.std.specs.Option.{option_copied};
+ghost use Rattle.mt_op.specs.Dots.{op_dot};
+ghost use Rattle.mt_opcodec.specs.LogValue.{LogMap};
 ghost use Rattle.mt_opcodec.specs.Clashing.{HasAnother, FirstOther};
 ghost use Rattle.mt_opcodec.specs.Runs.{run_ops};
 
@@ -11,11 +15,11 @@ use mt_op::laws::equal_ops;
 use mt_stamp::Dot;
 use std::alloc::Allocator;
 
-// Whether a log has another operation under this one's dot.
-fn has_another<A: Allocator>(log: &Log<A>, op: &Op<A>) -> bool
-    ensures { HasAnother log.now op.now result }
+// Whether what a log has under this operation's dot is another one.
+pub(crate) fn is_another<A: Allocator>(there: Option<&Op<A>>, op: &Op<A>) -> bool
+    ensures { (log : LogMap) → map.get log (op_dot op.now) ≡ option_copied there.entry → HasAnother log op.now result }
 {
-    match log.get(&op.dot()) {
+    match there {
         Some(there) => !equal_ops(there, op),
         None => false,
     }
@@ -26,7 +30,7 @@ fn first_of_ops<A: Allocator>(log: &Log<A>, ops: &[Op<A>]) -> Option<Dot>
     ensures { FirstOther log.now ops.now result }
 {
     for op in ops {
-        if has_another(log, op) {
+        if log.has_another(op) {
             return Some(op.dot());
         }
     }

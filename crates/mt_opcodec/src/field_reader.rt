@@ -1,6 +1,6 @@
 //! Reading the fields of an operation.
 
-ghost use Rattle.std.specs.Prelude.{◌≡◌, Some, None, ◌==◌, if◌then◌else◌};
+ghost use Rattle.std.specs.Prelude.{◌≡◌, IfErr, Some, None, ◌==◌, if◌then◌else◌};
 ghost use Rattle.std.specs.Int.{w16, w32, w64, w128};
 ghost use Rattle.mt_stamp.specs.Moment.{stamp_cmp};
 ghost use Rattle.mt_op.specs.Rising.{is_after};
@@ -20,8 +20,11 @@ fn u16_at(bytes: &[u8]) -> Result<(u16, &[u8]), ReadFault>
     }
 }
 
-pub(crate) fn u32_at(bytes: &[u8]) -> Result<(u32, &[u8]), ReadFault>
-    ensures { Gives (λ x. (x.0, x.1.now)) result (number_at w32 bytes.now) }
+/// The number of the first 4 bytes, the greatest byte first, and the bytes after them. Refused as `Truncated` (8) where there are
+/// fewer, and for nothing else. Takes no memory.
+pub fn u32_at(bytes: &[u8]) -> Result<(u32, &[u8]), ReadFault>
+    ensures read { Gives (λ x. (x.0, x.1.now)) result (number_at w32 bytes.now) }
+    ensures err { IfErr result (λ fault. fault ≡ ReadFault.Truncated) }
 {
     match bytes.split_first_chunk::<4>() {
         Some((front, rest)) => Ok((u32::from_be_bytes(*front), rest)),
@@ -29,8 +32,11 @@ pub(crate) fn u32_at(bytes: &[u8]) -> Result<(u32, &[u8]), ReadFault>
     }
 }
 
-fn u64_at(bytes: &[u8]) -> Result<(u64, &[u8]), ReadFault>
-    ensures { Gives (λ x. (x.0, x.1.now)) result (number_at w64 bytes.now) }
+/// The number of the first 8 bytes, the greatest byte first, and the bytes after them. Refused as `Truncated` (8) where there are
+/// fewer, and for nothing else. Takes no memory.
+pub fn u64_at(bytes: &[u8]) -> Result<(u64, &[u8]), ReadFault>
+    ensures read { Gives (λ x. (x.0, x.1.now)) result (number_at w64 bytes.now) }
+    ensures err { IfErr result (λ fault. fault ≡ ReadFault.Truncated) }
 {
     match bytes.split_first_chunk::<8>() {
         Some((front, rest)) => Ok((u64::from_be_bytes(*front), rest)),
@@ -38,8 +44,11 @@ fn u64_at(bytes: &[u8]) -> Result<(u64, &[u8]), ReadFault>
     }
 }
 
-fn u128_at(bytes: &[u8]) -> Result<(u128, &[u8]), ReadFault>
-    ensures { Gives (λ x. (x.0, x.1.now)) result (number_at w128 bytes.now) }
+/// The number of the first 16 bytes, the greatest byte first, and the bytes after them. Refused as `Truncated` (8) where there are
+/// fewer, and for nothing else. Takes no memory.
+pub fn u128_at(bytes: &[u8]) -> Result<(u128, &[u8]), ReadFault>
+    ensures read { Gives (λ x. (x.0, x.1.now)) result (number_at w128 bytes.now) }
+    ensures err { IfErr result (λ fault. fault ≡ ReadFault.Truncated) }
 {
     match bytes.split_first_chunk::<16>() {
         Some((front, rest)) => Ok((u128::from_be_bytes(*front), rest)),

@@ -50,7 +50,7 @@ pub fn growing_logs()
 pub fn equal_logs<A: Allocator>(a: &Log<A>, b: &Log<A>) -> bool
     ensures { IsTrue result ↔ (a.now ≡ b.now) }
 {
-    // what they hold are operations, each with a text of its own
+    // for the proof: that what they hold are operations, each with a text of its own
     let _ = a.runs();
     let _ = b.runs();
     a == b

@@ -74,6 +74,7 @@ mod turns;
 mod version;
 
 pub use fault::{LogFault, ReadFault};
+pub use field_reader::{u32_at, u64_at, u128_at};
 pub use log::Log;
 pub use log_reader::read_ops;
 pub use mt_latch::{BufferedLatch, Latch, LatchFault};

@@ -4,12 +4,13 @@ ghost use Rattle.std.specs.Prelude.{◌≡◌, ◌≢◌, ◌↔◌, ◌++◌, �
 ghost use Rattle.std.specs.Option.{option_copied};
 ghost use Rattle.std.specs.FinMap as map;
 ghost use Rattle.mt_op.specs.Dots.{op_dot, IsGapFor};
+ghost use Rattle.mt_opcodec.specs.Clashing.{HasAnother};
 ghost use Rattle.mt_opcodec.specs.LogValue.{Adds, AreLogged, log_of, operations};
 ghost use Rattle.mt_opcodec.specs.LogText.{log_body, log_text, op_texts};
 ghost use Rattle.mt_opcodec.specs.Versions.{version_of};
 ghost use Rattle.mt_opcodec.specs.Runs.{AreRuns, run_ops};
 
-use crate::clash::first_other;
+use crate::clash::{first_other, is_another};
 use crate::fault::LogFault;
 use crate::find::find_run;
 use crate::join::joined_runs;
@@ -71,6 +72,7 @@ impl<A: Allocator> Log<A> {
         ensures logged { AreLogged (operations self.now) }
         ensures whole { log_of (operations self.now) ≡ self.now }
     {
+        // for the proof: that the runs are those of a log
         let _ = self.count;
         &self.runs
     }
@@ -88,6 +90,7 @@ impl<A: Allocator> Log<A> {
     pub fn len(&self) -> usize
         ensures { result ≡ map.len self.now }
     {
+        // for the proof: that the count is that of the operations in the runs
         let _ = &self.runs;
         self.count
     }
@@ -108,6 +111,13 @@ impl<A: Allocator> Log<A> {
             Ok(place) => runs[place].get(dot),
             Err(_) => None,
         }
+    }
+
+    /// Whether the log has another operation under this one's dot.
+    pub fn has_another(&self, op: &Op<A>) -> bool
+        ensures { HasAnother self.now op.now result }
+    {
+        is_another(self.get(&op.dot()), op)
     }
 
     /// The operation at place `i`, counted from 0 by rising dot, or `None` where `i` is `len()` or more. Counts the operations
@@ -208,6 +218,7 @@ impl<A: Allocator + Clone> Log<A> {
             match rest.pop_front() {
                 Some(op) => add_last(&mut log, op)?,
                 None => {
+                    // for the proof: that the log is the one of its operations
                     let _ = log.runs();
                     return Ok(log);
                 }
@@ -291,6 +302,7 @@ pub(crate) fn add_last<A: Allocator + Clone>(log: &mut Log<A>, op: Op<A>) -> Res
     ensures ok { OnOk result (operations log.new ≡ operations log.old ++ (op ∷ [])) }
     ensures err { IfErr result (λ fault. fault ≡ LogFault.Memory) }
 {
+    // for the proof: that the operation is one, and that those of the log rise by dot
     let _ = op.dot();
     let _ = log.runs();
     match log.add(op) {

@@ -12,10 +12,10 @@ ghost use Rattle.mt_opcodec.specs.Seen.{AreSeen, seen_after};
 ghost use Rattle.mt_opcodec.specs.Union.{AllAgree, FirstClash};
 
 use crate::agreeing::all_agree;
+use crate::clash::is_another;
 use crate::log::Log;
 use crate::run::Run;
 use mt_op::Op;
-use mt_op::laws::equal_ops;
 use mt_stamp::Dot;
 use std::alloc::{AllocError, Allocator};
 use std::collections::BTreeMap;
@@ -24,10 +24,7 @@ use std::collections::BTreeMap;
 fn has_another<A: Allocator, B: Allocator>(seen: &BTreeMap<Dot, &Op<A>, B>, op: &Op<A>) -> bool
     ensures { (log : LogMap) → AreSeen (λ dot. option_copied (get dot_cmp seen.now dot)) log → HasAnother log op.now result }
 {
-    match seen.get(&op.dot()) {
-        Some(there) => !equal_ops(there, op),
-        None => false,
-    }
+    is_another(seen.get(&op.dot()).copied(), op)
 }
 
 // The dot of the first of these operations under whose dot another one was seen.

@@ -88,7 +88,7 @@ pub(crate) fn append_held<A: Allocator + Clone, B: Allocator>(
 ) -> Result<(), AllocError>
     ensures { OnOk result (lines.new ≡ with_lines lines.old (held_lines (operations log.now))) }
 {
-    // brings that the dots of a log's operations differ
+    // for the proof: that the dots of a log's operations differ
     let _ = log.runs();
     let sorted = sorted_ops(alloc.clone()?, log)?;
     let Ok(items) = items_of_ready(alloc.clone()?, &sorted) else {

@@ -35,7 +35,7 @@ fn take_next<A: Allocator + Clone>(
     ensures same { IfOk result (λ after. (f : Operation → ℕ) → sum_by f after ≡ sum_by f waiting.new.kept.released) }
     ensures err { IfErr result (λ fault. fault ≡ EditorFault.Memory) }
 {
-    // brings that what was released is what is ready, and that the operation names older ones
+    // for the proof: that what was released is what is ready, and that the operation names older ones
     let (_released, _stamp) = (waiting.released(), op.stamp());
     if items.are_needs_met(op) {
         let items = noted(items, op)?;
@@ -77,9 +77,11 @@ pub(crate) fn beside_log<A: Allocator + Clone>(
     ensures noted { IfOk result (λ both. (f : Operation → ℕ) → sum_by f both.1 ≡ sum_by f (ready_ops (operations log.now))) }
     ensures err { IfErr result (λ fault. fault ≡ EditorFault.Memory) }
 {
+    // for the proof: that the dots of a log's operations differ
     let _ = log.runs();
     let sorted = sorted_ops(alloc.clone()?, log)?;
     let (waiting, items) = all_taken(alloc, &sorted)?;
+    // for the proof: that what was released is what is ready
     let _ = waiting.released();
     Ok((waiting, items))
 }

@@ -59,6 +59,7 @@ impl<A: Allocator> Desk<A> {
     pub fn name(&self) -> Replica
         ensures { result ≡ self.now.kept.name }
     {
+        // for the proof: that the name and the count are those of the desk as a whole
         let _ = &self.state;
         self.name
     }
@@ -67,6 +68,7 @@ impl<A: Allocator> Desk<A> {
     pub fn joins(&self) -> u64
         ensures { result ≡ self.now.kept.joins }
     {
+        // for the proof: that the name and the count are those of the desk as a whole
         let _ = &self.state;
         self.joins
     }

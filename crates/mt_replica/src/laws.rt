@@ -32,6 +32,7 @@ fn holds_operations<A: Allocator>(editor: &Editor<A>)
     ensures { IfSome editor.now.log (λ log. AreLogged (operations log) × (log_of (operations log) ≡ log)) }
 {
     if let Some(log) = editor.log() {
+        // for the proof: that the log's operations rise by dot, and that the log is the one of them
         let _ = log.runs();
     }
 }
@@ -50,6 +51,7 @@ fn draft_holds_operations<A: Allocator>(draft: &Draft<A>)
     ensures { IfSome draft.now.log (λ log. AreLogged (operations log) × (log_of (operations log) ≡ log)) }
 {
     if let Some(log) = draft.log() {
+        // for the proof: that the log's operations rise by dot, and that the log is the one of them
         let _ = log.runs();
     }
 }

@@ -79,6 +79,7 @@ impl<A: Allocator> State<A> {
     pub fn log(&self) -> &Log<A>
         ensures { result.now ≡ self.now.named.log }
     {
+        // for the proof: that the log is the one of the state
         let _ = &self.view;
         &self.log
     }
@@ -87,7 +88,7 @@ impl<A: Allocator> State<A> {
     pub fn session(&self) -> Option<&Session<A>>
         ensures { option_copied result ≡ (if self.now.shown then Some (session_of (operations self.now.named.log)) else None) }
     {
-        // brings that what was released is what is ready
+        // for the proof: that what was released is what is ready
         let (_log, _released) = (self.log.runs(), self.waiting.released());
         self.view.session()
     }
@@ -125,6 +126,7 @@ impl<A: Allocator + Clone> State<A> {
             clock,
             seq,
         } = self;
+        // for the proof: that the log's operations rise by dot
         let _ = log.runs();
         let view = view.show(alloc, waiting.released(), waiting.held())?;
         Ok(State {
@@ -141,6 +143,7 @@ impl<A: Allocator + Clone> State<A> {
     fn next_stamp(&self) -> Result<Stamp, EditorFault>
         ensures { result ≡ or_made (stamp_refused (operations self.now.named.log) self.now.named.name) (made_stamp (operations self.now.named.log) self.now.named.name) }
     {
+        // for the proof: that clock and number are the greatest ones, and that a replica is a number of 128 bits
         let (_view, _replica) = (&self.view, self.name.0);
         if self.clock >= Stamp::GREATEST {
             return Err(EditorFault::ClockFull);
@@ -157,6 +160,7 @@ impl<A: Allocator + Clone> State<A> {
         ensures ok { IfOk result (λ body. act_of body ≡ made_act (ready_ops (operations self.now.named.log)) (edit_of change.now)) }
         ensures err { IfErr result (λ fault. (fault ≡ EditorFault.Memory) ⊎ (body_refused (operations self.now.named.log) (edit_of change.now) ≡ Some fault)) }
     {
+        // for the proof: that the log is the one of the state
         let _ = self.log.runs();
         if !plays(change) {
             return Err(EditorFault::ZeroLength);
@@ -181,6 +185,7 @@ impl<A: Allocator + Clone> State<A> {
     {
         let body = self.made_body(change)?;
         let stamp = self.next_stamp()?;
+        // for the proof: that the log's operations rise by dot
         let _ = self.log.runs();
         Ok(Op::new(stamp, body).unwrap())
     }
@@ -200,6 +205,7 @@ impl<A: Allocator + Clone> State<A> {
             view,
             ..
         } = self;
+        // for the proof: that the log's operations rise by dot, and that the log is the one of them
         let _ = log.runs();
         let mut view = view.note(alloc, op)?;
         let _ = taken_in(&mut log, &mut waiting, copy)?;
@@ -218,6 +224,7 @@ impl<A: Allocator + Clone> State<A> {
     pub fn found(&self, op: &Op<A>) -> Option<bool>
         ensures { Found self.now.named.log op.now result }
     {
+        // for the proof: that the log is the one of the state
         let _ = &self.view;
         match self.log.get(&op.dot()) {
             Some(there) => Some(equal_ops(there, op)),
@@ -294,10 +301,10 @@ fn taken_in<A: Allocator + Clone>(
     ensures err { IfErr result (λ fault. fault ≡ EditorFault.Memory) }
 {
     add_copy(log, &op)?;
-    // brings that the log's operations have stamps of their own
+    // for the proof: that the log's operations have stamps of their own
     let _ = log.runs();
     let offered = offer_new(waiting, op)?;
-    // brings the rule by which operations are held back
+    // for the proof: the rule by which operations are held back
     let _ = waiting.released();
     Ok(offered)
 }

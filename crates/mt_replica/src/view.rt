@@ -57,6 +57,7 @@ impl<A: Allocator> View<A> {
     pub(crate) fn items(&self) -> &Items<A>
         ensures { result.now ≡ self.now.ops }
     {
+        // for the proof: that the items are those of the view as a whole
         let _ = &self.shown;
         &self.items
     }
@@ -66,6 +67,7 @@ impl<A: Allocator> View<A> {
         ensures value { option_copied result ≡ option_map (session_in self.now.ops) self.now.held }
         ensures noted { AreNoted self.now.ops }
     {
+        // for the proof: that the session is the one of the items
         let _ = &self.items;
         match &self.shown {
             Some(shown) => Some(&shown.session),
@@ -77,6 +79,7 @@ impl<A: Allocator> View<A> {
     pub(crate) fn set_held(&mut self, held: u64)
         ensures { self.new ≡ record { ops = self.old.ops; held = option_map (λ h. held) self.old.held } }
     {
+        // for the proof: that the session is the one of the items
         let _ = &self.items;
         if let Some(shown) = &mut self.shown {
             shown.session.set_held(held);

@@ -6,6 +6,7 @@ use Rattle.std.specs.Map.{lookup}
 use Rattle.mt_stamp.specs.Moment.{Moment, stamp_cmp, stamp_eq}
 use Rattle.mt_stamp.specs.Written.{Written}
 use Rattle.mt_stamp.specs.Tree.{TreePlace}
+use Rattle.mt_tracklist.specs.declared.track_list.Placed.{Placed}
 use Rattle.mt_op.specs.Gain.{unchanged}
 use Rattle.mt_op.specs.declared.digest.Digest.{Digest}
 use Rattle.mt_op.specs.declared.value.Placement.{Placement}
@@ -111,6 +112,10 @@ place_after _ = None
 -- the place that an operation gives
 abbrev pub tree_place : Operation → TreePlace
 tree_place o = record { place = o.stamp; after = place_after o.act }
+
+-- the element that an operation gives a list of places; where it gives no place, its own stamp at the head
+abbrev pub placed_by : Operation → Placed
+placed_by o = record { place = o.stamp; after = place_after o.act; track = unwrap_or (placed_track o.stamp o.act) o.stamp }
 
 module _ (noted : List Operation) where
   -- the clips of a track, by their rising stamps

@@ -142,7 +142,7 @@ pub(crate) fn session_of_log<A: Allocator + Clone>(
     ensures ok { IfOk result (λ session. session ≡ session_of (operations log.now)) }
     ensures err { IfErr result (λ fault. fault ≡ SessionFault.Memory) }
 {
-    // brings that the dots of a log's operations differ
+    // for the proof: that the dots of a log's operations differ
     let _ = log.runs();
     let sorted = sorted_ops(alloc.clone()?, log)?;
     let ready = ready_of(&alloc, &sorted)?;

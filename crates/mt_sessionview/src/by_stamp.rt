@@ -17,7 +17,7 @@ pub fn sorted_ops<'a, A: Allocator, B: Allocator>(
 ) -> Result<Vec<&'a Op<A>, B>, AllocError>
     ensures { IfOk result (λ sorted. map (λ o. o.now) sorted.items ≡ sort_by op_cmp (operations log.now)) }
 {
-    // brings that the dots of a log's operations differ
+    // for the proof: that the dots of a log's operations differ
     let _ = log.runs();
     let mut sorted = log.refs(alloc)?;
     sorted.sort_by_key(|op| op.stamp())?;

@@ -5,12 +5,13 @@ ghost use Rattle.std.specs.List.{filter};
 ghost use Rattle.mt_op.specs.declared.need.Role.TheVariants.{Place};
 ghost use Rattle.mt_op.specs.Needs.{fits};
 ghost use Rattle.mt_tracklist.specs.Rising.{given_tree};
-ghost use Rattle.mt_sessionview.specs.Read.{place_after, tree_place};
+ghost use Rattle.mt_sessionview.specs.Read.{place_after, placed_by, tree_place};
 
 use crate::fault::SessionFault;
+use crate::track::placed_track;
 use mt_op::{Body, Op, Role};
 use mt_stamp::Stamp;
-use mt_tracklist::PlaceAfter;
+use mt_tracklist::{PlaceAfter, Placed};
 use std::alloc::{AllocError, Allocator};
 
 // Those of the operations that give a track a place.
@@ -37,6 +38,19 @@ fn after<A: Allocator>(op: &Op<A>) -> Option<Stamp>
     match op.body() {
         Body::AddTrack { after, .. } | Body::MoveTrack { after, .. } => *after,
         _ => None,
+    }
+}
+
+/// The element that an operation gives a list of places, where it gives a track a place: an AddTrack to the track that it adds, a
+/// MoveTrack to the one that it moves. Of any other it is its own stamp at the head.
+pub fn placed_by<A: Allocator>(op: &Op<A>) -> Placed
+    ensures { result ≡ placed_by op.now }
+{
+    let place = op.stamp();
+    Placed {
+        place,
+        after: after(op),
+        track: placed_track(op).unwrap_or(place),
     }
 }
 

@@ -22,7 +22,7 @@ pub fn ready_stamps<A: Allocator + Clone>(
     ensures ok { IfOk result (λ stamps. stamps.items ≡ sort_by stamp_cmp (stamps_of (ready_ops (operations log.now)))) }
     ensures err { IfErr result (λ fault. fault ≡ SessionFault.Memory) }
 {
-    // brings that the dots of a log's operations differ
+    // for the proof: that the dots of a log's operations differ
     let _ = log.runs();
     let sorted = sorted_ops(alloc.clone()?, log)?;
     let ready = ready_of(&alloc, &sorted)?;

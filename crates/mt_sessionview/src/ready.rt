@@ -33,6 +33,7 @@ pub(crate) fn ready_of<'a, A: Allocator + Clone>(
     let mut ready = Vec::with_capacity(alloc.clone()?, ops.len())?;
     let mut items = Items::with_room_for(alloc.clone()?, ops)?;
     for op in ops {
+        // for the proof: that the operation names older ones
         let _ = op.stamp();
         if items.are_needs_met(op) {
             items = items.note(op)?;

@@ -1,13 +1,13 @@
 -- What the summary of a log covers.
-use Rattle.std.proofs.Common.{◌≡◌, ℕ, zero, suc, ◌+◌, ◌<◌, ◌≤◌, Bool, true, false, cond, eqb, ltb, leb, not, ◌&&◌, ◌||◌, List, [], ◌∷◌, ◌++◌, length, map, Option, Some, None, refl, sym, ap, ap₂, ◌∙◌, subst, arith, inl, inr}
-use Rattle.std.specs.Prelude.{IsTrue, is_some}
+use Rattle.std.proofs.Common.{◌≡◌, ℕ, zero, suc, ◌+◌, Bool, true, false, cond, eqb, ltb, leb, ◌&&◌, ◌||◌, List, [], ◌∷◌, ◌++◌, map, Option, Some, None, refl, sym, ap, ◌∙◌, arith}
+use Rattle.std.specs.Prelude.{is_some}
 use Rattle.std.specs.List.{list_any}
 use Rattle.std.specs.FinMap as fin
 use Rattle.std.specs.FinMap.Entries.{find}
 use Rattle.std.specs.Ordering.{is_eq}
 use Rattle.std.specs.declared.cmp.Ordering.{Ordering}
 use Rattle.std.specs.declared.cmp.Ordering.TheVariants.{Less, Equal, Greater}
-use Rattle.std.proofs.lemmas.Bool.{cases_lt, eqb-true, eqb-false, ne_eqb, eq-eqb, lt-ltb, le-leb, lt-leb}
+use Rattle.std.proofs.lemmas.Bool.{eqb-true, eq-eqb, lt-leb}
 use Rattle.std.proofs.lemmas.Bool.Decides.{nat_tests}
 use Rattle.std.proofs.lemmas.Cmp.{tied_itself}
 use Rattle.std.proofs.lemmas.List.Folds.{list_any-append}
@@ -15,10 +15,10 @@ use Rattle.mt_stamp.specs.declared.name.Dot.{Dot}
 use Rattle.mt_stamp.specs.Moment.{dot_cmp}
 use Rattle.mt_stamp.proofs.Order.{dot_cmp_total, dot_cmp-IsAntisymmetric, same_dot}
 use Rattle.mt_op.specs.Operation.{Operation}
-use Rattle.mt_op.specs.Dots.{op_dot, entry_of, dots_rise}
+use Rattle.mt_op.specs.Dots.{op_dot, entry_of}
 use Rattle.mt_opcodec.specs.LogValue.{LogMap, AreLogged, operations, log_of}
-use Rattle.mt_opcodec.proofs.Logs.{get-log_of, operations-log_of}
-use Rattle.mt_summary.specs.Summary.{Numbers, Summary, has_number, covers_dot, covers, with_number, numbers_of, summary_after, summary_of}
+use Rattle.mt_opcodec.proofs.Logs.{get-log_of}
+use Rattle.mt_summary.specs.Summary.{Numbers, covers_dot, covers, with_number, numbers_of, summary_after, summary_of}
 
 abbrev is_dot : Dot → Dot → Bool
 is_dot d dot = eqb d.replica.0 dot.replica.0 && eqb d.seq dot.seq

@@ -1,8 +1,7 @@
 -- Lists of operations cut into messages.
-use Rattle.std.proofs.Common.{◌≡◌, ℕ, zero, suc, ◌+◌, ◌-◌, ◌*◌, ◌<◌, ◌≤◌, ◌^◌, Bool, true, false, cond, eqb, ltb, leb, not, ◌&&◌, List, [], ◌∷◌, ◌++◌, length, get_or, drop, Option, Some, None, refl, sym, ap, ap₂, ◌∙◌, subst, append_assoc, append-nil, arith, inl, inr}
-use Rattle.std.specs.Prelude.{IsTrue}
+use Rattle.std.proofs.Common.{◌≡◌, ℕ, ◌+◌, ◌-◌, ◌*◌, ◌<◌, ◌≤◌, Bool, true, false, cond, ltb, leb, not, List, [], ◌∷◌, ◌++◌, length, get_or, drop, Option, Some, None, refl, sym, ap, ap₂, ◌∙◌, append_assoc, append-nil, arith}
 use Rattle.std.specs.List.{flat_map, AllByRecursion}
-use Rattle.std.specs.Int.{w16, w32, w64, w128, to_be_bytes}
+use Rattle.std.specs.Int.{w16, to_be_bytes}
 use Rattle.std.proofs.lemmas.Bool.{lt-ltb, leb-true}
 use Rattle.std.proofs.lemmas.Bool.Decides.{nat_tests}
 use Rattle.std.proofs.lemmas.List.{drop_more, drop_all, length-append, flat_map_more}
@@ -11,7 +10,7 @@ use Rattle.mt_op.specs.Operation.{Act, AddTrack, MoveTrack, AddClip, MoveClip, T
 use Rattle.mt_op.specs.Title.{is_title}
 use Rattle.mt_op.specs.Valid.{IsOperation, AreFields, tags_are_good}
 use Rattle.mt_op.proofs.Needs.{and_first, and_second}
-use Rattle.mt_opcodec.specs.OpText.{op_text, act_bytes, stamp_bytes, place_bytes, title_bytes, frame_bytes, trim_bytes, gain_bytes, tags_bytes, flag_bytes}
+use Rattle.mt_opcodec.specs.OpText.{op_text, act_bytes, stamp_bytes, place_bytes, title_bytes, frame_bytes, trim_bytes, tags_bytes, flag_bytes}
 use Rattle.mt_opcodec.specs.LogText.{op_texts}
 use Rattle.mt_frames.specs.Frames.{longest_body, frame_text}
 use Rattle.mt_summary.specs.Messages.{ops_text, fits_with, last_pack, packs_after, packs, ops_frames}

@@ -1,9 +1,8 @@
 -- The loop that reads extras.
-use Rattle.std.proofs.Common.{◌≡◌, ℕ, zero, suc, ◌+◌, ◌-◌, ◌<◌, ◌≤◌, List, [], ◌∷◌, ◌++◌, Option, Some, None, Result, Ok, Err, refl, sym, ap, ◌∙◌, append_assoc, append-nil, arith}
+use Rattle.std.proofs.Common.{◌≡◌, ℕ, suc, ◌+◌, ◌-◌, ◌<◌, ◌≤◌, List, [], ◌∷◌, ◌++◌, Result, Ok, Err, refl, sym, ap, ◌∙◌, append_assoc, append-nil, arith}
 use Rattle.mt_opcodec.specs.declared.fault.ReadFault.{ReadFault}
 use Rattle.mt_opcodec.specs.declared.fault.ReadFault.TheVariants as faults
 use Rattle.mt_opcodec.specs.OpReading.{◌>>=◌, Fails}
-use Rattle.mt_summary.specs.Summary.{Numbers}
 use Rattle.mt_summary.specs.Messages.{extra_at, extras_at}
 
 abbrev Item : Type 0

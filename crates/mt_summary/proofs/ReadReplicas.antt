@@ -1,5 +1,5 @@
 -- The loop that reads replicas.
-use Rattle.std.proofs.Common.{◌≡◌, ℕ, zero, suc, ◌+◌, ◌-◌, ◌<◌, ◌≤◌, List, [], ◌∷◌, ◌++◌, Option, Some, None, Result, Ok, Err, refl, sym, ap, ◌∙◌, append_assoc, append-nil, arith}
+use Rattle.std.proofs.Common.{◌≡◌, ℕ, suc, ◌+◌, ◌-◌, ◌<◌, ◌≤◌, List, [], ◌∷◌, ◌++◌, Option, Some, Result, Ok, Err, refl, sym, ap, ◌∙◌, append_assoc, append-nil, arith}
 use Rattle.mt_opcodec.specs.declared.fault.ReadFault.{ReadFault}
 use Rattle.mt_opcodec.specs.declared.fault.ReadFault.TheVariants as faults
 use Rattle.mt_opcodec.specs.OpReading.{◌>>=◌, Fails}

@@ -1,5 +1,5 @@
 -- What holds of summaries and of messages.
-use Rattle.std.specs.Prelude.{◌≡◌, ℕ, ◌+◌, ◌≤◌, ◌<◌, List, Option, Some, None, is_some, false, true, slice_get, slice_index, length, [], ◌∷◌, ◌++◌}
+use Rattle.std.specs.Prelude.{◌≡◌, ℕ, ◌+◌, ◌≤◌, ◌<◌, List, Some, is_some, false, slice_get, slice_index, length, [], ◌∷◌, ◌++◌}
 use Rattle.std.specs.FinMap as map
 use Rattle.std.specs.List.{flat_map, AllByRecursion}
 use Rattle.mt_op.specs.Operation.{Operation}
@@ -7,7 +7,7 @@ use Rattle.mt_frames.specs.Frames.{longest_body}
 use Rattle.mt_summary.specs.Messages.{Message, message_at, message_text, IsMessage, ops_text, packs}
 use Rattle.mt_stamp.specs.declared.name.Dot.{Dot}
 use Rattle.mt_op.specs.Valid.{IsOperation}
-use Rattle.mt_opcodec.specs.LogValue.{LogMap, AreLogged, operations}
+use Rattle.mt_opcodec.specs.LogValue.{LogMap}
 use Rattle.mt_summary.specs.Summary.{Numbers, Summary, covers, summary_of, IsSummary}
 
 -- A summary of a log: it is one, it covers exactly the log's dots, and it is the only summary that does. So each run is the greatest: the

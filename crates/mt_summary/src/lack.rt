@@ -23,6 +23,7 @@ pub fn lacking<A: Allocator + Clone, B: Allocator>(
     ensures ok { IfOk result (λ ops. ops.items ≡ lacking log.now summary.now) }
     ensures err { IfErr result (λ fault. fault ≡ MessageFault.Memory) }
 {
+    // for the proof: that the log's operations rise by dot
     let _ = log.runs();
     let refs = log.refs(alloc.clone()?)?;
     let mut ops = Vec::new(alloc);

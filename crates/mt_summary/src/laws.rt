@@ -14,7 +14,7 @@ use std::alloc::Allocator;
 pub fn summaries<A: Allocator>(log: &Log<A>)
     ensures { IsSummaryOf log.now }
 {
-    // its operations are a log's
+    // for the proof: that its operations are a log's
     let _ = log.runs();
 }
 

@@ -7,11 +7,11 @@ ghost use Rattle.mt_summary.specs.Messages.{whole_have, counted_at, counted_ops,
 ghost use Rattle.mt_summary.specs.Reading.{ReadsAs, WritesAs, message_of};
 
 use crate::fault::MessageFault;
-use crate::reader::{counted_of, u32_at};
+use crate::reader::counted_of;
 use crate::summary::Summary;
 use crate::writer::{put_have, put_ops};
 use mt_op::Op;
-use mt_opcodec::{LogFault, ReadFault, read_ops};
+use mt_opcodec::{LogFault, ReadFault, read_ops, u32_at};
 use mt_stamp::List;
 use std::alloc::{AllocError, Allocator, Global};
 

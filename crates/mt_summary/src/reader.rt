@@ -1,44 +1,16 @@
 //! Reading a summary.
 
 ghost use Rattle.std.specs.Prelude.{◌≡◌, ◌<◌, ◌+◌, ◌≤◌, ◌^◌, length, IfOk, IsTrue, None};
-ghost use Rattle.std.specs.Int.{w32, w64, w128};
 ghost use Rattle.std.specs.Ordering.{nat_cmp};
 ghost use Rattle.mt_stamp.specs.Moment.{greatest};
 ghost use Rattle.mt_op.specs.Rising.{is_after};
-ghost use Rattle.mt_opcodec.specs.OpReading.{Gives, number_at};
+ghost use Rattle.mt_opcodec.specs.OpReading.{Gives};
 ghost use Rattle.mt_summary.specs.Messages.{extra_at, extras_at, run_at, has_some, said, numbers_at, next_at, summary_at, counted_at};
 
 use crate::numbers::Numbers;
-use mt_opcodec::ReadFault;
+use mt_opcodec::{ReadFault, u32_at, u64_at, u128_at};
 use mt_stamp::{Replica, Stamp};
 use std::alloc::Allocator;
-
-pub(crate) fn u32_at(bytes: &[u8]) -> Result<(u32, &[u8]), ReadFault>
-    ensures { Gives (λ x. (x.0, x.1.now)) result (number_at w32 bytes.now) }
-{
-    match bytes.split_first_chunk::<4>() {
-        Some((front, rest)) => Ok((u32::from_be_bytes(*front), rest)),
-        None => Err(ReadFault::Truncated),
-    }
-}
-
-fn u64_at(bytes: &[u8]) -> Result<(u64, &[u8]), ReadFault>
-    ensures { Gives (λ x. (x.0, x.1.now)) result (number_at w64 bytes.now) }
-{
-    match bytes.split_first_chunk::<8>() {
-        Some((front, rest)) => Ok((u64::from_be_bytes(*front), rest)),
-        None => Err(ReadFault::Truncated),
-    }
-}
-
-fn u128_at(bytes: &[u8]) -> Result<(u128, &[u8]), ReadFault>
-    ensures { Gives (λ x. (x.0, x.1.now)) result (number_at w128 bytes.now) }
-{
-    match bytes.split_first_chunk::<16>() {
-        Some((front, rest)) => Ok((u128::from_be_bytes(*front), rest)),
-        None => Err(ReadFault::Truncated),
-    }
-}
 
 #[tactic(auto, unfolding(crate::specs::Messages::extra_at))]
 fn extra_of(last: u64, bytes: &[u8]) -> Result<(u64, &[u8]), ReadFault>

@@ -87,6 +87,7 @@ impl<A: Allocator + Clone> Summary<A> {
         ensures ok { IfOk result (λ summary. summary ≡ summary_of log.now) }
         ensures err { IfErr result (λ fault. fault ≡ MessageFault.Memory) }
     {
+        // for the proof: that the log's operations rise by dot
         let _ = log.runs();
         let refs = log.refs(alloc.clone()?)?;
         let all = summary_of_ops(alloc, &refs)?;

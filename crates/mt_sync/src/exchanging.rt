@@ -72,7 +72,7 @@ fn missing_of<A: Allocator + Clone>(
 ) -> Result<Vec<Op<A>, A>, TalkFault>
     ensures { FindsMissing (λ ops. ops.items) own.now others.now result }
 {
-    // both are logs
+    // for the proof: that both are logs
     let _ = own.runs();
     let _ = others.runs();
     let mut have = Vec::new(alloc.clone()?);

@@ -1,7 +1,6 @@
 //! Operations that join the log of an editor as a whole.
 
 ghost use Rattle.std.specs.Prelude.{◌≡◌, ◌≢◌, ◌∷◌, IfOk, IfErr, OnOk, Some};
-ghost use Rattle.mt_opcodec.specs.Clashing.{HasAnother};
 ghost use Rattle.mt_opcodec.specs.LogValue.{AreLogged, log_of};
 ghost use Rattle.mt_opcodec.specs.Laws.{PairsAgree};
 ghost use Rattle.mt_opcodec.specs.Union.{Agree, union, union_all};
@@ -12,35 +11,25 @@ use crate::fault::TalkFault;
 use crate::growing_log::GrowingLog;
 use crate::holder::Holder;
 use mt_op::Op;
-use mt_op::laws::equal_ops;
 use mt_opcodec::Log;
 use mt_replica::Editor;
 use mt_stamp::Dot;
 use std::alloc::Allocator;
-
-// Whether a log has another operation under this one's dot.
-fn has_another<A: Allocator>(log: &Log<A>, op: &Op<A>) -> bool
-    ensures { HasAnother log.now op.now result }
-{
-    match log.get(&op.dot()) {
-        Some(there) => !equal_ops(there, op),
-        None => false,
-    }
-}
 
 // Whether a log or one of others, every two of which agree, has another operation under this one's dot.
 fn have_another<A: Allocator>(log: &Log<A>, others: &[Log<A>], op: &Op<A>) -> bool
     requires agree { PairsAgree (log.now ∷ others.now) }
     ensures { HasAnotherOperation (union_all (log.now ∷ others.now)) op.now result }
 {
-    // for the proof: what each log has are operations
+    // for the proof: that what a log has are operations
     let _ = log.runs();
-    if has_another(log, op) {
+    if log.has_another(op) {
         return true;
     }
     for other in others {
+        // for the proof: the same
         let _ = other.runs();
-        if has_another(other, op) {
+        if other.has_another(op) {
             return true;
         }
     }

@@ -31,7 +31,7 @@ pub fn cuts()
 pub fn fronts<A: Allocator>(log: &Log<A>)
     ensures { FrontsAreHonest log.now }
 {
-    // its operations are a log's
+    // for the proof: that its operations are a log's
     let _ = log.runs();
 }
 
@@ -40,7 +40,7 @@ pub fn fronts<A: Allocator>(log: &Log<A>)
 pub fn conversations<A: Allocator>(caller: &Log<A>, answerer: &Log<A>)
     ensures { ConversationsEnd caller.now answerer.now }
 {
-    // the operations of both are a log's
+    // for the proof: that the operations of both are a log's
     let _ = caller.runs();
     let _ = answerer.runs();
 }

@@ -30,7 +30,7 @@ fn take_one<A: Allocator + Clone>(editor: &mut Editor<A>, op: Op<A>) -> Result<(
     let Some(log) = editor.log() else {
         return Err(TalkFault::Failed);
     };
-    // each is an operation, the new one and those of the log
+    // for the proof: that each is an operation, the new one and those of the log
     let (_dot, _runs) = (op.dot(), log.runs());
     match editor.take(op) {
         Ok(_taken) => Ok(()),

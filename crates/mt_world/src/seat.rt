@@ -125,7 +125,7 @@ impl<A: Allocator + Clone> Seat<A> {
         ensures ok { IfOk result (λ new. new ≡ sent ++ unsent sent (peer_of self.now).taken) }
         ensures err { IfErr result (λ fault. fault ≡ WorldFault.Memory) }
     {
-        // both are logs of operations by rising dot
+        // for the proof: that both are logs of operations by rising dot
         let _ = self.saved.runs();
         let _ = self.unsaved.runs();
         sent.with(alloc, &self.unsaved)
@@ -166,6 +166,7 @@ fn holds_a_set<A: Allocator>(editor: &Editor<A>)
     ensures { IfSome editor.now.log IsSet }
 {
     if let Some(log) = editor.log() {
+        // for the proof: that the log's operations rise by dot, and that the log is the one of them
         let _ = log.runs();
     }
 }

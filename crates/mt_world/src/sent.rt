@@ -34,6 +34,7 @@ impl<A: Allocator> Sent<A> {
     pub fn ops(&self) -> &[Op<A>]
         ensures { result.now ≡ self.now }
     {
+        // for the proof: that the operations are those of what was sent as a whole
         let _ = &self.by_dot;
         &self.ops
     }
@@ -42,6 +43,7 @@ impl<A: Allocator> Sent<A> {
     fn has(&self, op: &Op<A>) -> bool
         ensures { result ≡ is_sent self.now op.now }
     {
+        // for the proof: that the dots are those of the operations
         let _ = &self.ops;
         self.by_dot.get(&op.dot()).is_some()
     }

@@ -56,6 +56,7 @@ impl<A: Allocator> World<A> {
     pub fn sent(&self) -> &[Op<A>]
         ensures { result.now ≡ self.now.sent }
     {
+        // for the proof: that what was sent is what the world as a whole has sent
         let _ = &self.seats;
         self.sent.ops()
     }

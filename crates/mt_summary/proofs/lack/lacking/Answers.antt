@@ -2,14 +2,13 @@ use Rattle.std.proofs.Common.{◌≡◌, ◌++◌, append-nil, None, Bor, map, s
 use Rattle.std.specs.List.{filter}
 use Rattle.mt_stamp.specs.declared.name.Dot.{Dot}
 use Rattle.mt_op.specs.Operation.{Operation}
-use Rattle.mt_op.specs.Dots.{dots_rise}
 use Rattle.mt_op.specs.declared.op.Op.{Op}
 use Rattle.mt_opcodec.specs.LogValue.{AreLogged, operations}
 use Rattle.mt_opcodec.proofs.Refs.{at_ref, within, past_end}
 use Rattle.mt_opcodec.proofs.RunLists.{drop_past}
-use Rattle.mt_summary.specs.Summary.{Summary, IsSummary, lacking}
+use Rattle.mt_summary.specs.Summary.{IsSummary, lacking}
 use Rattle.mt_summary.specs.Walking.{front_covers}
-use Rattle.mt_summary.proofs.Missing.{lacks, past_rises, goes_on, taken}
+use Rattle.mt_summary.proofs.Missing.{lacks, past_rises, goes_on}
 use Rattle.mt_summary.proofs.lack.lacking.Goals as goal
 
 pub front_covers-requires : goal.front_covers-requires

@@ -1,6 +1,4 @@
-use Rattle.std.proofs.Common.{None, sym, ◌∙◌, subst, List}
-use Rattle.mt_op.specs.Operation.{Operation}
-use Rattle.mt_opcodec.specs.LogValue.{operations}
+use Rattle.std.proofs.Common.{None, sym, ◌∙◌}
 use Rattle.mt_summary.specs.Summary.{summary_of, IsSummary}
 use Rattle.mt_summary.proofs.Rising.{is_summary}
 use Rattle.mt_summary.proofs.Covering.{exact}

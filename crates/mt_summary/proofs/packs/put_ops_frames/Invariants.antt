@@ -1,4 +1,4 @@
-use Rattle.std.proofs.Common.{◌≡◌, ◌++◌}
+use Rattle.std.proofs.Common.{◌++◌}
 use Rattle.std.specs.List.{flat_map}
 use Rattle.mt_frames.specs.Frames.{frame_text}
 use Rattle.mt_summary.specs.Messages.{ops_text, packs}

@@ -1,5 +1,5 @@
 use Rattle.std.proofs.Common.{None, sym, subst}
-use Rattle.mt_summary.specs.Summary.{Summary, IsSummary}
+use Rattle.mt_summary.specs.Summary.{IsSummary}
 use Rattle.mt_summary.proofs.Missing.{numbers_at}
 use Rattle.mt_summary.proofs.summary.Summary.covers.Goals as goal
 

@@ -1,8 +1,7 @@
-use Rattle.std.proofs.Common.{◌≡◌, None, sym, subst, List, Bor, map, ◌∙◌, ap}
+use Rattle.std.proofs.Common.{◌≡◌, None, sym, subst, Bor, map, ◌∙◌, ap}
 use Rattle.mt_op.specs.declared.op.Op.{Op}
-use Rattle.mt_op.specs.Operation.{Operation}
 use Rattle.mt_opcodec.specs.LogValue.{AreLogged, operations}
-use Rattle.mt_summary.specs.Summary.{Summary, IsSummary, summary_of, summary_after}
+use Rattle.mt_summary.specs.Summary.{IsSummary, summary_of, summary_after}
 use Rattle.mt_summary.proofs.Rising.{rises}
 use Rattle.mt_summary.proofs.summary.Summary.of.Goals as goal
 
