@@ -100,5 +100,6 @@ fn take_some<A: Allocator + Clone, H: Holder<A>>(
     if ops.is_empty() {
         return Ok(());
     }
-    holder.take_all(alloc, ops)
+    let mut ops = ops;
+    holder.take_all(alloc, &mut ops)
 }

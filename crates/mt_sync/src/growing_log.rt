@@ -159,9 +159,9 @@ impl<A: Allocator + Clone> Holder<A> for GrowingLog<A> {
         self.logs.first()
     }
 
-    fn take_all(&mut self, alloc: &A, ops: Vec<Op<A>, A>) -> Result<(), TalkFault>
-        requires rising { AreLogged ops.items }
-        ensures takes { TakesIn self.old.set ops.items result self.new.set }
+    fn take_all(&mut self, alloc: &A, ops: &mut Vec<Op<A>, A>) -> Result<(), TalkFault>
+        requires rising { AreLogged ops.old.items }
+        ensures takes { TakesIn self.old.set ops.old.items result self.new.set }
     {
         take_all_in_logs(alloc, &mut self.logs, ops)
     }
@@ -172,16 +172,15 @@ impl<A: Allocator + Clone> Holder<A> for GrowingLog<A> {
 fn take_all_in_logs<A: Allocator + Clone>(
     alloc: &A,
     logs: &mut Vec<Log<A>, A>,
-    ops: Vec<Op<A>, A>,
+    ops: &mut Vec<Op<A>, A>,
 ) -> Result<(), TalkFault>
     requires agree { PairsAgree logs.old.items }
-    requires rising { AreLogged ops.items }
+    requires rising { AreLogged ops.old.items }
     ensures agree { PairsAgree logs.new.items }
-    ensures takes { TakesIn (held_by logs.old.items) ops.items result (held_by logs.new.items) }
+    ensures takes { TakesIn (held_by logs.old.items) ops.old.items result (held_by logs.new.items) }
 {
-    let mut ops = ops;
     let clash = match logs.split_first() {
-        Some((log, others)) => cut_at_clash(log, others, &mut ops),
+        Some((log, others)) => cut_at_clash(log, others, ops),
         None => return Err(TalkFault::Failed),
     };
     match log_of(alloc, ops) {

@@ -50,7 +50,7 @@ impl<A: Allocator> HoldsLog<A> for Editor<A> {
 
 /// Whoever takes part in a conversation: it lends the log that it has, and takes the operations of a message. An editor, or a log
 /// that grows.
-pub trait Holder<A: Allocator + Clone> {
+pub trait Holder<A: Allocator> {
     /// The set of its operations; none where it has failed.
     ghost held: { Self → Option LogMap };
 
@@ -79,11 +79,12 @@ pub trait Holder<A: Allocator + Clone> {
         requires whole { whole self.now ≡ true }
         ensures log { option_copied result ≡ held self.now };
 
-    /// Takes operations that rise by dot, up to the first whose dot names another one there. Refused as `Failed` (20) where it has failed,
-    /// as `Conflict` (17) with that dot, and as `Memory` (0) where a growth was refused: then it has failed.
-    fn take_all(&mut self, alloc: &A, ops: Vec<Op<A>, A>) -> Result<(), TalkFault>
-        requires rising { AreLogged ops.items }
-        ensures takes { TakesIn (held self.old) ops.items result (held self.new) }
+    /// Takes operations that rise by dot out of a list, up to the first whose dot names another one there; what is left of the list is
+    /// nobody's. Refused as `Failed` (20) where it has failed, as `Conflict` (17) with that dot, and as `Memory` (0) where a growth was
+    /// refused: then it has failed.
+    fn take_all(&mut self, alloc: &A, ops: &mut Vec<Op<A>, A>) -> Result<(), TalkFault>
+        requires rising { AreLogged ops.old.items }
+        ensures takes { TakesIn (held self.old) ops.old.items result (held self.new) }
         ensures name { named self.new ≡ named self.old };
 }
 
@@ -109,9 +110,9 @@ impl<A: Allocator + Clone> Holder<A> for Editor<A> {
         self.log()
     }
 
-    fn take_all(&mut self, alloc: &A, ops: Vec<Op<A>, A>) -> Result<(), TalkFault>
-        requires rising { AreLogged ops.items }
-        ensures takes { TakesIn self.old.log ops.items result self.new.log }
+    fn take_all(&mut self, alloc: &A, ops: &mut Vec<Op<A>, A>) -> Result<(), TalkFault>
+        requires rising { AreLogged ops.old.items }
+        ensures takes { TakesIn self.old.log ops.old.items result self.new.log }
         ensures name { self.new.name ≡ self.old.name }
     {
         take_all_in_editor(alloc, self, ops)

@@ -15,6 +15,7 @@ use mt_opcodec::Log;
 use mt_replica::Editor;
 use mt_stamp::Dot;
 use std::alloc::Allocator;
+use std::mem;
 
 // Whether a log or one of others, every two of which agree, has another operation under this one's dot.
 fn have_another<A: Allocator>(log: &Log<A>, others: &[Log<A>], op: &Op<A>) -> bool
@@ -61,12 +62,27 @@ pub(crate) fn cut_at_clash<A: Allocator>(
     None
 }
 
-// The log of operations that rise by dot.
-pub(crate) fn log_of<A: Allocator + Clone>(alloc: &A, ops: Vec<Op<A>, A>) -> Result<Log<A>, TalkFault>
-    requires rising { AreLogged ops.items }
-    ensures ok { IfOk result (λ log. log ≡ log_of ops.items) }
+// The operations of a list, taken out of it.
+pub(crate) fn taken_out<A: Allocator + Clone>(
+    alloc: &A,
+    ops: &mut Vec<Op<A>, A>,
+) -> Result<Vec<Op<A>, A>, TalkFault>
+    ensures ok { IfOk result (λ taken. taken.items ≡ ops.old.items) }
     ensures err { IfErr result (λ fault. fault ≡ TalkFault.Memory) }
 {
+    Ok(mem::replace(ops, Vec::new(alloc.clone()?)))
+}
+
+// The log of operations that rise by dot, taken out of their list.
+pub(crate) fn log_of<A: Allocator + Clone>(
+    alloc: &A,
+    ops: &mut Vec<Op<A>, A>,
+) -> Result<Log<A>, TalkFault>
+    requires rising { AreLogged ops.old.items }
+    ensures ok { IfOk result (λ log. log ≡ log_of ops.old.items) }
+    ensures err { IfErr result (λ fault. fault ≡ TalkFault.Memory) }
+{
+    let ops = taken_out(alloc, ops)?;
     match Log::of_ops(alloc.clone()?, ops) {
         Ok(log) => Ok(log),
         Err(_) => Err(TalkFault::Memory),
@@ -110,7 +126,8 @@ pub(crate) fn join_ops<A: Allocator + Clone>(
         return Err(TalkFault::Memory);
     };
     let mut growing = GrowingLog::new(alloc.clone()?, copy)?;
-    let taken = growing.take_all(alloc, ops);
+    let mut ops = ops;
+    let taken = growing.take_all(alloc, &mut ops);
     let Ok(all) = growing.into_log() else {
         return Err(TalkFault::Memory);
     };

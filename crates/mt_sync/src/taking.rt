@@ -6,7 +6,7 @@ ghost use Rattle.mt_sync.specs.Taking.{refusal_of, TakesIn};
 
 use crate::fault::TalkFault;
 use crate::following::are_few_at_ends;
-use crate::joining::join_ops;
+use crate::joining::{join_ops, taken_out};
 use mt_op::Op;
 use mt_replica::{Editor, EditorFault};
 use std::alloc::Allocator;
@@ -61,20 +61,26 @@ fn take_each<A: Allocator + Clone>(
 pub(crate) fn take_all_in_editor<A: Allocator + Clone>(
     alloc: &A,
     editor: &mut Editor<A>,
-    ops: Vec<Op<A>, A>,
+    ops: &mut Vec<Op<A>, A>,
 ) -> Result<(), TalkFault>
-    requires rising { AreLogged ops.items }
-    ensures takes { TakesIn editor.old.log ops.items result editor.new.log }
+    requires rising { AreLogged ops.old.items }
+    ensures takes { TakesIn editor.old.log ops.old.items result editor.new.log }
     ensures name { editor.new.name ≡ editor.old.name }
 {
     let one_by_one = match editor.log() {
-        Some(log) => are_few_at_ends(log, &ops),
+        Some(log) => are_few_at_ends(log, ops),
         None => return Err(TalkFault::Failed),
     };
-    if one_by_one {
-        return take_each(editor, ops);
-    }
-    match join_ops(alloc, editor, ops) {
+    let joined = match taken_out(alloc, ops) {
+        Ok(ops) => {
+            if one_by_one {
+                return take_each(editor, ops);
+            }
+            join_ops(alloc, editor, ops)
+        }
+        Err(fault) => Err(fault),
+    };
+    match joined {
         Ok(()) => Ok(()),
         Err(TalkFault::Memory) => {
             editor.fail();

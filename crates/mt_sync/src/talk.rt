@@ -276,7 +276,7 @@ fn take_message<A: Allocator + Clone, H: Holder<A>>(
             Message::Have(_) => Err(TalkFault::OutOfTurn),
             Message::Ops(list) => {
                 *turn = Turn::Takes(Some(summary));
-                holder.take_all(alloc, list.into_vec())
+                holder.take_all(alloc, &mut list.into_vec())
             }
             Message::Bye => put_farewell(alloc, holder, &summary, out),
         },
@@ -284,7 +284,7 @@ fn take_message<A: Allocator + Clone, H: Holder<A>>(
             Message::Have(_) => Err(TalkFault::OutOfTurn),
             Message::Ops(list) => {
                 *turn = Turn::Takes(None);
-                holder.take_all(alloc, list.into_vec())
+                holder.take_all(alloc, &mut list.into_vec())
             }
             Message::Bye => Ok(()),
         },

@@ -18,11 +18,11 @@ put_behind-requires g c =
 pub returns-in-Some-clash-clause-takes : goal.returns-in-Some-clash-clause-takes
 returns-in-Some-clash-clause-takes g c =
     let parts = sym c.deref.ensures.value ∙ c.in-Some.ensures.cases.0 in
-    taken_together c.args.logs.now.items c.in-Some.others.now c.put_behind.new.logs.items c.in-Some.log.now c.in-Ok.more c.args.ops.items c.cut_at_clash-clash.new.ops.items c.cut_at_clash-clash.result parts c.in-Ok.ensures.ok
+    taken_together c.args.logs.now.items c.in-Some.others.now c.put_behind.new.logs.items c.in-Some.log.now c.in-Ok.more c.args.ops.now.items c.cut_at_clash-clash.new.ops.items c.cut_at_clash-clash.result parts c.in-Ok.ensures.ok
     c.cut_at_clash-clash.ensures.joined c.in_ok-put_behind-in-Ok.ensures.held (Err (Conflict c.in-Some-clash.dot)) c.in-Some-clash.is
 
 pub returns-in-None-clash-clause-takes : goal.returns-in-None-clash-clause-takes
 returns-in-None-clash-clause-takes g c =
     let parts = sym c.deref.ensures.value ∙ c.in-Some.ensures.cases.0 in
-    taken_together c.args.logs.now.items c.in-Some.others.now c.put_behind.new.logs.items c.in-Some.log.now c.in-Ok.more c.args.ops.items c.cut_at_clash-clash.new.ops.items c.cut_at_clash-clash.result parts c.in-Ok.ensures.ok
+    taken_together c.args.logs.now.items c.in-Some.others.now c.put_behind.new.logs.items c.in-Some.log.now c.in-Ok.more c.args.ops.now.items c.cut_at_clash-clash.new.ops.items c.cut_at_clash-clash.result parts c.in-Ok.ensures.ok
     c.cut_at_clash-clash.ensures.joined c.in_ok-put_behind-in-Ok.ensures.held (Ok tt) c.in-None-clash.is
