@@ -40,7 +40,8 @@
 //!
 //! All or none: at the first line that has none of the fourteen forms (`BadLine`), or whose change the editor refuses (`Refused`),
 //! the editor is as it was, and the fault tells the line, counted from 1. `specs/Forms.antt` and `specs/Words.antt` are the grammar,
-//! `specs/Lines.antt` how a text is cut, `specs/Script.antt` what is made.
+//! `specs/Lines.antt` how a text is cut, `specs/Script.antt` what is made. What a log's text says of an act is such a line, but for a `remove`,
+//! of which it lists the tags (`laws::acts_read_back`).
 //!
 //! `run_draft(alloc, draft, text)?` makes the same in a draft, and answers it with how many they are; at a refusal the draft is gone.
 //!
