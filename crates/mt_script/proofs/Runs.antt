@@ -1,8 +1,9 @@
 -- What the loop over the lines keeps.
-use Rattle.std.proofs.Common.{◌≡◌, ◌≢◌, ◌==◌, ◌<◌, ◌+◌, ℕ, suc, Bool, true, false, if◌then◌else◌, List, [], ◌∷◌, ◌++◌, length, Option, Some, None, Result, Ok, Err, refl, sym, ap, ◌∙◌, arith}
+use Rattle.std.proofs.Common.{Bor, ◌≡◌, ◌≢◌, ◌==◌, ◌<◌, ◌+◌, ℕ, suc, Bool, true, false, if◌then◌else◌, List, [], ◌∷◌, ◌++◌, length, Option, Some, None, Result, Ok, Err, refl, sym, ap, ◌∙◌, arith}
 use mathlib.Core.List.{append_assoc}
 use Rattle.std.proofs.lemmas.List.{length-append, append-nil}
-use Rattle.std.specs.Option.{option_map}
+use Rattle.std.specs.Prelude.{is_some, not}
+use Rattle.std.specs.Option.{option_copied, option_map}
 use Rattle.mt_stamp.specs.declared.name.Replica.{Replica}
 use Rattle.mt_op.specs.Operation.{Operation}
 use Rattle.mt_opcodec.specs.LogValue.{LogMap, operations}
@@ -54,6 +55,11 @@ onto_more ops more (Err fault) = refl
 there_from : (o : Option LogMap) (ops : List Operation) → o ≢ None → option_map (λ (log : LogMap). with_ops log ops) o ≢ None
 there_from None ops there = absurd (there refl)
 there_from (Some log) ops there = λ is. absurd cc
+
+-- a log that may be looked at
+pub there_where : {X : Type 0} (o : Option (Bor X)) (log : Option X) (b : Bool) → option_copied o ≡ log → is_some o ≡ not b → b ≡ false → log ≢ None
+there_where None log b same some is none = absurd cc
+there_where (Some x) log b same some is none = absurd cc
 
 pub still_there : (kept now : Kept) (ops : List Operation) → kept.log ≢ None → now ≡ kept_with_ops kept ops → now.log ≢ None
 still_there kept now ops there is = λ none. there_from kept.log ops there (sym (log_held kept ops) ∙ ap (λ (k : Kept). k.log) (sym is) ∙ none)
@@ -160,6 +166,10 @@ lines_not_failed log name items (line ∷ others) is =
 from_not_failed : (o : Option LogMap) (name : Replica) (text : List ℕ) → o ≢ None → scripted_from o name text ≡ Err Failed → ⊥
 from_not_failed None name text there is = absurd (there refl)
 from_not_failed (Some log) name text there is = lines_not_failed log name [] (lines text) is
+
+-- one fault, whatever else might have been answered
+pub same_fault : {X Y : Type 0} (a b : ScriptFault) → ◌≡◌ {A = Result X ScriptFault} (Err a) (Err b) → ◌≡◌ {A = Result Y ScriptFault} (Err a) (Err b)
+same_fault a b is = let same : a ≡ b = cc in ap Err same
 
 pub not_failed : (kept : Kept) (text : List ℕ) (result : Result ℕ ScriptFault) (new : Kept) → kept.log ≢ None → LinesGive kept text result new
     → result ≡ Err Failed → ⊥

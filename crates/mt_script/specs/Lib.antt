@@ -6,3 +6,4 @@ pub mod Script
 pub mod Running
 pub mod Examples
 pub mod Laws
+pub mod ReadBack

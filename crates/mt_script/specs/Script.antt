@@ -79,6 +79,11 @@ abbrev pub RunGives : Kept → List ℕ → Result ℕ ScriptFault → Type 0
 RunGives kept text (Err Memory) = kept.log ≢ None
 RunGives kept text result = result ≡ counted (scripted_in kept text)
 
+-- how many, of an answer that goes with something else
+abbrev pub count_of : {X : Type 0} → Result (X × ℕ) ScriptFault → Result ℕ ScriptFault
+count_of (Ok made) = Ok made.1
+count_of (Err fault) = Err fault
+
 -- what an editor holds with more operations
 abbrev pub kept_with_ops : Kept → List Operation → Kept
 kept_with_ops kept [] = kept

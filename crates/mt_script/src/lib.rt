@@ -2,8 +2,8 @@
 //!
 //! ```rust
 //! use mt_opcodec::Log;
-//! use mt_replica::Editor;
-//! use mt_script::{ScriptFault, run};
+//! use mt_replica::{Draft, Editor};
+//! use mt_script::{ScriptFault, run, run_draft};
 //! use mt_stamp::Replica;
 //! use std::test::Fail;
 //!
@@ -24,6 +24,11 @@
 //!     let text = b"add-marker 960 Weather\nadd-marker noon Sport\n";
 //!     assert_eq!(rt; run(rt.alloc(), &mut editor, text), Err(ScriptFault::BadLine(2)));
 //!     assert_eq!(rt; editor.log().map(|log| log.len()), Some(4));
+//!     // a draft keeps no session, and is given and answered by value
+//!     let draft = Draft::new(rt.alloc(), Replica(11), Log::new(rt.alloc()))?;
+//!     let (made, count) = run_draft(rt.alloc(), draft, SCRIPT)?;
+//!     assert_eq!(rt; count, 4);
+//!     assert_eq!(rt; made.log().map(|log| log.len()), Some(4));
 //!     Ok(())
 //! }
 //! ```
@@ -35,9 +40,13 @@
 //!
 //! All or none: at the first line that has none of the fourteen forms (`BadLine`), or whose change the editor refuses (`Refused`),
 //! the editor is as it was, and the fault tells the line, counted from 1. `specs/Forms.antt` and `specs/Words.antt` are the grammar,
-//! `specs/Lines.antt` how a text is cut, `specs/Script.antt` what is made.
+//! `specs/Lines.antt` how a text is cut, `specs/Script.antt` what is made. What a log's text says of an act is such a line, but for a `remove`,
+//! of which it lists the tags (`laws::acts_read_back`).
 //!
-//! What a run costs: a copy of the editor, its edits, and a walk over the text with no copy of it but of the titles.
+//! `run_draft(alloc, draft, text)?` makes the same in a draft, and answers it with how many they are; at a refusal the draft is gone.
+//!
+//! What `run_draft` costs: its edits, and a walk over the text with no copy of it but of the titles. `run` makes a draft of the editor,
+//! which is a copy of its log, runs the script in it, and makes an editor of it, with its session.
 #![tactic(auto)]
 
 mod fault;
@@ -48,4 +57,4 @@ mod script;
 mod words;
 
 pub use fault::ScriptFault;
-pub use script::run;
+pub use script::{run, run_draft};

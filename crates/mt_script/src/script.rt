@@ -1,7 +1,7 @@
 //! Running a script.
 
-ghost use Rattle.std.specs.Prelude.{◌≡◌, ◌≢◌, ◌↔◌, ◌∷◌, [], None, IsErrOf};
-ghost use Rattle.mt_script.specs.Script.{RunGives, after_run, item_made};
+ghost use Rattle.std.specs.Prelude.{◌≡◌, ◌≢◌, ◌↔◌, ◌∷◌, [], None, IfOk, IsErrOf};
+ghost use Rattle.mt_script.specs.Script.{RunGives, scripted_in, count_of, kept_with_all, after_run, item_made};
 ghost use Rattle.mt_script.specs.Running.{LineGives, LinesGive};
 
 use crate::fault::ScriptFault;
@@ -70,6 +70,32 @@ fn make_lines<A: Allocator + Clone>(
     Ok(count)
 }
 
+/// Makes the changes of a script in order in a draft, and answers the draft with what they made, and how many they are: as `run` does in
+/// an editor, with no copy of the draft and no session. Titles and what the lines made are kept in memory of `alloc`.
+///
+/// Refused as `Failed` (20) where the draft has failed; then at the first line at fault, counted from 1, as `BadLine` (41) where it
+/// has none of the forms, and as `Refused` (42) where the draft refuses its change for another cause than memory, with that
+/// cause; and as `Memory` (0) where there is none. After every refusal the draft is gone. The draft that is answered has not failed.
+pub fn run_draft<A: Allocator + Clone>(
+    alloc: A,
+    draft: Draft<A>,
+    text: &[u8],
+) -> Result<(Draft<A>, usize), ScriptFault>
+    ensures gives { RunGives draft text.now (count_of result) }
+    ensures holds { IfOk result (λ made. made.0 ≡ kept_with_all draft (scripted_in draft text.now)) }
+    ensures whole { IfOk result (λ made. made.0.log ≢ None) }
+    ensures failed { IsErrOf result ScriptFault.Failed ↔ (draft.log ≡ None) }
+{
+    if draft.log().is_none() {
+        return Err(ScriptFault::Failed);
+    }
+    let mut made = draft;
+    match make_lines(alloc, &mut made, text) {
+        Ok(count) => Ok((made, count)),
+        Err(fault) => Err(fault),
+    }
+}
+
 /// Makes the changes of a script in order, and answers how many. Titles and what the lines made are kept in memory of `alloc`.
 ///
 /// Refused as `Failed` (20) where the editor has failed; then at the first line at fault, counted from 1, as `BadLine` (41) where it
@@ -84,13 +110,13 @@ pub fn run<A: Allocator + Clone>(
     ensures holds { editor.new ≡ after_run editor.old text.now result }
     ensures failed { IsErrOf result ScriptFault.Failed ↔ (editor.old.log ≡ None) }
 {
-    let mut draft = match editor.draft() {
+    let draft = match editor.draft() {
         Ok(draft) => draft,
         Err(EditorFault::Failed) => return Err(ScriptFault::Failed),
         Err(_) => return Err(ScriptFault::Memory),
     };
-    match make_lines(alloc, &mut draft, text) {
-        Ok(count) => match Editor::of_draft(draft) {
+    match run_draft(alloc, draft, text) {
+        Ok((made, count)) => match Editor::of_draft(made) {
             Ok(made) => {
                 *editor = made;
                 Ok(count)
