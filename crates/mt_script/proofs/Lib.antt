@@ -5,5 +5,5 @@ mod Asked
 mod Stamps
 mod TextLines
 mod Runs
-mod InkedWords
+mod PrintedWords
 mod ReadBack

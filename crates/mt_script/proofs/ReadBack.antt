@@ -28,7 +28,7 @@ use Rattle.mt_script.proofs.Cuts.{cut_there}
 use Rattle.mt_script.proofs.Numbers.{spelled}
 use Rattle.mt_script.proofs.Options.{failed, nothing}
 use Rattle.mt_script.proofs.Stamps.{stamp_spelled, stamp_read}
-use Rattle.mt_script.proofs.InkedWords.{IsWord, IsInLine, no_space, word_rest, decimal_word, stamp_word_of, digest_is_text, digest_word, word_in_line, in_line_append, space_then, title_in_line, tested}
+use Rattle.mt_script.proofs.PrintedWords.{IsWord, IsInLine, no_space, word_rest, decimal_word, stamp_word_of, digest_is_text, digest_word, word_in_line, in_line_append, space_then, title_in_line, tested}
 
 -- ---- what each word says
 
