@@ -52,8 +52,11 @@ pub(crate) fn put_lent<A: Allocator + Clone, W: Write, H: Holder<A>>(
     ensures name { H.named holder.new ≡ H.named holder.old }
     ensures stays_failed { output.old.failed ≡ true → output.new ≡ output.old }
 {
-    match holder.lent() {
-        Ok(log) => put_log(log, output),
+    match holder.settle() {
+        Ok(()) => match holder.whole_log() {
+            Some(log) => put_log(log, output),
+            None => Err(CliFault::Memory),
+        },
         Err(_) => Err(CliFault::Memory),
     }
 }

@@ -13,7 +13,7 @@ returns-in-Ok-run_draft-clause-err g c =
     edit_not_made g.W.Write.contents g.T.Write.contents c.args.name c.args.log c.args.script.now c.args.output.now c.put_edited.new.output c.args.told.now c.put_edited.new.told c.in-Ok-run_draft.count c.in-Ok-run_draft.made.log c.put_edited.result
     (ran c.args.name c.args.log c.args.script.now c.in-Ok-run_draft.count c.in-Ok.draft c.in-Ok-run_draft.made c.in-Ok.ensures.ok c.in-Ok-run_draft.ensures.gives c.in-Ok-run_draft.ensures.holds) c.put_edited.ensures.err
 
-pub returns-in-Ok-clause-err : goal.returns-in-Ok-clause-err
-returns-in-Ok-clause-err g c =
+pub returns-in-Err-run_draft-clause-err : goal.returns-in-Err-run_draft-clause-err
+returns-in-Err-run_draft-clause-err g c =
     subst (EditNotMade g.W.Write.contents g.T.Write.contents c.args.name c.args.log c.args.script.now c.args.output.now c.args.output.now c.args.told.now c.args.told.now) (sym c.refused_script.ensures)
     (script_refused g.W.Write.contents g.T.Write.contents c.args.name c.args.log c.args.script.now c.args.output.now c.args.told.now c.in-Ok.draft c.in-Err-run_draft.fault c.in-Ok.ensures.ok c.in-Err-run_draft.ensures.gives)
