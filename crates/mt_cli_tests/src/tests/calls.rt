@@ -5,7 +5,7 @@ use super::texts::{
 };
 use mt_cli::{
     CliFault, Wanted, bounce_logs, check_log, edit_log, find_items, have_log, lack_log, list_log,
-    list_logs, list_sources, merge_logs, pull_logs, read_editor, swap_log, take_log, view_log,
+    list_logs, list_sources, merge_logs, pull_logs, read_growing, swap_log, take_log, view_log,
     view_logs, write_info,
 };
 use mt_cuewrite::Head;
@@ -13,9 +13,7 @@ use mt_op::Digest;
 use mt_opcodec::Latch;
 use mt_preflight::Listing;
 use mt_render::Format;
-use mt_replica::Editor;
-use mt_stamp::Replica;
-use mt_sync::Side;
+use mt_sync::{GrowingLog, Side};
 use mt_testkit::{A, RECORDING};
 use std::alloc::{Allocator, Global};
 use std::io::{Read, Write};
@@ -247,11 +245,11 @@ fn pull<M: Allocator + Clone, R: Read + Drop, W: Write>(
     beside(answer, other, PULLED)
 }
 
-// Lets an editor meet one who has nothing, and gives the answer, where it has said what it has and sent what that one lacks, or a front of that where it is refused.
+// Lets a log meet an editor who has nothing, and gives the answer, where it has said what it has and sent what that one lacks, or a front of that where it is refused.
 fn meet<M: Allocator + Clone, R: Read + Drop, W: Write>(
     memory: M,
     alloc: Global,
-    editor: &mut Editor<M>,
+    growing: &mut GrowingLog<M>,
     reader: R,
     output: &mut Latch<W>,
 ) -> Option<Result<(), CliFault>> {
@@ -259,7 +257,7 @@ fn meet<M: Allocator + Clone, R: Read + Drop, W: Write>(
     let answer = swap_log(
         memory,
         alloc,
-        editor,
+        growing,
         Side::Caller,
         &mut reader,
         &mut writer,
@@ -279,8 +277,8 @@ fn swap<M: Allocator + Copy, R: Read + Drop, W: Write>(
     (log, reader): (R, R),
     output: &mut Latch<W>,
 ) -> Option<Result<(), CliFault>> {
-    match read_editor(memory, Replica(0), &mut Latch::new(log)) {
-        Ok(mut editor) => meet(memory, alloc, &mut editor, reader, output),
+    match read_growing(memory, &mut Latch::new(log)) {
+        Ok(mut growing) => meet(memory, alloc, &mut growing, reader, output),
         Err(fault) => Some(Err(fault)),
     }
 }

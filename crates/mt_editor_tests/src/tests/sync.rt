@@ -1,5 +1,6 @@
 //! What no clause says: bytes that were written out by hand, and that every call succeeds where there is memory.
 mod devices;
+mod growing;
 mod growth;
 mod messages;
 mod sockets;
