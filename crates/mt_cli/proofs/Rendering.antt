@@ -26,7 +26,7 @@ use Rattle.mt_cli.specs.declared.fault.CliFault.TheVariants as cli
 use Rattle.mt_cli.specs.Faults.{file_fault}
 use Rattle.mt_cli.specs.Reading.{AreRead}
 use Rattle.mt_cli.specs.Headline.{HearAlike, RenderAlike}
-use Rattle.mt_cli.specs.LogAndFiles.{FilesLent}
+use Rattle.mt_cli.specs.LogAndFiles.{FilesLent, lent_files, lent_logs}
 use Rattle.mt_cli.specs.Sources.{GaveKept}
 use Rattle.mt_cli.specs.Bouncing.{CanBounce, IsMixRefusal, programme, session_of_logs, session_file, SessionFails, FilesBounced, FilesNotBounced, BounceFails, HasBounced}
 use Rattle.mt_cli.proofs.Headline.{render_alike}
@@ -64,7 +64,7 @@ module _ {R W : Type 0} (contents : W → Option (List ℕ)) (remaining : R → 
 
   -- memory that runs out once the logs are read
   pub no_memory : (logs_old logs_new sources : List (Latched R)) (output : Latched W) (all : LogMap) → IsUnionOf remaining logs_old all → AreRead remaining logs_new
-      → BounceFails contents remaining logs_old logs_new sources sources layout head output output cli.Memory
+      → BounceFails contents remaining layout head (lent_logs logs_old (lent_files sources output)) (lent_logs logs_new (lent_files sources output)) cli.Memory
   no_memory logs_old logs_new sources output all logs read =
       inr (logs.0, (logs.1.0, (read, (logs.1.1, inl (HasSourceCause-memory remaining (length logs_old) 0 sources, refl)))))
 
@@ -73,13 +73,13 @@ module _ {R W : Type 0} (contents : W → Option (List ℕ)) (remaining : R → 
     session_is = is ∙ ap (λ (m : LogMap). session_of (operations m)) logs.1.2
 
     pub rendered : (result : Result (Unit {0}) CliFault) → OnOk result (FilesBounced contents remaining layout head session before after)
-        → OnOk result (HasBounced contents remaining logs_old logs_new before.files after.files layout head before.output after.output)
+        → OnOk result (HasBounced contents remaining layout head (lent_logs logs_old before) (lent_logs logs_new after))
     rendered (Ok unit) (texts, done) =
         (logs.0, (texts, (logs.1.0, (logs.1.1, (done.0, (subst (λ (s : Content). CanBounce s texts layout head) session_is done.1.0, subst (λ (s : Content). Appends (contents before.output.inner) (contents after.output.inner) (session_file s texts layout head)) session_is done.1.1))))))
     rendered (Err fault) done = done
 
     pub not_rendered : (result : Result (Unit {0}) CliFault) → AreRead remaining logs_new → IfErr result (FilesNotBounced contents remaining layout head session (length logs_old) before after)
-        → IfErr result (BounceFails contents remaining logs_old logs_new before.files after.files layout head before.output after.output)
+        → IfErr result (BounceFails contents remaining layout head (lent_logs logs_old before) (lent_logs logs_new after))
     not_rendered (Ok unit) read fails = fails
     not_rendered (Err fault) read (inl cause) = inr (logs.0, (logs.1.0, (read, (logs.1.1, inl cause))))
     not_rendered (Err fault) read (inr (texts, fails)) =

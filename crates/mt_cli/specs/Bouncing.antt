@@ -18,7 +18,7 @@ use Rattle.mt_cli.specs.declared.fault.CliFault.{CliFault}
 use Rattle.mt_cli.specs.declared.fault.CliFault.TheVariants.{Memory, Mix, Write}
 use Rattle.mt_cli.specs.Reading.{GaveLogs, AreRead}
 use Rattle.mt_cli.specs.Joining.{UnionFails}
-use Rattle.mt_cli.specs.LogAndFiles.{FilesLent}
+use Rattle.mt_cli.specs.LogAndFiles.{FilesLent, LogsLent}
 use Rattle.mt_render.specs.Sources.{sources_of}
 use Rattle.mt_cli.specs.Sources.{GaveWaves, HasSourceCause}
 
@@ -68,25 +68,30 @@ module _ {W : Type 0} (contents : W → Option (List ℕ)) where
         ⊎ ((texts : List (List ℕ))
         × (GaveWaves remaining before.files texts × (AreRead remaining after.files × SessionFails session texts layout head before.output after.output fault)))
 
-  module _ {R : Type 0} (remaining : R → Option (List ℕ)) (logs_old logs_new sources_old sources_new : List (Latched R)) (layout : Layout) (head : HeadText) (old new : Latched W) where
+  module _ {R : Type 0} (remaining : R → Option (List ℕ)) (layout : Layout) (head : HeadText) (before after : LogsLent R W) where
     -- the logs are not read, or do not go together: no recording was asked for, and the output is as it was
     abbrev pub LogsFail : CliFault → Type 0
-    LogsFail fault = UnionFails remaining logs_old logs_new fault × (sources_new ≡ sources_old) × (new ≡ old)
+    LogsFail fault = UnionFails remaining before.logs after.logs fault × (after.others.files ≡ before.others.files) × (after.others.output ≡ before.others.output)
 
     -- they are, and a recording is not read: the output is as it was
     abbrev pub SourcesFail : CliFault → Type 0
-    SourcesFail fault = HasSourceCause remaining (length logs_old) 0 sources_old sources_new fault × (new ≡ old)
+    SourcesFail fault =
+        HasSourceCause remaining (length before.logs) 0 before.others.files after.others.files fault × (after.others.output ≡ before.others.output)
 
     -- all is read, and the file is not written
     abbrev pub FileFails : List LogMap → CliFault → Type 0
-    FileFails logs fault = (texts : List (List ℕ)) × (GaveWaves remaining sources_old texts × (AreRead remaining sources_new × SessionFails (session_of_logs logs) texts layout head old new fault))
+    FileFails logs fault =
+        (texts : List (List ℕ)) × (GaveWaves remaining before.others.files texts
+        × (AreRead remaining after.others.files × SessionFails (session_of_logs logs) texts layout head before.others.output after.others.output fault))
 
     abbrev pub BounceFails : CliFault → Type 0
     BounceFails fault =
-        LogsFail fault ⊎ ((logs : List LogMap) × (GaveLogs remaining logs_old logs × (AreRead remaining logs_new × (AllAgree logs × (SourcesFail fault ⊎ FileFails logs fault)))))
+        LogsFail fault
+        ⊎ ((logs : List LogMap) × (GaveLogs remaining before.logs logs × (AreRead remaining after.logs × (AllAgree logs × (SourcesFail fault ⊎ FileFails logs fault)))))
 
     -- The file of the session of the union of the logs' sets was appended, and nothing else.
     abbrev pub HasBounced : Type 0
     HasBounced =
-        (logs : List LogMap) × ((texts : List (List ℕ)) × (GaveLogs remaining logs_old logs × (AllAgree logs × (GaveWaves remaining sources_old texts
-        × (CanBounce (session_of_logs logs) texts layout head × Appends (contents old.inner) (contents new.inner) (session_file (session_of_logs logs) texts layout head))))))
+        (logs : List LogMap) × ((texts : List (List ℕ)) × (GaveLogs remaining before.logs logs × (AllAgree logs × (GaveWaves remaining before.others.files texts
+        × (CanBounce (session_of_logs logs) texts layout head
+        × Appends (contents before.others.output.inner) (contents after.others.output.inner) (session_file (session_of_logs logs) texts layout head))))))

@@ -25,6 +25,14 @@ pub record LogLent (R W : Type 0) : Type 0 where
 abbrev pub lent_log_and_files : {R W : Type 0} → Latched R → List (Latched R) → Latched W → LogLent R W
 lent_log_and_files log files output = record { log = log; others = lent_files files output }
 
+-- the inputs of several logs before them
+pub record LogsLent (R W : Type 0) : Type 0 where
+  pub logs : List (Latched R)
+  pub others : FilesLent R W
+
+abbrev pub lent_logs : {R W : Type 0} → List (Latched R) → FilesLent R W → LogsLent R W
+lent_logs logs others = record { logs = logs; others = others }
+
 -- ---- what it answers
 
 -- why a text was not written: memory, with the output as it was, or the output has failed, and holds a prefix of it

@@ -9,7 +9,7 @@ use Rattle.mt_sync.specs.declared.fault.SyncFault.{SyncFault}
 use Rattle.mt_sync.specs.declared.fault.SyncFault.TheVariants as sync
 use Rattle.mt_sync.specs.Conversation.{takes, told}
 use Rattle.mt_sync.specs.Feeding.{end_at}
-use Rattle.mt_sync.specs.Conversing.{HasBytes, Lacks, TakesAll, ConversesAs, AreSound, Blames}
+use Rattle.mt_sync.specs.Conversing.{HasBytes, Lacks, TakesAll, conversant, ConversesAs, AreSound, Blames}
 use Rattle.mt_sync.specs.Leaving.{StaysOrFails}
 use Rattle.mt_cli.specs.declared.fault.CliFault.{CliFault}
 use Rattle.mt_cli.specs.declared.fault.CliFault.TheVariants.{Memory, Write, Message, Sync}
@@ -56,8 +56,8 @@ module _ {R W O : Type 0} (remaining : R → Option (List ℕ)) (written : W →
   -- the conversation has read, written and left what `converse` says of this answer, this set among it
   abbrev pub HasConversedTo : Option LogMap → Result (Unit {0}) SyncFault → Type 0
   HasConversedTo set answer =
-      ConversesAs side before.set (remaining before.reader.inner) (remaining after.reader.inner)
-      (written before.writer.inner) (written after.writer.inner) answer set
+      ConversesAs side (conversant before.set (remaining before.reader.inner) (written before.writer.inner))
+      (conversant set (remaining after.reader.inner) (written after.writer.inner)) answer
 
   abbrev pub HasConversed : Result (Unit {0}) SyncFault → Type 0
   HasConversed answer = HasConversedTo after.set answer

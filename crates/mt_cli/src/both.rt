@@ -25,7 +25,8 @@ pub(crate) fn read_both<A: Allocator + Clone, R: Read>(
     log: &mut Latch<R>,
     other: &mut Latch<R>,
 ) -> Result<Both<A>, CliFault>
-    ensures ok { IfOk result (λ both. Gave R.remaining log.old (text_of both.log) × Gave R.remaining other.old both.bytes.items) }
+    ensures ok { IfOk result (λ both. Gave R.remaining log.old (text_of both.log)
+        × Gave R.remaining other.old both.bytes.items) }
     ensures read_log { OnOk result (IsRead R.remaining log.new) }
     ensures read_other { OnOk result (IsRead R.remaining other.new) }
     ensures err { IfErr result (BothCause R.remaining log.old log.new other.old other.new) }

@@ -29,8 +29,10 @@ fn check_session<A: Allocator + Clone, W: Write>(
     format: Format,
     output: &mut Latch<W>,
 ) -> Result<(), CliFault>
-    ensures ok { OnOk result (SessionChecked W.contents session.now (operations log.now) format head.now kept.now output.old output.new) }
-    ensures err { IfErr result (SessionNotChecked W.contents session.now (operations log.now) format head.now kept.now output.old output.new) }
+    ensures ok { OnOk result (SessionChecked W.contents session.now (operations log.now) format head.now kept.now
+        output.old output.new) }
+    ensures err { IfErr result (SessionNotChecked W.contents session.now (operations log.now) format head.now kept.now
+        output.old output.new) }
     ensures sound { OnOk result (output.new.failed ≡ false) }
     ensures stays_failed { output.old.failed ≡ true → output.new ≡ output.old }
 {

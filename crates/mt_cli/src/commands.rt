@@ -8,7 +8,7 @@ use crate::part::{Naming, Part};
 use crate::swap::swap_log;
 use clap::ArgMatches;
 use mt_opcodec::Latch;
-use mt_sync::{GrowingLog, Side};
+use mt_sync::{GrowingLog, Holder, Side};
 use std::fs::File;
 use std::io::{Read, Write};
 use std::net::OpenStream;
@@ -90,6 +90,10 @@ fn swap<F: Files<File = File> + AllocGlobal, S: Read + Write + OpenStream + Drop
     let mut reader = Latch::new(stream);
     let mut writer = Latch::new(other);
     let mut part = Part::later(alloc, rt, out, naming)?;
+    // for the proof: that the log lies there as one, as it was read
+    let Ok(()) = growing.settle() else {
+        return Err(CliFault::Memory);
+    };
     let swapped = swap_log(
         alloc,
         alloc,

@@ -30,7 +30,8 @@ fn refused_script(fault: ScriptFault) -> CliFault
 // Tells how many changes were made.
 fn put_count<T: Write>(count: usize, told: &mut Latch<T>) -> Result<(), CliFault>
     ensures ok { OnOk result (HasWritten T.contents (ops_line count) told.old told.new) }
-    ensures err { IfErr result (λ fault. (fault ≡ CliFault.Print) × HasFailed T.contents (ops_line count) told.old told.new) }
+    ensures err { IfErr result (λ fault. (fault ≡ CliFault.Print) × HasFailed T.contents (ops_line count) told.old
+        told.new) }
     ensures stays_failed { told.old.failed ≡ true → told.new ≡ told.old }
 {
     match put_number_line(b"ops ", count as u64, told) {
@@ -46,8 +47,10 @@ fn put_edited<A: Allocator + Clone, W: Write, T: Write>(
     output: &mut Latch<W>,
     told: &mut Latch<T>,
 ) -> Result<(), CliFault>
-    ensures ok { OnOk result (EditedWritten W.contents draft.now.log T.contents count output.old output.new told.old told.new) }
-    ensures err { IfErr result (EditedFails W.contents draft.now.log T.contents count output.old output.new told.old told.new) }
+    ensures ok { OnOk result (EditedWritten W.contents draft.now.log T.contents count output.old output.new told.old
+        told.new) }
+    ensures err { IfErr result (EditedFails W.contents draft.now.log T.contents count output.old output.new told.old
+        told.new) }
     ensures output_stays_failed { output.old.failed ≡ true → output.new ≡ output.old }
     ensures told_stays_failed { told.old.failed ≡ true → told.new ≡ told.old }
 {
@@ -66,8 +69,10 @@ fn put_edit<A: Allocator + Clone, W: Write, T: Write>(
     output: &mut Latch<W>,
     told: &mut Latch<T>,
 ) -> Result<(), CliFault>
-    ensures ok { OnOk result (MadeEdit W.contents T.contents name log script.now output.old output.new told.old told.new) }
-    ensures err { IfErr result (EditNotMade W.contents T.contents name log script.now output.old output.new told.old told.new) }
+    ensures ok { OnOk result (MadeEdit W.contents T.contents name log script.now output.old output.new told.old
+        told.new) }
+    ensures err { IfErr result (EditNotMade W.contents T.contents name log script.now output.old output.new told.old
+        told.new) }
     ensures output_stays_failed { output.old.failed ≡ true → output.new ≡ output.old }
     ensures told_stays_failed { told.old.failed ≡ true → told.new ≡ told.old }
 {

@@ -137,7 +137,8 @@ fn put_cue<W: Write>(
     frames: Option<u32>,
     label: Option<&[u8]>,
 )
-    ensures { Puts W.contents output.old output.new (cue_line (record { name = name; at = at; length = frames; label = option_copied label.entry })) }
+    ensures { Puts W.contents output.old output.new
+        (cue_line (record { name = name; at = at; length = frames; label = option_copied label.entry })) }
 {
     output.put(b"cue ");
     output.put_decimal(u64::from(name));
@@ -169,7 +170,8 @@ fn first_labels<'a, A: Allocator + Clone>(
     alloc: A,
     wave: &Wave<'a>,
 ) -> Result<BTreeMap<u32, &'a [u8], A>, AllocError>
-    ensures ok { IfOk result (λ labels. (name : ℕ) → option_copied (get nat_cmp labels name) ≡ first_for name (labels_of wave.now)) }
+    ensures ok { IfOk result (λ labels. (name : ℕ) → option_copied (get nat_cmp labels name)
+        ≡ first_for name (labels_of wave.now)) }
 {
     let mut labels = BTreeMap::new(alloc);
     for label in wave.labels() {
@@ -219,7 +221,8 @@ pub fn write_info<A: Allocator + Clone, W: Write>(
     bytes: &[u8],
     output: &mut Latch<W>,
 ) -> Result<(), CliFault>
-    ensures ok { OnOk result (IsWave bytes.now × Appends (W.contents output.old.inner) (W.contents output.new.inner) (info_text bytes.now)) }
+    ensures ok { OnOk result (IsWave bytes.now × Appends (W.contents output.old.inner) (W.contents output.new.inner)
+        (info_text bytes.now)) }
     ensures err { IfErr result (InfoFails W.contents bytes.now output.old output.new) }
     ensures sound { OnOk result (output.new.failed ≡ false) }
     ensures stays_failed { output.old.failed ≡ true → output.new ≡ output.old }
@@ -248,8 +251,10 @@ fn write_lines<A: Allocator, W: Write>(
     requires lengths { (name : ℕ) → get nat_cmp lengths.now name ≡ first_for name (lengths_of wave.now) }
     requires labels { (name : ℕ) → option_copied (get nat_cmp labels.now name) ≡ first_for name (labels_of wave.now) }
     requires digest { digest.now ≡ encode_lower (sha256 wave.now) }
-    ensures ok { OnOk result (Appends (W.contents output.old.inner) (W.contents output.new.inner) (info_text wave.now)) }
-    ensures err { IfErr result (λ fault. (fault ≡ CliFault.Write) × (output.new.failed ≡ true) × AppendsPrefix (W.contents output.old.inner) (W.contents output.new.inner) (info_text wave.now)) }
+    ensures ok { OnOk result (Appends (W.contents output.old.inner) (W.contents output.new.inner)
+        (info_text wave.now)) }
+    ensures err { IfErr result (λ fault. (fault ≡ CliFault.Write) × (output.new.failed ≡ true)
+        × AppendsPrefix (W.contents output.old.inner) (W.contents output.new.inner) (info_text wave.now)) }
     ensures sound { OnOk result (output.new.failed ≡ false) }
     ensures stays_failed { output.old.failed ≡ true → output.new ≡ output.old }
 {

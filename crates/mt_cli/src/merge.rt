@@ -64,7 +64,9 @@ pub fn merge_logs<A: Allocator + Clone, R: Read, W: Write>(
     output: &mut Latch<W>,
 ) -> Result<(), CliFault>
     ensures read { OnOk result (AreRead R.remaining inputs.new) }
-    ensures ok { OnOk result ((logs : List LogMap) × (GaveLogs R.remaining inputs.old logs × AllAgree logs × Appends (W.contents output.old.inner) (W.contents output.new.inner) (text_of (union_all logs)))) }
+    ensures ok { OnOk result ((logs : List LogMap)
+        × (GaveLogs R.remaining inputs.old logs × AllAgree logs × Appends (W.contents output.old.inner)
+        (W.contents output.new.inner) (text_of (union_all logs)))) }
     ensures err { IfErr result (InputsFail text_of W.contents R.remaining inputs.old inputs.new output.old output.new) }
     ensures sound { OnOk result (output.new.failed ≡ false) }
     ensures stays_failed { output.old.failed ≡ true → output.new ≡ output.old }

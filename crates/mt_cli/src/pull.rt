@@ -135,8 +135,10 @@ fn put_shares<T: Write>(
     count: usize,
     told: &mut Latch<T>,
 ) -> Result<(), CliFault>
-    ensures ok { OnOk result (HasWritten T.contents (told_text (map (λ n. n.now) names.now) shares.now count) told.old told.new) }
-    ensures err { IfErr result (λ fault. (fault ≡ CliFault.Print) × HasFailed T.contents (told_text (map (λ n. n.now) names.now) shares.now count) told.old told.new) }
+    ensures ok { OnOk result (HasWritten T.contents (told_text (map (λ n. n.now) names.now) shares.now count) told.old
+        told.new) }
+    ensures err { IfErr result (λ fault. (fault ≡ CliFault.Print)
+        × HasFailed T.contents (told_text (map (λ n. n.now) names.now) shares.now count) told.old told.new) }
     ensures stays_failed { told.old.failed ≡ true → told.new ≡ told.old }
 {
     let mut lines = BufferedLatch::new(told);
@@ -154,8 +156,10 @@ fn put_pulled<A: Allocator + Clone, W: Write, T: Write>(
     output: &mut Latch<W>,
     told: &mut Latch<T>,
 ) -> Result<(), CliFault>
-    ensures ok { OnOk result (LogTold W.contents T.contents (map (λ n. n.now) names.now) (outputs output.old told.old) (outputs output.new told.new) pulled.now.log pulled.now.shares.items) }
-    ensures err { IfErr result (LogNotTold W.contents T.contents (map (λ n. n.now) names.now) (outputs output.old told.old) (outputs output.new told.new) pulled.now.log pulled.now.shares.items) }
+    ensures ok { OnOk result (LogTold W.contents T.contents (map (λ n. n.now) names.now) (outputs output.old told.old)
+        (outputs output.new told.new) pulled.now.log pulled.now.shares.items) }
+    ensures err { IfErr result (LogNotTold W.contents T.contents (map (λ n. n.now) names.now)
+        (outputs output.old told.old) (outputs output.new told.new) pulled.now.log pulled.now.shares.items) }
     ensures output_stays_failed { output.old.failed ≡ true → output.new ≡ output.old }
     ensures told_stays_failed { told.old.failed ≡ true → told.new ≡ told.old }
 {
@@ -173,8 +177,10 @@ fn pull_all<A: Allocator + Clone, W: Write, T: Write>(
     output: &mut Latch<W>,
     told: &mut Latch<T>,
 ) -> Result<(), CliFault>
-    ensures ok { OnOk result (LogsPulled W.contents T.contents (map (λ n. n.now) names.now) (outputs output.old told.old) (outputs output.new told.new) logs.items) }
-    ensures err { IfErr result (LogsNotPulled W.contents T.contents (map (λ n. n.now) names.now) (outputs output.old told.old) (outputs output.new told.new) logs.items) }
+    ensures ok { OnOk result (LogsPulled W.contents T.contents (map (λ n. n.now) names.now)
+        (outputs output.old told.old) (outputs output.new told.new) logs.items) }
+    ensures err { IfErr result (LogsNotPulled W.contents T.contents (map (λ n. n.now) names.now)
+        (outputs output.old told.old) (outputs output.new told.new) logs.items) }
     ensures output_stays_failed { output.old.failed ≡ true → output.new ≡ output.old }
     ensures told_stays_failed { told.old.failed ≡ true → told.new ≡ told.old }
 {

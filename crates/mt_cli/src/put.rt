@@ -16,7 +16,8 @@ use std::io::Write;
 /// Writes bytes.
 pub(crate) fn put_bytes<W: Write>(bytes: &[u8], output: &mut Latch<W>) -> Result<(), CliFault>
     ensures ok { OnOk result (HasWritten W.contents bytes.now output.old output.new) }
-    ensures err { IfErr result (λ fault. (fault ≡ CliFault.Write) × HasFailed W.contents bytes.now output.old output.new) }
+    ensures err { IfErr result (λ fault. (fault ≡ CliFault.Write)
+        × HasFailed W.contents bytes.now output.old output.new) }
     ensures stays_failed { output.old.failed ≡ true → output.new ≡ output.old }
 {
     match output.put(bytes) {

@@ -5,7 +5,7 @@ ghost use Rattle.std.specs.Io.KnownBytes.{Appends};
 ghost use Rattle.mt_render.specs.declared.fault.MixFault.TheVariants as mix;
 ghost use Rattle.mt_cli.specs.Faults.{file_fault};
 ghost use Rattle.mt_cli.specs.Bouncing.{CanBounce, session_file, SessionFails, FilesBounced, FilesNotBounced, BounceFails, HasBounced};
-ghost use Rattle.mt_cli.specs.LogAndFiles.{lent_files};
+ghost use Rattle.mt_cli.specs.LogAndFiles.{lent_files, lent_logs};
 ghost use Rattle.mt_cli.specs.Reading.{AreRead};
 
 use crate::fault::CliFault;
@@ -51,7 +51,8 @@ fn put_session<A: Allocator + Clone, W: Write>(
     output: &mut Latch<W>,
 ) -> Result<(), CliFault>
     ensures can { OnOk result (CanBounce session.now kept.now format head.now) }
-    ensures ok { OnOk result (Appends (W.contents output.old.inner) (W.contents output.new.inner) (session_file session.now kept.now format head.now)) }
+    ensures ok { OnOk result (Appends (W.contents output.old.inner) (W.contents output.new.inner)
+        (session_file session.now kept.now format head.now)) }
     ensures err { IfErr result (SessionFails W.contents session.now kept.now format head.now output.old output.new) }
     ensures sound { OnOk result (output.new.failed ≡ false) }
     ensures stays_failed { output.old.failed ≡ true → output.new ≡ output.old }
@@ -113,10 +114,12 @@ pub fn bounce_logs<A: Allocator + Clone, R: Read, W: Write>(
     format: Format,
     output: &mut Latch<W>,
 ) -> Result<(), CliFault>
-    ensures ok { OnOk result (HasBounced W.contents R.remaining logs.old logs.new sources.old sources.new format head.now output.old output.new) }
+    ensures ok { OnOk result (HasBounced W.contents R.remaining format head.now
+        (lent_logs logs.old (lent_files sources.old output.old)) (lent_logs logs.new (lent_files sources.new output.new))) }
     ensures read_logs { OnOk result (AreRead R.remaining logs.new) }
     ensures read_sources { OnOk result (AreRead R.remaining sources.new) }
-    ensures err { IfErr result (BounceFails W.contents R.remaining logs.old logs.new sources.old sources.new format head.now output.old output.new) }
+    ensures err { IfErr result (BounceFails W.contents R.remaining format head.now
+        (lent_logs logs.old (lent_files sources.old output.old)) (lent_logs logs.new (lent_files sources.new output.new))) }
     ensures sound { OnOk result (output.new.failed ≡ false) }
     ensures stays_failed { output.old.failed ≡ true → output.new ≡ output.old }
 {

@@ -90,8 +90,10 @@ fn put_listing<A: Allocator + Clone, W: Write>(
     files: &[Given<'_>],
     output: &mut Latch<W>,
 ) -> Result<(), CliFault>
-    ensures ok { OnOk result (Appends (W.contents output.old.inner) (W.contents output.new.inner) (listing_text which (session_of (operations log.now)).tracks files.now)) }
-    ensures err { IfErr result (TextFails W.contents (listing_text which (session_of (operations log.now)).tracks files.now) output.old output.new) }
+    ensures ok { OnOk result (Appends (W.contents output.old.inner) (W.contents output.new.inner)
+        (listing_text which (session_of (operations log.now)).tracks files.now)) }
+    ensures err { IfErr result (TextFails W.contents
+        (listing_text which (session_of (operations log.now)).tracks files.now) output.old output.new) }
     ensures sound { OnOk result (output.new.failed ≡ false) }
     ensures stays_failed { output.old.failed ≡ true → output.new ≡ output.old }
 {
@@ -114,8 +116,10 @@ fn put_named<A: Allocator + Clone, W: Write>(
     recordings: &[Result<Recording, WaveFault>],
     output: &mut Latch<W>,
 ) -> Result<(), CliFault>
-    ensures ok { OnOk result (Appends (W.contents output.old.inner) (W.contents output.new.inner) (listing which log.now (map (λ n. n.now) names.now) recordings.now)) }
-    ensures err { IfErr result (TextFails W.contents (listing which log.now (map (λ n. n.now) names.now) recordings.now) output.old output.new) }
+    ensures ok { OnOk result (Appends (W.contents output.old.inner) (W.contents output.new.inner)
+        (listing which log.now (map (λ n. n.now) names.now) recordings.now)) }
+    ensures err { IfErr result (TextFails W.contents
+        (listing which log.now (map (λ n. n.now) names.now) recordings.now) output.old output.new) }
     ensures sound { OnOk result (output.new.failed ≡ false) }
     ensures stays_failed { output.old.failed ≡ true → output.new ≡ output.old }
 {
@@ -164,11 +168,13 @@ pub fn list_sources<A: Allocator + Clone, R: Read, W: Write>(
     files: &mut [Latch<R>],
     output: &mut Latch<W>,
 ) -> Result<(), CliFault>
-    ensures ok { OnOk result (LogDone R.remaining (FilesListed R.remaining W.contents which (map (λ n. n.now) names.now))
+    ensures ok { OnOk result (LogDone R.remaining (FilesListed R.remaining W.contents which
+        (map (λ n. n.now) names.now))
         (lent_log_and_files log.old files.old output.old) (lent_log_and_files log.new files.new output.new)) }
     ensures read_log { OnOk result (IsRead R.remaining log.new) }
     ensures read_files { OnOk result (AreRead R.remaining files.new) }
-    ensures err { IfErr result (LogNotDone R.remaining (FilesFail R.remaining W.contents which (map (λ n. n.now) names.now))
+    ensures err { IfErr result (LogNotDone R.remaining
+        (FilesFail R.remaining W.contents which (map (λ n. n.now) names.now))
         (lent_log_and_files log.old files.old output.old) (lent_log_and_files log.new files.new output.new)) }
     ensures sound { OnOk result (output.new.failed ≡ false) }
     ensures stays_failed { output.old.failed ≡ true → output.new ≡ output.old }

@@ -71,7 +71,8 @@ fn keep_one<A: Allocator + Clone>(
     kept: &mut Vec<HashedFile<A>, A>,
 ) -> Result<(), AllocError>
     requires hashed { digest.0 ≡ sha256 text.old.items }
-    ensures { OnOk result (kept.new.items ≡ (if plays audible.now.uses digest then kept.old.items ++ text.old.items ∷ [] else kept.old.items)) }
+    ensures { OnOk result (kept.new.items ≡ (if plays audible.now.uses digest then kept.old.items ++ text.old.items ∷
+        [] else kept.old.items)) }
 {
     if !audible.plays(&digest) {
         return Ok(());
@@ -107,7 +108,8 @@ fn keep_group<A: Allocator + Clone>(
     group: &mut Vec<Vec<u8, A>, A>,
     kept: &mut Vec<HashedFile<A>, A>,
 ) -> Result<(), AllocError>
-    ensures holds { OnOk result (HoldWanted (plays audible.now.uses) kept.new.items (kept.old.items ++ bytes_in group.old.items)) }
+    ensures holds { OnOk result (HoldWanted (plays audible.now.uses) kept.new.items
+        (kept.old.items ++ bytes_in group.old.items)) }
     ensures empty { OnOk result (group.new.items ≡ []) }
 {
     let digests = digests_in(alloc.clone()?, group)?;
@@ -123,7 +125,8 @@ fn keep_whole<A: Allocator + Clone>(
     group: &mut Vec<Vec<u8, A>, A>,
     kept: &mut Vec<HashedFile<A>, A>,
 ) -> Result<(), AllocError>
-    ensures { OnOk result (HoldWanted (plays audible.now.uses) (kept.new.items ++ bytes_in group.new.items) (kept.old.items ++ bytes_in group.old.items)) }
+    ensures { OnOk result (HoldWanted (plays audible.now.uses) (kept.new.items ++ bytes_in group.new.items)
+        (kept.old.items ++ bytes_in group.old.items)) }
 {
     if group.len() < GROUP {
         return Ok(());

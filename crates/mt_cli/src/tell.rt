@@ -38,7 +38,9 @@ pub(crate) fn tell_logs<T: Telling, A: Allocator + Clone, R: Read, W: Write>(
     inputs: &mut [Latch<R>],
     output: &mut Latch<W>,
 ) -> Result<(), CliFault>
-    ensures ok { OnOk result ((logs : List LogMap) × (GaveLogs R.remaining inputs.old logs × AllAgree logs × Appends (W.contents output.old.inner) (W.contents output.new.inner) (T.told (union_all logs)))) }
+    ensures ok { OnOk result ((logs : List LogMap)
+        × (GaveLogs R.remaining inputs.old logs × AllAgree logs × Appends (W.contents output.old.inner)
+        (W.contents output.new.inner) (T.told (union_all logs)))) }
     ensures read { OnOk result (AreRead R.remaining inputs.new) }
     ensures err { IfErr result (InputsFail T.told W.contents R.remaining inputs.old inputs.new output.old output.new) }
     ensures sound { OnOk result (output.new.failed ≡ false) }
@@ -57,7 +59,8 @@ pub(crate) fn tell_log<T: Telling, A: Allocator + Clone, R: Read, W: Write>(
     input: &mut Latch<R>,
     output: &mut Latch<W>,
 ) -> Result<(), CliFault>
-    ensures ok { OnOk result ((log : LogMap) × (GaveLog R.remaining input.old log × Appends (W.contents output.old.inner) (W.contents output.new.inner) (T.told log))) }
+    ensures ok { OnOk result ((log : LogMap) × (GaveLog R.remaining input.old log
+        × Appends (W.contents output.old.inner) (W.contents output.new.inner) (T.told log))) }
     ensures read { OnOk result (IsRead R.remaining input.new) }
     ensures err { IfErr result (InputFails T.told W.contents R.remaining input.old input.new output.old output.new) }
     ensures sound { OnOk result (output.new.failed ≡ false) }

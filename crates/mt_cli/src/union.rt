@@ -35,7 +35,8 @@ pub(crate) fn union_of<A: Allocator + Clone, R: Read>(
     alloc: A,
     inputs: &mut [Latch<R>],
 ) -> Result<Log<A>, CliFault>
-    ensures ok { IfOk result (λ all. (logs : List LogMap) × (GaveLogs R.remaining inputs.old logs × AllAgree logs × (all ≡ union_all logs))) }
+    ensures ok { IfOk result (λ all. (logs : List LogMap)
+        × (GaveLogs R.remaining inputs.old logs × AllAgree logs × (all ≡ union_all logs))) }
     ensures read { OnOk result (AreRead R.remaining inputs.new) }
     ensures err { IfErr result (UnionFails R.remaining inputs.old inputs.new) }
 {

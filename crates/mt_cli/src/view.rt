@@ -52,9 +52,12 @@ pub fn view_logs<A: Allocator + Clone, R: Read, W: Write>(
     inputs: &mut [Latch<R>],
     output: &mut Latch<W>,
 ) -> Result<(), CliFault>
-    ensures ok { OnOk result ((logs : List LogMap) × (GaveLogs R.remaining inputs.old logs × AllAgree logs × Appends (W.contents output.old.inner) (W.contents output.new.inner) (view_text logs))) }
+    ensures ok { OnOk result ((logs : List LogMap)
+        × (GaveLogs R.remaining inputs.old logs × AllAgree logs × Appends (W.contents output.old.inner)
+        (W.contents output.new.inner) (view_text logs))) }
     ensures read { OnOk result (AreRead R.remaining inputs.new) }
-    ensures err { IfErr result (InputsFail log_view W.contents R.remaining inputs.old inputs.new output.old output.new) }
+    ensures err { IfErr result (InputsFail log_view W.contents R.remaining inputs.old inputs.new output.old
+        output.new) }
     ensures sound { OnOk result (output.new.failed ≡ false) }
     ensures stays_failed { output.old.failed ≡ true → output.new ≡ output.old }
 {
@@ -67,7 +70,8 @@ pub fn view_log<A: Allocator + Clone, R: Read, W: Write>(
     input: &mut Latch<R>,
     output: &mut Latch<W>,
 ) -> Result<(), CliFault>
-    ensures ok { OnOk result ((log : LogMap) × (GaveLog R.remaining input.old log × Appends (W.contents output.old.inner) (W.contents output.new.inner) (log_view log))) }
+    ensures ok { OnOk result ((log : LogMap) × (GaveLog R.remaining input.old log
+        × Appends (W.contents output.old.inner) (W.contents output.new.inner) (log_view log))) }
     ensures read { OnOk result (IsRead R.remaining input.new) }
     ensures err { IfErr result (InputFails log_view W.contents R.remaining input.old input.new output.old output.new) }
     ensures sound { OnOk result (output.new.failed ≡ false) }

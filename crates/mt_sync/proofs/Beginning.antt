@@ -14,7 +14,7 @@ use Rattle.mt_summary.specs.Summary.{summary_of}
 use Rattle.mt_summary.specs.Messages.{have_text}
 use Rattle.mt_sync.specs.Conversation.{can_say}
 use Rattle.mt_sync.specs.Feeding.{CallRefused}
-use Rattle.mt_sync.specs.Conversing.{Begins, NotBegun, ConversesAs}
+use Rattle.mt_sync.specs.Conversing.{Begins, NotBegun, conversant, ConversesAs}
 
 pub not_called : (set : LogMap) (f : TalkFault) (written : Option (List ℕ)) → CallRefused set f → NotBegun (Some set) written written (Err (fault.Talk f))
 not_called set Memory written h = refl
@@ -34,5 +34,5 @@ pub fails : (set : LogMap) (bytes text : List ℕ) (written written' : Option (L
     → NotBegun (Some set) written written' (Err fault.Write)
 fails set bytes text written written' are is put = (set, (refl, subst (AppendsPrefix written written') (is ∙ are) put))
 
-pub caller_refused : (side : Side) (log : Option LogMap) (read written written' : Option (List ℕ)) (f : SyncFault) → side ≡ Caller → NotBegun log written written' (Err f) → ConversesAs side log read read written written' (Err f) log
-caller_refused side log read written written' f is h = subst (λ (s : Side). ConversesAs s log read read written written' (Err f) log) (sym is) (inl (refl, (refl, h)))
+pub caller_refused : (side : Side) (log : Option LogMap) (read written written' : Option (List ℕ)) (f : SyncFault) → side ≡ Caller → NotBegun log written written' (Err f) → ConversesAs side (conversant log read written) (conversant log read written') (Err f)
+caller_refused side log read written written' f is h = subst (λ (s : Side). ConversesAs s (conversant log read written) (conversant log read written') (Err f)) (sym is) (inl (refl, (refl, h)))

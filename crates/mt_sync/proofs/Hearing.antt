@@ -14,7 +14,7 @@ use Rattle.mt_frames.proofs.Fronts.{whole_of}
 use Rattle.mt_sync.specs.declared.fault.TalkFault.{TalkFault}
 use Rattle.mt_sync.specs.declared.fault.TalkFault.TheVariants.{Memory, Conflict, Failed, BadMessage, OutOfTurn, FrameTooLong}
 use Rattle.mt_sync.specs.Conversation.{Turn, greets, takes, ended, stopped, End, Told, stop, body_in, told}
-use Rattle.mt_sync.specs.Feeding.{IsOpen, IsGoing, Waits, end_at, TakesBody, Hears, IsFaultOf, over_at}
+use Rattle.mt_sync.specs.Feeding.{IsOpen, IsGoing, Waits, end_at, ReadsBody, Hears, IsFaultOf, over_at}
 use Rattle.mt_sync.proofs.Cuts.{after, with_reply}
 use Rattle.mt_sync.proofs.Fronting.{told_stopped, told_ended, told_short, told_long, told_whole, told_again}
 
@@ -29,7 +29,7 @@ begins ended rest set piece all out reads waits is none = absurd reads
 begins (stopped fault) rest set piece all out reads waits is none = absurd reads
 
 -- one more body was read
-pub moves_on : (turn : Turn) (bytes body rest : List ℕ) (set : Option LogMap) (out : List ℕ) (next : Turn) (new : Option LogMap) (more : List ℕ) (total : Told) → IsOpen turn → front_of bytes ≡ whole body rest → TakesBody (body_in turn set body) (Ok tt) next new out more → still turn bytes set out ≡ total → still next rest new more ≡ total
+pub moves_on : (turn : Turn) (bytes body rest : List ℕ) (set : Option LogMap) (out : List ℕ) (next : Turn) (new : Option LogMap) (more : List ℕ) (total : Told) → IsOpen turn → front_of bytes ≡ whole body rest → ReadsBody (body_in turn set body) (Ok tt) (end_at next [] new) out more → still turn bytes set out ≡ total → still next rest new more ≡ total
 moves_on turn bytes body rest set out next new more total reads front taken so_far =
     let reply = taken.1.0 in
     let one : told (end_at turn [] set) bytes ≡ after (end_at next [] new, reply) rest =
@@ -52,17 +52,17 @@ waits_short ended rest h short = absurd h
 waits_short (stopped fault) rest h short = absurd h
 
 -- no frame is whole
-pub pauses : (turn : Turn) (bytes rest : List ℕ) (set : Option LogMap) (out : List ℕ) (total : Told) → IsOpen turn → front_of bytes ≡ cut_short → rest ≡ bytes → still turn bytes set out ≡ total → Hears total (Ok tt) turn rest set out
+pub pauses : (turn : Turn) (bytes rest : List ℕ) (set : Option LogMap) (out : List ℕ) (total : Told) → IsOpen turn → front_of bytes ≡ cut_short → rest ≡ bytes → still turn bytes set out ≡ total → Hears total (Ok tt) (end_at turn rest set) out
 pauses turn bytes rest set out total reads front same so_far = (
   is_going turn reads,
   waits_short turn rest reads (ap front_of same ∙ front),
   sym so_far ∙ ap (with_reply out) (told_short turn [] set bytes reads front) ∙ ap (λ (o : List ℕ). (end_at turn bytes set, o)) (append-nil out) ∙ ap (λ (l : List ℕ). (end_at turn l set, out)) (sym same),
 )
 
-pub refuses : (turn : Turn) (bytes : List ℕ) (set : Option LogMap) (out : List ℕ) (total : Told) (given : FrameFault) (fault : TalkFault) (next : Turn) (rest : List ℕ) → IsOpen turn → unread.TakesBody bytes (Err given) rest → IsFaultOf given fault → still turn bytes set out ≡ total → Hears total (Err fault) next rest set out
-refuses turn bytes set out total frame.Memory fault next rest reads h is so_far = subst (λ (f : TalkFault). Hears total (Err f) next rest set out) (sym is) tt
+pub refuses : (turn : Turn) (bytes : List ℕ) (set : Option LogMap) (out : List ℕ) (total : Told) (given : FrameFault) (fault : TalkFault) (next : Turn) (rest : List ℕ) → IsOpen turn → unread.TakesBody bytes (Err given) rest → IsFaultOf given fault → still turn bytes set out ≡ total → Hears total (Err fault) (end_at next rest set) out
+refuses turn bytes set out total frame.Memory fault next rest reads h is so_far = subst (λ (f : TalkFault). Hears total (Err f) (end_at next rest set) out) (sym is) tt
 refuses turn bytes set out total frame.TooLong fault next rest reads h is so_far =
-    subst (λ (f : TalkFault). Hears total (Err f) next rest set out) (sym is)
+    subst (λ (f : TalkFault). Hears total (Err f) (end_at next rest set) out) (sym is)
     (ap (λ (t : Told). t.0) (sym so_far ∙ ap (with_reply out) (told_long turn set bytes reads h.0)))
 
 -- the end of an end that reading a body stopped
@@ -71,7 +71,7 @@ stops_by turn bytes body rest set out total fault new reads front is so_far =
     ap (λ (t : Told). t.0) (sym so_far ∙ ap (with_reply out) (told_whole turn set bytes body rest reads front))
     ∙ ap (λ (e : End). (told e rest).0) is ∙ ap (λ (t : Told). t.0) (told_stopped fault [] new rest)
 
-pub stops : (fault : TalkFault) (turn : Turn) (bytes body rest : List ℕ) (set : Option LogMap) (out : List ℕ) (total : Told) (next : Turn) (new : Option LogMap) (more : List ℕ) → IsOpen turn → front_of bytes ≡ whole body rest → TakesBody (body_in turn set body) (Err fault) next new out more → still turn bytes set out ≡ total → Hears total (Err fault) next rest new more
+pub stops : (fault : TalkFault) (turn : Turn) (bytes body rest : List ℕ) (set : Option LogMap) (out : List ℕ) (total : Told) (next : Turn) (new : Option LogMap) (more : List ℕ) → IsOpen turn → front_of bytes ≡ whole body rest → ReadsBody (body_in turn set body) (Err fault) (end_at next [] new) out more → still turn bytes set out ≡ total → Hears total (Err fault) (end_at next rest new) more
 stops Memory turn bytes body rest set out total next new more reads front taken so_far = tt
 stops (Conflict dot) turn bytes body rest set out total next new more reads front taken so_far = stops_by turn bytes body rest set out total (Conflict dot) new reads front taken so_far
 stops Failed turn bytes body rest set out total next new more reads front taken so_far = stops_by turn bytes body rest set out total Failed new reads front taken so_far
@@ -80,16 +80,16 @@ stops OutOfTurn turn bytes body rest set out total next new more reads front tak
 stops FrameTooLong turn bytes body rest set out total next new more reads front taken so_far = stops_by turn bytes body rest set out total FrameTooLong new reads front taken so_far
 
 -- the turn is over, with bytes left or without
-pub ends : (next : Turn) (rest : List ℕ) (new : Option LogMap) (more : List ℕ) (total : Told) (last : Bool) (r : Result (Unit {0}) TalkFault) → IsGoing next → (IsOpen next → ⊥) → last ≡ eqb (length rest) 0 → r ≡ over_at last → still next rest new more ≡ total → Hears total r next rest new more
+pub ends : (next : Turn) (rest : List ℕ) (new : Option LogMap) (more : List ℕ) (total : Told) (last : Bool) (r : Result (Unit {0}) TalkFault) → IsGoing next → (IsOpen next → ⊥) → last ≡ eqb (length rest) 0 → r ≡ over_at last → still next rest new more ≡ total → Hears total r (end_at next rest new) more
 ends (greets side) rest new more total last r going over is ends_so so_far = absurd (over tt)
 ends (takes owed) rest new more total last r going over is ends_so so_far = absurd (over tt)
 ends (stopped fault) rest new more total last r going over is ends_so so_far = absurd going
 ends ended [] new more total last r going over is ends_so so_far =
-    subst (λ (x : Result (Unit {0}) TalkFault). Hears total x ended [] new more) (sym (ends_so ∙ ap over_at is))
+    subst (λ (x : Result (Unit {0}) TalkFault). Hears total x (end_at ended [] new) more) (sym (ends_so ∙ ap over_at is))
     (tt, refl, sym so_far ∙ ap (λ (o : List ℕ). (end_at ended [] new, o)) (append-nil more))
 ends ended (b ∷ rest) new more total last r going over is ends_so so_far =
     let false_is : eqb (length (b ∷ rest)) 0 ≡ false = ne_eqb (length (b ∷ rest)) 0 (λ e. omega (arith, e)) in
-    subst (λ (x : Result (Unit {0}) TalkFault). Hears total x ended (b ∷ rest) new more) (sym (ends_so ∙ ap over_at (is ∙ false_is)))
+    subst (λ (x : Result (Unit {0}) TalkFault). Hears total x (end_at ended (b ∷ rest) new) more) (sym (ends_so ∙ ap over_at (is ∙ false_is)))
     (ap (λ (t : Told). t.0) (sym so_far ∙ ap (with_reply more) (told_ended [] new b rest)))
 
 -- what is unread grows less
@@ -99,8 +99,8 @@ shorter bytes body rest h =
     omega (arith, w.long, w.all, ap length w.rest_is, length-drop (body_len bytes) (drop 4 bytes), length-drop 4 bytes)
 
 -- the body that is read, as a slice
-pub body_read : (turn : Turn) (set : Option LogMap) (r : Result (Unit {0}) TalkFault) (next : Turn) (new : Option LogMap) (out more body slice : List ℕ) → slice ≡ body → TakesBody (body_in turn set slice) r next new out more → TakesBody (body_in turn set body) r next new out more
-body_read turn set r next new out more body slice is h = subst (λ (b : List ℕ). TakesBody (body_in turn set b) r next new out more) is h
+pub body_read : (turn : Turn) (set : Option LogMap) (r : Result (Unit {0}) TalkFault) (next : Turn) (new : Option LogMap) (out more body slice : List ℕ) → slice ≡ body → ReadsBody (body_in turn set slice) r (end_at next [] new) out more → ReadsBody (body_in turn set body) r (end_at next [] new) out more
+body_read turn set r next new out more body slice is h = subst (λ (b : List ℕ). ReadsBody (body_in turn set b) r (end_at next [] new) out more) is h
 
 pub some_taken : (bytes rest : List ℕ) (o : Option Body) (body : Body) → o ≡ Some body → unread.TakesBody bytes (Ok o) rest → (front_of bytes ≡ whole body.bytes.items rest) × (body.is_last ≡ eqb (length rest) 0)
 some_taken bytes rest o body is h = subst (λ (x : Option Body). unread.TakesBody bytes (Ok x) rest) is h
@@ -115,14 +115,14 @@ pub is_not_over : (turn : Turn) (test : Bool) → (IsTrue test → IsOpen turn) 
 is_not_over turn test tells is = tells.0 is
 
 -- a turn that is over hears nothing more
-pub hears_nothing : (turn : Turn) (rest : List ℕ) (set : Option LogMap) (piece out : List ℕ) (r : Result (Unit {0}) TalkFault) → IsGoing turn → (IsOpen turn → ⊥) → Waits turn rest → out ≡ [] → r ≡ over_at (eqb (length piece) 0) → Hears (told (end_at turn rest set) piece) r turn rest set out
+pub hears_nothing : (turn : Turn) (rest : List ℕ) (set : Option LogMap) (piece out : List ℕ) (r : Result (Unit {0}) TalkFault) → IsGoing turn → (IsOpen turn → ⊥) → Waits turn rest → out ≡ [] → r ≡ over_at (eqb (length piece) 0) → Hears (told (end_at turn rest set) piece) r (end_at turn rest set) out
 hears_nothing (greets side) rest set piece out r going over waits none is = absurd (over tt)
 hears_nothing (takes owed) rest set piece out r going over waits none is = absurd (over tt)
 hears_nothing (stopped fault) rest set piece out r going over waits none is = absurd going
 hears_nothing ended rest set [] out r going over waits none is =
-    subst (λ (x : Result (Unit {0}) TalkFault). Hears (end_at ended rest set, []) x ended rest set out) (sym is)
+    subst (λ (x : Result (Unit {0}) TalkFault). Hears (end_at ended rest set, []) x (end_at ended rest set) out) (sym is)
     (tt, waits, ap (λ (o : List ℕ). (end_at ended rest set, o)) (sym none))
 hears_nothing ended rest set (b ∷ piece) out r going over waits none is =
     let false_is : eqb (length (b ∷ piece)) 0 ≡ false = ne_eqb (length (b ∷ piece)) 0 (λ e. omega (arith, e)) in
-    subst (λ (x : Result (Unit {0}) TalkFault). Hears (told (end_at ended rest set) (b ∷ piece)) x ended rest set out) (sym (is ∙ ap over_at false_is))
+    subst (λ (x : Result (Unit {0}) TalkFault). Hears (told (end_at ended rest set) (b ∷ piece)) x (end_at ended rest set) out) (sym (is ∙ ap over_at false_is))
     (ap (λ (t : Told). t.0) (told_ended rest set b piece))

@@ -10,7 +10,7 @@ use Rattle.mt_sync.specs.declared.fault.TalkFault.TheVariants.{Memory, Conflict,
 use Rattle.mt_sync.specs.declared.fault.SyncFault.TheVariants as fault
 use Rattle.mt_sync.specs.Conversation.{Turn, greets, takes, ended, stopped, End, Told, told}
 use Rattle.mt_sync.specs.Feeding.{IsGoing, IsOpen, Fed, FeedsAt, Feeds}
-use Rattle.mt_sync.specs.Conversing.{StopsBy, Outcome, Converses}
+use Rattle.mt_sync.specs.Conversing.{StopsBy, Outcome, conversant, Converses}
 use Rattle.mt_sync.specs.declared.fault.SyncFault.{SyncFault}
 use Rattle.mt_sync.specs.Leaving.{IsLeft}
 use Rattle.mt_sync.proofs.Leaving.{left_after}
@@ -77,7 +77,7 @@ of_talk : (f : TalkFault) → ◌≡◌ {A = Result (Unit {0}) SyncFault} (Err (
 of_talk f e = cc
 
 -- the other end's Bye was read and answered
-pub is_done : (start : End) (a b c d : Option (List ℕ)) (end : End) → Goes start a b c d end → end.turn ≡ ended → Converses start a b c d (Ok tt) end.set
+pub is_done : (start : End) (a b c d : Option (List ℕ)) (end : End) → Goes start a b c d end → end.turn ≡ ended → Converses start (conversant start.set a c) (conversant end.set b d) (Ok tt)
 is_done start a b c d end g is = record {
   bytes = g.bytes;
   consumed = g.consumed;
@@ -87,7 +87,7 @@ is_done start a b c d end g is = record {
 }
 
 -- the reader failed
-pub is_unread : (start : End) (a b b' c d : Option (List ℕ)) (end : End) → Goes start a b c d end → Keeps b b' → Converses start a b' c d (Err fault.Read) end.set
+pub is_unread : (start : End) (a b b' c d : Option (List ℕ)) (end : End) → Goes start a b c d end → Keeps b b' → Converses start (conversant start.set a c) (conversant end.set b' d) (Err fault.Read)
 is_unread start a b b' c d end g kept = record {
   bytes = g.bytes;
   consumed = Consumes-kept a b b' g.bytes g.consumed kept;
@@ -97,7 +97,7 @@ is_unread start a b b' c d end g kept = record {
 }
 
 -- the input ended first
-pub is_unfinished : (start : End) (a b b' c d : Option (List ℕ)) (end : End) → Goes start a b c d end → Consumes b b' [] → (end.turn ≡ ended → ⊥) → Converses start a b' c d (Err fault.Ended) end.set
+pub is_unfinished : (start : End) (a b b' c d : Option (List ℕ)) (end : End) → Goes start a b c d end → Consumes b b' [] → (end.turn ≡ ended → ⊥) → Converses start (conversant start.set a c) (conversant end.set b' d) (Err fault.Ended)
 is_unfinished start a b b' c d end g none not_ended = record {
   bytes = g.bytes;
   consumed = subst (Consumes a b') (append-nil g.bytes) (Consumes-trans a b b' g.bytes [] g.consumed none);
@@ -115,7 +115,7 @@ longer_prefix a b c xs ys h k =
     taken xs ys n = ap₂ (λ (u v : List ℕ). u ++ take n v) (sym (take_at xs ys (length xs) refl)) (sym (drop_at xs ys (length xs) refl)) ∙ sym (take-add (length xs) n (xs ++ ys))
 
 -- the writer failed at the reply to a piece
-pub is_unwritten : (start : End) (a b b' c d d' : Option (List ℕ)) (end new : End) (piece more : List ℕ) → Goes start a b c d end → Consumes b b' piece → told end piece ≡ (new, more) → AppendsPrefix d d' more → Converses start a b' c d' (Err fault.Write) new.set
+pub is_unwritten : (start : End) (a b b' c d d' : Option (List ℕ)) (end new : End) (piece more : List ℕ) → Goes start a b c d end → Consumes b b' piece → told end piece ≡ (new, more) → AppendsPrefix d d' more → Converses start (conversant start.set a c) (conversant new.set b' d') (Err fault.Write)
 is_unwritten start a b b' c d d' end new piece more g took fed put =
     let all = told_more start g.bytes piece end g.reply g.told_so ∙ ap (λ (t : Told). (t.0, g.reply ++ t.1)) fed in
     record {
@@ -135,7 +135,7 @@ stops_by OutOfTurn t end new h = (ap (λ (e : End). e.turn) h.0 ∙ h.1, ap (λ 
 stops_by FrameTooLong t end new h = (ap (λ (e : End). e.turn) h.0 ∙ h.1, ap (λ (e : End). e.set) h.0)
 
 -- the talk stopped at a piece
-pub is_stopped : (start : End) (a b b' c d : Option (List ℕ)) (end new : End) (piece : List ℕ) (f : TalkFault) → Goes start a b c d end → Consumes b b' piece → Fed {X = List ℕ} (λ l. l) (told end piece) (Err f) new → (f ≡ Memory → IsLeft end piece new.set) → Converses start a b' c d (Err (fault.Talk f)) new.set
+pub is_stopped : (start : End) (a b b' c d : Option (List ℕ)) (end new : End) (piece : List ℕ) (f : TalkFault) → Goes start a b c d end → Consumes b b' piece → Fed {X = List ℕ} (λ l. l) (told end piece) (Err f) new → (f ≡ Memory → IsLeft end piece new.set) → Converses start (conversant start.set a c) (conversant new.set b' d) (Err (fault.Talk f))
 is_stopped start a b b' c d end new piece f g took fed left =
     let all = told_more start g.bytes piece end g.reply g.told_so in
     record {

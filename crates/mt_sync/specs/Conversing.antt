@@ -36,13 +36,22 @@ Outcome t written written' set (Err fault.Ended) = (t.0.turn ≡ ended → ⊥) 
 Outcome t written written' set (Err fault.Read) = t.0.set ≡ set
 Outcome t written written' set (Err fault.Write) = t.0.set ≡ set
 
+-- what takes part in a conversation, before or after: a holder's set, what is left to be read, and what was written
+pub record Conversant : Type 0 where
+  pub set : Option LogMap
+  pub read : Option (List ℕ)
+  pub written : Option (List ℕ)
+
+abbrev pub conversant : Option LogMap → Option (List ℕ) → Option (List ℕ) → Conversant
+conversant set read written = record { set = set; read = read; written = written }
+
 -- the bytes that were read, what was written of what they call for, what the answer says of them, and what is left where memory ran out
-pub record Converses (start : End) (read read' written written' : Option (List ℕ)) (result : Result (Unit {0}) SyncFault) (set : Option LogMap) : Type 0 where
+pub record Converses (start : End) (before after : Conversant) (result : Result (Unit {0}) SyncFault) : Type 0 where
   pub bytes : List ℕ
-  pub consumed : Consumes read read' bytes
-  pub prefix : AppendsPrefix written written' (told start bytes).1
-  pub outcome : Outcome (told start bytes) written written' set result
-  pub left : result ≡ Err (fault.Talk Memory) → IsLeft start bytes set
+  pub consumed : Consumes before.read after.read bytes
+  pub prefix : AppendsPrefix before.written after.written (told start bytes).1
+  pub outcome : Outcome (told start bytes) before.written after.written after.set result
+  pub left : result ≡ Err (fault.Talk Memory) → IsLeft start bytes after.set
 
 -- What a refusal says of the reader and the writer: which of them has failed, or that the input has ended. A stop is the talk's own.
 abbrev pub Blames : {R W : Type 0} → (R → Option (List ℕ)) → Latched R → Latched W → SyncFault → Type 0
@@ -75,11 +84,12 @@ BeginsWith view log written written' (Ok x) = (view x ≡ record { turn = greets
 BeginsWith view log written written' (Err by) = NotBegun log written written' (Err by)
 
 -- A caller writes its Have first; then, and as an answerer at once, the conversation goes on.
-abbrev pub ConversesAs : Side → Option LogMap → Option (List ℕ) → Option (List ℕ) → Option (List ℕ) → Option (List ℕ) → Result (Unit {0}) SyncFault → Option LogMap → Type 0
-ConversesAs Answerer log read read' written written' result new = Converses (end_at (greets Answerer) [] log) read read' written written' result new
-ConversesAs Caller log read read' written written' result new =
-    ((read' ≡ read) × ((new ≡ log) × NotBegun log written written' result))
-    ⊎ ((mid : Option (List ℕ)) × (Begins log written mid × Converses (end_at (greets Caller) [] log) read read' mid written' result new))
+abbrev pub ConversesAs : Side → Conversant → Conversant → Result (Unit {0}) SyncFault → Type 0
+ConversesAs Answerer before after result = Converses (end_at (greets Answerer) [] before.set) before after result
+ConversesAs Caller before after result =
+    ((after.read ≡ before.read) × ((after.set ≡ before.set) × NotBegun before.set before.written after.written result))
+    ⊎ ((mid : Option (List ℕ)) × (Begins before.set before.written mid
+    × Converses (end_at (greets Caller) [] before.set) (conversant before.set before.read mid) after result))
 
 -- ---- operations out of bytes
 

@@ -60,25 +60,25 @@ end_at turn rest set = record { turn = turn; rest = rest; set = set }
 abbrev pub end_of : Talking → Option LogMap → End
 end_of talk set = end_at talk.turn talk.rest set
 
--- what reading a body answers and leaves
-abbrev pub TakesBody : Told → Result (Unit {0}) TalkFault → Turn → Option LogMap → List ℕ → List ℕ → Type 0
-TakesBody t (Ok _) turn set old new = IsGoing turn × ((reply : List ℕ) × (t ≡ (end_at turn [] set, reply)) × (new ≡ old ++ reply))
-TakesBody t (Err Memory) turn set old new = Unit {0}
-TakesBody t (Err (Conflict dot)) turn set old new = t.0 ≡ (stop (Conflict dot) set).0
-TakesBody t (Err Failed) turn set old new = t.0 ≡ (stop Failed set).0
-TakesBody t (Err BadMessage) turn set old new = t.0 ≡ (stop BadMessage set).0
-TakesBody t (Err OutOfTurn) turn set old new = t.0 ≡ (stop OutOfTurn set).0
-TakesBody t (Err FrameTooLong) turn set old new = t.0 ≡ (stop FrameTooLong set).0
+-- what reading a body answers and leaves: the end that it comes to, and what was appended to its replies
+abbrev pub ReadsBody : Told → Result (Unit {0}) TalkFault → End → List ℕ → List ℕ → Type 0
+ReadsBody t (Ok _) end old new = IsGoing end.turn × ((reply : List ℕ) × (t ≡ (end, reply)) × (new ≡ old ++ reply))
+ReadsBody t (Err Memory) end old new = Unit {0}
+ReadsBody t (Err (Conflict dot)) end old new = t.0 ≡ (stop (Conflict dot) end.set).0
+ReadsBody t (Err Failed) end old new = t.0 ≡ (stop Failed end.set).0
+ReadsBody t (Err BadMessage) end old new = t.0 ≡ (stop BadMessage end.set).0
+ReadsBody t (Err OutOfTurn) end old new = t.0 ≡ (stop OutOfTurn end.set).0
+ReadsBody t (Err FrameTooLong) end old new = t.0 ≡ (stop FrameTooLong end.set).0
 
 -- what hearing a piece answers and leaves: all of it was told, or it stopped by this fault
-abbrev pub Hears : Told → Result (Unit {0}) TalkFault → Turn → List ℕ → Option LogMap → List ℕ → Type 0
-Hears t (Ok _) turn rest set out = IsGoing turn × Waits turn rest × (t ≡ (end_at turn rest set, out))
-Hears t (Err Memory) turn rest set out = Unit {0}
-Hears t (Err (Conflict dot)) turn rest set out = t.0 ≡ (stop (Conflict dot) set).0
-Hears t (Err Failed) turn rest set out = t.0 ≡ (stop Failed set).0
-Hears t (Err BadMessage) turn rest set out = t.0 ≡ (stop BadMessage set).0
-Hears t (Err OutOfTurn) turn rest set out = t.0 ≡ (stop OutOfTurn set).0
-Hears t (Err FrameTooLong) turn rest set out = t.0 ≡ (stop FrameTooLong set).0
+abbrev pub Hears : Told → Result (Unit {0}) TalkFault → End → List ℕ → Type 0
+Hears t (Ok _) end out = IsGoing end.turn × Waits end.turn end.rest × (t ≡ (end, out))
+Hears t (Err Memory) end out = Unit {0}
+Hears t (Err (Conflict dot)) end out = t.0 ≡ (stop (Conflict dot) end.set).0
+Hears t (Err Failed) end out = t.0 ≡ (stop Failed end.set).0
+Hears t (Err BadMessage) end out = t.0 ≡ (stop BadMessage end.set).0
+Hears t (Err OutOfTurn) end out = t.0 ≡ (stop OutOfTurn end.set).0
+Hears t (Err FrameTooLong) end out = t.0 ≡ (stop FrameTooLong end.set).0
 
 -- what feeding a piece answers and leaves, where the talk had met no fault
 abbrev pub Fed : {X : Type 0} → (X → List ℕ) → Told → Result X TalkFault → End → Type 0
@@ -118,14 +118,14 @@ Says says (Err FrameTooLong) text old new = says ≡ false
 Says says (Err _) text old new = ⊥
 
 -- the same as `Hears`, of replies that are given
-abbrev pub HearsAll : {X : Type 0} → (X → List ℕ) → Told → Result X TalkFault → Turn → List ℕ → Option LogMap → Type 0
-HearsAll view t (Ok out) turn rest set = IsGoing turn × Waits turn rest × (t ≡ (end_at turn rest set, view out))
-HearsAll view t (Err Memory) turn rest set = Unit {0}
-HearsAll view t (Err (Conflict dot)) turn rest set = t.0 ≡ (stop (Conflict dot) set).0
-HearsAll view t (Err Failed) turn rest set = t.0 ≡ (stop Failed set).0
-HearsAll view t (Err BadMessage) turn rest set = t.0 ≡ (stop BadMessage set).0
-HearsAll view t (Err OutOfTurn) turn rest set = t.0 ≡ (stop OutOfTurn set).0
-HearsAll view t (Err FrameTooLong) turn rest set = t.0 ≡ (stop FrameTooLong set).0
+abbrev pub HearsAll : {X : Type 0} → (X → List ℕ) → Told → Result X TalkFault → End → Type 0
+HearsAll view t (Ok out) end = IsGoing end.turn × Waits end.turn end.rest × (t ≡ (end, view out))
+HearsAll view t (Err Memory) end = Unit {0}
+HearsAll view t (Err (Conflict dot)) end = t.0 ≡ (stop (Conflict dot) end.set).0
+HearsAll view t (Err Failed) end = t.0 ≡ (stop Failed end.set).0
+HearsAll view t (Err BadMessage) end = t.0 ≡ (stop BadMessage end.set).0
+HearsAll view t (Err OutOfTurn) end = t.0 ≡ (stop OutOfTurn end.set).0
+HearsAll view t (Err FrameTooLong) end = t.0 ≡ (stop FrameTooLong end.set).0
 
 -- why a call of an editor that has not failed is refused
 abbrev pub CallRefused : LogMap → TalkFault → Type 0

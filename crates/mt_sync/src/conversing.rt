@@ -3,7 +3,7 @@
 ghost use Rattle.std.specs.Prelude.{◌≡◌, [], true, false, OnOk, IfErr};
 ghost use Rattle.mt_sync.specs.Feeding.{end_of, IsOpen};
 ghost use Rattle.mt_sync.specs.declared.fault.SyncFault.TheVariants.{Write as WriteFault};
-ghost use Rattle.mt_sync.specs.Conversing.{AreSound, BeginsWith, Blames, Converses, ConversesAs};
+ghost use Rattle.mt_sync.specs.Conversing.{AreSound, BeginsWith, Blames, Converses, ConversesAs, conversant};
 
 use crate::fault::{Side, SyncFault, TalkFault};
 use crate::holder::Holder;
@@ -32,7 +32,9 @@ pub fn converse<A: Allocator + Clone, R: Read, W: Write, H: Holder<A>>(
     writer: &mut Latch<W>,
 ) -> Result<(), SyncFault>
     requires whole { H.whole holder.old ≡ true }
-    ensures converses { ConversesAs side (H.held holder.old) (R.remaining reader.old.inner) (R.remaining reader.new.inner) (W.contents writer.old.inner) (W.contents writer.new.inner) result (H.held holder.new) }
+    ensures converses { ConversesAs side
+        (conversant (H.held holder.old) (R.remaining reader.old.inner) (W.contents writer.old.inner))
+        (conversant (H.held holder.new) (R.remaining reader.new.inner) (W.contents writer.new.inner)) result }
     ensures name { H.named holder.new ≡ H.named holder.old }
     ensures sound { OnOk result (AreSound reader.new writer.new) }
     ensures blames { IfErr result (Blames R.remaining reader.new writer.new) }
@@ -59,7 +61,8 @@ fn begin<A: Allocator + Clone, W: Write, H: Holder<A>>(
     writer: &mut Latch<W>,
 ) -> Result<Talk<A>, SyncFault>
     requires whole { H.whole holder.now ≡ true }
-    ensures begins { BeginsWith (λ talk. talk) (H.held holder.now) (W.contents writer.old.inner) (W.contents writer.new.inner) result }
+    ensures begins { BeginsWith (λ talk. talk) (H.held holder.now)
+        (W.contents writer.old.inner) (W.contents writer.new.inner) result }
     ensures sound { OnOk result (writer.new.failed ≡ false) }
     ensures blames { IfErr result (λ fault. fault ≡ WriteFault → writer.new.failed ≡ true) }
     ensures stays_failed { writer.old.failed ≡ true → writer.new ≡ writer.old }
@@ -85,7 +88,9 @@ fn hold_on<A: Allocator + Clone, R: Read, W: Write, H: Holder<A>>(
     writer: &mut Latch<W>,
 ) -> Result<(), SyncFault>
     requires { IsOpen talk.old.turn }
-    ensures converses { Converses (end_of talk.old (H.held holder.old)) (R.remaining reader.old.inner) (R.remaining reader.new.inner) (W.contents writer.old.inner) (W.contents writer.new.inner) result (H.held holder.new) }
+    ensures converses { Converses (end_of talk.old (H.held holder.old))
+        (conversant (H.held holder.old) (R.remaining reader.old.inner) (W.contents writer.old.inner))
+        (conversant (H.held holder.new) (R.remaining reader.new.inner) (W.contents writer.new.inner)) result }
     ensures name { H.named holder.new ≡ H.named holder.old }
     ensures sound { OnOk result (AreSound reader.new writer.new) }
     ensures blames { IfErr result (Blames R.remaining reader.new writer.new) }

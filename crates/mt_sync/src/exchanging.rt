@@ -26,7 +26,8 @@ pub fn exchange<A: Allocator + Clone, H: Holder<A>, K: Holder<A>>(
     caller: &mut H,
     answerer: &mut K,
 ) -> Result<(), TalkFault>
-    ensures swapped { Exchanges (H.held caller.old) (K.held answerer.old) result (H.held caller.new) (K.held answerer.new) }
+    ensures swapped { Exchanges (H.held caller.old) (K.held answerer.old) result
+        (H.held caller.new) (K.held answerer.new) }
     ensures caller_name { H.named caller.new ≡ H.named caller.old }
     ensures answerer_name { K.named answerer.new ≡ K.named answerer.old }
 {

@@ -73,7 +73,8 @@ pub fn take_ops<A: Allocator + Clone, H: Holder<A>>(
     bytes: &[u8],
 ) -> Result<(), SyncFault>
     ensures takes { TakesAll (told (end_at (takes None) [] (H.held holder.old)) bytes.now) result (H.held holder.new) }
-    ensures left { IfErr result (λ fault. fault ≡ SyncFault.Talk TalkFault.Memory → IsLeft (end_at (takes None) [] (H.held holder.old)) bytes.now (H.held holder.new)) }
+    ensures left { IfErr result (λ fault. fault ≡ SyncFault.Talk TalkFault.Memory
+        → IsLeft (end_at (takes None) [] (H.held holder.old)) bytes.now (H.held holder.new)) }
     ensures name { H.named holder.new ≡ H.named holder.old }
 {
     let mut talk = Talk::waiting(alloc, frames, Turn::Takes(None));

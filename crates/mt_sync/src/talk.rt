@@ -6,7 +6,7 @@ ghost use Rattle.mt_summary.specs.Summary.{summary_of};
 ghost use Rattle.mt_summary.specs.Messages.{have_text, IsMessage};
 ghost use Rattle.mt_summary.specs.Reading.{message_of};
 ghost use Rattle.mt_sync.specs.Conversation.{ended, greets, takes, hears, body_in, told};
-ghost use Rattle.mt_sync.specs.Feeding.{turn_of, IsOpen, IsGoing, Waits, end_at, end_of, TakesBody, Hears, Feeds, IsFaultOf, over_at, HearsAll, Calls};
+ghost use Rattle.mt_sync.specs.Feeding.{turn_of, IsOpen, IsGoing, Waits, end_at, end_of, ReadsBody, Hears, Feeds, IsFaultOf, over_at, HearsAll, Calls};
 ghost use Rattle.mt_sync.specs.Leaving.{IsLeft, StaysOrFails};
 
 use crate::fault::{Side, TalkFault};
@@ -101,8 +101,10 @@ impl<A: Allocator + Clone> Talk<A> {
     /// summary does not fit a frame. `Memory` (0) where a growth was refused. After a fault the editor holds its own operations and those before
     /// the fault, and the talk answers 39 from then on; where a growth was refused while operations joined, the editor has failed.
     pub fn feed<H: Holder<A>>(&mut self, holder: &mut H, piece: &[u8]) -> Result<Vec<u8, A>, TalkFault>
-        ensures told { Feeds (λ out. out.items) (end_of self.old (H.held holder.old)) piece.now result (end_of self.new (H.held holder.new)) }
-        ensures left { IfErr result (λ fault. fault ≡ TalkFault.Memory → IsLeft (end_of self.old (H.held holder.old)) piece.now (H.held holder.new)) }
+        ensures told { Feeds (λ out. out.items) (end_of self.old (H.held holder.old)) piece.now result
+            (end_of self.new (H.held holder.new)) }
+        ensures left { IfErr result (λ fault. fault ≡ TalkFault.Memory
+            → IsLeft (end_of self.old (H.held holder.old)) piece.now (H.held holder.new)) }
         ensures name { H.named holder.new ≡ H.named holder.old }
     {
         if self.turn.has_stopped() {
@@ -129,8 +131,11 @@ fn hear_all<A: Allocator + Clone, H: Holder<A>>(
 ) -> Result<Vec<u8, A>, TalkFault>
     requires going { IsGoing (turn_of turn.old) }
     requires waits { Waits (turn_of turn.old) unread.old }
-    ensures told { HearsAll (λ out. out.items) (told (end_at (turn_of turn.old) unread.old (H.held holder.old)) piece.now) result (turn_of turn.new) unread.new (H.held holder.new) }
-    ensures left { IfErr result (λ fault. fault ≡ TalkFault.Memory → IsLeft (end_at (turn_of turn.old) unread.old (H.held holder.old)) piece.now (H.held holder.new)) }
+    ensures told { HearsAll (λ out. out.items)
+        (told (end_at (turn_of turn.old) unread.old (H.held holder.old)) piece.now) result
+        (end_at (turn_of turn.new) unread.new (H.held holder.new)) }
+    ensures left { IfErr result (λ fault. fault ≡ TalkFault.Memory
+        → IsLeft (end_at (turn_of turn.old) unread.old (H.held holder.old)) piece.now (H.held holder.new)) }
     ensures name { H.named holder.new ≡ H.named holder.old }
 {
     let mut out = Vec::new(alloc.clone()?);
@@ -152,8 +157,10 @@ fn hear<A: Allocator + Clone, H: Holder<A>>(
     requires going { IsGoing (turn_of turn.old) }
     requires waits { Waits (turn_of turn.old) unread.old }
     requires empty { out.old.items ≡ [] }
-    ensures told { Hears (told (end_at (turn_of turn.old) unread.old (H.held holder.old)) piece.now) result (turn_of turn.new) unread.new (H.held holder.new) out.new.items }
-    ensures left { IfErr result (λ fault. fault ≡ TalkFault.Memory → IsLeft (end_at (turn_of turn.old) unread.old (H.held holder.old)) piece.now (H.held holder.new)) }
+    ensures told { Hears (told (end_at (turn_of turn.old) unread.old (H.held holder.old)) piece.now) result
+        (end_at (turn_of turn.new) unread.new (H.held holder.new)) out.new.items }
+    ensures left { IfErr result (λ fault. fault ≡ TalkFault.Memory
+        → IsLeft (end_at (turn_of turn.old) unread.old (H.held holder.old)) piece.now (H.held holder.new)) }
     ensures name { H.named holder.new ≡ H.named holder.old }
 {
     if turn.is_open() {
@@ -175,8 +182,10 @@ fn hear_frames<A: Allocator + Clone, H: Holder<A>>(
     requires reads { IsOpen (turn_of turn.old) }
     requires waits { Waits (turn_of turn.old) unread.old }
     requires empty { out.old.items ≡ [] }
-    ensures told { Hears (told (end_at (turn_of turn.old) unread.old (H.held holder.old)) piece.now) result (turn_of turn.new) unread.new (H.held holder.new) out.new.items }
-    ensures left { IfErr result (λ fault. fault ≡ TalkFault.Memory → IsLeft (end_at (turn_of turn.old) unread.old (H.held holder.old)) piece.now (H.held holder.new)) }
+    ensures told { Hears (told (end_at (turn_of turn.old) unread.old (H.held holder.old)) piece.now) result
+        (end_at (turn_of turn.new) unread.new (H.held holder.new)) out.new.items }
+    ensures left { IfErr result (λ fault. fault ≡ TalkFault.Memory
+        → IsLeft (end_at (turn_of turn.old) unread.old (H.held holder.old)) piece.now (H.held holder.new)) }
     ensures name { H.named holder.new ≡ H.named holder.old }
 {
     unread.push(piece)?;
@@ -223,8 +232,10 @@ fn take_body<A: Allocator + Clone, H: Holder<A>>(
     out: &mut Vec<u8, A>,
 ) -> Result<(), TalkFault>
     requires { IsOpen (turn_of turn.old) }
-    ensures told { TakesBody (body_in (turn_of turn.old) (H.held holder.old) body.now) result (turn_of turn.new) (H.held holder.new) out.old.items out.new.items }
-    ensures left { IfErr result (λ fault. fault ≡ TalkFault.Memory → StaysOrFails (H.held holder.old) (H.held holder.new)) }
+    ensures told { ReadsBody (body_in (turn_of turn.old) (H.held holder.old) body.now) result
+        (end_at (turn_of turn.new) [] (H.held holder.new)) out.old.items out.new.items }
+    ensures left { IfErr result (λ fault. fault ≡ TalkFault.Memory
+        → StaysOrFails (H.held holder.old) (H.held holder.new)) }
     ensures name { H.named holder.new ≡ H.named holder.old }
 {
     // what is read is a message
@@ -252,8 +263,10 @@ fn take_message<A: Allocator + Clone, H: Holder<A>>(
 ) -> Result<(), TalkFault>
     requires open { IsOpen (turn_of turn.old) }
     requires sound { IsMessage (message_of message) }
-    ensures told { TakesBody (hears (turn_of turn.old) (message_of message) (H.held holder.old)) result (turn_of turn.new) (H.held holder.new) out.old.items out.new.items }
-    ensures left { IfErr result (λ fault. fault ≡ TalkFault.Memory → StaysOrFails (H.held holder.old) (H.held holder.new)) }
+    ensures told { ReadsBody (hears (turn_of turn.old) (message_of message) (H.held holder.old)) result
+        (end_at (turn_of turn.new) [] (H.held holder.new)) out.old.items out.new.items }
+    ensures left { IfErr result (λ fault. fault ≡ TalkFault.Memory
+        → StaysOrFails (H.held holder.old) (H.held holder.new)) }
     ensures name { H.named holder.new ≡ H.named holder.old }
 {
     match mem::replace(turn, Turn::Ended) {
