@@ -10,7 +10,7 @@ use Rattle.mt_sync.specs.declared.fault.Side.{Side}
 use Rattle.mt_sync.specs.declared.fault.TalkFault.TheVariants as talk
 use Rattle.mt_sync.specs.declared.fault.SyncFault.{SyncFault}
 use Rattle.mt_sync.specs.declared.fault.SyncFault.TheVariants as sync
-use Rattle.mt_sync.specs.Conversation.{takes, told}
+use Rattle.mt_sync.specs.Conversation.{awaits_ops, hears}
 use Rattle.mt_sync.specs.Feeding.{end_at}
 use Rattle.mt_sync.specs.Conversing.{HasBytes, Lacks, TakesAll, AreSound, Blames}
 use Rattle.mt_cli.specs.declared.fault.CliFault.{CliFault}
@@ -56,20 +56,20 @@ module _ {W : Type 0} (contents : W → Option (List ℕ)) (old new : Latched W)
   made_failed Makes bytes (Err fault) makes fails = subst (MadeFails contents Makes old new) (sym fails.0) (bytes, (makes, fails.1))
 
   -- a holder that has taken what was sent, and its log
-  pub taken_written : (kept set : Option LogMap) (sent : List ℕ) (result : Result (Unit {0}) CliFault) → TakesAll (told (end_at (takes None) [] kept) sent) (Ok tt) set
+  pub taken_written : (kept set : Option LogMap) (sent : List ℕ) (result : Result (Unit {0}) CliFault) → TakesAll (hears (end_at (awaits_ops None) [] kept) sent) (Ok tt) set
       → OnOk result (HeldWritten contents set old new) → OnOk result (MadeWritten contents (TakingIn kept sent) old new)
   taken_written kept set sent (Ok unit) takes_all (log, (same, written)) =
-      (text_of log, ((log, (subst (TakesAll (told (end_at (takes None) [] kept) sent) (Ok tt)) same takes_all, refl)), written))
+      (text_of log, ((log, (subst (TakesAll (hears (end_at (awaits_ops None) [] kept) sent) (Ok tt)) same takes_all, refl)), written))
   taken_written kept set sent (Err fault) takes_all written = written
 
-  taken_failed : (kept set : Option LogMap) (sent : List ℕ) (fault : CliFault) → TakesAll (told (end_at (takes None) [] kept) sent) (Ok tt) set
+  taken_failed : (kept set : Option LogMap) (sent : List ℕ) (fault : CliFault) → TakesAll (hears (end_at (awaits_ops None) [] kept) sent) (Ok tt) set
       → HeldFails contents set old new fault → MadeFails contents (TakingIn kept sent) old new fault
   taken_failed kept set sent Memory takes_all fails = fails
   taken_failed kept set sent Write takes_all (log, (same, failed)) =
-      (text_of log, ((log, (subst (TakesAll (told (end_at (takes None) [] kept) sent) (Ok tt)) same takes_all, refl)), failed))
+      (text_of log, ((log, (subst (TakesAll (hears (end_at (awaits_ops None) [] kept) sent) (Ok tt)) same takes_all, refl)), failed))
   taken_failed kept set sent _ takes_all fails = absurd fails
 
-  pub taken_not_written : (kept set : Option LogMap) (sent : List ℕ) (result : Result (Unit {0}) CliFault) → TakesAll (told (end_at (takes None) [] kept) sent) (Ok tt) set
+  pub taken_not_written : (kept set : Option LogMap) (sent : List ℕ) (result : Result (Unit {0}) CliFault) → TakesAll (hears (end_at (awaits_ops None) [] kept) sent) (Ok tt) set
       → IfErr result (HeldFails contents set old new) → IfErr result (MadeFails contents (TakingIn kept sent) old new)
   taken_not_written kept set sent (Ok unit) takes_all fails = fails
   taken_not_written kept set sent (Err fault) takes_all fails = taken_failed kept set sent fault takes_all fails
@@ -85,7 +85,7 @@ module _ {W : Type 0} (contents : W → Option (List ℕ)) (output : Latched W) 
   lacking_refused view log asked message.BadMessage lacks = (((λ same. cc same), lacks), refl)
   lacking_refused view log asked message.FrameTooLong lacks = (((λ same. cc same), lacks), refl)
 
-  pub taking_refused : (kept set : Option LogMap) (sent : List ℕ) (fault : SyncFault) → TakesAll (told (end_at (takes None) [] kept) sent) (Err fault) set → MadeFails contents (TakingIn kept sent) output output (sync_fault fault)
+  pub taking_refused : (kept set : Option LogMap) (sent : List ℕ) (fault : SyncFault) → TakesAll (hears (end_at (awaits_ops None) [] kept) sent) (Err fault) set → MadeFails contents (TakingIn kept sent) output output (sync_fault fault)
   taking_refused kept set sent (sync.Talk talk.Memory) takes_all = refl
   taking_refused kept set sent (sync.Talk _) takes_all = (((λ same. cc same), (set, takes_all)), refl)
   taking_refused kept set sent sync.Write takes_all = absurd takes_all

@@ -7,7 +7,7 @@ use Rattle.mt_sync.specs.declared.fault.Side.{Side}
 use Rattle.mt_sync.specs.declared.fault.TalkFault.TheVariants as talk
 use Rattle.mt_sync.specs.declared.fault.SyncFault.{SyncFault}
 use Rattle.mt_sync.specs.declared.fault.SyncFault.TheVariants as sync
-use Rattle.mt_sync.specs.Conversation.{takes, told}
+use Rattle.mt_sync.specs.Conversation.{awaits_ops, hears}
 use Rattle.mt_sync.specs.Feeding.{end_at}
 use Rattle.mt_sync.specs.Conversing.{HasBytes, Lacks, TakesAll, conversant, ConversesAs, AreSound, Blames}
 use Rattle.mt_sync.specs.Leaving.{StaysOrFails}
@@ -32,8 +32,8 @@ Lacking log asked (Err _) = ⊥
 
 -- `take`: the text of the set that the log's editor comes to by these bytes, which end with Bye; of a set that may be gone
 abbrev pub TakingIn : Option LogMap → List ℕ → Result (List ℕ) CliFault → Type 0
-TakingIn old sent (Ok bytes) = (set : LogMap) × (TakesAll (told (end_at (takes None) [] old) sent) (Ok tt) (Some set) × (bytes ≡ text_of set))
-TakingIn old sent (Err (Sync fault)) = (fault ≢ sync.Talk talk.Memory) × ((set : Option LogMap) × TakesAll (told (end_at (takes None) [] old) sent) (Err fault) set)
+TakingIn old sent (Ok bytes) = (set : LogMap) × (TakesAll (hears (end_at (awaits_ops None) [] old) sent) (Ok tt) (Some set) × (bytes ≡ text_of set))
+TakingIn old sent (Err (Sync fault)) = (fault ≢ sync.Talk talk.Memory) × ((set : Option LogMap) × TakesAll (hears (end_at (awaits_ops None) [] old) sent) (Err fault) set)
 TakingIn old sent (Err _) = ⊥
 
 abbrev pub Taking : LogMap → List ℕ → Result (List ℕ) CliFault → Type 0

@@ -17,7 +17,7 @@ use Rattle.mt_sync.specs.declared.fault.TalkFault.TheVariants.{FrameTooLong}
 use Rattle.mt_sync.specs.declared.fault.Side.TheVariants.{Caller, Answerer}
 use Rattle.mt_summary.specs.Summary.{summary_of}
 use Rattle.mt_summary.specs.Messages.{Message, have, ops, bye, message_at}
-use Rattle.mt_sync.specs.Conversation.{Turn, greets, takes, ended, stopped, End, stop, goes_on, can_say, clashes, with_op, joined, taken, hears, heard, body_in, front_in, byte_in, told}
+use Rattle.mt_sync.specs.Conversation.{Turn, awaits_have, awaits_ops, ended, stopped, End, stop, goes_on, can_say, clashes, with_op, joined, taken, hears_message, hears_read, body_in, front_in, byte_in, hears}
 use Rattle.mt_sync.specs.Feeding.{end_at}
 
 abbrev pub Within : LogMap → LogMap → Type 0
@@ -69,24 +69,24 @@ taken_set : (turn : Turn) (set : LogMap) (clash : Option Dot) → (taken turn se
 taken_set turn set None = refl
 taken_set turn set (Some dot) = refl
 
-said_set : (b : Bool) (set : LogMap) (reply : List ℕ) → (cond b (goes_on (takes None) (Some set) reply) (stop FrameTooLong (Some set))).0.set ≡ Some set
+said_set : (b : Bool) (set : LogMap) (reply : List ℕ) → (cond b (goes_on (awaits_ops None) (Some set) reply) (stop FrameTooLong (Some set))).0.set ≡ Some set
 said_set true set reply = refl
 said_set false set reply = refl
 
 -- what a message does to a set: only operations change it, and they join
-pub hears_set : (turn : Turn) (m : Message) (set : LogMap) → ((hears turn m (Some set)).0.set ≡ Some set) ⊎ ((list : List Operation) × ((m ≡ ops list) × ((hears turn m (Some set)).0.set ≡ Some (joined set list).0)))
-hears_set (greets Caller) (have s) set = inl refl
-hears_set (greets Answerer) (have s) set = inl (said_set (can_say (summary_of set)) set _)
-hears_set (greets Caller) (ops list) set = inl refl
-hears_set (greets Answerer) (ops list) set = inl refl
-hears_set (greets Caller) bye set = inl refl
-hears_set (greets Answerer) bye set = inl refl
-hears_set (takes (Some s)) (have t) set = inl refl
-hears_set (takes None) (have t) set = inl refl
-hears_set (takes (Some s)) (ops list) set = inr (list, (refl, taken_set (takes (Some s)) (joined set list).0 (joined set list).1))
-hears_set (takes None) (ops list) set = inr (list, (refl, taken_set (takes None) (joined set list).0 (joined set list).1))
-hears_set (takes (Some s)) bye set = inl refl
-hears_set (takes None) bye set = inl refl
+pub hears_set : (turn : Turn) (m : Message) (set : LogMap) → ((hears_message turn m (Some set)).0.set ≡ Some set) ⊎ ((list : List Operation) × ((m ≡ ops list) × ((hears_message turn m (Some set)).0.set ≡ Some (joined set list).0)))
+hears_set (awaits_have Caller) (have s) set = inl refl
+hears_set (awaits_have Answerer) (have s) set = inl (said_set (can_say (summary_of set)) set _)
+hears_set (awaits_have Caller) (ops list) set = inl refl
+hears_set (awaits_have Answerer) (ops list) set = inl refl
+hears_set (awaits_have Caller) bye set = inl refl
+hears_set (awaits_have Answerer) bye set = inl refl
+hears_set (awaits_ops (Some s)) (have t) set = inl refl
+hears_set (awaits_ops None) (have t) set = inl refl
+hears_set (awaits_ops (Some s)) (ops list) set = inr (list, (refl, taken_set (awaits_ops (Some s)) (joined set list).0 (joined set list).1))
+hears_set (awaits_ops None) (ops list) set = inr (list, (refl, taken_set (awaits_ops None) (joined set list).0 (joined set list).1))
+hears_set (awaits_ops (Some s)) bye set = inl refl
+hears_set (awaits_ops None) bye set = inl refl
 hears_set ended (have t) set = inl refl
 hears_set ended (ops list) set = inl refl
 hears_set ended bye set = inl refl
@@ -94,7 +94,7 @@ hears_set (stopped f) (have t) set = inl refl
 hears_set (stopped f) (ops list) set = inl refl
 hears_set (stopped f) bye set = inl refl
 
-heard_grows : (turn : Turn) (m : Option Message) (set : LogMap) → Grows set (heard turn m (Some set)).0.set
+heard_grows : (turn : Turn) (m : Option Message) (set : LogMap) → Grows set (hears_read turn m (Some set)).0.set
 heard_grows turn None set = within_itself set
 heard_grows turn (Some m) set = elim (hears_set turn m set) [
   | inl same ↦ subst (Grows set) (sym same) (within_itself set)
@@ -112,8 +112,8 @@ front_grows turn set bytes (whole body rest) = body_grows turn set body
 
 byte_grows : (turn : Turn) (rest : List ℕ) (set : LogMap) (byte : ℕ) → Grows set (byte_in (end_at turn rest (Some set)) byte).0.set
 unfolding byte_in
-byte_grows (greets side) rest set byte = front_grows (greets side) set (rest ++ byte ∷ []) (front_of (rest ++ byte ∷ []))
-byte_grows (takes owed) rest set byte = front_grows (takes owed) set (rest ++ byte ∷ []) (front_of (rest ++ byte ∷ []))
+byte_grows (awaits_have side) rest set byte = front_grows (awaits_have side) set (rest ++ byte ∷ []) (front_of (rest ++ byte ∷ []))
+byte_grows (awaits_ops owed) rest set byte = front_grows (awaits_ops owed) set (rest ++ byte ∷ []) (front_of (rest ++ byte ∷ []))
 byte_grows ended rest set byte = within_itself set
 byte_grows (stopped f) rest set byte = within_itself set
 
@@ -121,6 +121,6 @@ byte_step : (turn : Turn) (rest : List ℕ) (set : Option LogMap) (byte : ℕ) (
 byte_step turn rest None byte own h = absurd h
 byte_step turn rest (Some set) byte own h = grows_trans own set (byte_in (end_at turn rest (Some set)) byte).0.set h (byte_grows turn rest set byte)
 
-pub told_grows : (end : End) (bytes : List ℕ) (own : LogMap) → Grows own end.set → Grows own (told end bytes).0.set
+pub told_grows : (end : End) (bytes : List ℕ) (own : LogMap) → Grows own end.set → Grows own (hears end bytes).0.set
 told_grows end [] own h = h
 told_grows end (byte ∷ bytes) own h = told_grows (byte_in end byte).0 bytes own (byte_step end.turn end.rest end.set byte own h)

@@ -13,65 +13,65 @@ use Rattle.mt_frames.specs.Frames.{body_len}
 use Rattle.mt_frames.proofs.Fronts.{whole_of}
 use Rattle.mt_sync.specs.declared.fault.TalkFault.{TalkFault}
 use Rattle.mt_sync.specs.declared.fault.TalkFault.TheVariants.{Memory, Conflict, Failed, BadMessage, OutOfTurn, FrameTooLong}
-use Rattle.mt_sync.specs.Conversation.{Turn, greets, takes, ended, stopped, End, Told, stop, body_in, told}
+use Rattle.mt_sync.specs.Conversation.{Turn, awaits_have, awaits_ops, ended, stopped, End, Heard, stop, body_in, hears}
 use Rattle.mt_sync.specs.Feeding.{IsOpen, IsGoing, Waits, end_at, ReadsBody, Hears, IsFaultOf, over_at}
 use Rattle.mt_sync.proofs.Cuts.{after, with_reply}
 use Rattle.mt_sync.proofs.Fronting.{told_stopped, told_ended, told_short, told_long, told_whole, told_again}
 
 -- what is still to be told, after these replies
-abbrev pub still : Turn → List ℕ → Option LogMap → List ℕ → Told
-still turn bytes set out = with_reply out (told (end_at turn [] set) bytes)
+abbrev pub still : Turn → List ℕ → Option LogMap → List ℕ → Heard
+still turn bytes set out = with_reply out (hears (end_at turn [] set) bytes)
 
-pub begins : (turn : Turn) (rest : List ℕ) (set : Option LogMap) (piece all out : List ℕ) → IsOpen turn → Waits turn rest → all ≡ rest ++ piece → out ≡ [] → still turn all set out ≡ told (end_at turn rest set) piece
-begins (greets side) rest set piece all out reads waits is none = rw (is, none) (told_again (greets side) rest set piece tt waits)
-begins (takes owed) rest set piece all out reads waits is none = rw (is, none) (told_again (takes owed) rest set piece tt waits)
+pub begins : (turn : Turn) (rest : List ℕ) (set : Option LogMap) (piece all out : List ℕ) → IsOpen turn → Waits turn rest → all ≡ rest ++ piece → out ≡ [] → still turn all set out ≡ hears (end_at turn rest set) piece
+begins (awaits_have side) rest set piece all out reads waits is none = rw (is, none) (told_again (awaits_have side) rest set piece tt waits)
+begins (awaits_ops owed) rest set piece all out reads waits is none = rw (is, none) (told_again (awaits_ops owed) rest set piece tt waits)
 begins ended rest set piece all out reads waits is none = absurd reads
 begins (stopped fault) rest set piece all out reads waits is none = absurd reads
 
 -- one more body was read
-pub moves_on : (turn : Turn) (bytes body rest : List ℕ) (set : Option LogMap) (out : List ℕ) (next : Turn) (new : Option LogMap) (more : List ℕ) (total : Told) → IsOpen turn → front_of bytes ≡ whole body rest → ReadsBody (body_in turn set body) (Ok tt) (end_at next [] new) out more → still turn bytes set out ≡ total → still next rest new more ≡ total
+pub moves_on : (turn : Turn) (bytes body rest : List ℕ) (set : Option LogMap) (out : List ℕ) (next : Turn) (new : Option LogMap) (more : List ℕ) (total : Heard) → IsOpen turn → front_of bytes ≡ whole body rest → ReadsBody (body_in turn set body) (Ok tt) (end_at next [] new) out more → still turn bytes set out ≡ total → still next rest new more ≡ total
 moves_on turn bytes body rest set out next new more total reads front taken so_far =
     let reply = taken.1.0 in
-    let one : told (end_at turn [] set) bytes ≡ after (end_at next [] new, reply) rest =
-    told_whole turn set bytes body rest reads front ∙ ap (λ (t : Told). after t rest) taken.1.1 in
-    let group = append_assoc out reply (told (end_at next [] new) rest).1 in
-    ap (λ (o : List ℕ). with_reply o (told (end_at next [] new) rest)) taken.1.2
-    ∙ ap (λ (o : List ℕ). ((told (end_at next [] new) rest).0, o)) group
+    let one : hears (end_at turn [] set) bytes ≡ after (end_at next [] new, reply) rest =
+    told_whole turn set bytes body rest reads front ∙ ap (λ (t : Heard). after t rest) taken.1.1 in
+    let group = append_assoc out reply (hears (end_at next [] new) rest).1 in
+    ap (λ (o : List ℕ). with_reply o (hears (end_at next [] new) rest)) taken.1.2
+    ∙ ap (λ (o : List ℕ). ((hears (end_at next [] new) rest).0, o)) group
     ∙ ap (with_reply out) (sym one) ∙ so_far
 
 is_going : (turn : Turn) → IsOpen turn → IsGoing turn
-is_going (greets side) h = tt
-is_going (takes owed) h = tt
+is_going (awaits_have side) h = tt
+is_going (awaits_ops owed) h = tt
 is_going ended h = tt
 is_going (stopped fault) h = absurd h
 
 pub waits_short : (turn : Turn) (rest : List ℕ) → IsOpen turn → front_of rest ≡ cut_short → Waits turn rest
-waits_short (greets side) rest h short = short
-waits_short (takes owed) rest h short = short
+waits_short (awaits_have side) rest h short = short
+waits_short (awaits_ops owed) rest h short = short
 waits_short ended rest h short = absurd h
 waits_short (stopped fault) rest h short = absurd h
 
 -- no frame is whole
-pub pauses : (turn : Turn) (bytes rest : List ℕ) (set : Option LogMap) (out : List ℕ) (total : Told) → IsOpen turn → front_of bytes ≡ cut_short → rest ≡ bytes → still turn bytes set out ≡ total → Hears total (Ok tt) (end_at turn rest set) out
+pub pauses : (turn : Turn) (bytes rest : List ℕ) (set : Option LogMap) (out : List ℕ) (total : Heard) → IsOpen turn → front_of bytes ≡ cut_short → rest ≡ bytes → still turn bytes set out ≡ total → Hears total (Ok tt) (end_at turn rest set) out
 pauses turn bytes rest set out total reads front same so_far = (
   is_going turn reads,
   waits_short turn rest reads (ap front_of same ∙ front),
   sym so_far ∙ ap (with_reply out) (told_short turn [] set bytes reads front) ∙ ap (λ (o : List ℕ). (end_at turn bytes set, o)) (append-nil out) ∙ ap (λ (l : List ℕ). (end_at turn l set, out)) (sym same),
 )
 
-pub refuses : (turn : Turn) (bytes : List ℕ) (set : Option LogMap) (out : List ℕ) (total : Told) (given : FrameFault) (fault : TalkFault) (next : Turn) (rest : List ℕ) → IsOpen turn → unread.TakesBody bytes (Err given) rest → IsFaultOf given fault → still turn bytes set out ≡ total → Hears total (Err fault) (end_at next rest set) out
+pub refuses : (turn : Turn) (bytes : List ℕ) (set : Option LogMap) (out : List ℕ) (total : Heard) (given : FrameFault) (fault : TalkFault) (next : Turn) (rest : List ℕ) → IsOpen turn → unread.TakesBody bytes (Err given) rest → IsFaultOf given fault → still turn bytes set out ≡ total → Hears total (Err fault) (end_at next rest set) out
 refuses turn bytes set out total frame.Memory fault next rest reads h is so_far = subst (λ (f : TalkFault). Hears total (Err f) (end_at next rest set) out) (sym is) tt
 refuses turn bytes set out total frame.TooLong fault next rest reads h is so_far =
     subst (λ (f : TalkFault). Hears total (Err f) (end_at next rest set) out) (sym is)
-    (ap (λ (t : Told). t.0) (sym so_far ∙ ap (with_reply out) (told_long turn set bytes reads h.0)))
+    (ap (λ (t : Heard). t.0) (sym so_far ∙ ap (with_reply out) (told_long turn set bytes reads h.0)))
 
 -- the end of an end that reading a body stopped
-stops_by : (turn : Turn) (bytes body rest : List ℕ) (set : Option LogMap) (out : List ℕ) (total : Told) (fault : TalkFault) (new : Option LogMap) → IsOpen turn → front_of bytes ≡ whole body rest → (body_in turn set body).0 ≡ (stop fault new).0 → still turn bytes set out ≡ total → total.0 ≡ (stop fault new).0
+stops_by : (turn : Turn) (bytes body rest : List ℕ) (set : Option LogMap) (out : List ℕ) (total : Heard) (fault : TalkFault) (new : Option LogMap) → IsOpen turn → front_of bytes ≡ whole body rest → (body_in turn set body).0 ≡ (stop fault new).0 → still turn bytes set out ≡ total → total.0 ≡ (stop fault new).0
 stops_by turn bytes body rest set out total fault new reads front is so_far =
-    ap (λ (t : Told). t.0) (sym so_far ∙ ap (with_reply out) (told_whole turn set bytes body rest reads front))
-    ∙ ap (λ (e : End). (told e rest).0) is ∙ ap (λ (t : Told). t.0) (told_stopped fault [] new rest)
+    ap (λ (t : Heard). t.0) (sym so_far ∙ ap (with_reply out) (told_whole turn set bytes body rest reads front))
+    ∙ ap (λ (e : End). (hears e rest).0) is ∙ ap (λ (t : Heard). t.0) (told_stopped fault [] new rest)
 
-pub stops : (fault : TalkFault) (turn : Turn) (bytes body rest : List ℕ) (set : Option LogMap) (out : List ℕ) (total : Told) (next : Turn) (new : Option LogMap) (more : List ℕ) → IsOpen turn → front_of bytes ≡ whole body rest → ReadsBody (body_in turn set body) (Err fault) (end_at next [] new) out more → still turn bytes set out ≡ total → Hears total (Err fault) (end_at next rest new) more
+pub stops : (fault : TalkFault) (turn : Turn) (bytes body rest : List ℕ) (set : Option LogMap) (out : List ℕ) (total : Heard) (next : Turn) (new : Option LogMap) (more : List ℕ) → IsOpen turn → front_of bytes ≡ whole body rest → ReadsBody (body_in turn set body) (Err fault) (end_at next [] new) out more → still turn bytes set out ≡ total → Hears total (Err fault) (end_at next rest new) more
 stops Memory turn bytes body rest set out total next new more reads front taken so_far = tt
 stops (Conflict dot) turn bytes body rest set out total next new more reads front taken so_far = stops_by turn bytes body rest set out total (Conflict dot) new reads front taken so_far
 stops Failed turn bytes body rest set out total next new more reads front taken so_far = stops_by turn bytes body rest set out total Failed new reads front taken so_far
@@ -80,9 +80,9 @@ stops OutOfTurn turn bytes body rest set out total next new more reads front tak
 stops FrameTooLong turn bytes body rest set out total next new more reads front taken so_far = stops_by turn bytes body rest set out total FrameTooLong new reads front taken so_far
 
 -- the turn is over, with bytes left or without
-pub ends : (next : Turn) (rest : List ℕ) (new : Option LogMap) (more : List ℕ) (total : Told) (last : Bool) (r : Result (Unit {0}) TalkFault) → IsGoing next → (IsOpen next → ⊥) → last ≡ eqb (length rest) 0 → r ≡ over_at last → still next rest new more ≡ total → Hears total r (end_at next rest new) more
-ends (greets side) rest new more total last r going over is ends_so so_far = absurd (over tt)
-ends (takes owed) rest new more total last r going over is ends_so so_far = absurd (over tt)
+pub ends : (next : Turn) (rest : List ℕ) (new : Option LogMap) (more : List ℕ) (total : Heard) (last : Bool) (r : Result (Unit {0}) TalkFault) → IsGoing next → (IsOpen next → ⊥) → last ≡ eqb (length rest) 0 → r ≡ over_at last → still next rest new more ≡ total → Hears total r (end_at next rest new) more
+ends (awaits_have side) rest new more total last r going over is ends_so so_far = absurd (over tt)
+ends (awaits_ops owed) rest new more total last r going over is ends_so so_far = absurd (over tt)
 ends (stopped fault) rest new more total last r going over is ends_so so_far = absurd going
 ends ended [] new more total last r going over is ends_so so_far =
     subst (λ (x : Result (Unit {0}) TalkFault). Hears total x (end_at ended [] new) more) (sym (ends_so ∙ ap over_at is))
@@ -90,7 +90,7 @@ ends ended [] new more total last r going over is ends_so so_far =
 ends ended (b ∷ rest) new more total last r going over is ends_so so_far =
     let false_is : eqb (length (b ∷ rest)) 0 ≡ false = ne_eqb (length (b ∷ rest)) 0 (λ e. omega (arith, e)) in
     subst (λ (x : Result (Unit {0}) TalkFault). Hears total x (end_at ended (b ∷ rest) new) more) (sym (ends_so ∙ ap over_at (is ∙ false_is)))
-    (ap (λ (t : Told). t.0) (sym so_far ∙ ap (with_reply more) (told_ended [] new b rest)))
+    (ap (λ (t : Heard). t.0) (sym so_far ∙ ap (with_reply more) (told_ended [] new b rest)))
 
 -- what is unread grows less
 pub shorter : (bytes : List ℕ) (body rest : List ℕ) → front_of bytes ≡ whole body rest → length rest < length bytes
@@ -115,14 +115,14 @@ pub is_not_over : (turn : Turn) (test : Bool) → (IsTrue test → IsOpen turn) 
 is_not_over turn test tells is = tells.0 is
 
 -- a turn that is over hears nothing more
-pub hears_nothing : (turn : Turn) (rest : List ℕ) (set : Option LogMap) (piece out : List ℕ) (r : Result (Unit {0}) TalkFault) → IsGoing turn → (IsOpen turn → ⊥) → Waits turn rest → out ≡ [] → r ≡ over_at (eqb (length piece) 0) → Hears (told (end_at turn rest set) piece) r (end_at turn rest set) out
-hears_nothing (greets side) rest set piece out r going over waits none is = absurd (over tt)
-hears_nothing (takes owed) rest set piece out r going over waits none is = absurd (over tt)
+pub hears_nothing : (turn : Turn) (rest : List ℕ) (set : Option LogMap) (piece out : List ℕ) (r : Result (Unit {0}) TalkFault) → IsGoing turn → (IsOpen turn → ⊥) → Waits turn rest → out ≡ [] → r ≡ over_at (eqb (length piece) 0) → Hears (hears (end_at turn rest set) piece) r (end_at turn rest set) out
+hears_nothing (awaits_have side) rest set piece out r going over waits none is = absurd (over tt)
+hears_nothing (awaits_ops owed) rest set piece out r going over waits none is = absurd (over tt)
 hears_nothing (stopped fault) rest set piece out r going over waits none is = absurd going
 hears_nothing ended rest set [] out r going over waits none is =
     subst (λ (x : Result (Unit {0}) TalkFault). Hears (end_at ended rest set, []) x (end_at ended rest set) out) (sym is)
     (tt, waits, ap (λ (o : List ℕ). (end_at ended rest set, o)) (sym none))
 hears_nothing ended rest set (b ∷ piece) out r going over waits none is =
     let false_is : eqb (length (b ∷ piece)) 0 ≡ false = ne_eqb (length (b ∷ piece)) 0 (λ e. omega (arith, e)) in
-    subst (λ (x : Result (Unit {0}) TalkFault). Hears (told (end_at ended rest set) (b ∷ piece)) x (end_at ended rest set) out) (sym (is ∙ ap over_at false_is))
-    (ap (λ (t : Told). t.0) (told_ended rest set b piece))
+    subst (λ (x : Result (Unit {0}) TalkFault). Hears (hears (end_at ended rest set) (b ∷ piece)) x (end_at ended rest set) out) (sym (is ∙ ap over_at false_is))
+    (ap (λ (t : Heard). t.0) (told_ended rest set b piece))

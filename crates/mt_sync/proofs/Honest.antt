@@ -24,7 +24,7 @@ use Rattle.mt_summary.proofs.Texts.{message_again}
 use Rattle.mt_summary.proofs.Cutting.{are_packs}
 use Rattle.mt_sync.specs.declared.fault.TalkFault.TheVariants.{FrameTooLong}
 use Rattle.mt_sync.specs.declared.fault.Side.TheVariants.{Caller, Answerer}
-use Rattle.mt_sync.specs.Conversation.{Turn, greets, takes, ended, stopped, End, Told, answer, can_say, stop, goes_on, taken, with_op, joined, clashes, hears, heard, body_in, told}
+use Rattle.mt_sync.specs.Conversation.{Turn, awaits_have, awaits_ops, ended, stopped, End, Heard, answer, can_say, stop, goes_on, taken, with_op, joined, clashes, hears_message, hears_read, body_in, hears}
 use Rattle.mt_sync.specs.Feeding.{IsOpen, end_at}
 use Rattle.mt_sync.specs.Laws.{honest, IsBetween, FrontsAreHonest}
 use Rattle.mt_sync.proofs.Cuts.{after, told-append}
@@ -38,25 +38,25 @@ taken_rest : (turn : Turn) (set : LogMap) (clash : Option Dot) → (taken turn s
 taken_rest turn set None = refl
 taken_rest turn set (Some dot) = refl
 
-said_rest : (b : Bool) (set : LogMap) (reply : List ℕ) → (cond b (goes_on (takes None) (Some set) reply) (stop FrameTooLong (Some set))).0.rest ≡ []
+said_rest : (b : Bool) (set : LogMap) (reply : List ℕ) → (cond b (goes_on (awaits_ops None) (Some set) reply) (stop FrameTooLong (Some set))).0.rest ≡ []
 said_rest true set reply = refl
 said_rest false set reply = refl
 
-hears_rest : (turn : Turn) (m : Message) (set : Option LogMap) → (hears turn m set).0.rest ≡ []
-hears_rest (greets Caller) (have s) set = refl
-hears_rest (greets Answerer) (have s) None = refl
-hears_rest (greets Answerer) (have s) (Some set) = said_rest (can_say (summary_of set)) set _
-hears_rest (greets Caller) (ops list) set = refl
-hears_rest (greets Answerer) (ops list) set = refl
-hears_rest (greets Caller) bye set = refl
-hears_rest (greets Answerer) bye set = refl
-hears_rest (takes (Some s)) (have t) set = refl
-hears_rest (takes None) (have t) set = refl
-hears_rest (takes owed) (ops list) None = refl
-hears_rest (takes owed) (ops list) (Some set) = taken_rest (takes owed) (joined set list).0 (joined set list).1
-hears_rest (takes (Some s)) bye None = refl
-hears_rest (takes (Some s)) bye (Some set) = refl
-hears_rest (takes None) bye set = refl
+hears_rest : (turn : Turn) (m : Message) (set : Option LogMap) → (hears_message turn m set).0.rest ≡ []
+hears_rest (awaits_have Caller) (have s) set = refl
+hears_rest (awaits_have Answerer) (have s) None = refl
+hears_rest (awaits_have Answerer) (have s) (Some set) = said_rest (can_say (summary_of set)) set _
+hears_rest (awaits_have Caller) (ops list) set = refl
+hears_rest (awaits_have Answerer) (ops list) set = refl
+hears_rest (awaits_have Caller) bye set = refl
+hears_rest (awaits_have Answerer) bye set = refl
+hears_rest (awaits_ops (Some s)) (have t) set = refl
+hears_rest (awaits_ops None) (have t) set = refl
+hears_rest (awaits_ops owed) (ops list) None = refl
+hears_rest (awaits_ops owed) (ops list) (Some set) = taken_rest (awaits_ops owed) (joined set list).0 (joined set list).1
+hears_rest (awaits_ops (Some s)) bye None = refl
+hears_rest (awaits_ops (Some s)) bye (Some set) = refl
+hears_rest (awaits_ops None) bye set = refl
 hears_rest ended (have t) set = refl
 hears_rest ended (ops list) set = refl
 hears_rest ended bye set = refl
@@ -64,39 +64,39 @@ hears_rest (stopped f) (have t) set = refl
 hears_rest (stopped f) (ops list) set = refl
 hears_rest (stopped f) bye set = refl
 
-heard_rest : (turn : Turn) (m : Option Message) (set : Option LogMap) → (heard turn m set).0.rest ≡ []
+heard_rest : (turn : Turn) (m : Option Message) (set : Option LogMap) → (hears_read turn m set).0.rest ≡ []
 heard_rest turn None set = refl
 heard_rest turn (Some m) set = hears_rest turn m set
 
 body_rest : (turn : Turn) (set : Option LogMap) (body : List ℕ) → (body_in turn set body).0 ≡ end_at (body_in turn set body).0.turn [] (body_in turn set body).0.set
 unfolding body_in
-body_rest turn set body = ap (λ (l : List ℕ). end_at (heard turn (message_at body) set).0.turn l (heard turn (message_at body) set).0.set) (heard_rest turn (message_at body) set)
+body_rest turn set body = ap (λ (l : List ℕ). end_at (hears_read turn (message_at body) set).0.turn l (hears_read turn (message_at body) set).0.set) (heard_rest turn (message_at body) set)
 
 -- ---- what bodies keep, whole streams of them keep
 
 abbrev Keeps : (Option LogMap → Type 0) → List ℕ → Type 0
 Keeps P body = (length body ≤ longest_body) × ((turn : Turn) (set : Option LogMap) → P set → P (body_in turn set body).0.set)
 
-frames_keep : (P : Option LogMap → Type 0) (bodies : List (List ℕ)) → AllByRecursion (Keeps P) bodies → (turn : Turn) (set : Option LogMap) → P set → P (told (end_at turn [] set) (flat_map frame_text bodies)).0.set
+frames_keep : (P : Option LogMap → Type 0) (bodies : List (List ℕ)) → AllByRecursion (Keeps P) bodies → (turn : Turn) (set : Option LogMap) → P set → P (hears (end_at turn [] set) (flat_map frame_text bodies)).0.set
 frames_keep P [] keep turn set h = h
 frames_keep P (body ∷ bodies) keep turn set h = by turn (λ t s k. frames_keep P bodies keep.1 t s k)
   where
-    reads : (t : Turn) → IsOpen t → ((u : Turn) (s : Option LogMap) → P s → P (told (end_at u [] s) (flat_map frame_text bodies)).0.set) → P (told (end_at t [] set) (frame_text body ++ flat_map frame_text bodies)).0.set
+    reads : (t : Turn) → IsOpen t → ((u : Turn) (s : Option LogMap) → P s → P (hears (end_at u [] s) (flat_map frame_text bodies)).0.set) → P (hears (end_at t [] set) (frame_text body ++ flat_map frame_text bodies)).0.set
     reads t is rest =
-        let one : told (end_at t [] set) (frame_text body ++ flat_map frame_text bodies) ≡ after (body_in t set body) (flat_map frame_text bodies) =
+        let one : hears (end_at t [] set) (frame_text body ++ flat_map frame_text bodies) ≡ after (body_in t set body) (flat_map frame_text bodies) =
         told_whole t set (frame_text body ++ flat_map frame_text bodies) body (flat_map frame_text bodies) is (front_again body (flat_map frame_text bodies) keep.0.0) in
-        subst (λ (u : Told). P u.0.set) (sym one)
-        (subst (λ (e : End). P (told e (flat_map frame_text bodies)).0.set) (sym (body_rest t set body)) (rest (body_in t set body).0.turn (body_in t set body).0.set (keep.0.1 t set h)))
+        subst (λ (u : Heard). P u.0.set) (sym one)
+        (subst (λ (e : End). P (hears e (flat_map frame_text bodies)).0.set) (sym (body_rest t set body)) (rest (body_in t set body).0.turn (body_in t set body).0.set (keep.0.1 t set h)))
 
-    over : (bytes : List ℕ) → P (told (end_at ended [] set) bytes).0.set
+    over : (bytes : List ℕ) → P (hears (end_at ended [] set) bytes).0.set
     over [] = h
-    over (b ∷ bytes) = subst (λ (u : Told). P u.0.set) (sym (told_ended [] set b bytes)) h
+    over (b ∷ bytes) = subst (λ (u : Heard). P u.0.set) (sym (told_ended [] set b bytes)) h
 
-    by : (t : Turn) → ((u : Turn) (s : Option LogMap) → P s → P (told (end_at u [] s) (flat_map frame_text bodies)).0.set) → P (told (end_at t [] set) (frame_text body ++ flat_map frame_text bodies)).0.set
-    by (greets side) rest = reads (greets side) tt rest
-    by (takes owed) rest = reads (takes owed) tt rest
+    by : (t : Turn) → ((u : Turn) (s : Option LogMap) → P s → P (hears (end_at u [] s) (flat_map frame_text bodies)).0.set) → P (hears (end_at t [] set) (frame_text body ++ flat_map frame_text bodies)).0.set
+    by (awaits_have side) rest = reads (awaits_have side) tt rest
+    by (awaits_ops owed) rest = reads (awaits_ops owed) tt rest
     by ended rest = over (frame_text body ++ flat_map frame_text bodies)
-    by (stopped f) rest = subst (λ (u : Told). P u.0.set) (sym (told_stopped f [] set (frame_text body ++ flat_map frame_text bodies))) h
+    by (stopped f) rest = subst (λ (u : Heard). P u.0.set) (sym (told_stopped f [] set (frame_text body ++ flat_map frame_text bodies))) h
 
 -- ---- nothing comes but from the two sets
 
@@ -135,10 +135,10 @@ abbrev There : LogMap → Operation → Type 0
 There other o = fin.get other (op_dot o) ≡ Some o
 
 -- a message that is not of operations
-not_ops : (turn : Turn) (m : Message) (set : LogMap) → ((list : List Operation) → m ≡ ops list → ⊥) → (hears turn m (Some set)).0.set ≡ Some set
+not_ops : (turn : Turn) (m : Message) (set : LogMap) → ((list : List Operation) → m ≡ ops list → ⊥) → (hears_message turn m (Some set)).0.set ≡ Some set
 not_ops turn m set none = elim (hears_set turn m set) [ inl same ↦ same | inr grown ↦ absurd (none grown.0 grown.1.0) ]
 
-have_heard : (turn : Turn) (set : LogMap) (r : Result (Summary × List ℕ) ReadFault) → (heard turn (whole_have r) (Some set)).0.set ≡ Some set
+have_heard : (turn : Turn) (set : LogMap) (r : Result (Summary × List ℕ) ReadFault) → (hears_read turn (whole_have r) (Some set)).0.set ≡ Some set
 have_heard turn set (Ok (s, [])) = not_ops turn (have s) set (λ list e. cc)
 have_heard turn set (Ok (s, b ∷ left)) = refl
 have_heard turn set (Err f) = refl
@@ -147,13 +147,13 @@ have_body : (turn : Turn) (set : LogMap) (bytes : List ℕ) → (body_in turn (S
 unfolding body_in message_at
 have_body turn set bytes = by (ltb longest_body (length (1 ∷ bytes)))
   where
-    by : (b : Bool) → (heard turn (cond b None (whole_have (counted_at bytes))) (Some set)).0.set ≡ Some set
+    by : (b : Bool) → (hears_read turn (cond b None (whole_have (counted_at bytes))) (Some set)).0.set ≡ Some set
     by true = refl
     by false = have_heard turn set (counted_at bytes)
 
-read_body : (turn : Turn) (set : Option LogMap) (body : List ℕ) (m : Message) → message_at body ≡ Some m → (body_in turn set body).0.set ≡ (hears turn m set).0.set
+read_body : (turn : Turn) (set : Option LogMap) (body : List ℕ) (m : Message) → message_at body ≡ Some m → (body_in turn set body).0.set ≡ (hears_message turn m set).0.set
 unfolding body_in
-read_body turn set body m is = ap (λ (x : Option Message). (heard turn x set).0.set) is
+read_body turn set body m is = ap (λ (x : Option Message). (hears_read turn x set).0.set) is
 
 ops_body : (own other : LogMap) (turn : Turn) (set : LogMap) (list : List Operation) → IsMessage (ops list) → length (ops_text list) ≤ longest_body → AllByRecursion (There other) list → Gains own other set → GainsIn own other (body_in turn (Some set) (ops_text list)).0.set
 ops_body own other turn set list is short there gains =
@@ -269,13 +269,13 @@ lacking_there : (other : LogMap) (asked : Summary) → AreLogged (operations oth
 unfolding lacking
 lacking_there other asked is all_of = all_filter (There other) (λ o. not (covers asked (op_dot o))) (operations other) (all_there other is all_of)
 
-whole_gains : (turn : Turn) (own greeting other : LogMap) (asked : Summary) → AreLogged (operations other) → log_of (operations other) ≡ other → can_say (summary_of greeting) ≡ true → GainsIn own other (told (end_at turn [] (Some own)) (honest greeting other asked)).0.set
+whole_gains : (turn : Turn) (own greeting other : LogMap) (asked : Summary) → AreLogged (operations other) → log_of (operations other) ≡ other → can_say (summary_of greeting) ≡ true → GainsIn own other (hears (end_at turn [] (Some own)) (honest greeting other asked)).0.set
 whole_gains turn own greeting other asked is all_of says =
     let s = summary_of greeting in
     let short : length (have_text s) ≤ longest_body = leb-true (length (have_text s)) longest_body says in
     let keep : AllByRecursion (Keeps (GainsIn own other)) (have_text s ∷ bodies_of (packs (lacking other asked))) =
     ((short, in_some own other (have_text s) (λ turn set gains. subst (GainsIn own other) (sym (have_body turn set _)) gains)), bodies_keep own other (packs (lacking other asked)) (packs_logged (lacking other asked) (lacking_logged other asked is)) (packs_there (There other) (lacking other asked) (lacking_there other asked is all_of))) in
-    subst (λ (l : List ℕ). GainsIn own other (told (end_at turn [] (Some own)) (frame_text (have_text s) ++ l)).0.set) (answer_text other asked)
+    subst (λ (l : List ℕ). GainsIn own other (hears (end_at turn [] (Some own)) (frame_text (have_text s) ++ l)).0.set) (answer_text other asked)
     (frames_keep (GainsIn own other) (have_text s ∷ bodies_of (packs (lacking other asked))) keep turn (Some own) (λ dot o h. inl h))
 
 -- a front of it has no more than the whole
@@ -286,11 +286,11 @@ front_gains own other (Some s) (Some t) more gains keeps = (s, (refl, record { k
 
 pub fronts_are_honest : (other : LogMap) → AreLogged (operations other) → log_of (operations other) ≡ other → FrontsAreHonest other
 fronts_are_honest other is all_of side own greeting asked bytes more says parts =
-    let start = end_at (greets side) [] (Some own) in
-    let front = told start bytes in
-    let gained : GainsIn own other (told front.0 more).0.set =
-    subst (λ (t : Told). GainsIn own other t.0.set) (told-append start bytes more)
-    (subst (λ (l : List ℕ). GainsIn own other (told start l).0.set) (sym parts) (whole_gains (greets side) own greeting other asked is all_of says)) in
-    let found = front_gains own other front.0.set (told front.0 more).0.set
+    let start = end_at (awaits_have side) [] (Some own) in
+    let front = hears start bytes in
+    let gained : GainsIn own other (hears front.0 more).0.set =
+    subst (λ (t : Heard). GainsIn own other t.0.set) (told-append start bytes more)
+    (subst (λ (l : List ℕ). GainsIn own other (hears start l).0.set) (sym parts) (whole_gains (awaits_have side) own greeting other asked is all_of says)) in
+    let found = front_gains own other front.0.set (hears front.0 more).0.set
     (λ s at. told_grows front.0 more s (subst (Grows s) (sym at) (within_itself s))) gained (told_grows start bytes own (within_itself own)) in
     record { set = found.0; held = found.1.0; between = found.1.1 }

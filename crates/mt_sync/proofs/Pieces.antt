@@ -8,7 +8,7 @@ use Rattle.mt_latch.specs.Latch.{AppendsPrefix}
 use Rattle.mt_sync.specs.declared.fault.TalkFault.{TalkFault}
 use Rattle.mt_sync.specs.declared.fault.TalkFault.TheVariants.{Memory, Conflict, Failed, BadMessage, OutOfTurn, FrameTooLong}
 use Rattle.mt_sync.specs.declared.fault.SyncFault.TheVariants as fault
-use Rattle.mt_sync.specs.Conversation.{Turn, greets, takes, ended, stopped, End, Told, told}
+use Rattle.mt_sync.specs.Conversation.{Turn, awaits_have, awaits_ops, ended, stopped, End, Heard, hears}
 use Rattle.mt_sync.specs.Feeding.{IsGoing, IsOpen, Fed, FeedsAt, Feeds}
 use Rattle.mt_sync.specs.Conversing.{StopsBy, Outcome, conversant, Converses}
 use Rattle.mt_sync.specs.declared.fault.SyncFault.{SyncFault}
@@ -17,8 +17,8 @@ use Rattle.mt_sync.proofs.Leaving.{left_after}
 use Rattle.mt_sync.proofs.Cuts.{after, told-append}
 
 pub open_goes : (turn : Turn) → IsOpen turn → IsGoing turn
-open_goes (greets side) h = tt
-open_goes (takes owed) h = tt
+open_goes (awaits_have side) h = tt
+open_goes (awaits_ops owed) h = tt
 open_goes ended h = absurd h
 open_goes (stopped fault) h = absurd h
 
@@ -27,30 +27,30 @@ pub record Goes (start : End) (read read' written written' : Option (List ℕ)) 
   pub bytes : List ℕ
   pub reply : List ℕ
   pub consumed : Consumes read read' bytes
-  pub told_so : told start bytes ≡ (end, reply)
+  pub told_so : hears start bytes ≡ (end, reply)
   pub appended : Appends written written' reply
 
 pub starts : (start : End) (a b : Option (List ℕ)) → Goes start a a b b start
 starts start a b = record { bytes = []; reply = []; consumed = Consumes-nil a; told_so = refl; appended = Appends-nil b }
 
-fed_at : {X : Type 0} (view : X → List ℕ) (turn : Turn) (old : End) (piece : List ℕ) (r : Result X TalkFault) (new : End) → IsGoing turn → FeedsAt view turn old piece r new → Fed view (told old piece) r new
-fed_at view (greets side) old piece r new going h = h
-fed_at view (takes owed) old piece r new going h = h
+fed_at : {X : Type 0} (view : X → List ℕ) (turn : Turn) (old : End) (piece : List ℕ) (r : Result X TalkFault) (new : End) → IsGoing turn → FeedsAt view turn old piece r new → Fed view (hears old piece) r new
+fed_at view (awaits_have side) old piece r new going h = h
+fed_at view (awaits_ops owed) old piece r new going h = h
 fed_at view ended old piece r new going h = h
 fed_at view (stopped fault) old piece r new going h = absurd going
 
-pub fed_going : {X : Type 0} (view : X → List ℕ) (old : End) (piece : List ℕ) (r : Result X TalkFault) (new : End) → IsGoing old.turn → Feeds view old piece r new → Fed view (told old piece) r new
+pub fed_going : {X : Type 0} (view : X → List ℕ) (old : End) (piece : List ℕ) (r : Result X TalkFault) (new : End) → IsGoing old.turn → Feeds view old piece r new → Fed view (hears old piece) r new
 fed_going view old piece r new going h = fed_at view old.turn old piece r new going h
 
-told_more : (start : End) (bytes piece : List ℕ) (end : End) (reply : List ℕ) → told start bytes ≡ (end, reply) → told start (bytes ++ piece) ≡ ((told end piece).0, reply ++ (told end piece).1)
-told_more start bytes piece end reply is = told-append start bytes piece ∙ ap (λ (t : Told). after t piece) is
+told_more : (start : End) (bytes piece : List ℕ) (end : End) (reply : List ℕ) → hears start bytes ≡ (end, reply) → hears start (bytes ++ piece) ≡ ((hears end piece).0, reply ++ (hears end piece).1)
+told_more start bytes piece end reply is = told-append start bytes piece ∙ ap (λ (t : Heard). after t piece) is
 
-pub goes_on : (start : End) (a b c d e f : Option (List ℕ)) (end new : End) (piece more : List ℕ) → Goes start a b d e end → Consumes b c piece → told end piece ≡ (new, more) → Appends e f more → Goes start a c d f new
+pub goes_on : (start : End) (a b c d e f : Option (List ℕ)) (end new : End) (piece more : List ℕ) → Goes start a b d e end → Consumes b c piece → hears end piece ≡ (new, more) → Appends e f more → Goes start a c d f new
 goes_on start a b c d e f end new piece more g took fed put = record {
   bytes = g.bytes ++ piece;
   reply = g.reply ++ more;
   consumed = Consumes-trans a b c g.bytes piece g.consumed took;
-  told_so = told_more start g.bytes piece end g.reply g.told_so ∙ ap (λ (t : Told). (t.0, g.reply ++ t.1)) fed;
+  told_so = told_more start g.bytes piece end g.reply g.told_so ∙ ap (λ (t : Heard). (t.0, g.reply ++ t.1)) fed;
   appended = Appends-trans d e f g.reply more g.appended put;
 }
 
@@ -81,8 +81,8 @@ pub is_done : (start : End) (a b c d : Option (List ℕ)) (end : End) → Goes s
 is_done start a b c d end g is = record {
   bytes = g.bytes;
   consumed = g.consumed;
-  prefix = subst (AppendsPrefix c d) (sym (ap (λ (t : Told). t.1) g.told_so)) (whole_prefix c d g.reply g.appended);
-  outcome = subst (λ (t : Told). Outcome t c d end.set (Ok tt)) (sym g.told_so) (is, refl, g.appended);
+  prefix = subst (AppendsPrefix c d) (sym (ap (λ (t : Heard). t.1) g.told_so)) (whole_prefix c d g.reply g.appended);
+  outcome = subst (λ (t : Heard). Outcome t c d end.set (Ok tt)) (sym g.told_so) (is, refl, g.appended);
   left = λ e. absurd (no_refusal e);
 }
 
@@ -91,8 +91,8 @@ pub is_unread : (start : End) (a b b' c d : Option (List ℕ)) (end : End) → G
 is_unread start a b b' c d end g kept = record {
   bytes = g.bytes;
   consumed = Consumes-kept a b b' g.bytes g.consumed kept;
-  prefix = subst (AppendsPrefix c d) (sym (ap (λ (t : Told). t.1) g.told_so)) (whole_prefix c d g.reply g.appended);
-  outcome = ap (λ (t : Told). t.0.set) g.told_so;
+  prefix = subst (AppendsPrefix c d) (sym (ap (λ (t : Heard). t.1) g.told_so)) (whole_prefix c d g.reply g.appended);
+  outcome = ap (λ (t : Heard). t.0.set) g.told_so;
   left = λ e. absurd (no_read e);
 }
 
@@ -101,8 +101,8 @@ pub is_unfinished : (start : End) (a b b' c d : Option (List ℕ)) (end : End) �
 is_unfinished start a b b' c d end g none not_ended = record {
   bytes = g.bytes;
   consumed = subst (Consumes a b') (append-nil g.bytes) (Consumes-trans a b b' g.bytes [] g.consumed none);
-  prefix = subst (AppendsPrefix c d) (sym (ap (λ (t : Told). t.1) g.told_so)) (whole_prefix c d g.reply g.appended);
-  outcome = subst (λ (t : Told). Outcome t c d end.set (Err fault.Ended)) (sym g.told_so) (not_ended, refl);
+  prefix = subst (AppendsPrefix c d) (sym (ap (λ (t : Heard). t.1) g.told_so)) (whole_prefix c d g.reply g.appended);
+  outcome = subst (λ (t : Heard). Outcome t c d end.set (Err fault.Ended)) (sym g.told_so) (not_ended, refl);
   left = λ e. absurd (no_end e);
 }
 
@@ -115,18 +115,18 @@ longer_prefix a b c xs ys h k =
     taken xs ys n = ap₂ (λ (u v : List ℕ). u ++ take n v) (sym (take_at xs ys (length xs) refl)) (sym (drop_at xs ys (length xs) refl)) ∙ sym (take-add (length xs) n (xs ++ ys))
 
 -- the writer failed at the reply to a piece
-pub is_unwritten : (start : End) (a b b' c d d' : Option (List ℕ)) (end new : End) (piece more : List ℕ) → Goes start a b c d end → Consumes b b' piece → told end piece ≡ (new, more) → AppendsPrefix d d' more → Converses start (conversant start.set a c) (conversant new.set b' d') (Err fault.Write)
+pub is_unwritten : (start : End) (a b b' c d d' : Option (List ℕ)) (end new : End) (piece more : List ℕ) → Goes start a b c d end → Consumes b b' piece → hears end piece ≡ (new, more) → AppendsPrefix d d' more → Converses start (conversant start.set a c) (conversant new.set b' d') (Err fault.Write)
 is_unwritten start a b b' c d d' end new piece more g took fed put =
-    let all = told_more start g.bytes piece end g.reply g.told_so ∙ ap (λ (t : Told). (t.0, g.reply ++ t.1)) fed in
+    let all = told_more start g.bytes piece end g.reply g.told_so ∙ ap (λ (t : Heard). (t.0, g.reply ++ t.1)) fed in
     record {
       bytes = g.bytes ++ piece;
       consumed = Consumes-trans a b b' g.bytes piece g.consumed took;
-      prefix = subst (AppendsPrefix c d') (sym (ap (λ (t : Told). t.1) all)) (longer_prefix c d d' g.reply more g.appended put);
-      outcome = ap (λ (t : Told). t.0.set) all;
+      prefix = subst (AppendsPrefix c d') (sym (ap (λ (t : Heard). t.1) all)) (longer_prefix c d d' g.reply more g.appended put);
+      outcome = ap (λ (t : Heard). t.0.set) all;
       left = λ e. absurd (no_write e);
     }
 
-stops_by : (f : TalkFault) (t : Told) (end : End) (new : End) → Fed {X = List ℕ} (λ l. l) t (Err f) new → StopsBy t.0 new.set f
+stops_by : (f : TalkFault) (t : Heard) (end : End) (new : End) → Fed {X = List ℕ} (λ l. l) t (Err f) new → StopsBy t.0 new.set f
 stops_by Memory t end new h = tt
 stops_by (Conflict dot) t end new h = (ap (λ (e : End). e.turn) h.0 ∙ h.1, ap (λ (e : End). e.set) h.0)
 stops_by Failed t end new h = (ap (λ (e : End). e.turn) h.0 ∙ h.1, ap (λ (e : End). e.set) h.0)
@@ -135,14 +135,14 @@ stops_by OutOfTurn t end new h = (ap (λ (e : End). e.turn) h.0 ∙ h.1, ap (λ 
 stops_by FrameTooLong t end new h = (ap (λ (e : End). e.turn) h.0 ∙ h.1, ap (λ (e : End). e.set) h.0)
 
 -- the talk stopped at a piece
-pub is_stopped : (start : End) (a b b' c d : Option (List ℕ)) (end new : End) (piece : List ℕ) (f : TalkFault) → Goes start a b c d end → Consumes b b' piece → Fed {X = List ℕ} (λ l. l) (told end piece) (Err f) new → (f ≡ Memory → IsLeft end piece new.set) → Converses start (conversant start.set a c) (conversant new.set b' d) (Err (fault.Talk f))
+pub is_stopped : (start : End) (a b b' c d : Option (List ℕ)) (end new : End) (piece : List ℕ) (f : TalkFault) → Goes start a b c d end → Consumes b b' piece → Fed {X = List ℕ} (λ l. l) (hears end piece) (Err f) new → (f ≡ Memory → IsLeft end piece new.set) → Converses start (conversant start.set a c) (conversant new.set b' d) (Err (fault.Talk f))
 is_stopped start a b b' c d end new piece f g took fed left =
     let all = told_more start g.bytes piece end g.reply g.told_so in
     record {
       bytes = g.bytes ++ piece;
       consumed = Consumes-trans a b b' g.bytes piece g.consumed took;
-      prefix = subst (AppendsPrefix c d) (sym (ap (λ (t : Told). t.1) all)) (longer_prefix c d d g.reply (told end piece).1 g.appended (0, Appends-nil d));
-      outcome = subst (λ (t : Told). StopsBy t.0 new.set f) (sym all) (stops_by f (told end piece) end new fed);
+      prefix = subst (AppendsPrefix c d) (sym (ap (λ (t : Heard). t.1) all)) (longer_prefix c d d g.reply (hears end piece).1 g.appended (0, Appends-nil d));
+      outcome = subst (λ (t : Heard). StopsBy t.0 new.set f) (sym all) (stops_by f (hears end piece) end new fed);
       left = λ e. left_after start g.bytes piece end g.reply new.set g.told_so (left (of_talk f e));
     }
 
@@ -150,7 +150,7 @@ is_stopped start a b b' c d end new piece f g took fed left =
 pub read_of : (a b : Option (List ℕ)) (count : ℕ) (buf piece : List ℕ) → Consumes a b (take count buf) → piece ≡ take count buf → Consumes a b piece
 read_of a b count buf piece h is = subst (Consumes a b) (sym is) h
 
-pub stopped_fed : {X : Type 0} (view : X → List ℕ) (f : TalkFault) (t : Told) (new : End) → Fed view t (Err f) new → Fed {X = List ℕ} (λ l. l) t (Err f) new
+pub stopped_fed : {X : Type 0} (view : X → List ℕ) (f : TalkFault) (t : Heard) (new : End) → Fed view t (Err f) new → Fed {X = List ℕ} (λ l. l) t (Err f) new
 stopped_fed view Memory t new h = h
 stopped_fed view (Conflict dot) t new h = h
 stopped_fed view Failed t new h = h
@@ -158,5 +158,5 @@ stopped_fed view BadMessage t new h = h
 stopped_fed view OutOfTurn t new h = h
 stopped_fed view FrameTooLong t new h = h
 
-pub feed_stopped : {X : Type 0} (view : X → List ℕ) (old : End) (piece : List ℕ) (f : TalkFault) (new : End) → IsGoing old.turn → Feeds view old piece (Err f) new → Fed {X = List ℕ} (λ l. l) (told old piece) (Err f) new
-feed_stopped view old piece f new going h = stopped_fed view f (told old piece) new (fed_going view old piece (Err f) new going h)
+pub feed_stopped : {X : Type 0} (view : X → List ℕ) (old : End) (piece : List ℕ) (f : TalkFault) (new : End) → IsGoing old.turn → Feeds view old piece (Err f) new → Fed {X = List ℕ} (λ l. l) (hears old piece) (Err f) new
+feed_stopped view old piece f new going h = stopped_fed view f (hears old piece) new (fed_going view old piece (Err f) new going h)

@@ -10,14 +10,14 @@ use Rattle.mt_summary.specs.Messages.{Message, have, ops, bye, have_text, messag
 use Rattle.mt_sync.specs.declared.fault.TalkFault.{TalkFault}
 use Rattle.mt_sync.specs.declared.fault.TalkFault.TheVariants.{BadMessage, OutOfTurn, FrameTooLong}
 use Rattle.mt_sync.specs.declared.fault.Side.TheVariants.{Caller, Answerer}
-use Rattle.mt_sync.specs.Conversation.{Turn, greets, takes, ended, stopped, Told, stop, goes_on, can_say, taken, hears, heard, body_in, told}
+use Rattle.mt_sync.specs.Conversation.{Turn, awaits_have, awaits_ops, ended, stopped, Heard, stop, goes_on, can_say, taken, hears_message, hears_read, body_in, hears}
 use Rattle.mt_sync.specs.Feeding.{IsOpen, end_at}
 use Rattle.mt_sync.specs.Laws.{FramesAreHeard, EndsStop, is_due}
 use Rattle.mt_sync.proofs.Cuts.{after}
 use Rattle.mt_sync.proofs.Fronting.{after_stop, told_ended, told_short, told_long, told_whole}
 use Rattle.mt_sync.proofs.Turns.{one_frame}
 
-body_first : (turn : Turn) (set : Option LogMap) (body rest : List ℕ) → IsOpen turn → length body ≤ longest_body → told (end_at turn [] set) (frame_text body ++ rest) ≡ after (body_in turn set body) rest
+body_first : (turn : Turn) (set : Option LogMap) (body rest : List ℕ) → IsOpen turn → length body ≤ longest_body → hears (end_at turn [] set) (frame_text body ++ rest) ≡ after (body_in turn set body) rest
 body_first turn set body rest opens short = told_whole turn set (frame_text body ++ rest) body rest opens (frames_are_read.found body rest short)
 
 pub frames_are_heard : FramesAreHeard
@@ -28,24 +28,24 @@ frames_are_heard = record {
 }
 
 -- a message that stops an end, and what follows it
-stops_by : (turn : Turn) (set left : Option LogMap) (m : Message) (fault : TalkFault) (rest : List ℕ) → IsOpen turn → IsMessage m → length (message_text m) ≤ longest_body → hears turn m set ≡ stop fault left
-    → told (end_at turn [] set) (frame_text (message_text m) ++ rest) ≡ stop fault left
-stops_by turn set left m fault rest opens is short stops = one_frame turn set m rest opens is short ∙ ap (λ (t : Told). after t rest) stops ∙ after_stop fault left rest
+stops_by : (turn : Turn) (set left : Option LogMap) (m : Message) (fault : TalkFault) (rest : List ℕ) → IsOpen turn → IsMessage m → length (message_text m) ≤ longest_body → hears_message turn m set ≡ stop fault left
+    → hears (end_at turn [] set) (frame_text (message_text m) ++ rest) ≡ stop fault left
+stops_by turn set left m fault rest opens is short stops = one_frame turn set m rest opens is short ∙ ap (λ (t : Heard). after t rest) stops ∙ after_stop fault left rest
 
 no_message : (turn : Turn) (set : Option LogMap) (body : List ℕ) → message_at body ≡ None → body_in turn set body ≡ stop BadMessage set
 unfolding body_in
-no_message turn set body is = ap (λ (m : Option Message). heard turn m set) is
+no_message turn set body is = ap (λ (m : Option Message). hears_read turn m set) is
 
-not_due : (turn : Turn) (set : Option LogMap) (m : Message) → is_due turn m ≡ false → hears turn m set ≡ stop OutOfTurn set
-not_due (greets side) set (have summary) due = absurd cc
-not_due (greets Caller) set (ops list) due = refl
-not_due (greets Answerer) set (ops list) due = refl
-not_due (greets Caller) set bye due = refl
-not_due (greets Answerer) set bye due = refl
-not_due (takes (Some owed)) set (have summary) due = refl
-not_due (takes None) set (have summary) due = refl
-not_due (takes owed) set (ops list) due = absurd cc
-not_due (takes owed) set bye due = absurd cc
+not_due : (turn : Turn) (set : Option LogMap) (m : Message) → is_due turn m ≡ false → hears_message turn m set ≡ stop OutOfTurn set
+not_due (awaits_have side) set (have summary) due = absurd cc
+not_due (awaits_have Caller) set (ops list) due = refl
+not_due (awaits_have Answerer) set (ops list) due = refl
+not_due (awaits_have Caller) set bye due = refl
+not_due (awaits_have Answerer) set bye due = refl
+not_due (awaits_ops (Some owed)) set (have summary) due = refl
+not_due (awaits_ops None) set (have summary) due = refl
+not_due (awaits_ops owed) set (ops list) due = absurd cc
+not_due (awaits_ops owed) set bye due = absurd cc
 not_due ended set (have summary) due = refl
 not_due ended set (ops list) due = refl
 not_due ended set bye due = refl
@@ -53,7 +53,7 @@ not_due (stopped fault) set (have summary) due = refl
 not_due (stopped fault) set (ops list) due = refl
 not_due (stopped fault) set bye due = refl
 
-says_nothing : (set : LogMap) (reply : List ℕ) (b : Bool) → b ≡ false → cond b (goes_on (takes None) (Some set) reply) (stop FrameTooLong (Some set)) ≡ stop FrameTooLong (Some set)
+says_nothing : (set : LogMap) (reply : List ℕ) (b : Bool) → b ≡ false → cond b (goes_on (awaits_ops None) (Some set) reply) (stop FrameTooLong (Some set)) ≡ stop FrameTooLong (Some set)
 says_nothing set reply true is = absurd cc
 says_nothing set reply false is = refl
 
@@ -62,13 +62,13 @@ fits summary says = leb-true (length (have_text summary)) longest_body says
 
 pub ends_stop : EndsStop
 ends_stop = record {
-  bad_message = λ turn set body rest opens short is. body_first turn set body rest opens short ∙ ap (λ (t : Told). after t rest) (no_message turn set body is) ∙ after_stop BadMessage set rest;
+  bad_message = λ turn set body rest opens short is. body_first turn set body rest opens short ∙ ap (λ (t : Heard). after t rest) (no_message turn set body is) ∙ after_stop BadMessage set rest;
   out_of_turn = λ turn set m rest opens is short due. stops_by turn set set m OutOfTurn rest opens is short (not_due turn set m due);
   after_the_end = λ set byte bytes. told_ended [] set byte bytes;
   too_long = λ turn set len rest opens big small. told_long turn set _ opens (frames_are_read.refused len rest big small);
-  conflict = λ owed set new list dot rest is short clash. stops_by (takes owed) (Some set) (Some new) (ops list) _ rest tt is short (ap (λ (j : LogMap × Option Dot). taken (takes owed) j.0 j.1) clash);
-  failed_at_have = λ summary rest is says. stops_by (greets Answerer) None None (have summary) _ rest tt is (fits summary says) refl;
-  failed_at_ops = λ owed list rest is short. stops_by (takes owed) None None (ops list) _ rest tt is short refl;
-  failed_at_bye = λ owed rest. stops_by (takes (Some owed)) None None bye _ rest tt tt (omega arith) refl;
-  own_too_long = λ set summary rest is says long. stops_by (greets Answerer) (Some set) (Some set) (have summary) FrameTooLong rest tt is (fits summary says) (says_nothing set _ (can_say (summary_of set)) long);
+  conflict = λ owed set new list dot rest is short clash. stops_by (awaits_ops owed) (Some set) (Some new) (ops list) _ rest tt is short (ap (λ (j : LogMap × Option Dot). taken (awaits_ops owed) j.0 j.1) clash);
+  failed_at_have = λ summary rest is says. stops_by (awaits_have Answerer) None None (have summary) _ rest tt is (fits summary says) refl;
+  failed_at_ops = λ owed list rest is short. stops_by (awaits_ops owed) None None (ops list) _ rest tt is short refl;
+  failed_at_bye = λ owed rest. stops_by (awaits_ops (Some owed)) None None bye _ rest tt tt (omega arith) refl;
+  own_too_long = λ set summary rest is says long. stops_by (awaits_have Answerer) (Some set) (Some set) (have summary) FrameTooLong rest tt is (fits summary says) (says_nothing set _ (can_say (summary_of set)) long);
 }

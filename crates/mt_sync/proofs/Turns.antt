@@ -19,7 +19,7 @@ use Rattle.mt_summary.proofs.Rising.{is_summary}
 use Rattle.mt_summary.proofs.Cutting.{are_packs}
 use Rattle.mt_sync.specs.declared.fault.TalkFault.TheVariants.{FrameTooLong}
 use Rattle.mt_sync.specs.declared.fault.Side.TheVariants.{Caller, Answerer}
-use Rattle.mt_sync.specs.Conversation.{Turn, greets, takes, ended, Told, stop, goes_on, answer, can_say, clashes, with_op, joined, taken, hears, heard, body_in, told}
+use Rattle.mt_sync.specs.Conversation.{Turn, awaits_have, awaits_ops, ended, Heard, stop, goes_on, answer, can_say, clashes, with_op, joined, taken, hears_message, hears_read, body_in, hears}
 use Rattle.mt_sync.specs.Feeding.{IsOpen, end_at}
 use Rattle.mt_sync.specs.Laws.{honest, ConversationsEnd}
 use Rattle.mt_sync.proofs.Cuts.{after}
@@ -32,18 +32,18 @@ use Rattle.mt_sync.proofs.Unions.{IsLog, union_is_log}
 -- ---- one frame
 
 -- a message that comes first is heard, and what follows comes next
-pub one_frame : (turn : Turn) (set : Option LogMap) (m : Message) (more : List ℕ) → IsOpen turn → IsMessage m → length (message_text m) ≤ longest_body → told (end_at turn [] set) (frame_text (message_text m) ++ more) ≡ after (hears turn m set) more
+pub one_frame : (turn : Turn) (set : Option LogMap) (m : Message) (more : List ℕ) → IsOpen turn → IsMessage m → length (message_text m) ≤ longest_body → hears (end_at turn [] set) (frame_text (message_text m) ++ more) ≡ after (hears_message turn m set) more
 unfolding body_in
 one_frame turn set m more opens is short =
     told_whole turn set (frame_text (message_text m) ++ more) (message_text m) more opens (front_again (message_text m) more short)
-    ∙ ap (λ (x : Option Message). after (heard turn x set) more) (message_again m is short)
+    ∙ ap (λ (x : Option Message). after (hears_read turn x set) more) (message_again m is short)
 
 -- nothing follows
-last_frame : (turn : Turn) (set : Option LogMap) (m : Message) → IsOpen turn → IsMessage m → length (message_text m) ≤ longest_body → told (end_at turn [] set) (frame_text (message_text m)) ≡ hears turn m set
+last_frame : (turn : Turn) (set : Option LogMap) (m : Message) → IsOpen turn → IsMessage m → length (message_text m) ≤ longest_body → hears (end_at turn [] set) (frame_text (message_text m)) ≡ hears_message turn m set
 last_frame turn set m opens is short =
-    ap (told (end_at turn [] set)) (sym (append-nil (frame_text (message_text m))))
+    ap (hears (end_at turn [] set)) (sym (append-nil (frame_text (message_text m))))
     ∙ one_frame turn set m [] opens is short
-    ∙ ap (λ (l : List ℕ). ((hears turn m set).0, l)) (append-nil (hears turn m set).1)
+    ∙ ap (λ (l : List ℕ). ((hears_message turn m set).0, l)) (append-nil (hears_message turn m set).1)
 
 -- ---- messages of operations
 
@@ -75,32 +75,32 @@ splits set all xs ys is = by (joined set xs) refl (sym (joined-append set xs ys)
     by (mid, None) first second = record { mid = mid; first = first; second = second }
     by (mid, Some dot) first second = absurd (none-some dot (sym (ap (λ (k : LogMap × Option Dot). k.1) second)))
 
-ops_heard : (owed : Option Summary) (set all : LogMap) (list : List Operation) → joined set list ≡ (all, None) → hears (takes owed) (ops list) (Some set) ≡ (end_at (takes owed) [] (Some all), [])
-ops_heard owed set all list is = ap (λ (j : LogMap × Option Dot). taken (takes owed) j.0 j.1) is
+ops_heard : (owed : Option Summary) (set all : LogMap) (list : List Operation) → joined set list ≡ (all, None) → hears_message (awaits_ops owed) (ops list) (Some set) ≡ (end_at (awaits_ops owed) [] (Some all), [])
+ops_heard owed set all list is = ap (λ (j : LogMap × Option Dot). taken (awaits_ops owed) j.0 j.1) is
 
 packs_told : (owed : Option Summary) (set all : LogMap) (ps : List (List Operation)) (more : List ℕ) → AllByRecursion IsLoggedPack ps → joined set (flat_map (λ pack. pack) ps) ≡ (all, None)
-    → told (end_at (takes owed) [] (Some set)) (flat_map (λ pack. frame_text (ops_text pack)) ps ++ more) ≡ told (end_at (takes owed) [] (Some all)) more
-packs_told owed set all [] more are is = ap (λ (j : LogMap × Option Dot). told (end_at (takes owed) [] (Some j.0)) more) is
+    → hears (end_at (awaits_ops owed) [] (Some set)) (flat_map (λ pack. frame_text (ops_text pack)) ps ++ more) ≡ hears (end_at (awaits_ops owed) [] (Some all)) more
+packs_told owed set all [] more are is = ap (λ (j : LogMap × Option Dot). hears (end_at (awaits_ops owed) [] (Some j.0)) more) is
 packs_told owed set all (p ∷ ps) more are is =
     let rest : List ℕ = flat_map (λ pack. frame_text (ops_text pack)) ps in
     let cut = splits set all p (flat_map (λ pack. pack) ps) is in
-    ap (told (end_at (takes owed) [] (Some set))) (append_assoc (frame_text (ops_text p)) rest more)
-    ∙ one_frame (takes owed) (Some set) (ops p) (rest ++ more) tt (are.0.logged, are.0.some) are.0.short
-    ∙ ap (λ (t : Told). after t (rest ++ more)) (ops_heard owed set cut.mid p cut.first)
+    ap (hears (end_at (awaits_ops owed) [] (Some set))) (append_assoc (frame_text (ops_text p)) rest more)
+    ∙ one_frame (awaits_ops owed) (Some set) (ops p) (rest ++ more) tt (are.0.logged, are.0.some) are.0.short
+    ∙ ap (λ (t : Heard). after t (rest ++ more)) (ops_heard owed set cut.mid p cut.first)
     ∙ packs_told owed cut.mid all ps more are.1 cut.second
 
 -- all that an answer brings, and then Bye
 answer_told : (owed : Option Summary) (set other all : LogMap) (asked : Summary) → AreLogged (lacking other asked) → joined set (lacking other asked) ≡ (all, None)
-    → told (end_at (takes owed) [] (Some set)) (answer other asked) ≡ hears (takes owed) bye (Some all)
+    → hears (end_at (awaits_ops owed) [] (Some set)) (answer other asked) ≡ hears_message (awaits_ops owed) bye (Some all)
 unfolding ops_frames
 answer_told owed set other all asked logged is =
     let list = lacking other asked in
     packs_told owed set all (packs list) (frame_text bye_text) (packs_logged list logged) (ap (joined set) (are_packs list).whole ∙ is)
-    ∙ last_frame (takes owed) (Some all) bye tt tt (omega arith)
+    ∙ last_frame (awaits_ops owed) (Some all) bye tt tt (omega arith)
 
 -- ---- turn by turn
 
-says_back : (set : LogMap) (summary : Summary) (b : Bool) → b ≡ true → cond b (goes_on (takes None) (Some set) (honest set set summary)) (stop FrameTooLong (Some set)) ≡ (end_at (takes None) [] (Some set), honest set set summary)
+says_back : (set : LogMap) (summary : Summary) (b : Bool) → b ≡ true → cond b (goes_on (awaits_ops None) (Some set) (honest set set summary)) (stop FrameTooLong (Some set)) ≡ (end_at (awaits_ops None) [] (Some set), honest set set summary)
 says_back set summary true is = refl
 says_back set summary false is = absurd cc
 
@@ -122,9 +122,9 @@ conversations_end a b is also a_says b_says =
     let for_a = is_missing a b (lacking b sa) is.logged is.all_of also.logged also.all_of refl in
     let for_b = is_missing b (union a b) (lacking (union a b) sb) also.logged also.all_of both.logged both.all_of refl in
     record {
-      greeted = last_frame (greets Answerer) (Some b) (have sa) tt (is_summary a is.logged) (leb-true (length (have_text sa)) longest_body a_says) ∙ says_back b sa (can_say sb) b_says;
+      greeted = last_frame (awaits_have Answerer) (Some b) (have sa) tt (is_summary a is.logged) (leb-true (length (have_text sa)) longest_body a_says) ∙ says_back b sa (can_say sb) b_says;
       called =
-          one_frame (greets Caller) (Some a) (have sb) (answer b sa) tt (is_summary b also.logged) (leb-true (length (have_text sb)) longest_body b_says)
+          one_frame (awaits_have Caller) (Some a) (have sb) (answer b sa) tt (is_summary b also.logged) (leb-true (length (have_text sb)) longest_body b_says)
           ∙ answer_told (Some sb) a b (union a b) sa for_a.0 for_a.1;
       answered =
           answer_told None b (union a b) (union b (union a b)) sb for_b.0 for_b.1

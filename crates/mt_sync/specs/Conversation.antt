@@ -17,8 +17,8 @@ use Rattle.mt_sync.specs.declared.fault.Side.TheVariants.{Caller, Answerer}
 
 -- What an end waits for: the other's Have, or operations and Bye. The caller keeps the Have that it answers at the end.
 pub data Turn : Type 0 where
-  greets : Side → Turn
-  takes : Option Summary → Turn
+  awaits_have : Side → Turn
+  awaits_ops : Option Summary → Turn
   ended : Turn
   stopped : TalkFault → Turn
 
@@ -30,13 +30,13 @@ pub record End : Type 0 where
   pub set : Option LogMap
 
 -- what becomes of an end, and what it sends
-abbrev pub Told : Type 0
-Told = End × List ℕ
+abbrev pub Heard : Type 0
+Heard = End × List ℕ
 
-abbrev pub stop : TalkFault → Option LogMap → Told
+abbrev pub stop : TalkFault → Option LogMap → Heard
 stop fault set = (record { turn = stopped fault; rest = []; set = set }, [])
 
-abbrev pub goes_on : Turn → Option LogMap → List ℕ → Told
+abbrev pub goes_on : Turn → Option LogMap → List ℕ → Heard
 goes_on turn set reply = (record { turn = turn; rest = []; set = set }, reply)
 
 -- what a set holds that a summary does not cover, and then Bye
@@ -60,62 +60,62 @@ abbrev pub joined : LogMap → List Operation → LogMap × Option Dot
 joined set [] = (set, None)
 joined set (o ∷ list) = if clashes (map.get set (op_dot o)) o then (set, Some (op_dot o)) else joined (with_op set o) list
 
-abbrev pub taken : Turn → LogMap → Option Dot → Told
+abbrev pub taken : Turn → LogMap → Option Dot → Heard
 taken turn set None = goes_on turn (Some set) []
 taken turn set (Some dot) = stop (Conflict dot) (Some set)
 
 -- what operations do
-abbrev pub takes_ops : Turn → Option LogMap → List Operation → Told
+abbrev pub takes_ops : Turn → Option LogMap → List Operation → Heard
 takes_ops turn None list = stop Failed None
 takes_ops turn (Some set) list = taken turn (joined set list).0 (joined set list).1
 
 -- the answerer's first reply: its Have, what the caller lacks, and Bye
-abbrev pub greets_back : Option LogMap → Summary → Told
+abbrev pub greets_back : Option LogMap → Summary → Heard
 greets_back None summary = stop Failed None
 greets_back (Some set) summary =
-    if can_say (summary_of set) then goes_on (takes None) (Some set) (frame_text (have_text (summary_of set)) ++ answer set summary)
+    if can_say (summary_of set) then goes_on (awaits_ops None) (Some set) (frame_text (have_text (summary_of set)) ++ answer set summary)
     else stop FrameTooLong (Some set)
 
 -- the caller's reply to Bye: what the answerer lacks, and Bye
-abbrev pub answers_back : Option LogMap → Summary → Told
+abbrev pub answers_back : Option LogMap → Summary → Heard
 answers_back None summary = stop Failed None
 answers_back (Some set) summary = goes_on ended (Some set) (answer set summary)
 
 -- what a message does, by turns
-abbrev pub hears : Turn → Message → Option LogMap → Told
-hears (greets Caller) (have summary) set = goes_on (takes (Some summary)) set []
-hears (greets Answerer) (have summary) set = greets_back set summary
-hears (takes owed) (ops list) set = takes_ops (takes owed) set list
-hears (takes (Some summary)) bye set = answers_back set summary
-hears (takes None) bye set = goes_on ended set []
-hears turn message set = stop OutOfTurn set
+abbrev pub hears_message : Turn → Message → Option LogMap → Heard
+hears_message (awaits_have Caller) (have summary) set = goes_on (awaits_ops (Some summary)) set []
+hears_message (awaits_have Answerer) (have summary) set = greets_back set summary
+hears_message (awaits_ops owed) (ops list) set = takes_ops (awaits_ops owed) set list
+hears_message (awaits_ops (Some summary)) bye set = answers_back set summary
+hears_message (awaits_ops None) bye set = goes_on ended set []
+hears_message turn message set = stop OutOfTurn set
 
-abbrev pub heard : Turn → Option Message → Option LogMap → Told
-heard turn None set = stop BadMessage set
-heard turn (Some message) set = hears turn message set
+abbrev pub hears_read : Turn → Option Message → Option LogMap → Heard
+hears_read turn None set = stop BadMessage set
+hears_read turn (Some message) set = hears_message turn message set
 
 -- what the body of a frame does
-unfoldable pub body_in : Turn → Option LogMap → List ℕ → Told
-body_in turn set body = heard turn (message_at body) set
+unfoldable pub body_in : Turn → Option LogMap → List ℕ → Heard
+body_in turn set body = hears_read turn (message_at body) set
 
 -- ---- bytes
 
-abbrev pub front_in : Turn → Option LogMap → List ℕ → Front → Told
+abbrev pub front_in : Turn → Option LogMap → List ℕ → Front → Heard
 front_in turn set bytes cut_short = (record { turn = turn; rest = bytes; set = set }, [])
 front_in turn set bytes too_long = stop FrameTooLong set
 front_in turn set bytes (whole body rest) = body_in turn set body
 
 -- One more byte: a frame is read once its last byte is there. A byte after the end is out of turn, and after a stop
 -- bytes are not looked at.
-unfoldable pub byte_in : End → ℕ → Told
+unfoldable pub byte_in : End → ℕ → Heard
 byte_in end byte = by end.turn
   where
-    by : Turn → Told
+    by : Turn → Heard
     by (stopped fault) = (end, [])
     by ended = stop OutOfTurn end.set
     by turn = front_in turn end.set (end.rest ++ byte ∷ []) (front_of (end.rest ++ byte ∷ []))
 
 -- bytes one after another
-abbrev pub told : End → List ℕ → Told
-told end [] = (end, [])
-told end (byte ∷ bytes) = ((told (byte_in end byte).0 bytes).0, (byte_in end byte).1 ++ (told (byte_in end byte).0 bytes).1)
+abbrev pub hears : End → List ℕ → Heard
+hears end [] = (end, [])
+hears end (byte ∷ bytes) = ((hears (byte_in end byte).0 bytes).0, (byte_in end byte).1 ++ (hears (byte_in end byte).0 bytes).1)

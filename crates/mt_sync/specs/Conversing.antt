@@ -17,7 +17,7 @@ use Rattle.mt_sync.specs.declared.fault.Side.{Side}
 use Rattle.mt_sync.specs.declared.fault.Side.TheVariants.{Caller, Answerer}
 use Rattle.mt_sync.specs.Feeding.{Talking, IsOpen, end_at}
 use Rattle.mt_sync.specs.Leaving.{IsLeft}
-use Rattle.mt_sync.specs.Conversation.{can_say, answer, greets, ended, stopped, End, Told, told}
+use Rattle.mt_sync.specs.Conversation.{can_say, answer, awaits_have, ended, stopped, End, Heard, hears}
 
 -- an end stopped by this fault, or memory ran out
 abbrev pub StopsBy : End → Option LogMap → TalkFault → Type 0
@@ -28,8 +28,8 @@ StopsBy end set BadMessage = (end.turn ≡ stopped BadMessage) × (end.set ≡ s
 StopsBy end set OutOfTurn = (end.turn ≡ stopped OutOfTurn) × (end.set ≡ set)
 StopsBy end set FrameTooLong = (end.turn ≡ stopped FrameTooLong) × (end.set ≡ set)
 
--- what an answer says of what was told
-abbrev pub Outcome : Told → Option (List ℕ) → Option (List ℕ) → Option LogMap → Result (Unit {0}) SyncFault → Type 0
+-- what an answer says of what was heard
+abbrev pub Outcome : Heard → Option (List ℕ) → Option (List ℕ) → Option LogMap → Result (Unit {0}) SyncFault → Type 0
 Outcome t written written' set (Ok _) = (t.0.turn ≡ ended) × (t.0.set ≡ set) × Appends written written' t.1
 Outcome t written written' set (Err (fault.Talk by)) = StopsBy t.0 set by
 Outcome t written written' set (Err fault.Ended) = (t.0.turn ≡ ended → ⊥) × (t.0.set ≡ set)
@@ -49,8 +49,8 @@ conversant set read written = record { set = set; read = read; written = written
 pub record Converses (start : End) (before after : Conversant) (result : Result (Unit {0}) SyncFault) : Type 0 where
   pub bytes : List ℕ
   pub consumed : Consumes before.read after.read bytes
-  pub prefix : AppendsPrefix before.written after.written (told start bytes).1
-  pub outcome : Outcome (told start bytes) before.written after.written after.set result
+  pub prefix : AppendsPrefix before.written after.written (hears start bytes).1
+  pub outcome : Outcome (hears start bytes) before.written after.written after.set result
   pub left : result ≡ Err (fault.Talk Memory) → IsLeft start bytes after.set
 
 -- What a refusal says of the reader and the writer: which of them has failed, or that the input has ended. A stop is the talk's own.
@@ -80,21 +80,21 @@ NotBegun log written written' _ = ⊥
 
 -- what the beginning of a caller answers
 abbrev pub BeginsWith : {X : Type 0} → (X → Talking) → Option LogMap → Option (List ℕ) → Option (List ℕ) → Result X SyncFault → Type 0
-BeginsWith view log written written' (Ok x) = (view x ≡ record { turn = greets Caller; rest = [] }) × Begins log written written'
+BeginsWith view log written written' (Ok x) = (view x ≡ record { turn = awaits_have Caller; rest = [] }) × Begins log written written'
 BeginsWith view log written written' (Err by) = NotBegun log written written' (Err by)
 
 -- A caller writes its Have first; then, and as an answerer at once, the conversation goes on.
 abbrev pub ConversesAs : Side → Conversant → Conversant → Result (Unit {0}) SyncFault → Type 0
-ConversesAs Answerer before after result = Converses (end_at (greets Answerer) [] before.set) before after result
+ConversesAs Answerer before after result = Converses (end_at (awaits_have Answerer) [] before.set) before after result
 ConversesAs Caller before after result =
     ((after.read ≡ before.read) × ((after.set ≡ before.set) × NotBegun before.set before.written after.written result))
     ⊎ ((mid : Option (List ℕ)) × (Begins before.set before.written mid
-    × Converses (end_at (greets Caller) [] before.set) (conversant before.set before.read mid) after result))
+    × Converses (end_at (awaits_have Caller) [] before.set) (conversant before.set before.read mid) after result))
 
 -- ---- operations out of bytes
 
 -- what taking operations out of bytes answers and leaves
-abbrev pub TakesAll : Told → Result (Unit {0}) SyncFault → Option LogMap → Type 0
+abbrev pub TakesAll : Heard → Result (Unit {0}) SyncFault → Option LogMap → Type 0
 TakesAll t (Ok _) new = (t.0.turn ≡ ended) × (t.0.set ≡ new)
 TakesAll t (Err (fault.Talk by)) new = StopsBy t.0 new by
 TakesAll t (Err fault.Ended) new = IsOpen t.0.turn × (t.0.set ≡ new)

@@ -11,18 +11,18 @@ use Rattle.mt_sync.specs.declared.turn.Turn.TheVariants as kept
 use Rattle.mt_summary.specs.Summary.{summary_of}
 use Rattle.mt_summary.specs.Messages.{have_text}
 use Rattle.mt_sync.specs.declared.fault.Side.TheVariants.{Caller}
-use Rattle.mt_sync.specs.Conversation.{can_say, Turn, greets, takes, ended, stopped, End, Told, stop, told}
+use Rattle.mt_sync.specs.Conversation.{can_say, Turn, awaits_have, awaits_ops, ended, stopped, End, Heard, stop, hears}
 
 abbrev pub turn_of : {A : Type 0} → Kept A → Turn
-turn_of (kept.Greets side) = greets side
-turn_of (kept.Takes owed) = takes owed
+turn_of (kept.AwaitsHave side) = awaits_have side
+turn_of (kept.AwaitsOps owed) = awaits_ops owed
 turn_of kept.Ended = ended
 turn_of (kept.Stopped fault) = stopped fault
 
 -- it reads frames
 abbrev pub IsOpen : Turn → Type 0
-IsOpen (greets side) = Unit {0}
-IsOpen (takes owed) = Unit {0}
+IsOpen (awaits_have side) = Unit {0}
+IsOpen (awaits_ops owed) = Unit {0}
 IsOpen _ = ⊥
 
 -- it has met no fault
@@ -45,8 +45,8 @@ over_at false = Err OutOfTurn
 
 -- no whole frame waits, and none at all once the turn is over
 abbrev pub Waits : Turn → List ℕ → Type 0
-Waits (greets side) rest = front_of rest ≡ cut_short
-Waits (takes owed) rest = front_of rest ≡ cut_short
+Waits (awaits_have side) rest = front_of rest ≡ cut_short
+Waits (awaits_ops owed) rest = front_of rest ≡ cut_short
 Waits ended rest = rest ≡ []
 Waits (stopped fault) rest = rest ≡ []
 
@@ -61,7 +61,7 @@ abbrev pub end_of : Talking → Option LogMap → End
 end_of talk set = end_at talk.turn talk.rest set
 
 -- what reading a body answers and leaves: the end that it comes to, and what was appended to its replies
-abbrev pub ReadsBody : Told → Result (Unit {0}) TalkFault → End → List ℕ → List ℕ → Type 0
+abbrev pub ReadsBody : Heard → Result (Unit {0}) TalkFault → End → List ℕ → List ℕ → Type 0
 ReadsBody t (Ok _) end old new = IsGoing end.turn × ((reply : List ℕ) × (t ≡ (end, reply)) × (new ≡ old ++ reply))
 ReadsBody t (Err Memory) end old new = Unit {0}
 ReadsBody t (Err (Conflict dot)) end old new = t.0 ≡ (stop (Conflict dot) end.set).0
@@ -70,8 +70,8 @@ ReadsBody t (Err BadMessage) end old new = t.0 ≡ (stop BadMessage end.set).0
 ReadsBody t (Err OutOfTurn) end old new = t.0 ≡ (stop OutOfTurn end.set).0
 ReadsBody t (Err FrameTooLong) end old new = t.0 ≡ (stop FrameTooLong end.set).0
 
--- what hearing a piece answers and leaves: all of it was told, or it stopped by this fault
-abbrev pub Hears : Told → Result (Unit {0}) TalkFault → End → List ℕ → Type 0
+-- what hearing a piece answers and leaves: all of it was heard, or it stopped by this fault
+abbrev pub Hears : Heard → Result (Unit {0}) TalkFault → End → List ℕ → Type 0
 Hears t (Ok _) end out = IsGoing end.turn × Waits end.turn end.rest × (t ≡ (end, out))
 Hears t (Err Memory) end out = Unit {0}
 Hears t (Err (Conflict dot)) end out = t.0 ≡ (stop (Conflict dot) end.set).0
@@ -81,7 +81,7 @@ Hears t (Err OutOfTurn) end out = t.0 ≡ (stop OutOfTurn end.set).0
 Hears t (Err FrameTooLong) end out = t.0 ≡ (stop FrameTooLong end.set).0
 
 -- what feeding a piece answers and leaves, where the talk had met no fault
-abbrev pub Fed : {X : Type 0} → (X → List ℕ) → Told → Result X TalkFault → End → Type 0
+abbrev pub Fed : {X : Type 0} → (X → List ℕ) → Heard → Result X TalkFault → End → Type 0
 Fed view t (Ok reply) new = IsGoing new.turn × (t ≡ (new, view reply))
 Fed view t (Err Memory) new = new.turn ≡ stopped Memory
 Fed view t (Err (Conflict dot)) new = (t.0 ≡ new) × (new.turn ≡ stopped (Conflict dot))
@@ -93,15 +93,15 @@ Fed view t (Err FrameTooLong) new = (t.0 ≡ new) × (new.turn ≡ stopped Frame
 -- after a fault every piece is out of turn, and nothing changes
 abbrev pub FeedsAt : {X : Type 0} → (X → List ℕ) → Turn → End → List ℕ → Result X TalkFault → End → Type 0
 FeedsAt view (stopped fault) old piece result new = (result ≡ Err OutOfTurn) × (new ≡ old)
-FeedsAt view (greets side) old piece result new = Fed view (told old piece) result new
-FeedsAt view (takes owed) old piece result new = Fed view (told old piece) result new
-FeedsAt view ended old piece result new = Fed view (told old piece) result new
+FeedsAt view (awaits_have side) old piece result new = Fed view (hears old piece) result new
+FeedsAt view (awaits_ops owed) old piece result new = Fed view (hears old piece) result new
+FeedsAt view ended old piece result new = Fed view (hears old piece) result new
 
 abbrev pub Feeds : {X : Type 0} → (X → List ℕ) → End → List ℕ → Result X TalkFault → End → Type 0
 Feeds view old piece result new = FeedsAt view old.turn old piece result new
 
 -- what a reply answers and appends
-abbrev pub Replies : Told → Result (Unit {0}) TalkFault → Option LogMap → List ℕ → List ℕ → Type 0
+abbrev pub Replies : Heard → Result (Unit {0}) TalkFault → Option LogMap → List ℕ → List ℕ → Type 0
 Replies t (Ok _) set old new = IsGoing t.0.turn × (t.0.rest ≡ []) × (t.0.set ≡ set) × (new ≡ old ++ t.1)
 Replies t (Err Memory) set old new = Unit {0}
 Replies t (Err (Conflict dot)) set old new = t.0 ≡ (stop (Conflict dot) set).0
@@ -118,7 +118,7 @@ Says says (Err FrameTooLong) text old new = says ≡ false
 Says says (Err _) text old new = ⊥
 
 -- the same as `Hears`, of replies that are given
-abbrev pub HearsAll : {X : Type 0} → (X → List ℕ) → Told → Result X TalkFault → End → Type 0
+abbrev pub HearsAll : {X : Type 0} → (X → List ℕ) → Heard → Result X TalkFault → End → Type 0
 HearsAll view t (Ok out) end = IsGoing end.turn × Waits end.turn end.rest × (t ≡ (end, view out))
 HearsAll view t (Err Memory) end = Unit {0}
 HearsAll view t (Err (Conflict dot)) end = t.0 ≡ (stop (Conflict dot) end.set).0
@@ -135,7 +135,7 @@ CallRefused set _ = ⊥
 
 -- what a call answers of the set of its editor: a talk that waits for a Have, and the frame of its own
 abbrev pub CallsFrom : {X : Type 0} → (X → Talking) → (X → List ℕ) → LogMap → Result X TalkFault → Type 0
-CallsFrom talk bytes set (Ok x) = (talk x ≡ record { turn = greets Caller; rest = [] }) × (can_say (summary_of set) ≡ true) × (bytes x ≡ frame_text (have_text (summary_of set)))
+CallsFrom talk bytes set (Ok x) = (talk x ≡ record { turn = awaits_have Caller; rest = [] }) × (can_say (summary_of set) ≡ true) × (bytes x ≡ frame_text (have_text (summary_of set)))
 CallsFrom talk bytes set (Err fault) = CallRefused set fault
 
 abbrev pub Calls : {X : Type 0} → (X → Talking) → (X → List ℕ) → Option LogMap → Result X TalkFault → Type 0

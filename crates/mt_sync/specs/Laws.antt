@@ -13,67 +13,67 @@ use Rattle.mt_summary.specs.Messages.{Message, have, ops, bye, have_text, ops_te
 use Rattle.mt_sync.specs.declared.fault.TalkFault.TheVariants.{Conflict, Failed, BadMessage, OutOfTurn, FrameTooLong}
 use Rattle.mt_sync.specs.declared.fault.Side.{Side}
 use Rattle.mt_sync.specs.declared.fault.Side.TheVariants.{Caller, Answerer}
-use Rattle.mt_sync.specs.Conversation.{Turn, greets, takes, ended, End, Told, stop, can_say, answer, joined, hears, body_in, told}
+use Rattle.mt_sync.specs.Conversation.{Turn, awaits_have, awaits_ops, ended, End, Heard, stop, can_say, answer, joined, hears_message, body_in, hears}
 use Rattle.mt_sync.specs.Feeding.{IsOpen, end_at}
 
--- an end that is told piece by piece, and all that it sends
-abbrev pub told_pieces : End → List (List ℕ) → Told
-told_pieces end [] = (end, [])
-told_pieces end (piece ∷ pieces) = ((told_pieces (told end piece).0 pieces).0, (told end piece).1 ++ (told_pieces (told end piece).0 pieces).1)
+-- an end that hears piece by piece, and all that it sends
+abbrev pub hears_pieces : End → List (List ℕ) → Heard
+hears_pieces end [] = (end, [])
+hears_pieces end (piece ∷ pieces) = ((hears_pieces (hears end piece).0 pieces).0, (hears end piece).1 ++ (hears_pieces (hears end piece).0 pieces).1)
 
 -- However a stream is cut, the end comes to the same turn and set, and sends the same bytes.
 abbrev pub CutsDoNotMatter : Type 0
-CutsDoNotMatter = (end : End) (pieces : List (List ℕ)) → told_pieces end pieces ≡ told end (flat_map (λ piece. piece) pieces)
+CutsDoNotMatter = (end : End) (pieces : List (List ℕ)) → hears_pieces end pieces ≡ hears end (flat_map (λ piece. piece) pieces)
 
 -- ---- frames
 
--- what more bytes do after what was told
-abbrev pub after : Told → List ℕ → Told
-after t bytes = ((told t.0 bytes).0, t.1 ++ (told t.0 bytes).1)
+-- what more bytes do after what was heard
+abbrev pub after : Heard → List ℕ → Heard
+after t bytes = ((hears t.0 bytes).0, t.1 ++ (hears t.0 bytes).1)
 
 -- A frame at the front of a stream is what an end reads: its body, or the message that it is the text of, does what it does, and what
 -- follows comes next. Before its last byte it does nothing.
 pub record FramesAreHeard : Type 0 where
   pub body : (turn : Turn) (set : Option LogMap) (body rest : List ℕ) → IsOpen turn → length body ≤ longest_body
-      → told (end_at turn [] set) (frame_text body ++ rest) ≡ after (body_in turn set body) rest
+      → hears (end_at turn [] set) (frame_text body ++ rest) ≡ after (body_in turn set body) rest
   pub message : (turn : Turn) (set : Option LogMap) (m : Message) (rest : List ℕ) → IsOpen turn → IsMessage m → length (message_text m) ≤ longest_body
-      → told (end_at turn [] set) (frame_text (message_text m) ++ rest) ≡ after (hears turn m set) rest
+      → hears (end_at turn [] set) (frame_text (message_text m) ++ rest) ≡ after (hears_message turn m set) rest
   pub cut : (turn : Turn) (set : Option LogMap) (body front more : List ℕ) (byte : ℕ) → IsOpen turn → length body ≤ longest_body → front ++ byte ∷ more ≡ frame_text body
-      → told (end_at turn [] set) front ≡ (end_at turn front set, [])
+      → hears (end_at turn [] set) front ≡ (end_at turn front set, [])
 
 -- ---- what stops an end
 
 -- whether an end waits for a message
 abbrev pub is_due : Turn → Message → Bool
-is_due (greets side) (have summary) = true
-is_due (takes owed) (ops list) = true
-is_due (takes owed) bye = true
+is_due (awaits_have side) (have summary) = true
+is_due (awaits_ops owed) (ops list) = true
+is_due (awaits_ops owed) bye = true
 is_due turn message = false
 
 -- What stops an end, where it stands at the front of a stream: nothing is sent then, and what follows is not looked at.
 pub record EndsStop : Type 0 where
   -- 38: the body of a frame is the text of no message
   pub bad_message : (turn : Turn) (set : Option LogMap) (body rest : List ℕ) → IsOpen turn → length body ≤ longest_body → message_at body ≡ None
-      → told (end_at turn [] set) (frame_text body ++ rest) ≡ stop BadMessage set
+      → hears (end_at turn [] set) (frame_text body ++ rest) ≡ stop BadMessage set
   -- 39: a message that is not due, or a byte after the end
   pub out_of_turn : (turn : Turn) (set : Option LogMap) (m : Message) (rest : List ℕ) → IsOpen turn → IsMessage m → length (message_text m) ≤ longest_body → is_due turn m ≡ false
-      → told (end_at turn [] set) (frame_text (message_text m) ++ rest) ≡ stop OutOfTurn set
-  pub after_the_end : (set : Option LogMap) (byte : ℕ) (bytes : List ℕ) → told (end_at ended [] set) (byte ∷ bytes) ≡ stop OutOfTurn set
+      → hears (end_at turn [] set) (frame_text (message_text m) ++ rest) ≡ stop OutOfTurn set
+  pub after_the_end : (set : Option LogMap) (byte : ℕ) (bytes : List ℕ) → hears (end_at ended [] set) (byte ∷ bytes) ≡ stop OutOfTurn set
   -- 40: a length over the longest, whatever follows it
   pub too_long : (turn : Turn) (set : Option LogMap) (len : ℕ) (rest : List ℕ) → IsOpen turn → longest_body < len → len < 2 ^ 32
-      → told (end_at turn [] set) (to_be_bytes w32 len ++ rest) ≡ stop FrameTooLong set
+      → hears (end_at turn [] set) (to_be_bytes w32 len ++ rest) ≡ stop FrameTooLong set
   -- 17: an operation whose dot names another one; those before it have joined
   pub conflict : (owed : Option Summary) (set new : LogMap) (list : List Operation) (dot : Dot) (rest : List ℕ) → IsMessage (ops list) → length (ops_text list) ≤ longest_body → joined set list ≡ (new, Some dot)
-      → told (end_at (takes owed) [] (Some set)) (frame_text (ops_text list) ++ rest) ≡ stop (Conflict dot) (Some new)
+      → hears (end_at (awaits_ops owed) [] (Some set)) (frame_text (ops_text list) ++ rest) ≡ stop (Conflict dot) (Some new)
   -- 20: the editor has failed, and its log is needed: to greet back, to take operations, or to answer Bye
   pub failed_at_have : (summary : Summary) (rest : List ℕ) → IsSummary summary → can_say summary ≡ true
-      → told (end_at (greets Answerer) [] None) (frame_text (have_text summary) ++ rest) ≡ stop Failed None
+      → hears (end_at (awaits_have Answerer) [] None) (frame_text (have_text summary) ++ rest) ≡ stop Failed None
   pub failed_at_ops : (owed : Option Summary) (list : List Operation) (rest : List ℕ) → IsMessage (ops list) → length (ops_text list) ≤ longest_body
-      → told (end_at (takes owed) [] None) (frame_text (ops_text list) ++ rest) ≡ stop Failed None
-  pub failed_at_bye : (owed : Summary) (rest : List ℕ) → told (end_at (takes (Some owed)) [] None) (frame_text bye_text ++ rest) ≡ stop Failed None
+      → hears (end_at (awaits_ops owed) [] None) (frame_text (ops_text list) ++ rest) ≡ stop Failed None
+  pub failed_at_bye : (owed : Summary) (rest : List ℕ) → hears (end_at (awaits_ops (Some owed)) [] None) (frame_text bye_text ++ rest) ≡ stop Failed None
   -- 40: the own summary does not fit a frame
   pub own_too_long : (set : LogMap) (summary : Summary) (rest : List ℕ) → IsSummary summary → can_say summary ≡ true → can_say (summary_of set) ≡ false
-      → told (end_at (greets Answerer) [] (Some set)) (frame_text (have_text summary) ++ rest) ≡ stop FrameTooLong (Some set)
+      → hears (end_at (awaits_have Answerer) [] (Some set)) (frame_text (have_text summary) ++ rest) ≡ stop FrameTooLong (Some set)
 
 -- ---- an honest other end
 
@@ -90,7 +90,7 @@ pub record IsBetween (own other set : LogMap) : Type 0 where
 -- what an end of this set has after these bytes
 pub record HoldsBetween (side : Side) (own other : LogMap) (bytes : List ℕ) : Type 0 where
   pub set : LogMap
-  pub held : (told (end_at (greets side) [] (Some own)) bytes).0.set ≡ Some set
+  pub held : (hears (end_at (awaits_have side) [] (Some own)) bytes).0.set ≡ Some set
   pub between : IsBetween own other set
 
 -- Whatever front of an honest other end's bytes has come, the set is the own set and a part of the other's.
@@ -102,9 +102,9 @@ FrontsAreHonest other = (side : Side) (own greeting : LogMap) (asked : Summary) 
 -- A conversation between a caller and an answerer of these sets, turn by turn: what each becomes, and what it sends. At its end each holds
 -- its own operations, and the other's under dots that it had not.
 pub record Converse (caller answerer : LogMap) : Type 0 where
-  pub greeted : told (end_at (greets Answerer) [] (Some answerer)) (frame_text (have_text (summary_of caller))) ≡ (end_at (takes None) [] (Some answerer), honest answerer answerer (summary_of caller))
-  pub called : told (end_at (greets Caller) [] (Some caller)) (honest answerer answerer (summary_of caller)) ≡ (end_at ended [] (Some (union caller answerer)), answer (union caller answerer) (summary_of answerer))
-  pub answered : told (end_at (takes None) [] (Some answerer)) (answer (union caller answerer) (summary_of answerer)) ≡ (end_at ended [] (Some (union answerer caller)), [])
+  pub greeted : hears (end_at (awaits_have Answerer) [] (Some answerer)) (frame_text (have_text (summary_of caller))) ≡ (end_at (awaits_ops None) [] (Some answerer), honest answerer answerer (summary_of caller))
+  pub called : hears (end_at (awaits_have Caller) [] (Some caller)) (honest answerer answerer (summary_of caller)) ≡ (end_at ended [] (Some (union caller answerer)), answer (union caller answerer) (summary_of answerer))
+  pub answered : hears (end_at (awaits_ops None) [] (Some answerer)) (answer (union caller answerer) (summary_of answerer)) ≡ (end_at ended [] (Some (union answerer caller)), [])
 
 -- Every conversation between two logs whose summaries fit a frame comes to this end.
 abbrev pub ConversationsEnd : LogMap → LogMap → Type 0

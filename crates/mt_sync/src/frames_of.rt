@@ -1,7 +1,7 @@
 //! Swapping by bytes that are carried by hand: a Have, what it lacks, and the taking of that.
 
 ghost use Rattle.std.specs.Prelude.{◌≡◌, [], None, IfErr};
-ghost use Rattle.mt_sync.specs.Conversation.{takes, told};
+ghost use Rattle.mt_sync.specs.Conversation.{awaits_ops, hears};
 ghost use Rattle.mt_sync.specs.Feeding.{end_at};
 ghost use Rattle.mt_sync.specs.Conversing.{HasBytes, Lacks, TakesAll};
 ghost use Rattle.mt_sync.specs.Leaving.{IsLeft};
@@ -72,12 +72,12 @@ pub fn take_ops<A: Allocator + Clone, H: Holder<A>>(
     holder: &mut H,
     bytes: &[u8],
 ) -> Result<(), SyncFault>
-    ensures takes { TakesAll (told (end_at (takes None) [] (H.held holder.old)) bytes.now) result (H.held holder.new) }
+    ensures takes { TakesAll (hears (end_at (awaits_ops None) [] (H.held holder.old)) bytes.now) result (H.held holder.new) }
     ensures left { IfErr result (λ fault. fault ≡ SyncFault.Talk TalkFault.Memory
-        → IsLeft (end_at (takes None) [] (H.held holder.old)) bytes.now (H.held holder.new)) }
+        → IsLeft (end_at (awaits_ops None) [] (H.held holder.old)) bytes.now (H.held holder.new)) }
     ensures name { H.named holder.new ≡ H.named holder.old }
 {
-    let mut talk = Talk::waiting(alloc, frames, Turn::Takes(None));
+    let mut talk = Talk::waiting(alloc, frames, Turn::AwaitsOps(None));
     match talk.feed(holder, bytes) {
         Ok(_) => {
             if talk.ended() {

@@ -5,7 +5,7 @@ ghost use Rattle.mt_frames.specs.Frames.{frame_text};
 ghost use Rattle.mt_summary.specs.Summary.{summary_of};
 ghost use Rattle.mt_summary.specs.Messages.{have_text, IsMessage};
 ghost use Rattle.mt_summary.specs.Reading.{message_of};
-ghost use Rattle.mt_sync.specs.Conversation.{ended, greets, takes, hears, body_in, told};
+ghost use Rattle.mt_sync.specs.Conversation.{ended, awaits_have, awaits_ops, hears_message, body_in, hears};
 ghost use Rattle.mt_sync.specs.Feeding.{turn_of, IsOpen, IsGoing, Waits, end_at, end_of, ReadsBody, Hears, Feeds, IsFaultOf, over_at, HearsAll, Calls};
 ghost use Rattle.mt_sync.specs.Leaving.{IsLeft, StaysOrFails};
 
@@ -70,15 +70,15 @@ impl<A: Allocator + Clone> Talk<A> {
         };
         let mut out = Vec::new(alloc.clone()?);
         put_have(&alloc, log, &mut out)?;
-        let talk = Talk::waiting(alloc, frames, Turn::Greets(Side::Caller));
+        let talk = Talk::waiting(alloc, frames, Turn::AwaitsHave(Side::Caller));
         Ok((talk, out))
     }
 
     /// The answerer's end, before it has read anything. Takes no memory.
     pub fn answer(alloc: A, frames: Global) -> Talk<A>
-        ensures { result ≡ record { turn = greets Side.Answerer; rest = [] } }
+        ensures { result ≡ record { turn = awaits_have Side.Answerer; rest = [] } }
     {
-        Talk::waiting(alloc, frames, Turn::Greets(Side::Answerer))
+        Talk::waiting(alloc, frames, Turn::AwaitsHave(Side::Answerer))
     }
 
     /// Whether the conversation has come to its end: the other end's Bye was read, and answered where that is this end's to do. A
@@ -101,7 +101,7 @@ impl<A: Allocator + Clone> Talk<A> {
     /// summary does not fit a frame. `Memory` (0) where a growth was refused. After a fault the editor holds its own operations and those before
     /// the fault, and the talk answers 39 from then on; where a growth was refused while operations joined, the editor has failed.
     pub fn feed<H: Holder<A>>(&mut self, holder: &mut H, piece: &[u8]) -> Result<Vec<u8, A>, TalkFault>
-        ensures told { Feeds (λ out. out.items) (end_of self.old (H.held holder.old)) piece.now result
+        ensures hears { Feeds (λ out. out.items) (end_of self.old (H.held holder.old)) piece.now result
             (end_of self.new (H.held holder.new)) }
         ensures left { IfErr result (λ fault. fault ≡ TalkFault.Memory
             → IsLeft (end_of self.old (H.held holder.old)) piece.now (H.held holder.new)) }
@@ -131,8 +131,8 @@ fn hear_all<A: Allocator + Clone, H: Holder<A>>(
 ) -> Result<Vec<u8, A>, TalkFault>
     requires going { IsGoing (turn_of turn.old) }
     requires waits { Waits (turn_of turn.old) unread.old }
-    ensures told { HearsAll (λ out. out.items)
-        (told (end_at (turn_of turn.old) unread.old (H.held holder.old)) piece.now) result
+    ensures hears { HearsAll (λ out. out.items)
+        (hears (end_at (turn_of turn.old) unread.old (H.held holder.old)) piece.now) result
         (end_at (turn_of turn.new) unread.new (H.held holder.new)) }
     ensures left { IfErr result (λ fault. fault ≡ TalkFault.Memory
         → IsLeft (end_at (turn_of turn.old) unread.old (H.held holder.old)) piece.now (H.held holder.new)) }
@@ -157,7 +157,7 @@ fn hear<A: Allocator + Clone, H: Holder<A>>(
     requires going { IsGoing (turn_of turn.old) }
     requires waits { Waits (turn_of turn.old) unread.old }
     requires empty { out.old.items ≡ [] }
-    ensures told { Hears (told (end_at (turn_of turn.old) unread.old (H.held holder.old)) piece.now) result
+    ensures hears { Hears (hears (end_at (turn_of turn.old) unread.old (H.held holder.old)) piece.now) result
         (end_at (turn_of turn.new) unread.new (H.held holder.new)) out.new.items }
     ensures left { IfErr result (λ fault. fault ≡ TalkFault.Memory
         → IsLeft (end_at (turn_of turn.old) unread.old (H.held holder.old)) piece.now (H.held holder.new)) }
@@ -182,7 +182,7 @@ fn hear_frames<A: Allocator + Clone, H: Holder<A>>(
     requires reads { IsOpen (turn_of turn.old) }
     requires waits { Waits (turn_of turn.old) unread.old }
     requires empty { out.old.items ≡ [] }
-    ensures told { Hears (told (end_at (turn_of turn.old) unread.old (H.held holder.old)) piece.now) result
+    ensures hears { Hears (hears (end_at (turn_of turn.old) unread.old (H.held holder.old)) piece.now) result
         (end_at (turn_of turn.new) unread.new (H.held holder.new)) out.new.items }
     ensures left { IfErr result (λ fault. fault ≡ TalkFault.Memory
         → IsLeft (end_at (turn_of turn.old) unread.old (H.held holder.old)) piece.now (H.held holder.new)) }
@@ -232,7 +232,7 @@ fn take_body<A: Allocator + Clone, H: Holder<A>>(
     out: &mut Vec<u8, A>,
 ) -> Result<(), TalkFault>
     requires { IsOpen (turn_of turn.old) }
-    ensures told { ReadsBody (body_in (turn_of turn.old) (H.held holder.old) body.now) result
+    ensures hears { ReadsBody (body_in (turn_of turn.old) (H.held holder.old) body.now) result
         (end_at (turn_of turn.new) [] (H.held holder.new)) out.old.items out.new.items }
     ensures left { IfErr result (λ fault. fault ≡ TalkFault.Memory
         → StaysOrFails (H.held holder.old) (H.held holder.new)) }
@@ -263,40 +263,40 @@ fn take_message<A: Allocator + Clone, H: Holder<A>>(
 ) -> Result<(), TalkFault>
     requires open { IsOpen (turn_of turn.old) }
     requires sound { IsMessage (message_of message) }
-    ensures told { ReadsBody (hears (turn_of turn.old) (message_of message) (H.held holder.old)) result
+    ensures hears { ReadsBody (hears_message (turn_of turn.old) (message_of message) (H.held holder.old)) result
         (end_at (turn_of turn.new) [] (H.held holder.new)) out.old.items out.new.items }
     ensures left { IfErr result (λ fault. fault ≡ TalkFault.Memory
         → StaysOrFails (H.held holder.old) (H.held holder.new)) }
     ensures name { H.named holder.new ≡ H.named holder.old }
 {
     match mem::replace(turn, Turn::Ended) {
-        Turn::Greets(Side::Caller) => match message {
+        Turn::AwaitsHave(Side::Caller) => match message {
             Message::Have(summary) => {
-                *turn = Turn::Takes(Some(summary));
+                *turn = Turn::AwaitsOps(Some(summary));
                 Ok(())
             }
             Message::Ops(_) | Message::Bye => Err(TalkFault::OutOfTurn),
         },
-        Turn::Greets(Side::Answerer) => match message {
+        Turn::AwaitsHave(Side::Answerer) => match message {
             Message::Have(summary) => {
                 put_greeting(alloc, holder, &summary, out)?;
-                *turn = Turn::Takes(None);
+                *turn = Turn::AwaitsOps(None);
                 Ok(())
             }
             Message::Ops(_) | Message::Bye => Err(TalkFault::OutOfTurn),
         },
-        Turn::Takes(Some(summary)) => match message {
+        Turn::AwaitsOps(Some(summary)) => match message {
             Message::Have(_) => Err(TalkFault::OutOfTurn),
             Message::Ops(list) => {
-                *turn = Turn::Takes(Some(summary));
+                *turn = Turn::AwaitsOps(Some(summary));
                 holder.take_all(alloc, &mut list.into_vec())
             }
             Message::Bye => put_farewell(alloc, holder, &summary, out),
         },
-        Turn::Takes(None) => match message {
+        Turn::AwaitsOps(None) => match message {
             Message::Have(_) => Err(TalkFault::OutOfTurn),
             Message::Ops(list) => {
-                *turn = Turn::Takes(None);
+                *turn = Turn::AwaitsOps(None);
                 holder.take_all(alloc, &mut list.into_vec())
             }
             Message::Bye => Ok(()),

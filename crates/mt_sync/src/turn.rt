@@ -11,9 +11,9 @@ use std::alloc::Allocator;
 #[derive(Drop)]
 pub(crate) enum Turn<A: Allocator> {
     // The other end's Have.
-    Greets(Side),
+    AwaitsHave(Side),
     // Operations or Bye. The caller keeps the Have that it answers at the end.
-    Takes(Option<Summary<A>>),
+    AwaitsOps(Option<Summary<A>>),
     Ended,
     Stopped(TalkFault),
 }
@@ -23,7 +23,7 @@ impl<A: Allocator> Turn<A> {
     pub(crate) fn is_open(&self) -> bool
         ensures { IsTrue result ↔ IsOpen (turn_of self.now) }
     {
-        matches!(self, Turn::Greets(_) | Turn::Takes(_))
+        matches!(self, Turn::AwaitsHave(_) | Turn::AwaitsOps(_))
     }
 
     // Whether it has met a fault.

@@ -26,7 +26,7 @@ returns-then-count-eq0-clause-converses g c =
 
 pub loop-piece-preserved : goal.loop-piece-preserved
 loop-piece-preserved g c =
-    let fed = fed_going (λ v. v.items) (end_of c.loop-piece.talk (g.H.Holder.held c.loop-piece.holder)) (take c.in-Ok.count c.get.new.buffer) (Ok c.in-Ok-feed.reply) (end_of c.feed.new.self (g.H.Holder.held c.feed.new.holder)) c.loop-piece.invariant.0 c.in-Ok-feed.ensures.told in (
+    let fed = fed_going (λ v. v.items) (end_of c.loop-piece.talk (g.H.Holder.held c.loop-piece.holder)) (take c.in-Ok.count c.get.new.buffer) (Ok c.in-Ok-feed.reply) (end_of c.feed.new.self (g.H.Holder.held c.feed.new.holder)) c.loop-piece.invariant.0 c.in-Ok-feed.ensures.hears in (
       fed.0,
       c.in-Ok-feed.ensures.name ∙ c.loop-piece.invariant.1,
       goes_on (end_of c.args.talk.now (g.H.Holder.held c.args.holder.now)) (g.R.Read.remaining c.args.reader.now.inner) (g.R.Read.remaining c.loop-piece.reader.inner) (g.R.Read.remaining c.get.new.self.inner)
@@ -39,7 +39,7 @@ loop-piece-preserved g c =
 
 pub returns-in-Err-put-clause-converses : goal.returns-in-Err-put-clause-converses
 returns-in-Err-put-clause-converses g c =
-    let fed = fed_going (λ v. v.items) (end_of c.loop-piece.talk (g.H.Holder.held c.loop-piece.holder)) (take c.in-Ok.count c.get.new.buffer) (Ok c.in-Ok-feed.reply) (end_of c.feed.new.self (g.H.Holder.held c.feed.new.holder)) c.loop-piece.invariant.0 c.in-Ok-feed.ensures.told in
+    let fed = fed_going (λ v. v.items) (end_of c.loop-piece.talk (g.H.Holder.held c.loop-piece.holder)) (take c.in-Ok.count c.get.new.buffer) (Ok c.in-Ok-feed.reply) (end_of c.feed.new.self (g.H.Holder.held c.feed.new.holder)) c.loop-piece.invariant.0 c.in-Ok-feed.ensures.hears in
     is_unwritten (end_of c.args.talk.now (g.H.Holder.held c.args.holder.now)) (g.R.Read.remaining c.args.reader.now.inner) (g.R.Read.remaining c.loop-piece.reader.inner) (g.R.Read.remaining c.get.new.self.inner)
     (g.W.Write.contents c.args.writer.now.inner) (g.W.Write.contents c.loop-piece.writer.inner) (g.W.Write.contents c.put.new.self.inner) (end_of c.loop-piece.talk (g.H.Holder.held c.loop-piece.holder)) (end_of c.feed.new.self (g.H.Holder.held c.feed.new.holder))
     (take c.in-Ok.count c.get.new.buffer) c.in-Ok-feed.reply.items c.loop-piece.invariant.2 c.in-Ok.ensures.bytes.0 fed.1 (subst (AppendsPrefix (g.W.Write.contents c.loop-piece.writer.inner) (g.W.Write.contents c.put.new.self.inner)) c.as_slice.ensures.value c.in-Err-put.ensures.prefix)
@@ -49,4 +49,4 @@ returns-in-Err-feed-clause-converses g c =
     is_stopped (end_of c.args.talk.now (g.H.Holder.held c.args.holder.now)) (g.R.Read.remaining c.args.reader.now.inner) (g.R.Read.remaining c.loop-piece.reader.inner) (g.R.Read.remaining c.get.new.self.inner)
     (g.W.Write.contents c.args.writer.now.inner) (g.W.Write.contents c.loop-piece.writer.inner) (end_of c.loop-piece.talk (g.H.Holder.held c.loop-piece.holder)) (end_of c.feed.new.self (g.H.Holder.held c.feed.new.holder))
     (take c.in-Ok.count c.get.new.buffer) c.in-Err-feed.fault c.loop-piece.invariant.2 c.in-Ok.ensures.bytes.0
-    (feed_stopped _ (end_of c.loop-piece.talk (g.H.Holder.held c.loop-piece.holder)) (take c.in-Ok.count c.get.new.buffer) c.in-Err-feed.fault (end_of c.feed.new.self (g.H.Holder.held c.feed.new.holder)) c.loop-piece.invariant.0 c.in-Err-feed.ensures.told) c.in-Err-feed.ensures.left
+    (feed_stopped _ (end_of c.loop-piece.talk (g.H.Holder.held c.loop-piece.holder)) (take c.in-Ok.count c.get.new.buffer) c.in-Err-feed.fault (end_of c.feed.new.self (g.H.Holder.held c.feed.new.holder)) c.loop-piece.invariant.0 c.in-Err-feed.ensures.hears) c.in-Err-feed.ensures.left

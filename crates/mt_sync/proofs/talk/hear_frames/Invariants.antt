@@ -1,5 +1,5 @@
 use Rattle.std.proofs.Common.{◌≡◌, [], ◌++◌, length}
-use Rattle.mt_sync.specs.Conversation.{told}
+use Rattle.mt_sync.specs.Conversation.{hears}
 use Rattle.mt_sync.specs.Feeding.{turn_of, IsOpen, end_at}
 use Rattle.mt_sync.proofs.Hearing.{still}
 use Rattle.mt_sync.proofs.Leaving.{IsToldTo}
@@ -8,7 +8,7 @@ use Rattle.mt_sync.proofs.talk.hear_frames.Given as goal
 abbrev pub invariant-loop-body : goal.invariant-loop-body
 invariant-loop-body g l =
     IsOpen (turn_of l.turn) × (g.H.Holder.named l.holder ≡ g.H.Holder.named l.fn.holder)
-    × (still (turn_of l.turn) l.unread (g.H.Holder.held l.holder) l.out.items ≡ told (end_at (turn_of l.fn.turn) l.fn.unread (g.H.Holder.held l.fn.holder)) l.piece)
+    × (still (turn_of l.turn) l.unread (g.H.Holder.held l.holder) l.out.items ≡ hears (end_at (turn_of l.fn.turn) l.fn.unread (g.H.Holder.held l.fn.holder)) l.piece)
     × IsToldTo (end_at (turn_of l.fn.turn) [] (g.H.Holder.held l.fn.holder)) (l.fn.unread ++ l.piece) (turn_of l.turn) l.unread (g.H.Holder.held l.holder)
 
 abbrev pub decreases-loop-body : goal.decreases-loop-body
