@@ -41,7 +41,7 @@ use Rattle.mt_replica.specs.declared.taken.Taken.{Taken}
 use Rattle.mt_replica.specs.declared.taken.Taken.TheVariants.{Already, Held, Applied}
 use Rattle.mt_replica.specs.Holding.{all_offered, is_offered, newly_released, with_offered, offer_gives, is_held, StampsRise, HaveOwnStamps, AreOffered, noted_after, MayAllFollow, TakenGives}
 use Rattle.mt_replica.specs.Joins.{joins_of}
-use Rattle.mt_replica.specs.Kept.{with_op, joins_by, TakeOf, newly_ready}
+use Rattle.mt_replica.specs.Kept.{with_op, joins_by, TakeOf, newly_ready_stamps}
 use Rattle.mt_replica.specs.Made.{greatest_clock, greatest_seq}
 use Rattle.mt_replica.specs.State.{Named, IsState, Found, own_seq}
 use Rattle.mt_replica.proofs.Bridging.{listed_member, member_listed, not_true}
@@ -250,7 +250,7 @@ module _ (state : Named) (o : Operation) (was : State Operation) (items : List O
     ready_differ : DifferBy stamp_of (ready_ops (operations (with_op state.log o)))
     ready_differ = differ_kept stamp_of (is_ready clock_of needs meets (operations (with_op state.log o))) (operations (with_op state.log o)) differ
 
-    newly_told : stamps_of newly ≡ newly_ready state.log o
+    newly_told : stamps_of newly ≡ newly_ready_stamps state.log o
     newly_told =
         ap stamps_of newly_are
         ∙ newly_in_order was.kept.released (newly_released was.kept o) (ready_ops (operations state.log)) (ready_ops (operations (with_op state.log o))) ready_differ

@@ -14,7 +14,7 @@ use Rattle.mt_sessionview.specs.Examples.{by, news, late, remove_by, restore_by,
 use Rattle.mt_replica.specs.Edit.{Edit, AddTrack, MoveTrack, AddClip, MoveClip, TrimClip, SetGain, SetMute, Remove, Restore, AddMarker, MoveMarker, Retitle, SetFade, SetMarkerLength}
 use Rattle.mt_replica.specs.Made.{made, refused, names_refused, tags_fit}
 use Rattle.mt_replica.specs.Joins.{joins_of, raised}
-use Rattle.mt_replica.specs.Kept.{edited, with_op, joins_by, newly_ready}
+use Rattle.mt_replica.specs.Kept.{edited, with_op, joins_by, newly_ready_stamps}
 use Rattle.mt_replica.specs.declared.fault.EditorFault.{EditorFault}
 use Rattle.mt_replica.specs.declared.fault.EditorFault.TheVariants.{Failed, ZeroLength, FadeTooLong, NoSuchItem, Absent, TooManyTags, ClockFull, SeqFull}
 
@@ -213,10 +213,10 @@ other_changes = refl
 
 -- ---- what becomes ready by a take: of a log that has the Retitle alone, and then the marker too
 
-pub becomes_ready : (log : LogMap) → operations log ≡ late ∷ [] → operations (with_op log news) ≡ news ∷ late ∷ [] → newly_ready log news ≡ by 1 10 1 ∷ by 2 11 1 ∷ []
+pub becomes_ready : (log : LogMap) → operations log ≡ late ∷ [] → operations (with_op log news) ≡ news ∷ late ∷ [] → newly_ready_stamps log news ≡ by 1 10 1 ∷ by 2 11 1 ∷ []
 becomes_ready log was is = rw (was, is) refl
 
-pub nothing_becomes_ready : (log : LogMap) → operations log ≡ [] → operations (with_op log late) ≡ late ∷ [] → newly_ready log late ≡ []
+pub nothing_becomes_ready : (log : LogMap) → operations log ≡ [] → operations (with_op log late) ≡ late ∷ [] → newly_ready_stamps log late ≡ []
 nothing_becomes_ready log was is = rw (was, is) refl
 
 -- ---- how many cells are joined

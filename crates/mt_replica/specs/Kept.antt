@@ -84,14 +84,14 @@ abbrev pub is_ready_in : LogMap → Operation → Bool
 is_ready_in log op = is_ready clock_of needs meets (operations (with_op log op)) op
 
 -- the stamps of the operations that become ready by one more, rising
-abbrev pub newly_ready : LogMap → Operation → List Moment
-newly_ready log op = sort_by stamp_cmp (stamps_of (newly_ready_ops log op))
+abbrev pub newly_ready_stamps : LogMap → Operation → List Moment
+newly_ready_stamps log op = sort_by stamp_cmp (stamps_of (newly_ready_ops log op))
 
 -- what a take of a log answers
 abbrev pub TakeOf : {A : Type 0} → LogMap → Operation → Result (Taken A) EditorFault → Type 0
 TakeOf log op (Ok Already) = map.get log (op_dot op) ≡ Some op
 TakeOf log op (Ok Held) = (map.get log (op_dot op) ≡ None) × (is_ready_in log op ≡ false)
-TakeOf log op (Ok (Applied stamps)) = (map.get log (op_dot op) ≡ None) × ((is_ready_in log op ≡ true) × (stamps ≡ newly_ready log op))
+TakeOf log op (Ok (Applied stamps)) = (map.get log (op_dot op) ≡ None) × ((is_ready_in log op ≡ true) × (stamps ≡ newly_ready_stamps log op))
 TakeOf log op (Err (Conflict dot)) = (dot ≡ op_dot op) × ((other : Operation) × ((map.get log dot ≡ Some other) × (other ≢ op)))
 TakeOf log op (Err Memory) = map.get log (op_dot op) ≡ None
 TakeOf log op (Err _) = ⊥

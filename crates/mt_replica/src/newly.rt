@@ -19,7 +19,7 @@ use std::alloc::{AllocError, Allocator};
 
 /// What is kept beside a log after an offer, what became of the operation, and how many cells were joined, up to the greatest number.
 #[derive(Drop)]
-pub(crate) struct Told<A: Allocator> {
+pub(crate) struct Outcome<A: Allocator> {
     pub view: View<A>,
     pub taken: Taken<A>,
     pub joins: u64,
@@ -72,18 +72,18 @@ fn taken_as<A: Allocator + Clone>(
 }
 
 /// Notes what was released from an index on, tells what became of the operation that was offered, and says how many wait.
-pub(crate) fn tell<A: Allocator + Clone>(
+pub(crate) fn outcome_of<A: Allocator + Clone>(
     alloc: &A,
     waiting: &HoldBack<Op<A>, A>,
     first: usize,
     offered: Offered,
     view: View<A>,
-) -> Result<Told<A>, EditorFault>
+) -> Result<Outcome<A>, EditorFault>
     requires bound { first ≤ length waiting.now.kept.released }
     requires follow { MayAllFollow view.ops (drop first waiting.now.kept.released) }
-    ensures view { IfOk result (λ told. told.view ≡ record { ops = noted_after view.ops (drop first waiting.now.kept.released); held = option_map (λ h. length waiting.now.kept.waiting) view.held }) }
-    ensures taken { IfOk result (λ told. TakenGives offered (drop first waiting.now.kept.released) told.taken) }
-    ensures joins { IfOk result (λ told. told.joins ≡ u64_saturate (sum_by joins_of (drop first waiting.now.kept.released))) }
+    ensures view { IfOk result (λ outcome. outcome.view ≡ record { ops = noted_after view.ops (drop first waiting.now.kept.released); held = option_map (λ h. length waiting.now.kept.waiting) view.held }) }
+    ensures taken { IfOk result (λ outcome. TakenGives offered (drop first waiting.now.kept.released) outcome.taken) }
+    ensures joins { IfOk result (λ outcome. outcome.joins ≡ u64_saturate (sum_by joins_of (drop first waiting.now.kept.released))) }
     ensures err { IfErr result (λ fault. fault ≡ EditorFault.Memory) }
 {
     let newly = released_from(waiting, first);
@@ -91,5 +91,5 @@ pub(crate) fn tell<A: Allocator + Clone>(
     let mut view = all_noted(alloc, view, newly)?;
     view.set_held(waiting.held());
     let taken = taken_as(alloc, offered, newly)?;
-    Ok(Told { view, taken, joins })
+    Ok(Outcome { view, taken, joins })
 }

@@ -15,8 +15,8 @@ ghost use Rattle.mt_replica.specs.Viewed.{AreShown};
 
 use crate::fault::EditorFault;
 use mt_items::Items;
-use mt_op::{Body, Op};
-use mt_sessionview::{Session, session_of_ready};
+use mt_op::Op;
+use mt_sessionview::{Session, placed_by, session_of_ready};
 use mt_tracklist::{Placed, TrackList};
 use std::alloc::{AllocError, Allocator};
 
@@ -43,30 +43,6 @@ fn by_stamp<'a, A: Allocator, B: Allocator>(
     Ok(sorted)
 }
 
-// What an operation that gives a track a place puts into the list of places; of another its own stamp at the head.
-fn placed<A: Allocator>(op: &Op<A>) -> Placed
-    ensures { tree_place op.now ≡ record { place = result.place; after = result.after } }
-{
-    let place = op.stamp();
-    match op.body() {
-        Body::AddTrack { after, .. } => Placed {
-            place,
-            after: *after,
-            track: place,
-        },
-        Body::MoveTrack { track, after } => Placed {
-            place,
-            after: *after,
-            track: *track,
-        },
-        _ => Placed {
-            place,
-            after: None,
-            track: place,
-        },
-    }
-}
-
 // The places that operations give, in their order.
 fn places_of<A: Allocator, B: Allocator>(
     alloc: B,
@@ -76,7 +52,7 @@ fn places_of<A: Allocator, B: Allocator>(
 {
     let mut places = Vec::with_capacity(alloc, ops.len())?;
     for op in ops {
-        places.push(placed(op))?;
+        places.push(placed_by(op))?;
     }
     Ok(places)
 }

@@ -27,7 +27,7 @@ use crate::fault::EditorFault;
 use crate::greatest::{greater, greatest_clock, greatest_seq, own_seq};
 use crate::holding::{copied, offer_new};
 use crate::names::names_refused;
-use crate::newly::{Told, tell};
+use crate::newly::{Outcome, outcome_of};
 use crate::taken::Taken;
 use crate::view::View;
 use mt_holdback::{HoldBack, Offered};
@@ -252,7 +252,7 @@ impl<A: Allocator + Clone> State<A> {
         let seq = greater(own_seq(name, &op), seq);
         let before = waiting.released().len();
         let offered = taken_in(&mut log, &mut waiting, op)?;
-        let Told { view, taken, joins } = tell(alloc, &waiting, before, offered, view)?;
+        let Outcome { view, taken, joins } = outcome_of(alloc, &waiting, before, offered, view)?;
         let state = State {
             name,
             log,

@@ -14,8 +14,8 @@ use Rattle.mt_replica.proofs.state.State.taking.Goals as goal
 pub taken_in-requires-clause-new : goal.taken_in-requires-clause-new
 taken_in-requires-clause-new g c = subst (λ (s : Stated). fin.get s.named.log (op_dot c.args.op) ≡ None) (sym c.self.view_is) c.requires.new
 
-pub tell-requires : goal.tell-requires
-tell-requires g c =
+pub outcome_of-requires : goal.outcome_of-requires
+outcome_of-requires g c =
     let was = subst (λ (n : Named). IsState n c.self.inside.waiting c.self.inside.view.ops c.self.inside.clock c.self.inside.seq) (ap (λ (s : Stated). s.named) c.self.view_is) c.self.invariant.0 in
     let logged = subst (λ (s : Stated). AreLogged (operations (with_op s.named.log c.args.op))) c.self.view_is c.in_ok-offered.ensures.logged in
     record {

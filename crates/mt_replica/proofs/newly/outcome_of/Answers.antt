@@ -6,7 +6,7 @@ use Rattle.mt_op.specs.Operation.{Operation}
 use Rattle.mt_replica.specs.Holding.{MayAllFollow, noted_after, TakenGives}
 use Rattle.mt_replica.specs.Joins.{joins_of}
 use Rattle.mt_replica.specs.Viewed.{Viewed}
-use Rattle.mt_replica.proofs.newly.tell.Goals as goal
+use Rattle.mt_replica.proofs.newly.outcome_of.Goals as goal
 
 pub all_noted-requires : goal.all_noted-requires
 all_noted-requires g c = record { follow = subst (MayAllFollow c.args.view.ops) (sym c.released_from-newly.ensures.value) c.requires.follow }
