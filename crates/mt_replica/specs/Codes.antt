@@ -8,7 +8,7 @@ use Rattle.mt_op.specs.Codes.{operation_code}
 use Rattle.mt_opcodec.specs.LogValue.{LogMap}
 use Rattle.mt_replica.specs.Kept.{Kept}
 use Rattle.mt_replica.specs.State.{Named, Stated}
-use Rattle.mt_replica.specs.Viewed.{Viewed, Desk}
+use Rattle.mt_replica.specs.Viewed.{Viewed}
 
 abbrev pub log_code : Coded LogMap
 log_code = map.code dot_code operation_code
@@ -24,6 +24,3 @@ stated_code = code_by (Named × Bool) (coded× named_code coded_bool) (λ s. (s.
 
 abbrev pub viewed_code : Coded Viewed
 viewed_code = code_by (List Operation × Option ℕ) (coded× (coded_list operation_code) (coded_option coded_ℕ)) (λ v. (v.ops, v.held)) (λ p. record { ops = p.0; held = p.1 }) (λ _. refl)
-
-abbrev pub desk_code : Coded Desk
-desk_code = code_by (Kept × Bool) (coded× kept_code coded_bool) (λ d. (d.kept, d.shown)) (λ p. record { kept = p.0; shown = p.1 }) (λ _. refl)

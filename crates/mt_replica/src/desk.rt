@@ -1,11 +1,11 @@
-//! What a draft and an editor do alike.
+//! The log that is edited: an editor, which has its session, and a draft, which has none.
 
-ghost use Rattle.std.specs.Prelude.{◌≡◌, ◌≢◌, ◌↔◌, IsErrOf, IfOk, IfErr, OnOk, Ok, None, Some, true, false, if◌then◌else◌};
+ghost use Rattle.std.specs.Prelude.{◌≡◌, ◌≢◌, ◌↔◌, IsErrOf, IfOk, IfErr, OnOk, Ok, None, Some, Bool, true, false};
 ghost use Rattle.std.specs.Option.{option_copied};
 ghost use Rattle.std.specs.Prelude.{nat_eq};
 ghost use Rattle.std.specs.Cmp.Lexicographic.{pointwise};
 ghost use Rattle.mt_replica.specs.Changes.{edit_of};
-ghost use Rattle.mt_replica.specs.Equal.{log_word, kept_word};
+ghost use Rattle.mt_replica.specs.Equal.{log_word};
 
 use crate::change::Change;
 use crate::fault::EditorFault;
@@ -16,114 +16,101 @@ use mt_op::Op;
 use mt_opcodec::Log;
 use mt_sessionview::Session;
 use mt_stamp::Replica;
-use std::alloc::Allocator;
-use std::marker::Model;
+use std::alloc::{Allocator, Global};
+use std::marker::{Model, PhantomData};
 
-/// A log that is edited under a name, with its session or without. Once a growth was refused it has neither.
+/// Whether a desk has the session of its log.
+pub trait Sessions {
+    ghost SHOWN: { Bool };
+
+    /// Whether it has.
+    const SHOWN: bool;
+}
+
+/// A desk has its session.
+pub struct WithSession;
+
+/// A desk has no session.
+pub struct WithoutSession;
+
+impl Sessions for WithSession {
+    ghost SHOWN = { true };
+
+    const SHOWN: bool = true;
+}
+
+impl Sessions for WithoutSession {
+    ghost SHOWN = { false };
+
+    const SHOWN: bool = false;
+}
+
+/// A log that is edited under a name, with its session or without: an `Editor` or a `Draft`. They are equal where their names and logs are, and with these their sessions. Once a growth was refused in `take` or `edit` it has failed:
+/// it has neither log nor session any more, and every call that can be refused answers `Failed` (20).
 #[derive(Drop)]
-pub(crate) struct Desk<A: Allocator> {
+pub struct Desk<A: Allocator, S: Sessions> {
     alloc: A,
     name: Replica,
-    shown: bool,
     joins: u64,
     state: Option<State<A>>,
+    sessions: PhantomData<S>,
 }
 
-impl<A: Allocator> Model for Desk<A> {
+/// An editor: a name, a log and the session of the log's operations.
+pub type Editor<A = Global> = Desk<A, WithSession>;
+
+/// A log that is edited under a name, without its session: for many edits one after another between which nobody looks at the
+/// session. Each call answers as an editor's does and leaves the same log.
+pub type Draft<A = Global> = Desk<A, WithoutSession>;
+
+impl<A: Allocator, S: Sessions> Model for Desk<A, S> {
     ghost use Rattle.std.specs.Prelude.{◌≡◌, option_map, IfSome};
+    ghost use Rattle.mt_replica.specs.Kept.{Kept};
     ghost use Rattle.mt_replica.specs.State.{Stated};
-    ghost use Rattle.mt_replica.specs.Viewed.{Desk};
-    ghost use Rattle.mt_replica.specs.Codes.{desk_code};
+    ghost use Rattle.mt_replica.specs.Codes.{kept_code};
 
-    ghost Value = { Desk };
+    ghost Value = { Kept };
 
-    ghost coded = { desk_code };
+    ghost coded = { kept_code };
 
-    ghost view = { λ d. record { kept = record { name = d.name; log = option_map (λ (s : Stated). s.named.log) d.state; joins = d.joins }; shown = d.shown } };
+    ghost view = { λ d. record { name = d.name; log = option_map (λ (s : Stated). s.named.log) d.state; joins = d.joins } };
 
-    ghost invariant = { λ d. IfSome d.state (λ (s : Stated). (s.named.name ≡ d.name) × (s.shown ≡ d.shown)) };
+    ghost invariant = { λ d. IfSome d.state (λ (s : Stated). (s.named.name ≡ d.name) × (s.shown ≡ S.SHOWN)) };
 }
 
-impl<A: Allocator> Desk<A> {
-    /// Its log; `None` where it has failed.
+impl<A: Allocator, S: Sessions> Desk<A, S> {
+    /// Its log: all operations that it has taken, those that are held too; `None` where it has failed.
     pub fn log(&self) -> Option<&Log<A>>
-        ensures { option_copied result ≡ self.now.kept.log }
+        ensures { option_copied result ≡ self.now.log }
     {
         match &self.state {
             Some(state) => Some(state.log()),
             None => None,
         }
     }
-
-    /// Its name.
-    pub fn name(&self) -> Replica
-        ensures { result ≡ self.now.kept.name }
-    {
-        // for the proof: that the name and the count are those of the desk as a whole
-        let _ = &self.state;
-        self.name
-    }
-
-    /// How many cells it has joined since it was made.
-    pub fn joins(&self) -> u64
-        ensures { result ≡ self.now.kept.joins }
-    {
-        // for the proof: that the name and the count are those of the desk as a whole
-        let _ = &self.state;
-        self.joins
-    }
-
-    /// Whether another has the same name and an equal log, or both have none.
-    pub fn is_like(&self, other: &Self) -> bool
-        ensures { result ≡ pointwise nat_eq (kept_word self.now.kept) (kept_word other.now.kept) }
-    {
-        self.name() == other.name() && same_logs(self.log(), other.log())
-    }
 }
 
-// Whether there is no log in either place, or equal ones.
-fn same_logs<A: Allocator>(a: Option<&Log<A>>, b: Option<&Log<A>>) -> bool
-    ensures { result ≡ pointwise nat_eq (log_word (option_copied a.entry)) (log_word (option_copied b.entry)) }
-{
-    match (a, b) {
-        (None, None) => true,
-        (Some(a), Some(b)) => a == b,
-        _ => false,
-    }
-}
+impl<A: Allocator + Clone> Draft<A> {
+    ghost use Rattle.mt_replica.specs.Kept.{Kept};
 
-impl<A: Allocator + Clone> Desk<A> {
-    ghost use Rattle.mt_replica.specs.Kept.{Kept, session_in, kept_with, failed, copied, EditGives, after_edit, TakeGives, after_take};
-    ghost use Rattle.mt_replica.specs.State.{IsMadeOf, IsNewTo};
-
-    /// A log under this name, without its session. Refused only as `Memory` (0).
+    /// A draft that has taken a log's operations. Refused only as `Memory` (0).
     pub fn new(alloc: A, name: Replica, log: Log<A>) -> Result<Self, EditorFault>
-        ensures ok { IfOk result (λ desk. desk ≡ record { kept = record { name = name; log = Some log; joins = 0 }; shown = false }) }
+        ensures ok { IfOk result (λ draft. draft ≡ record { name = name; log = Some log; joins = 0 }) }
         ensures err { IfErr result (λ fault. fault ≡ EditorFault.Memory) }
     {
         let state = State::of(&alloc, name, log)?;
         Ok(Desk {
             alloc,
             name,
-            shown: false,
             joins: 0,
             state: Some(state),
+            sessions: PhantomData,
         })
     }
 
-    /// The session of its log, where it is kept; `None` where it has failed.
-    pub fn session(&self) -> Option<&Session<A>>
-        ensures { option_copied result ≡ (if self.now.shown then session_in self.now.kept else None) }
-    {
-        match &self.state {
-            Some(state) => state.session(),
-            None => None,
-        }
-    }
-
-    /// The same with its session kept. Refused as `Memory` (0) where a growth was refused.
-    pub fn show(self) -> Result<Self, EditorFault>
-        ensures ok { IfOk result (λ desk. desk ≡ record { kept = self.kept; shown = true }) }
+    // The same with its session, where that is asked. Refused as `Memory` (0) where a growth was refused.
+    fn with_sessions<S: Sessions>(self) -> Result<Desk<A, S>, EditorFault>
+        ensures ok { IfOk result (λ desk. desk ≡ self) }
         ensures err { IfErr result (λ fault. fault ≡ EditorFault.Memory) }
     {
         let Desk {
@@ -134,48 +121,132 @@ impl<A: Allocator + Clone> Desk<A> {
             ..
         } = self;
         let state = match state {
-            Some(state) => Some(state.show(&alloc)?),
+            Some(state) => Some(shown_by::<A, S>(&alloc, state)?),
             None => None,
         };
         Ok(Desk {
             alloc,
             name,
-            shown: true,
             joins,
             state,
+            sessions: PhantomData,
         })
     }
+}
 
-    /// A copy of its log under its name, without its session, which counts its joins from 0. Refused as `Failed` (20) where it has failed, and as `Memory` (0),
-    /// which leaves it unchanged.
-    pub fn try_clone(&self) -> Result<Self, EditorFault>
-        ensures ok { IfOk result (λ copy. copy ≡ record { kept = copied self.now.kept; shown = false }) }
-        ensures failed { IsErrOf result EditorFault.Failed ↔ (self.now.kept.log ≡ None) }
+// A state with its session, where that is asked. Refused as `Memory` (0) where a growth was refused.
+fn shown_by<A: Allocator + Clone, S: Sessions>(
+    alloc: &A,
+    state: State<A>,
+) -> Result<State<A>, EditorFault>
+    requires { state.shown ≡ false }
+    ensures ok { IfOk result (λ shown. shown ≡ record { named = state.named; shown = S.SHOWN }) }
+    ensures err { IfErr result (λ fault. fault ≡ EditorFault.Memory) }
+{
+    if S::SHOWN {
+        state.show(alloc)
+    } else {
+        Ok(state)
+    }
+}
+
+impl<A: Allocator + Clone> Editor<A> {
+    ghost use Rattle.mt_replica.specs.Kept.{Kept, session_in};
+
+    /// An editor of this name that has taken a log's operations. Refused only as `Memory` (0).
+    pub fn from_log(alloc: A, name: Replica, log: Log<A>) -> Result<Self, EditorFault>
+        ensures ok { IfOk result (λ editor. editor ≡ record { name = name; log = Some log; joins = 0 }) }
+        ensures err { IfErr result (λ fault. fault ≡ EditorFault.Memory) }
+    {
+        Editor::of_draft(Draft::new(alloc, name, log)?)
+    }
+
+    /// The editor of a draft, which has not failed. Refused only as `Memory` (0).
+    pub fn of_draft(draft: Draft<A>) -> Result<Self, EditorFault>
+        requires whole { draft.log ≢ None }
+        ensures ok { IfOk result (λ editor. editor ≡ draft) }
+        ensures err { IfErr result (λ fault. fault ≡ EditorFault.Memory) }
+    {
+        draft.with_sessions()
+    }
+
+    /// The session of the operations in its log; `None` where it has failed.
+    pub fn session(&self) -> Option<&Session<A>>
+        ensures { option_copied result ≡ session_in self.now }
+    {
+        match &self.state {
+            Some(state) => state.session(),
+            None => None,
+        }
+    }
+}
+
+impl<A: Allocator + Clone, S: Sessions> Desk<A, S> {
+    ghost use Rattle.mt_replica.specs.Kept.{Kept, kept_with, failed, copied, EditGives, after_edit, TakeGives, after_take};
+    ghost use Rattle.mt_replica.specs.State.{IsMadeOf, IsNewTo};
+
+    /// Its name.
+    pub fn name(&self) -> Replica
+        ensures { result ≡ self.now.name }
+    {
+        // for the proof: that the name and the count are those of the desk as a whole
+        let (_state, name) = (&self.state, self.name);
+        name
+    }
+
+    /// How many cells it has joined since `from_log`, `new` or `try_clone` made it: one for each field that an operation writes, each tag that
+    /// it adds and each tag that it lists, of the operations that became ready by a take or an edit. It stands still at the greatest
+    /// `u64`, and where it has failed. A session that is mended is not counted, and no comparison looks at it.
+    pub fn joins(&self) -> u64
+        ensures { result ≡ self.now.joins }
+    {
+        // for the proof: that the name and the count are those of the desk as a whole
+        let (_state, joins) = (&self.state, self.joins);
+        joins
+    }
+
+    /// A draft of its name with a copy of its log: for many edits between which nobody looks at the session. Refused as `Failed`
+    /// (20) where it has failed, and as `Memory` (0), which leaves it unchanged.
+    pub fn draft(&self) -> Result<Draft<A>, EditorFault>
+        ensures ok { IfOk result (λ draft. draft ≡ copied self.now) }
+        ensures failed { IsErrOf result EditorFault.Failed ↔ (self.now.log ≡ None) }
         ensures err { IfErr result (λ fault. fault ≢ EditorFault.Failed → fault ≡ EditorFault.Memory) }
     {
         let Some(state) = &self.state else {
             return Err(EditorFault::Failed);
         };
         match state.log().try_clone() {
-            Ok(log) => Desk::new(self.alloc.clone()?, self.name, log),
+            Ok(log) => Draft::new(self.alloc.clone()?, self.name, log),
             Err(_) => Err(EditorFault::Memory),
         }
     }
 
-    /// Lets it fail.
-    pub fn fail(&mut self)
-        ensures { self.new ≡ record { kept = failed self.old.kept; shown = self.old.shown } }
+    /// An equal one of the same name, which counts its joins from 0. Refused as `Failed` (20) where it has failed, and as `Memory` (0), which leaves it
+    /// unchanged.
+    pub fn try_clone(&self) -> Result<Self, EditorFault>
+        ensures ok { IfOk result (λ copy. copy ≡ copied self.now) }
+        ensures failed { IsErrOf result EditorFault.Failed ↔ (self.now.log ≡ None) }
+        ensures err { IfErr result (λ fault. fault ≢ EditorFault.Failed → fault ≡ EditorFault.Memory) }
     {
-        self.state = None;
+        let draft = self.draft()?;
+        draft.with_sessions()
+    }
+
+    /// Lets it fail: it has neither log nor session any more. For whoever works out a new log for it in steps of their own and is
+    /// refused memory.
+    pub fn fail(&mut self)
+        ensures { self.new ≡ failed self.old }
+    {
+        drop(self.state.take());
     }
 
     // Keeps an operation that a change made.
     fn keep(&mut self, op: Op<A>) -> Result<Op<A>, EditorFault>
-        requires made { IsMadeOf self.old.kept op }
+        requires made { IsMadeOf self.old op }
         ensures ok { IfOk result (λ kept. kept ≡ op) }
-        ensures kept { OnOk result (self.new ≡ record { kept = kept_with self.old.kept op; shown = self.old.shown }) }
+        ensures kept { OnOk result (self.new ≡ kept_with self.old op) }
         ensures err { IfErr result (λ fault. fault ≡ EditorFault.Memory) }
-        ensures failed { IfErr result (λ fault. self.new ≡ record { kept = failed self.old.kept; shown = self.old.shown }) }
+        ensures failed { IfErr result (λ fault. self.new ≡ failed self.old) }
     {
         match self.state.take() {
             Some(state) => {
@@ -187,10 +258,18 @@ impl<A: Allocator + Clone> Desk<A> {
         }
     }
 
-    /// Makes the operation of a change, takes it and gives a copy.
+    /// Makes the operation of a change, takes it, and gives a copy. Its clock is 1 above the greatest in the log, held operations
+    /// included, and its number 1 above the greatest of this replica there. A Remove lists all live tags of its item, and a track
+    /// is put after the current place of the one that is named.
+    ///
+    /// Refused, in this order: `Failed` (20) where it has failed; `ZeroLength` (6) where a clip would play no frame; `FadeTooLong` (51)
+    /// where it would fade over more than 1,048,576 frames; then for each item that the change names, in the order of its fields, `NoSuchItem` (21) where no ready operation of that stamp
+    /// adds such an item and `Absent` (22) where it is not present, which a Restore does not ask; `TooManyTags` (25) where a
+    /// Remove would list over 65,535; `ClockFull` (23) and `SeqFull` (24) where the greatest clock or number is 2^62. All these
+    /// change nothing. `Memory` (0) where a growth was refused: then it has failed.
     pub fn edit(&mut self, change: &Change<A>) -> Result<Op<A>, EditorFault>
-        ensures gives { EditGives self.old.kept (edit_of change.now) result }
-        ensures holds { self.new ≡ record { kept = after_edit self.old.kept result; shown = self.old.shown } }
+        ensures gives { EditGives self.old (edit_of change.now) result }
+        ensures holds { self.new ≡ after_edit self.old result }
     {
         let made = match &self.state {
             Some(state) => state.made(change),
@@ -208,11 +287,11 @@ impl<A: Allocator + Clone> Desk<A> {
 
     // Takes an operation under a new dot.
     fn add(&mut self, op: Op<A>) -> Result<Taken<A>, EditorFault>
-        requires new { IsNewTo self.old.kept.log op }
-        ensures ok { IfOk result (λ taken. TakeGives self.old.kept.log op (Ok taken)) }
-        ensures kept { OnOk result (self.new ≡ record { kept = kept_with self.old.kept op; shown = self.old.shown }) }
+        requires new { IsNewTo self.old.log op }
+        ensures ok { IfOk result (λ taken. TakeGives self.old.log op (Ok taken)) }
+        ensures kept { OnOk result (self.new ≡ kept_with self.old op) }
         ensures err { IfErr result (λ fault. fault ≡ EditorFault.Memory) }
-        ensures failed { IfErr result (λ fault. self.new ≡ record { kept = failed self.old.kept; shown = self.old.shown }) }
+        ensures failed { IfErr result (λ fault. self.new ≡ failed self.old) }
     {
         match self.state.take() {
             Some(state) => {
@@ -229,10 +308,14 @@ impl<A: Allocator + Clone> Desk<A> {
         }
     }
 
-    /// Takes an operation into the log.
+    /// Takes an operation, of this replica or of another, into the log: `Already` where the same one is there, `Held` where it
+    /// has to wait for others, and `Applied` with the stamps of all that became ready by it, rising.
+    ///
+    /// Refused as `Failed` (20) where it has failed, and as `Conflict` (17) with its dot where another operation has that
+    /// dot; both change nothing. `Memory` (0) where a growth was refused: then it has failed.
     pub fn take(&mut self, op: Op<A>) -> Result<Taken<A>, EditorFault>
-        ensures gives { TakeGives self.old.kept.log op result }
-        ensures holds { self.new ≡ record { kept = after_take self.old.kept op result; shown = self.old.shown } }
+        ensures gives { TakeGives self.old.log op result }
+        ensures holds { self.new ≡ after_take self.old op result }
     {
         let found = match &self.state {
             Some(state) => state.found(&op),
@@ -244,4 +327,39 @@ impl<A: Allocator + Clone> Desk<A> {
             None => self.add(op),
         }
     }
+}
+
+// Whether there is no log in either place, or equal ones.
+fn same_logs<A: Allocator>(a: Option<&Log<A>>, b: Option<&Log<A>>) -> bool
+    ensures { result ≡ pointwise nat_eq (log_word (option_copied a.entry)) (log_word (option_copied b.entry)) }
+{
+    match (a, b) {
+        (None, None) => true,
+        (Some(a), Some(b)) => a == b,
+        _ => false,
+    }
+}
+
+// By their names and logs: each editor has the session of its log.
+impl<A: Allocator, S: Sessions> PartialEq for Desk<A, S> {
+    ghost use Rattle.std.specs.Prelude.{nat_eq};
+    ghost use Rattle.std.specs.Cmp.{on_per, partial_equiv_from_equiv};
+    ghost use Rattle.std.specs.Cmp.Lexicographic.{pointwise, nat_list_eq_equiv};
+    ghost use Rattle.mt_replica.specs.Equal.{kept_word};
+
+    ghost eq = { λ a b. pointwise nat_eq (kept_word a) (kept_word b) };
+
+    ghost laws = { on_per kept_word (partial_equiv_from_equiv nat_list_eq_equiv) };
+
+    fn eq(&self, other: &Self) -> bool {
+        self.name == other.name && same_logs(self.log(), other.log())
+    }
+}
+
+impl<A: Allocator, S: Sessions> Eq for Desk<A, S> {
+    ghost use Rattle.std.specs.Cmp.{on_equiv};
+    ghost use Rattle.std.specs.Cmp.Lexicographic.{nat_list_eq_equiv};
+    ghost use Rattle.mt_replica.specs.Equal.{kept_word};
+
+    ghost laws = { on_equiv kept_word nat_list_eq_equiv };
 }

@@ -5,8 +5,7 @@ ghost use Rattle.std.specs.Prelude.{◌≡◌, ◌↔◌, IsTrue, IfSome};
 ghost use Rattle.mt_opcodec.specs.LogValue.{AreLogged, operations, log_of};
 ghost use Rattle.mt_replica.specs.Laws.{MadeIsNext};
 
-use crate::draft::Draft;
-use crate::editor::Editor;
+use crate::desk::{Desk, Draft, Editor, Sessions};
 use crate::fault::EditorFault;
 use crate::taken::Taken;
 use std::alloc::Allocator;
@@ -27,11 +26,11 @@ pub fn equal_editors<A: Allocator>(a: &Editor<A>, b: &Editor<A>) -> bool
     a == b
 }
 
-// What an editor's log holds are operations by rising dot, each with a text of its own.
-fn holds_operations<A: Allocator>(editor: &Editor<A>)
-    ensures { IfSome editor.now.log (λ log. AreLogged (operations log) × (log_of (operations log) ≡ log)) }
+// What the log of either holds are operations by rising dot, each with a text of its own.
+fn holds_operations<A: Allocator, S: Sessions>(desk: &Desk<A, S>)
+    ensures { IfSome desk.now.log (λ log. AreLogged (operations log) × (log_of (operations log) ≡ log)) }
 {
-    if let Some(log) = editor.log() {
+    if let Some(log) = desk.log() {
         // for the proof: that the log's operations rise by dot, and that the log is the one of them
         let _ = log.runs();
     }
@@ -41,19 +40,9 @@ fn holds_operations<A: Allocator>(editor: &Editor<A>)
 pub fn equal_drafts<A: Allocator>(draft: &Draft<A>, other: &Draft<A>) -> bool
     ensures { IsTrue result ↔ ((draft.now.name ≡ other.now.name) × (draft.now.log ≡ other.now.log)) }
 {
-    draft_holds_operations(draft);
-    draft_holds_operations(other);
+    holds_operations(draft);
+    holds_operations(other);
     draft == other
-}
-
-// The same of a draft's log.
-fn draft_holds_operations<A: Allocator>(draft: &Draft<A>)
-    ensures { IfSome draft.now.log (λ log. AreLogged (operations log) × (log_of (operations log) ≡ log)) }
-{
-    if let Some(log) = draft.log() {
-        // for the proof: that the log's operations rise by dot, and that the log is the one of them
-        let _ = log.runs();
-    }
 }
 
 /// What became of two operations is equal where both are `Already`, or both `Held`, or both `Applied` with the same stamps in the same

@@ -38,8 +38,6 @@ mod body;
 mod by_stamp;
 mod change;
 mod desk;
-mod draft;
-mod editor;
 mod fault;
 mod greatest;
 mod holding;
@@ -53,7 +51,6 @@ mod taken;
 mod view;
 
 pub use change::Change;
-pub use draft::Draft;
-pub use editor::Editor;
+pub use desk::{Desk, Draft, Editor, Sessions, WithSession, WithoutSession};
 pub use fault::EditorFault;
 pub use taken::Taken;

@@ -3,7 +3,7 @@ use Rattle.std.specs.Prelude.{option_map, IfSome}
 use Rattle.mt_stamp.specs.declared.name.Replica.{Replica}
 use Rattle.mt_op.specs.Operation.{Operation}
 use Rattle.mt_replica.specs.State.{Stated, IsMade, IsMadeIn, IsMadeOf}
-use Rattle.mt_replica.specs.Viewed.{Desk}
+use Rattle.mt_replica.specs.Kept.{Kept}
 use Rattle.mt_replica.proofs.desk.Desk.keep.Goals as goal
 
 -- a change made an operation of what is kept, where anything is
@@ -14,4 +14,4 @@ made_of name shown kept state op is own made =
 
 pub with-requires : goal.with-requires
 with-requires g c =
-    record { made = made_of c.self.inside.name c.self.inside.shown c.self.inside.state c.in-Some.state c.args.op (sym c.take.ensures.value ∙ c.in-Some.is) c.self.invariant (subst (λ (d : Desk). IsMadeOf d.kept c.args.op) (sym c.self.view_is) c.requires.made) }
+    record { made = made_of c.self.inside.name _ c.self.inside.state c.in-Some.state c.args.op (sym c.take.ensures.value ∙ c.in-Some.is) c.self.invariant (subst (λ (k : Kept). IsMadeOf k c.args.op) (sym c.self.view_is) c.requires.made) }
