@@ -74,7 +74,8 @@ pub(crate) fn beside_log<A: Allocator + Clone>(
     log: &Log<A>,
 ) -> Result<(HoldBack<Op<A>, A>, Items<A>), EditorFault>
     ensures offered { IfOk result (λ both. AreOffered both.0 [] (operations log.now)) }
-    ensures noted { IfOk result (λ both. (f : Operation → ℕ) → sum_by f both.1 ≡ sum_by f (ready_ops (operations log.now))) }
+    ensures noted { IfOk result (λ both. (f : Operation → ℕ) → sum_by f both.1
+        ≡ sum_by f (ready_ops (operations log.now))) }
     ensures err { IfErr result (λ fault. fault ≡ EditorFault.Memory) }
 {
     // for the proof: that the dots of a log's operations differ

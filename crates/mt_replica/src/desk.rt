@@ -45,8 +45,9 @@ impl Sessions for WithoutSession {
     const SHOWN: bool = false;
 }
 
-/// A log that is edited under a name, with its session or without: an `Editor` or a `Draft`. They are equal where their names and logs are, and with these their sessions. Once a growth was refused in `take` or `edit` it has failed:
-/// it has neither log nor session any more, and every call that can be refused answers `Failed` (20).
+/// A log that is edited under a name, with its session or without: an `Editor` or a `Draft`. They are equal where their names and logs are,
+/// and with these their sessions. Once a growth was refused in `take` or `edit` it has failed: it has neither log nor session any more, and
+/// every call that can be refused answers `Failed` (20).
 #[derive(Drop)]
 pub struct Desk<A: Allocator, S: Sessions> {
     alloc: A,
@@ -221,8 +222,8 @@ impl<A: Allocator + Clone, S: Sessions> Desk<A, S> {
         }
     }
 
-    /// An equal one of the same name, which counts its joins from 0. Refused as `Failed` (20) where it has failed, and as `Memory` (0), which leaves it
-    /// unchanged.
+    /// An equal one of the same name, which counts its joins from 0. Refused as `Failed` (20) where it has failed, and as `Memory` (0),
+    /// which leaves it unchanged.
     pub fn try_clone(&self) -> Result<Self, EditorFault>
         ensures ok { IfOk result (λ copy. copy ≡ copied self.now) }
         ensures failed { IsErrOf result EditorFault.Failed ↔ (self.now.log ≡ None) }
@@ -263,10 +264,10 @@ impl<A: Allocator + Clone, S: Sessions> Desk<A, S> {
     /// is put after the current place of the one that is named.
     ///
     /// Refused, in this order: `Failed` (20) where it has failed; `ZeroLength` (6) where a clip would play no frame; `FadeTooLong` (51)
-    /// where it would fade over more than 1,048,576 frames; then for each item that the change names, in the order of its fields, `NoSuchItem` (21) where no ready operation of that stamp
-    /// adds such an item and `Absent` (22) where it is not present, which a Restore does not ask; `TooManyTags` (25) where a
-    /// Remove would list over 65,535; `ClockFull` (23) and `SeqFull` (24) where the greatest clock or number is 2^62. All these
-    /// change nothing. `Memory` (0) where a growth was refused: then it has failed.
+    /// where it would fade over more than 1,048,576 frames; then for each item that the change names, in the order of its fields,
+    /// `NoSuchItem` (21) where no ready operation of that stamp adds such an item and `Absent` (22) where it is not present, which a
+    /// Restore does not ask; `TooManyTags` (25) where a Remove would list over 65,535; `ClockFull` (23) and `SeqFull` (24) where the
+    /// greatest clock or number is 2^62. All these change nothing. `Memory` (0) where a growth was refused: then it has failed.
     pub fn edit(&mut self, change: &Change<A>) -> Result<Op<A>, EditorFault>
         ensures gives { EditGives self.old (edit_of change.now) result }
         ensures holds { self.new ≡ after_edit self.old result }

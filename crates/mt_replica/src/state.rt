@@ -86,7 +86,8 @@ impl<A: Allocator> State<A> {
 
     /// The session of its log, where it is kept.
     pub fn session(&self) -> Option<&Session<A>>
-        ensures { option_copied result ≡ (if self.now.shown then Some (session_of (operations self.now.named.log)) else None) }
+        ensures { option_copied result ≡ (if self.now.shown then Some (session_of (operations self.now.named.log))
+            else None) }
     {
         // for the proof: that what was released is what is ready
         let (_log, _released) = (self.log.runs(), self.waiting.released());
@@ -97,7 +98,8 @@ impl<A: Allocator> State<A> {
 impl<A: Allocator + Clone> State<A> {
     /// The state of a log. Refused as `Memory` (0) where a growth was refused.
     pub fn of(alloc: &A, name: Replica, log: Log<A>) -> Result<Self, EditorFault>
-        ensures ok { IfOk result (λ state. state ≡ record { named = record { name = name; log = log }; shown = false }) }
+        ensures ok { IfOk result (λ state. state ≡ record
+            { named = record { name = name; log = log }; shown = false }) }
         ensures err { IfErr result (λ fault. fault ≡ EditorFault.Memory) }
     {
         let (waiting, items) = beside_log(alloc, &log)?;
@@ -141,7 +143,8 @@ impl<A: Allocator + Clone> State<A> {
 
     // The stamp of the next operation.
     fn next_stamp(&self) -> Result<Stamp, EditorFault>
-        ensures { result ≡ or_made (stamp_refused (operations self.now.named.log) self.now.named.name) (made_stamp (operations self.now.named.log) self.now.named.name) }
+        ensures { result ≡ or_made (stamp_refused (operations self.now.named.log) self.now.named.name)
+            (made_stamp (operations self.now.named.log) self.now.named.name) }
     {
         // for the proof: that clock and number are the greatest ones, and that a replica is a number of 128 bits
         let (_view, _replica) = (&self.view, self.name.0);
@@ -156,9 +159,12 @@ impl<A: Allocator + Clone> State<A> {
 
     // The body that a change makes.
     fn made_body(&self, change: &Change<A>) -> Result<Body<A>, EditorFault>
-        ensures passes { IfOk result (λ body. body_refused (operations self.now.named.log) (edit_of change.now) ≡ None) }
-        ensures ok { IfOk result (λ body. act_of body ≡ made_act (ready_ops (operations self.now.named.log)) (edit_of change.now)) }
-        ensures err { IfErr result (λ fault. (fault ≡ EditorFault.Memory) ⊎ (body_refused (operations self.now.named.log) (edit_of change.now) ≡ Some fault)) }
+        ensures passes { IfOk result (λ body. body_refused (operations self.now.named.log) (edit_of change.now)
+            ≡ None) }
+        ensures ok { IfOk result (λ body. act_of body ≡ made_act (ready_ops (operations self.now.named.log))
+            (edit_of change.now)) }
+        ensures err { IfErr result (λ fault. (fault ≡ EditorFault.Memory)
+            ⊎ (body_refused (operations self.now.named.log) (edit_of change.now) ≡ Some fault)) }
     {
         // for the proof: that the log is the one of the state
         let _ = self.log.runs();
@@ -180,8 +186,10 @@ impl<A: Allocator + Clone> State<A> {
 
     /// The operation that a change makes, or its first refusal; `Memory` (0) where a growth was refused.
     pub fn made(&self, change: &Change<A>) -> Result<Op<A>, EditorFault>
-        ensures ok { IfOk result (λ op. made (operations self.now.named.log) self.now.named.name (edit_of change.now) ≡ Ok op) }
-        ensures err { IfErr result (λ fault. (fault ≡ EditorFault.Memory) ⊎ (made (operations self.now.named.log) self.now.named.name (edit_of change.now) ≡ Err fault)) }
+        ensures ok { IfOk result (λ op. made (operations self.now.named.log) self.now.named.name (edit_of change.now)
+            ≡ Ok op) }
+        ensures err { IfErr result (λ fault. (fault ≡ EditorFault.Memory)
+            ⊎ (made (operations self.now.named.log) self.now.named.name (edit_of change.now) ≡ Err fault)) }
     {
         let body = self.made_body(change)?;
         let stamp = self.next_stamp()?;
@@ -193,7 +201,8 @@ impl<A: Allocator + Clone> State<A> {
     /// The state with an operation that a change made of it, by which nothing else becomes ready. Refused as `Memory` (0) where a growth was refused.
     pub fn with(self, alloc: &A, op: &Op<A>) -> Result<Self, EditorFault>
         requires made { IsMade self.named op.now }
-        ensures ok { IfOk result (λ state. state ≡ record { named = record { name = self.named.name; log = with_op self.named.log op.now }; shown = self.shown }) }
+        ensures ok { IfOk result (λ state. state ≡ record
+            { named = record { name = self.named.name; log = with_op self.named.log op.now }; shown = self.shown }) }
         ensures alone { IfOk result (λ state. joins_by (Some self.named.log) op.now ≡ joins_of op.now) }
         ensures err { IfErr result (λ fault. fault ≡ EditorFault.Memory) }
     {
@@ -235,7 +244,11 @@ impl<A: Allocator + Clone> State<A> {
     /// The state with an operation under a new dot, what became of it, and how many cells that joined. Refused as `Memory` (0) where a growth was refused.
     pub fn taking(self, alloc: &A, op: Op<A>) -> Result<Step<A>, EditorFault>
         requires new { map.get self.named.log (op_dot op) ≡ None }
-        ensures state { IfOk result (λ step. step.state ≡ record { named = record { name = self.named.name; log = with_op self.named.log op }; shown = self.shown }) }
+        ensures state { IfOk result (λ step. step.state
+            ≡ record {
+              named = record { name = self.named.name; log = with_op self.named.log op };
+              shown = self.shown;
+            }) }
         ensures taken { IfOk result (λ step. TakeOf self.named.log op (Ok step.taken)) }
         ensures joins { IfOk result (λ step. step.joins ≡ u64_saturate (joins_by (Some self.named.log) op)) }
         ensures err { IfErr result (λ fault. fault ≡ EditorFault.Memory) }

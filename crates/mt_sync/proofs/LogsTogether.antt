@@ -47,8 +47,7 @@ of_second a b c ab h dot o p at_b at_c = by (fin.get a dot) refl
 pub pairs_with : (logs : List LogMap) (more : LogMap) → PairsAgree logs → Agree (union_all logs) more → PairsAgree (logs ++ more ∷ [])
 pairs_with [] more pairs agree = (tt, tt)
 pairs_with (x ∷ logs) more pairs agree =
-    let both : Agree (union x (union_all logs)) more = subst (λ (m : LogMap). Agree m more) (first_apart x logs) agree in
-    (
+    let both : Agree (union x (union_all logs)) more = subst (λ (m : LogMap). Agree m more) (first_apart x logs) agree in (
       each_with x logs more pairs.0 (of_first x (union_all logs) more both),
       pairs_with logs more pairs.1 (of_second x (union_all logs) more (with_all x logs pairs.0) both),
     )
@@ -140,7 +139,7 @@ pub taken_together : (logs others new : List LogMap) (log more : LogMap) (list f
 taken_together logs others new log more list front clash parts is joins held result answers =
     let all = union_all (log ∷ others) in
     let now : held_by new ≡ Some (union all (log_of front)) =
-        held ∙ held_with logs more ∙ ap Some (all_with logs more ∙ ap (λ (l : List LogMap). union (union_all l) more) parts ∙ ap (union all) is) in
+    held ∙ held_with logs more ∙ ap Some (all_with logs more ∙ ap (λ (l : List LogMap). union (union_all l) more) parts ∙ ap (union all) is) in
     subst (λ (l : List LogMap). TakesIn (held_by l) list result (held_by new)) (sym parts) (by result answers now)
   where
     by : (result : Result (Unit {0}) TalkFault) → AnswersTo clash result → held_by new ≡ Some (union (union_all (log ∷ others)) (log_of front)) → TakesIn (Some (union_all (log ∷ others))) list result (held_by new)

@@ -11,7 +11,7 @@ use crate::fault::TalkFault;
 use crate::taking::take_all_in_editor;
 use mt_op::Op;
 use mt_opcodec::Log;
-use mt_replica::{Draft, Editor};
+use mt_replica::{Desk, Editor, Sessions};
 use std::alloc::Allocator;
 
 /// Whoever has a log: a log itself, a draft or an editor.
@@ -32,16 +32,8 @@ impl<A: Allocator> HoldsLog<A> for Log<A> {
     }
 }
 
-impl<A: Allocator> HoldsLog<A> for Draft<A> {
+impl<A: Allocator, S: Sessions> HoldsLog<A> for Desk<A, S> {
     ghost held = { λ d. d.log };
-
-    fn log(&self) -> Option<&Log<A>> {
-        self.log()
-    }
-}
-
-impl<A: Allocator> HoldsLog<A> for Editor<A> {
-    ghost held = { λ e. e.log };
 
     fn log(&self) -> Option<&Log<A>> {
         self.log()

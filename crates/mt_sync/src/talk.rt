@@ -100,7 +100,11 @@ impl<A: Allocator + Clone> Talk<A> {
     /// needed; `Conflict` (17) where an operation's dot names another one in the log; `FrameTooLong` (40) where the own
     /// summary does not fit a frame. `Memory` (0) where a growth was refused. After a fault the editor holds its own operations and those before
     /// the fault, and the talk answers 39 from then on; where a growth was refused while operations joined, the editor has failed.
-    pub fn feed<H: Holder<A>>(&mut self, holder: &mut H, piece: &[u8]) -> Result<Vec<u8, A>, TalkFault>
+    pub fn feed<H: Holder<A>>(
+        &mut self,
+        holder: &mut H,
+        piece: &[u8],
+    ) -> Result<Vec<u8, A>, TalkFault>
         ensures hears { Feeds (λ out. out.items) (end_of self.old (H.held holder.old)) piece.now result
             (end_of self.new (H.held holder.new)) }
         ensures left { IfErr result (λ fault. fault ≡ TalkFault.Memory
