@@ -13,7 +13,7 @@ use mt_op::Digest;
 use mt_opcodec::Latch;
 use mt_preflight::Listing;
 use mt_render::Format;
-use mt_sync::{GrowingLog, Side};
+use mt_sync::{GrowingLog, Holder, Side};
 use mt_testkit::{A, RECORDING};
 use std::alloc::{Allocator, Global};
 use std::io::{Read, Write};
@@ -254,6 +254,10 @@ fn meet<M: Allocator + Clone, R: Read + Drop, W: Write>(
     output: &mut Latch<W>,
 ) -> Option<Result<(), CliFault>> {
     let (mut reader, mut writer) = (Latch::new(reader), Latch::new(Vec::new(alloc)));
+    // for the proof: that the log lies there as one
+    let Ok(()) = growing.settle() else {
+        return None;
+    };
     let answer = swap_log(
         memory,
         alloc,
