@@ -40,21 +40,21 @@ fn put_count<T: Write>(count: usize, told: &mut Latch<T>) -> Result<(), CliFault
     }
 }
 
-// Writes a draft's log, and then tells how many changes were made.
+// Writes what is left of a draft, its log, and then tells how many changes were made.
 fn put_edited<A: Allocator + Clone, W: Write, T: Write>(
-    draft: &Draft<A>,
+    log: &Option<Log<A>>,
     count: usize,
     output: &mut Latch<W>,
     told: &mut Latch<T>,
 ) -> Result<(), CliFault>
-    ensures ok { OnOk result (EditedWritten W.contents draft.now.log T.contents count output.old output.new told.old
+    ensures ok { OnOk result (EditedWritten W.contents log.now T.contents count output.old output.new told.old
         told.new) }
-    ensures err { IfErr result (EditedFails W.contents draft.now.log T.contents count output.old output.new told.old
+    ensures err { IfErr result (EditedFails W.contents log.now T.contents count output.old output.new told.old
         told.new) }
     ensures output_stays_failed { output.old.failed ≡ true → output.new ≡ output.old }
     ensures told_stays_failed { told.old.failed ≡ true → told.new ≡ told.old }
 {
-    match put_held(draft, output) {
+    match put_held(log, output) {
         Ok(()) => put_count(count, told),
         Err(fault) => Err(fault),
     }
@@ -78,7 +78,7 @@ fn put_edit<A: Allocator + Clone, W: Write, T: Write>(
 {
     match Draft::new(alloc.clone()?, name, log) {
         Ok(draft) => match run_draft(alloc, draft, script) {
-            Ok((made, count)) => put_edited(&made, count, output, told),
+            Ok((made, count)) => put_edited(&made.into_log(), count, output, told),
             Err(fault) => Err(refused_script(fault)),
         },
         Err(_) => Err(CliFault::Memory),

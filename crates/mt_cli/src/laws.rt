@@ -28,7 +28,7 @@ pub fn headline()
 pub fn log_in_memory<A: Allocator>(log: &Log<A>)
     ensures { IsSet log.now }
 {
-    // its operations are a log's
+    // for the proof: that its operations are a log's
     let _ = log.runs();
 }
 

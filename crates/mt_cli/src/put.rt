@@ -8,8 +8,8 @@ ghost use Rattle.mt_cli.specs.Working.{HeldWritten, HeldFails, LendLeaves};
 
 use crate::fault::CliFault;
 use crate::merge::put_log;
-use mt_opcodec::{BufferedLatch, Latch, LatchFault};
-use mt_sync::{Holder, HoldsLog};
+use mt_opcodec::{BufferedLatch, Latch, LatchFault, Log};
+use mt_sync::Holder;
 use std::alloc::Allocator;
 use std::io::Write;
 
@@ -26,16 +26,16 @@ pub(crate) fn put_bytes<W: Write>(bytes: &[u8], output: &mut Latch<W>) -> Result
     }
 }
 
-/// Writes the text of the log that a holder has. `Memory` also where it has failed, so that there is none.
-pub(crate) fn put_held<A: Allocator + Clone, W: Write, H: HoldsLog<A>>(
-    holder: &H,
+/// Writes the text of the log that is left of a holder. `Memory` also where it had failed, so that there is none.
+pub(crate) fn put_held<A: Allocator + Clone, W: Write>(
+    log: &Option<Log<A>>,
     output: &mut Latch<W>,
 ) -> Result<(), CliFault>
-    ensures ok { OnOk result (HeldWritten W.contents (H.held holder.now) output.old output.new) }
-    ensures err { IfErr result (HeldFails W.contents (H.held holder.now) output.old output.new) }
+    ensures ok { OnOk result (HeldWritten W.contents log.now output.old output.new) }
+    ensures err { IfErr result (HeldFails W.contents log.now output.old output.new) }
     ensures stays_failed { output.old.failed ≡ true → output.new ≡ output.old }
 {
-    match holder.log() {
+    match log {
         Some(log) => put_log(log, output),
         None => Err(CliFault::Memory),
     }

@@ -11,8 +11,8 @@ use mt_sync::{Holder, Side, converse};
 use std::alloc::{Allocator, Global};
 use std::io::{Read, Write};
 
-/// Swaps operations with the other end of a conversation, as the caller or the answerer, and writes the log that the holder then has, an
-/// editor or a log that grows, and nothing else, into the output. `frames` is where the bytes of a frame that is not whole are kept.
+/// Swaps operations with the other end of a conversation, as the caller or the answerer, and writes the log that the holder, an editor or a log that grows,
+/// then has, and nothing else, into the output. The holder's operations have to lie in one log (`whole`), as for `converse`. `frames` is where the bytes of a frame that is not whole are kept.
 ///
 /// Refused, in this order: `Sync` as `converse` is, with a writer (37) or reader (45) whose latch has failed, an input that ends before the
 /// conversation (49), or what stops it (38, 39, 40, 17 or 20); `Write` where the output's latch has failed, which then holds a prefix of

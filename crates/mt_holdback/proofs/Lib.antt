@@ -2,4 +2,8 @@ pub mod Readiness
 pub mod Operations
 pub mod Listings
 pub mod Offers
+pub mod Keys
+pub mod Needs
+pub mod Entries
+pub mod Released
 pub mod Queueing

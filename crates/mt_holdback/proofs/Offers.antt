@@ -15,7 +15,7 @@ use Rattle.mt_holdback.specs.Waiting.{NamesOlder, clock_of, meets, is_ready, All
 use Rattle.mt_holdback.specs.Laws.{is_met_by, passed, ClocksRise}
 use Rattle.mt_holdback.specs.Passing.{left}
 use Rattle.mt_holdback.specs.Queue.{Takes, NoneIsMet}
-use Rattle.mt_holdback.specs.HoldBack.{Kept, offered, knows, KeysRise, queued, offered_with, newly_ready, kept_with, IsHoldBack, OfferKeepsTheRule, OfferedStays, HeldReleasesNothing}
+use Rattle.mt_holdback.specs.HoldBack.{Contents, offered, knows, KeysRise, queued, offered_with, newly_ready, contents_with, IsHoldBack, OfferKeepsTheRule, OfferedStays, HeldReleasesNothing}
 use Rattle.mt_holdback.proofs.Readiness.{held_changes_nothing, one_pass_finds_all, one_pass_leaves, met_is_ready, named_later, filter_push, filter_whole}
 use Rattle.mt_holdback.proofs.Listings.{IsWithin, or_left, or_middle, any_append, any_parts, ready_within, ready_same}
 
@@ -147,88 +147,88 @@ module _ {T R : Type 0} (key : T → Moment) (needs : T → List (Moment × R)) 
       by true is h rest = absurd (true≢false h)
       by false is h rest = (is, rest h)
 
-  module _ (kept : Kept T) (t : T) where
+  module _ (contents : Contents T) (t : T) where
     -- the members are those that there were, and the new one
-    any_with : (p : T → Bool) → list_any p (offered_with key needs fits kept t) ≡ (p t || list_any p (offered key needs fits kept))
+    any_with : (p : T → Bool) → list_any p (offered_with key needs fits contents t) ≡ (p t || list_any p (offered key needs fits contents))
     any_with p =
-        any_append p kept.released (queued key needs fits t kept.waiting) ∙ ap (λ (c : Bool). list_any p kept.released || c) (any_queued p t kept.waiting)
-        ∙ or_middle (list_any p kept.released) (p t) (list_any p kept.waiting) ∙ ap (λ (c : Bool). p t || c) (sym (any_append p kept.released kept.waiting))
+        any_append p contents.released (queued key needs fits t contents.waiting) ∙ ap (λ (c : Bool). list_any p contents.released || c) (any_queued p t contents.waiting)
+        ∙ or_middle (list_any p contents.released) (p t) (list_any p contents.waiting) ∙ ap (λ (c : Bool). p t || c) (sym (any_append p contents.released contents.waiting))
 
     or_second : (a b : Bool) → b ≡ true → (a || b) ≡ true
     or_second true b h = refl
     or_second false b h = h
 
-    more_with : IsWithin (offered key needs fits kept) (offered_with key needs fits kept t)
+    more_with : IsWithin (offered key needs fits contents) (offered_with key needs fits contents t)
     more_with p h = any_with p ∙ or_second (p t) _ h
 
     -- the members stay, once those that are ready are released
-    any_moved : (p : T → Bool) → list_any p (offered key needs fits (kept_with key needs fits kept t)) ≡ list_any p (offered_with key needs fits kept t)
+    any_moved : (p : T → Bool) → list_any p (offered key needs fits (contents_with key needs fits contents t)) ≡ list_any p (offered_with key needs fits contents t)
     any_moved p =
-        any_append p (kept_with key needs fits kept t).released (kept_with key needs fits kept t).waiting
-        ∙ ap (λ (c : Bool). c || list_any p (kept_with key needs fits kept t).waiting) (any_append p kept.released (filter (is_ready key needs fits (offered_with key needs fits kept t)) (queued key needs fits t kept.waiting)))
-        ∙ sym (or_left (list_any p kept.released) _ _)
-        ∙ ap (λ (c : Bool). list_any p kept.released || c) (sym (any_parts p (is_ready key needs fits (offered_with key needs fits kept t)) (queued key needs fits t kept.waiting)))
-        ∙ sym (any_append p kept.released (queued key needs fits t kept.waiting))
+        any_append p (contents_with key needs fits contents t).released (contents_with key needs fits contents t).waiting
+        ∙ ap (λ (c : Bool). c || list_any p (contents_with key needs fits contents t).waiting) (any_append p contents.released (filter (is_ready key needs fits (offered_with key needs fits contents t)) (queued key needs fits t contents.waiting)))
+        ∙ sym (or_left (list_any p contents.released) _ _)
+        ∙ ap (λ (c : Bool). list_any p contents.released || c) (sym (any_parts p (is_ready key needs fits (offered_with key needs fits contents t)) (queued key needs fits t contents.waiting)))
+        ∙ sym (any_append p contents.released (queued key needs fits t contents.waiting))
 
-    ready_moved : (u : T) → is_ready key needs fits (offered_with key needs fits kept t) u ≡ is_ready key needs fits (offered key needs fits (kept_with key needs fits kept t)) u
+    ready_moved : (u : T) → is_ready key needs fits (offered_with key needs fits contents t) u ≡ is_ready key needs fits (offered key needs fits (contents_with key needs fits contents t)) u
     ready_moved u =
-        ready_same (clock_of key needs fits) needs (meets key needs fits) (offered_with key needs fits kept t) (offered key needs fits (kept_with key needs fits kept t)) u (λ p h. any_moved p ∙ h) (λ p h. sym (any_moved p) ∙ h)
+        ready_same (clock_of key needs fits) needs (meets key needs fits) (offered_with key needs fits contents t) (offered key needs fits (contents_with key needs fits contents t)) u (λ p h. any_moved p ∙ h) (λ p h. sym (any_moved p) ∙ h)
 
   pub offer_keeps_the_rule : OfferKeepsTheRule key needs fits
-  offer_keeps_the_rule kept t is fresh names_older =
-      let r : T → Bool = is_ready key needs fits (offered_with key needs fits kept t) in
-      let q : List T = queued key needs fits t kept.waiting in
+  offer_keeps_the_rule contents t is fresh names_older =
+      let r : T → Bool = is_ready key needs fits (offered_with key needs fits contents t) in
+      let q : List T = queued key needs fits t contents.waiting in
       let P : T → Type 0 = λ u. NamesOlder (key u) (needs u) in
-      let older_queue : AllByRecursion P q = all_queued P t kept.waiting names_older (all_rest P kept.released kept.waiting is.older) in
-      let new : List T = offered key needs fits (kept_with key needs fits kept t) in
+      let older_queue : AllByRecursion P q = all_queued P t contents.waiting names_older (all_rest P contents.released contents.waiting is.older) in
+      let new : List T = offered key needs fits (contents_with key needs fits contents t) in
       record {
-        older = all_join P (kept.released ++ filter r q) (filter (λ u. not (r u)) q) (all_join P kept.released (filter r q) (all_first P kept.released kept.waiting is.older) (all_kept P r q older_queue)) (all_kept P (λ u. not (r u)) q older_queue);
-        ready = all_along (λ u. r u ≡ true) (λ u. is_ready key needs fits new u ≡ true) (λ u h. sym (ready_moved kept t u) ∙ h) (kept.released ++ filter r q)
-            (all_join (λ u. r u ≡ true) kept.released (filter r q)
-            (all_along (λ u. is_ready key needs fits (offered key needs fits kept) u ≡ true) (λ u. r u ≡ true)
-            (λ u h. ready_within (clock_of key needs fits) needs (meets key needs fits) (offered key needs fits kept) (offered_with key needs fits kept t) u (more_with kept t) h) kept.released is.ready)
+        older = all_join P (contents.released ++ filter r q) (filter (λ u. not (r u)) q) (all_join P contents.released (filter r q) (all_first P contents.released contents.waiting is.older) (all_kept P r q older_queue)) (all_kept P (λ u. not (r u)) q older_queue);
+        ready = all_along (λ u. r u ≡ true) (λ u. is_ready key needs fits new u ≡ true) (λ u h. sym (ready_moved contents t u) ∙ h) (contents.released ++ filter r q)
+            (all_join (λ u. r u ≡ true) contents.released (filter r q)
+            (all_along (λ u. is_ready key needs fits (offered key needs fits contents) u ≡ true) (λ u. r u ≡ true)
+            (λ u h. ready_within (clock_of key needs fits) needs (meets key needs fits) (offered key needs fits contents) (offered_with key needs fits contents t) u (more_with contents t) h) contents.released is.ready)
             (kept_pass r q));
-        held = all_along (λ u. not (r u) ≡ true) (λ u. is_ready key needs fits new u ≡ false) (λ u h. sym (ready_moved kept t u) ∙ turned (r u) h) (filter (λ u. not (r u)) q) (kept_pass (λ u. not (r u)) q);
-        rise = kept_rise (λ u. not (r u)) q (queue_rises t kept.waiting is.rise (all_rest (λ u. stamp_eq (key u) (key t) ≡ false) kept.released kept.waiting (none_known (key t) (offered key needs fits kept) fresh)));
+        held = all_along (λ u. not (r u) ≡ true) (λ u. is_ready key needs fits new u ≡ false) (λ u h. sym (ready_moved contents t u) ∙ turned (r u) h) (filter (λ u. not (r u)) q) (kept_pass (λ u. not (r u)) q);
+        rise = kept_rise (λ u. not (r u)) q (queue_rises t contents.waiting is.rise (all_rest (λ u. stamp_eq (key u) (key t) ≡ false) contents.released contents.waiting (none_known (key t) (offered key needs fits contents) fresh)));
       }
 
   pub offered_stays : OfferedStays key needs fits
-  offered_stays kept t =
-      let r : T → Bool = is_ready key needs fits (offered_with key needs fits kept t) in
-      let q : List T = queued key needs fits t kept.waiting in
-      let place = prefix_len (λ u. is_lt (stamp_cmp (key u) (key t))) kept.waiting in
-      let first = IsPermutation-sym _ _ (IsPermutation-middle kept.released t kept.waiting) in
-      let queues = IsPermutation-append_right kept.released _ _ (IsPermutation-insert kept.waiting place t) in
-      let parts = IsPermutation-append_right kept.released _ _ (IsPermutation-filter_both r (λ u. not (r u)) (λ u. refl) q) in
-      let whole : kept.released ++ (filter r q ++ filter (λ u. not (r u)) q) ≡ offered key needs fits (kept_with key needs fits kept t)
-      = sym (append_assoc kept.released (filter r q) (filter (λ u. not (r u)) q)) in
-      subst (IsPermutation (t ∷ offered key needs fits kept)) whole (IsPermutation-trans _ _ _ first (IsPermutation-trans _ _ _ queues parts))
+  offered_stays contents t =
+      let r : T → Bool = is_ready key needs fits (offered_with key needs fits contents t) in
+      let q : List T = queued key needs fits t contents.waiting in
+      let place = prefix_len (λ u. is_lt (stamp_cmp (key u) (key t))) contents.waiting in
+      let first = IsPermutation-sym _ _ (IsPermutation-middle contents.released t contents.waiting) in
+      let queues = IsPermutation-append_right contents.released _ _ (IsPermutation-insert contents.waiting place t) in
+      let parts = IsPermutation-append_right contents.released _ _ (IsPermutation-filter_both r (λ u. not (r u)) (λ u. refl) q) in
+      let whole : contents.released ++ (filter r q ++ filter (λ u. not (r u)) q) ≡ offered key needs fits (contents_with key needs fits contents t)
+      = sym (append_assoc contents.released (filter r q) (filter (λ u. not (r u)) q)) in
+      subst (IsPermutation (t ∷ offered key needs fits contents)) whole (IsPermutation-trans _ _ _ first (IsPermutation-trans _ _ _ queues parts))
 
   pub held_releases_nothing : HeldReleasesNothing key needs fits
-  held_releases_nothing kept t is names_older held =
-      let r : T → Bool = is_ready key needs fits (offered_with key needs fits kept t) in
-      let q : List T = queued key needs fits t kept.waiting in
-      let first : T → Bool = is_ready key needs fits (t ∷ offered key needs fits kept) in
-      let same : (u : T) → first u ≡ r u = λ u. ready_same (clock_of key needs fits) needs (meets key needs fits) (t ∷ offered key needs fits kept) (offered_with key needs fits kept t) u (λ p h. any_with kept t p ∙ h) (λ p h. sym (any_with kept t p) ∙ h) in
-      let others = held_changes_nothing key needs fits (offered key needs fits kept) t (names_older, is.older) (same t ∙ held) in
-      let waits : AllByRecursion (λ u. r u ≡ false) kept.waiting = waiting_held kept.waiting (all_rest (λ u. first u ≡ is_ready key needs fits (offered key needs fits kept) u) kept.released kept.waiting others) is.held same in
-      let none : AllByRecursion (λ u. r u ≡ false) q = all_queued (λ u. r u ≡ false) t kept.waiting held waits in
-      λ i. record { released = (ap (λ (xs : List T). kept.released ++ xs) (none_kept r q none) ∙ append_nil kept.released) i; waiting = all_left r q none i }
+  held_releases_nothing contents t is names_older held =
+      let r : T → Bool = is_ready key needs fits (offered_with key needs fits contents t) in
+      let q : List T = queued key needs fits t contents.waiting in
+      let first : T → Bool = is_ready key needs fits (t ∷ offered key needs fits contents) in
+      let same : (u : T) → first u ≡ r u = λ u. ready_same (clock_of key needs fits) needs (meets key needs fits) (t ∷ offered key needs fits contents) (offered_with key needs fits contents t) u (λ p h. any_with contents t p ∙ h) (λ p h. sym (any_with contents t p) ∙ h) in
+      let others = held_changes_nothing key needs fits (offered key needs fits contents) t (names_older, is.older) (same t ∙ held) in
+      let waits : AllByRecursion (λ u. r u ≡ false) contents.waiting = waiting_held contents.waiting (all_rest (λ u. first u ≡ is_ready key needs fits (offered key needs fits contents) u) contents.released contents.waiting others) is.held same in
+      let none : AllByRecursion (λ u. r u ≡ false) q = all_queued (λ u. r u ≡ false) t contents.waiting held waits in
+      λ i. record { released = (ap (λ (xs : List T). contents.released ++ xs) (none_kept r q none) ∙ append_nil contents.released) i; waiting = all_left r q none i }
     where
       append_nil : (xs : List T) → xs ++ [] ≡ xs
       append_nil [] = refl
       append_nil (x ∷ xs) = ap (λ (ys : List T). x ∷ ys) (append_nil xs)
 
-      waiting_held : (xs : List T) → AllByRecursion (λ u. is_ready key needs fits (t ∷ offered key needs fits kept) u ≡ is_ready key needs fits (offered key needs fits kept) u) xs
-          → AllByRecursion (λ u. is_ready key needs fits (offered key needs fits kept) u ≡ false) xs → ((u : T) → is_ready key needs fits (t ∷ offered key needs fits kept) u ≡ is_ready key needs fits (offered_with key needs fits kept t) u)
-          → AllByRecursion (λ u. is_ready key needs fits (offered_with key needs fits kept t) u ≡ false) xs
+      waiting_held : (xs : List T) → AllByRecursion (λ u. is_ready key needs fits (t ∷ offered key needs fits contents) u ≡ is_ready key needs fits (offered key needs fits contents) u) xs
+          → AllByRecursion (λ u. is_ready key needs fits (offered key needs fits contents) u ≡ false) xs → ((u : T) → is_ready key needs fits (t ∷ offered key needs fits contents) u ≡ is_ready key needs fits (offered_with key needs fits contents t) u)
+          → AllByRecursion (λ u. is_ready key needs fits (offered_with key needs fits contents t) u ≡ false) xs
       waiting_held [] all waits same = tt
       waiting_held (x ∷ xs) all waits same = (sym (same x) ∙ all.0 ∙ waits.0, waiting_held xs all.1 waits.1 same)
 
   -- what becomes ready rises by key
-  pub newly_ready_rises : (kept : Kept T) (t : T) → IsHoldBack key needs fits kept → knows key needs fits kept (key t) ≡ false → KeysRise key needs fits (newly_ready key needs fits kept t)
-  newly_ready_rises kept t is fresh =
-      kept_rise (is_ready key needs fits (offered_with key needs fits kept t)) (queued key needs fits t kept.waiting) (queue_rises t kept.waiting is.rise (all_rest (λ u. stamp_eq (key u) (key t) ≡ false) kept.released kept.waiting (none_known (key t) (offered key needs fits kept) fresh)))
+  pub newly_ready_rises : (contents : Contents T) (t : T) → IsHoldBack key needs fits contents → knows key needs fits contents (key t) ≡ false → KeysRise key needs fits (newly_ready key needs fits contents t)
+  newly_ready_rises contents t is fresh =
+      kept_rise (is_ready key needs fits (offered_with key needs fits contents t)) (queued key needs fits t contents.waiting) (queue_rises t contents.waiting is.rise (all_rest (λ u. stamp_eq (key u) (key t) ≡ false) contents.released contents.waiting (none_known (key t) (offered key needs fits contents) fresh)))
 
   -- an earlier stamp has no greater clock
   pub less_clock : (a b : Moment) → stamp_cmp a b ≡ Less → a.clock ≤ b.clock
@@ -244,17 +244,17 @@ module _ {T R : Type 0} (key : T → Moment) (needs : T → List (Moment × R)) 
   clocks_rise (t ∷ items) rise = (all_along (λ u. stamp_cmp (key t) (key u) ≡ Less) (λ u. clock_of key needs fits t ≤ clock_of key needs fits u) (λ u. less_clock (key t) (key u)) items rise.0, clocks_rise items rise.1)
 
   -- a pass over the queue releases what is newly ready, and leaves the others
-  pub a_pass_keeps : (kept : Kept T) (t : T) → IsHoldBack key needs fits kept → knows key needs fits kept (key t) ≡ false → NamesOlder (key t) (needs t)
-      → record { released = passed key needs fits kept.released (queued key needs fits t kept.waiting); waiting = left key needs fits kept.released (queued key needs fits t kept.waiting) } ≡ kept_with key needs fits kept t
-  a_pass_keeps kept t is fresh names_older =
-      let q : List T = queued key needs fits t kept.waiting in
+  pub a_pass_keeps : (contents : Contents T) (t : T) → IsHoldBack key needs fits contents → knows key needs fits contents (key t) ≡ false → NamesOlder (key t) (needs t)
+      → record { released = passed key needs fits contents.released (queued key needs fits t contents.waiting); waiting = left key needs fits contents.released (queued key needs fits t contents.waiting) } ≡ contents_with key needs fits contents t
+  a_pass_keeps contents t is fresh names_older =
+      let q : List T = queued key needs fits t contents.waiting in
       let P : T → Type 0 = λ u. NamesOlder (key u) (needs u) in
-      let older : AllByRecursion P (kept.released ++ q) = all_join P kept.released q (all_first P kept.released kept.waiting is.older) (all_queued P t kept.waiting names_older (all_rest P kept.released kept.waiting is.older)) in
-      let ready : AllByRecursion (λ u. is_ready key needs fits (offered_with key needs fits kept t) u ≡ true) kept.released =
-      all_along (λ u. is_ready key needs fits (offered key needs fits kept) u ≡ true) (λ u. is_ready key needs fits (offered_with key needs fits kept t) u ≡ true)
-      (λ u h. ready_within (clock_of key needs fits) needs (meets key needs fits) (offered key needs fits kept) (offered_with key needs fits kept t) u (more_with kept t) h) kept.released is.ready in
-      let rise : ClocksRise key needs fits q = clocks_rise q (queue_rises t kept.waiting is.rise (all_rest (λ u. stamp_eq (key u) (key t) ≡ false) kept.released kept.waiting (none_known (key t) (offered key needs fits kept) fresh))) in
-      λ i. record { released = one_pass_finds_all key needs fits kept.released q older ready rise i; waiting = one_pass_leaves key needs fits kept.released q older ready rise i }
+      let older : AllByRecursion P (contents.released ++ q) = all_join P contents.released q (all_first P contents.released contents.waiting is.older) (all_queued P t contents.waiting names_older (all_rest P contents.released contents.waiting is.older)) in
+      let ready : AllByRecursion (λ u. is_ready key needs fits (offered_with key needs fits contents t) u ≡ true) contents.released =
+      all_along (λ u. is_ready key needs fits (offered key needs fits contents) u ≡ true) (λ u. is_ready key needs fits (offered_with key needs fits contents t) u ≡ true)
+      (λ u h. ready_within (clock_of key needs fits) needs (meets key needs fits) (offered key needs fits contents) (offered_with key needs fits contents t) u (more_with contents t) h) contents.released is.ready in
+      let rise : ClocksRise key needs fits q = clocks_rise q (queue_rises t contents.waiting is.rise (all_rest (λ u. stamp_eq (key u) (key t) ≡ false) contents.released contents.waiting (none_known (key t) (offered key needs fits contents) fresh))) in
+      λ i. record { released = one_pass_finds_all key needs fits contents.released q older ready rise i; waiting = one_pass_leaves key needs fits contents.released q older ready rise i }
 
   -- the released ones are more exactly where the item is ready
   some_kept : (p : T → Bool) (ys : List T) → list_any p ys ≡ true → 1 ≤ length (filter p ys)
@@ -268,29 +268,29 @@ module _ {T R : Type 0} (key : T → Moment) (needs : T → List (Moment × R)) 
   longer : (xs ys : List T) (p : T → Bool) → list_any p ys ≡ true → ltb (length xs) (length (xs ++ filter p ys)) ≡ true
   longer xs ys p there = lt-ltb (length xs) (length (xs ++ filter p ys)) (omega (arith, length-append xs (filter p ys), some_kept p ys there))
 
-  pub released_more : (kept : Kept T) (t : T) → IsHoldBack key needs fits kept → NamesOlder (key t) (needs t)
-      → ltb (length kept.released) (length (kept_with key needs fits kept t).released) ≡ is_ready key needs fits (offered_with key needs fits kept t) t
-  released_more kept t is names_older = by (is_ready key needs fits (offered_with key needs fits kept t) t) refl
+  pub released_more : (contents : Contents T) (t : T) → IsHoldBack key needs fits contents → NamesOlder (key t) (needs t)
+      → ltb (length contents.released) (length (contents_with key needs fits contents t).released) ≡ is_ready key needs fits (offered_with key needs fits contents t) t
+  released_more contents t is names_older = by (is_ready key needs fits (offered_with key needs fits contents t) t) refl
     where
-      by : (b : Bool) → is_ready key needs fits (offered_with key needs fits kept t) t ≡ b → ltb (length kept.released) (length (kept_with key needs fits kept t).released) ≡ b
-      by true e = longer kept.released (queued key needs fits t kept.waiting) (is_ready key needs fits (offered_with key needs fits kept t)) (any_queued (is_ready key needs fits (offered_with key needs fits kept t)) t kept.waiting ∙ ap (λ (b : Bool). b || list_any (is_ready key needs fits (offered_with key needs fits kept t)) kept.waiting) e)
-      by false e = ap (λ (k : Kept T). ltb (length kept.released) (length k.released)) (held_releases_nothing kept t is names_older e) ∙ le-ltb (length kept.released) (length kept.released) (omega arith)
+      by : (b : Bool) → is_ready key needs fits (offered_with key needs fits contents t) t ≡ b → ltb (length contents.released) (length (contents_with key needs fits contents t).released) ≡ b
+      by true e = longer contents.released (queued key needs fits t contents.waiting) (is_ready key needs fits (offered_with key needs fits contents t)) (any_queued (is_ready key needs fits (offered_with key needs fits contents t)) t contents.waiting ∙ ap (λ (b : Bool). b || list_any (is_ready key needs fits (offered_with key needs fits contents t)) contents.waiting) e)
+      by false e = ap (λ (k : Contents T). ltb (length contents.released) (length k.released)) (held_releases_nothing contents t is names_older e) ∙ le-ltb (length contents.released) (length contents.released) (omega arith)
 
   -- The same, from what the steps of an offer leave.
-  pub taken_in : (kept : Kept T) (t : T) (queue before released still : List T) → IsHoldBack key needs fits kept → knows key needs fits kept (key t) ≡ false → NamesOlder (key t) (needs t)
-      → queue ≡ queued key needs fits t kept.waiting → before ≡ [] → released ≡ passed key needs fits kept.released queue → still ≡ before ++ left key needs fits kept.released queue
-      → record { released = released; waiting = still } ≡ kept_with key needs fits kept t
-  taken_in kept t queue before released still is fresh names_older is_queue is_empty is_released is_still =
-      (λ i. record { released = is_released i; waiting = (is_still ∙ ap (λ (xs : List T). xs ++ left key needs fits kept.released queue) is_empty) i })
-      ∙ (λ i. record { released = passed key needs fits kept.released (is_queue i); waiting = left key needs fits kept.released (is_queue i) })
-      ∙ a_pass_keeps kept t is fresh names_older
+  pub taken_in : (contents : Contents T) (t : T) (queue before released still : List T) → IsHoldBack key needs fits contents → knows key needs fits contents (key t) ≡ false → NamesOlder (key t) (needs t)
+      → queue ≡ queued key needs fits t contents.waiting → before ≡ [] → released ≡ passed key needs fits contents.released queue → still ≡ before ++ left key needs fits contents.released queue
+      → record { released = released; waiting = still } ≡ contents_with key needs fits contents t
+  taken_in contents t queue before released still is fresh names_older is_queue is_empty is_released is_still =
+      (λ i. record { released = is_released i; waiting = (is_still ∙ ap (λ (xs : List T). xs ++ left key needs fits contents.released queue) is_empty) i })
+      ∙ (λ i. record { released = passed key needs fits contents.released (is_queue i); waiting = left key needs fits contents.released (is_queue i) })
+      ∙ a_pass_keeps contents t is fresh names_older
 
-  pub rule_of : (kept after : Kept T) (t : T) → IsHoldBack key needs fits kept → knows key needs fits kept (key t) ≡ false → NamesOlder (key t) (needs t) → after ≡ kept_with key needs fits kept t → IsHoldBack key needs fits after
-  rule_of kept after t is fresh names_older is_after = subst (IsHoldBack key needs fits) (sym is_after) (offer_keeps_the_rule kept t is fresh names_older)
+  pub rule_of : (contents after : Contents T) (t : T) → IsHoldBack key needs fits contents → knows key needs fits contents (key t) ≡ false → NamesOlder (key t) (needs t) → after ≡ contents_with key needs fits contents t → IsHoldBack key needs fits after
+  rule_of contents after t is fresh names_older is_after = subst (IsHoldBack key needs fits) (sym is_after) (offer_keeps_the_rule contents t is fresh names_older)
 
-  pub ready_of : (kept after : Kept T) (t : T) → IsHoldBack key needs fits kept → NamesOlder (key t) (needs t) → after ≡ kept_with key needs fits kept t
-      → ltb (length kept.released) (length after.released) ≡ is_ready key needs fits (offered_with key needs fits kept t) t
-  ready_of kept after t is names_older is_after = ap (λ (k : Kept T). ltb (length kept.released) (length k.released)) is_after ∙ released_more kept t is names_older
+  pub ready_of : (contents after : Contents T) (t : T) → IsHoldBack key needs fits contents → NamesOlder (key t) (needs t) → after ≡ contents_with key needs fits contents t
+      → ltb (length contents.released) (length after.released) ≡ is_ready key needs fits (offered_with key needs fits contents t) t
+  ready_of contents after t is names_older is_after = ap (λ (k : Contents T). ltb (length contents.released) (length k.released)) is_after ∙ released_more contents t is names_older
 
   -- none of those that wait is met by what was released
   none_met : (all : List T) (older : AllNameOlder key needs fits all) (released seen waiting : List T) → all ≡ seen ++ waiting → filter (is_ready key needs fits all) seen ≡ released
@@ -349,13 +349,13 @@ module _ {T R : Type 0} (key : T → Moment) (needs : T → List (Moment × R)) 
                   ∙ sym (ap (λ (b : Bool). cond b (left key needs fits ((released ++ t ∷ []) ++ u ∷ []) waiting) (u ∷ left key needs fits (released ++ t ∷ []) waiting)) unmet);
             }
 
-  held_unmet : (kept : Kept T) → IsHoldBack key needs fits kept → NoneIsMet key needs fits kept.released kept.waiting
-  held_unmet kept is =
-      none_met (offered key needs fits kept) is.older kept.released kept.released kept.waiting refl (filter_whole (is_ready key needs fits (offered key needs fits kept)) kept.released is.ready)
-      (all_rest (λ u. NamesOlder (key u) (needs u)) kept.released kept.waiting is.older) (clocks_rise kept.waiting is.rise) is.held
+  held_unmet : (contents : Contents T) → IsHoldBack key needs fits contents → NoneIsMet key needs fits contents.released contents.waiting
+  held_unmet contents is =
+      none_met (offered key needs fits contents) is.older contents.released contents.released contents.waiting refl (filter_whole (is_ready key needs fits (offered key needs fits contents)) contents.released is.ready)
+      (all_rest (λ u. NamesOlder (key u) (needs u)) contents.released contents.waiting is.older) (clocks_rise contents.waiting is.rise) is.held
 
-  pub met_goes_first : (kept : Kept T) (t : T) → IsHoldBack key needs fits kept → is_met_by key needs fits kept.released t ≡ true → Takes key needs fits kept.released t (queued key needs fits t kept.waiting) kept.waiting
-  met_goes_first kept t is met = goes_first kept.released t met kept.waiting (held_unmet kept is) (all_rest (λ u. NamesOlder (key u) (needs u)) kept.released kept.waiting is.older)
+  pub met_goes_first : (contents : Contents T) (t : T) → IsHoldBack key needs fits contents → is_met_by key needs fits contents.released t ≡ true → Takes key needs fits contents.released t (queued key needs fits t contents.waiting) contents.waiting
+  met_goes_first contents t is met = goes_first contents.released t met contents.waiting (held_unmet contents is) (all_rest (λ u. NamesOlder (key u) (needs u)) contents.released contents.waiting is.older)
 
   -- an item of a greater key than those that wait is released where its needs are met, and alone
 
@@ -368,13 +368,13 @@ module _ {T R : Type 0} (key : T → Moment) (needs : T → List (Moment × R)) 
   taken_last released [] t none = refl
   taken_last released (u ∷ waiting) t none = ap (λ (b : Bool). passed key needs fits (cond b (released ++ u ∷ []) released) (waiting ++ t ∷ [])) none.0 ∙ taken_last released waiting t none.1
 
-  pub last_released : (kept : Kept T) (t : T) → IsHoldBack key needs fits kept → knows key needs fits kept (key t) ≡ false → NamesOlder (key t) (needs t) → AllByRecursion (λ u. stamp_cmp (key u) (key t) ≡ Less) kept.waiting
-      → (kept_with key needs fits kept t).released ≡ cond (is_met_by key needs fits kept.released t) (kept.released ++ t ∷ []) kept.released
-  last_released kept t is fresh names_older below =
-      sym (ap (λ (k : Kept T). k.released) (a_pass_keeps kept t is fresh names_older))
-      ∙ ap (passed key needs fits kept.released) (queued_last t kept.waiting below)
-      ∙ taken_last kept.released kept.waiting t (held_unmet kept is)
+  pub last_released : (contents : Contents T) (t : T) → IsHoldBack key needs fits contents → knows key needs fits contents (key t) ≡ false → NamesOlder (key t) (needs t) → AllByRecursion (λ u. stamp_cmp (key u) (key t) ≡ Less) contents.waiting
+      → (contents_with key needs fits contents t).released ≡ cond (is_met_by key needs fits contents.released t) (contents.released ++ t ∷ []) contents.released
+  last_released contents t is fresh names_older below =
+      sym (ap (λ (k : Contents T). k.released) (a_pass_keeps contents t is fresh names_older))
+      ∙ ap (passed key needs fits contents.released) (queued_last t contents.waiting below)
+      ∙ taken_last contents.released contents.waiting t (held_unmet contents is)
 
   -- what holds of those that wait and of one more holds of those that wait then
-  pub all_waiting : (P : T → Type 0) (kept : Kept T) (t : T) → P t → AllByRecursion P kept.waiting → AllByRecursion P (kept_with key needs fits kept t).waiting
-  all_waiting P kept t new all = all_kept P (λ u. not (is_ready key needs fits (offered_with key needs fits kept t) u)) (queued key needs fits t kept.waiting) (all_queued P t kept.waiting new all)
+  pub all_waiting : (P : T → Type 0) (contents : Contents T) (t : T) → P t → AllByRecursion P contents.waiting → AllByRecursion P (contents_with key needs fits contents t).waiting
+  all_waiting P contents t new all = all_kept P (λ u. not (is_ready key needs fits (offered_with key needs fits contents t) u)) (queued key needs fits t contents.waiting) (all_queued P t contents.waiting new all)

@@ -1,264 +1,30 @@
 -- The steps of an offer.
-use Rattle.std.proofs.Common.{◌≡◌, ℕ, zero, suc, ◌<◌, ◌≤◌, Bool, true, false, cond, ◌||◌, ◌&&◌, List, [], ◌∷◌, ◌++◌, length, take, Option, Some, None, ◌⊎◌, inl, inr, refl, sym, ap, ◌∙◌, subst, arith, true≢false, is_eq, is_lt, is_gt}
-use Rattle.std.specs.Prelude.{slice_get, is_some, IfSome, IfNone, MatchOption}
-use Rattle.std.specs.List.{AllByRecursion, list_all, list_any}
+use Rattle.std.proofs.Common.{◌≡◌, ℕ, ◌<◌, Bool, true, false, cond, ◌||◌, List, [], ◌∷◌, ◌++◌, length, map, take, Option, Some, None, ◌⊎◌, inl, inr, refl, sym, ap, ◌∙◌, subst, arith, true≢false, is_eq, is_lt, is_gt}
+use Rattle.std.specs.Prelude.{is_some}
+use Rattle.std.specs.List.{AllByRecursion, list_any}
 use Rattle.std.specs.List.Sorted.{IsStrictlySortedBy}
 use Rattle.std.specs.Map.{keys_of, lookup, remove_entry}
 use Rattle.std.specs.BTreeMap.{is_at, insert_entry}
 use Rattle.std.specs.Ordering.{ordering_reverse, match_ordering}
-use Rattle.std.specs.Cmp.{both_tied, unsigned_ties}
 use Rattle.std.specs.declared.cmp.Ordering.{Ordering}
 use Rattle.std.specs.declared.cmp.Ordering.TheVariants.{Less, Equal, Greater}
 use Rattle.std.proofs.lemmas.Option.{same_Some, none-some}
-use Rattle.std.proofs.lemmas.List.{length-append}
 use Rattle.mt_stamp.specs.Moment.{Moment, stamp_cmp, stamp_eq}
-use Rattle.mt_stamp.proofs.Order.{stamp_cmp_total, stamp_cmp-IsAntisymmetric, stamp_eq-true, stamp_eq-itself}
+use Rattle.mt_stamp.proofs.Order.{stamp_cmp_total, stamp_eq-true}
+use Rattle.mt_stampmap.specs.Index.{first_place, other_place, Finds}
+use Rattle.mt_stampmap.specs.declared.index.StampIndex.{StampIndex}
 use Rattle.mt_holdback.specs.Waiting.{NamesOlder, meets}
 use Rattle.mt_holdback.specs.Laws.{is_met_by, passed}
 use Rattle.mt_holdback.specs.Passing.{left}
 use Rattle.mt_holdback.specs.HoldBack.{queued}
-use Rattle.mt_holdback.specs.Queue.{items_of, is_in, listed, is_met_in, fits_at, fits_there, Finds, LacksAt, MetTo, Lacks, Stands, Works, Takes, NoneIsMet}
+use Rattle.mt_holdback.specs.Queue.{items_of, is_met_in, LacksAt, MetTo, Lacks, Stands, Works, Takes, NoneIsMet}
 use Rattle.mt_holdback.specs.declared.queue.Waiter.{Waiter}
-use Rattle.mt_holdback.proofs.Listings.{any_append}
+use Rattle.mt_holdback.proofs.Entries.{found_key, all_inserted, all_removed, none_found, others_left, reinserted}
+use Rattle.mt_holdback.proofs.Keys.{neither, not_and, same_test, is_same, eq_turned, any_push}
+use Rattle.mt_holdback.proofs.Listings.{all_more, any_append}
+use Rattle.mt_holdback.proofs.Needs.{all_at, one_fails}
 use Rattle.mt_holdback.proofs.Offers.{less_clock, queued_is}
-
--- tests
-
-same_answer : (a b : Bool) → (a ≡ true → b ≡ true) → (b ≡ true → a ≡ true) → a ≡ b
-same_answer true b there back = sym (there refl)
-same_answer false true there back = back refl
-same_answer false false there back = refl
-
-or_second : (a b : Bool) → b ≡ true → (a || b) ≡ true
-or_second true b h = refl
-or_second false b h = h
-
-neither : (a b : Bool) → a ≡ false → b ≡ false → (a || b) ≡ false
-neither true b first second = absurd (true≢false first)
-neither false b first second = second
-
-or_none : (a : Bool) → (a || false) ≡ a
-or_none true = refl
-or_none false = refl
-
-and_first : (a b : Bool) → (a && b) ≡ true → a ≡ true
-and_first true b h = refl
-and_first false b h = h
-
-not_and : (a b : Bool) → a ≡ false → (a && b) ≡ false
-not_and a b fails = ap (λ (c : Bool). c && b) fails
-
-same_test : (a b : Moment) → stamp_eq a b ≡ is_eq (stamp_cmp a b)
-same_test a b = both_tied _ _ _ _ (unsigned_ties a.clock b.clock) (both_tied _ _ _ _ (unsigned_ties a.replica.0 b.replica.0) (unsigned_ties a.seq b.seq))
-
-pub is_same : (a b : Moment) → is_eq (stamp_cmp a b) ≡ true → a ≡ b
-is_same a b h = stamp_eq-true a b (same_test a b ∙ h)
-
-eq_turned : (a b : Moment) → stamp_eq a b ≡ stamp_eq b a
-eq_turned a b =
-    same_answer (stamp_eq a b) (stamp_eq b a)
-    (λ h. subst (λ (c : Moment). stamp_eq c a ≡ true) (stamp_eq-true a b h) (stamp_eq-itself a))
-    (λ h. subst (λ (c : Moment). stamp_eq c b ≡ true) (stamp_eq-true b a h) (stamp_eq-itself b))
-
--- needs, one after another
-
-module _ {Q : Type 0} (f : Q → Bool) where
-  pub all_step : (ns : List Q) (i : ℕ) (need : Q) → slice_get ns i ≡ Some need → f need ≡ true → list_all f (take i ns) ≡ true → list_all f (take (suc i) ns) ≡ true
-  all_step [] i need at met before = absurd (none-some need at)
-  all_step (n ∷ ns) zero need at met before = rw (ap f (same_Some n need at) ∙ met) refl
-  all_step (n ∷ ns) (suc i) need at met before = by (f n) before (all_step ns i need at met)
-    where
-      by : (b : Bool) → (b && list_all f (take i ns)) ≡ true → (list_all f (take i ns) ≡ true → list_all f (take (suc i) ns) ≡ true) → (b && list_all f (take (suc i) ns)) ≡ true
-      by true h rest = rest h
-      by false h rest = h
-
-  pub all_past : (ns : List Q) (i : ℕ) → length ns ≤ i → list_all f (take i ns) ≡ true → list_all f ns ≡ true
-  all_past [] i past h = refl
-  all_past (n ∷ ns) zero past h = absurd (omega (arith, past))
-  all_past (n ∷ ns) (suc i) past h = by (f n) h (all_past ns i (omega (arith, past)))
-    where
-      by : (b : Bool) → (b && list_all f (take i ns)) ≡ true → (list_all f (take i ns) ≡ true → list_all f ns ≡ true) → (b && list_all f ns) ≡ true
-      by true h rest = rest h
-      by false h rest = h
-
-  one_fails : (ns : List Q) (i : ℕ) (need : Q) → slice_get ns i ≡ Some need → f need ≡ false → list_all f ns ≡ false
-  one_fails [] i need at fails = absurd (none-some need at)
-  one_fails (n ∷ ns) zero need at fails = not_and (f n) _ (ap f (same_Some n need at) ∙ fails)
-  one_fails (n ∷ ns) (suc i) need at fails = by (f n) (one_fails ns i need at fails)
-    where
-      by : (b : Bool) → list_all f ns ≡ false → (b && list_all f ns) ≡ false
-      by true h = h
-      by false h = refl
-
-all_more : {Q : Type 0} (f g : Q → Bool) (ns : List Q) → ((n : Q) → f n ≡ true → g n ≡ true) → list_all f ns ≡ true → list_all g ns ≡ true
-all_more f g [] more h = refl
-all_more f g (n ∷ ns) more h = both (f n) (list_all f ns) (g n) (list_all g ns) (more n) (all_more f g ns more) h
-  where
-    both : (a b c d : Bool) → (a ≡ true → c ≡ true) → (b ≡ true → d ≡ true) → (a && b) ≡ true → (c && d) ≡ true
-    both true b c d first rest h = rw (first refl) (rest h)
-    both false b c d first rest h = absurd (true≢false (sym h))
-
-all_at : {Q : Type 0} (P : Q → Type 0) (ns : List Q) (i : ℕ) (need : Q) → AllByRecursion P ns → slice_get ns i ≡ Some need → P need
-all_at P [] i need all at = absurd (none-some need at)
-all_at P (n ∷ ns) zero need all at = subst P (same_Some n need at) all.0
-all_at P (n ∷ ns) (suc i) need all at = all_at P ns i need all.1 at
-
-any_push : {Q : Type 0} (p : Q → Bool) (xs : List Q) (x : Q) → list_any p (xs ++ x ∷ []) ≡ (list_any p xs || p x)
-any_push p [] x = or_none (p x)
-any_push p (y ∷ xs) x = by (p y) (any_push p xs x)
-  where
-    by : (b : Bool) → list_any p (xs ++ x ∷ []) ≡ (list_any p xs || p x) → (b || list_any p (xs ++ x ∷ [])) ≡ ((b || list_any p xs) || p x)
-    by true rest = refl
-    by false rest = rest
-
-get_kept : {Q : Type 0} (xs : List Q) (x : Q) (i : ℕ) → i < length xs → slice_get (xs ++ x ∷ []) i ≡ slice_get xs i
-get_kept [] x i within = absurd (omega (arith, within))
-get_kept (y ∷ xs) x zero within = refl
-get_kept (y ∷ xs) x (suc i) within = get_kept xs x i (omega (arith, within))
-
-get_pushed : {Q : Type 0} (xs : List Q) (x : Q) → slice_get (xs ++ x ∷ []) (length xs) ≡ Some x
-get_pushed [] x = refl
-get_pushed (y ∷ xs) x = get_pushed xs x
-
--- lists of keys
-
-pub any_shared : (q : Moment) (keys : List Moment) (key : Moment) → list_any (stamp_eq q) keys ≡ true → list_any (stamp_eq q) (keys ++ key ∷ []) ≡ true
-any_shared q keys key h = any_push (stamp_eq q) keys key ∙ ap (λ (b : Bool). b || stamp_eq q key) h
-
-pub put_stays : {L : Type 0} (items : L → List Moment) (old mid new : Moment → Option L) (stamp key : Moment) (keys : List Moment) (v : L)
-    → ((q : Moment) → listed items old stamp q ≡ true → list_any (stamp_eq q) keys ≡ true)
-    → ((q : Moment) → mid q ≡ cond (is_eq (stamp_cmp stamp q)) None (old q))
-    → ((q : Moment) → new q ≡ cond (is_eq (stamp_cmp stamp q)) (Some v) (mid q))
-    → items v ≡ keys ++ key ∷ []
-    → (s q : Moment) → listed items old s q ≡ true → listed items new s q ≡ true
-put_stays {L} items old mid new stamp key keys v found taken put pushed s q h = by (is_eq (stamp_cmp stamp s)) refl
-  where
-    by : (b : Bool) → is_eq (stamp_cmp stamp s) ≡ b → listed items new s q ≡ true
-    by true e =
-        ap (λ (o : Option L). is_in items o q) (put s ∙ ap (λ (b : Bool). cond b (Some v) (mid s)) e) ∙ ap (λ (ks : List Moment). list_any (stamp_eq q) ks) pushed
-        ∙ any_shared q keys key (found q (ap (λ (t : Moment). listed items old t q) (is_same stamp s e) ∙ h))
-    by false e =
-        ap (λ (o : Option L). is_in items o q) (put s ∙ ap (λ (b : Bool). cond b (Some v) (mid s)) e ∙ taken s ∙ ap (λ (b : Bool). cond b None (old s)) e) ∙ h
-
--- noting keys
-
-pub first_seen : (a b : Bool) → b ≡ true → (a || b) ≡ true
-first_seen a b h = or_second a b h
-
-pub note_stays : (woken woken' : Moment → Bool) (key q : Moment) → ((r : Moment) → woken' r ≡ cond (is_eq (stamp_cmp key r)) true (woken r)) → woken q ≡ true → woken' q ≡ true
-note_stays woken woken' key q put h = put q ∙ by (is_eq (stamp_cmp key q)) (woken q) h
-  where
-    by : (a b : Bool) → b ≡ true → cond a true b ≡ true
-    by true b h = refl
-    by false b h = h
-
-pub noted : (woken woken' : Moment → Bool) (key q : Moment) (rest : List Moment) → ((r : Moment) → woken' r ≡ cond (is_eq (stamp_cmp key r)) true (woken r))
-    → (woken q || list_any (stamp_eq q) (key ∷ rest)) ≡ true → (woken' q || list_any (stamp_eq q) rest) ≡ true
-noted woken woken' key q rest put h =
-    ap (λ (b : Bool). b || list_any (stamp_eq q) rest) (put q ∙ ap (λ (b : Bool). cond b true (woken q)) (sym (eq_turned q key ∙ same_test key q)))
-    ∙ by (stamp_eq q key) (woken q) (list_any (stamp_eq q) rest) h
-  where
-    by : (a b d : Bool) → (b || (a || d)) ≡ true → (cond a true b || d) ≡ true
-    by true b d h = refl
-    by false b d h = h
-
-pub seen_all : (a : Bool) (q : Moment) (rest : List Moment) → length rest ≡ 0 → (a || list_any (stamp_eq q) rest) ≡ true → a ≡ true
-seen_all a q [] none h = sym (or_none a) ∙ h
-seen_all a q (r ∷ rest) none h = absurd (omega (arith, none))
-
-pub none_to_look_at : (keys : List Moment) → length keys ≡ 0 → (q : Moment) → list_any (is_at (stamp_cmp q)) keys ≡ false
-none_to_look_at [] none q = refl
-none_to_look_at (k ∷ keys) none q = absurd (omega (arith, none))
-
-pub on_some : {X : Type 0} (o : Option X) (x : X) (P : X → Type 0) → o ≡ Some x → IfSome o P → P x
-on_some o x P is h = subst (λ (p : Option _). IfSome p P) is h
-
-pub on_none : {X : Type 0} (o : Option X) (P : Type 0) → o ≡ None → IfNone o P → P
-on_none o P is h = subst (λ (p : Option _). IfNone p P) is h
-
-pub on_match : {X : Type 0} (o : Option X) (x : X) (P : Type 0) (Q : X → Type 0) → o ≡ Some x → MatchOption o P Q → Q x
-on_match o x P Q is h = subst (λ (p : Option _). MatchOption p P Q) is h
-
--- entries
-
-module _ {X : Type 0} where
-  found_key : (P : Moment → Type 0) (k : Moment) (es : List (Moment × X)) (v : X) → lookup (is_at (stamp_cmp k)) es ≡ Some v → AllByRecursion P (keys_of es) → P k
-  found_key P k [] v found all = absurd (none-some v found)
-  found_key P k (e ∷ es) v found all = by (is_eq (stamp_cmp k e.0)) refl found (λ h. found_key P k es v h all.1)
-    where
-      by : (b : Bool) → is_eq (stamp_cmp k e.0) ≡ b → cond b (Some e.1) (lookup (is_at (stamp_cmp k)) es) ≡ Some v → (lookup (is_at (stamp_cmp k)) es ≡ Some v → P k) → P k
-      by true is h rest = subst P (sym (is_same k e.0 is)) all.0
-      by false is h rest = rest h
-
-  all_inserted : (P : Moment × X → Type 0) (k : Moment) (v : X) (es : List (Moment × X)) → P (k, v) → AllByRecursion P es → AllByRecursion P (insert_entry stamp_cmp es k v)
-  all_inserted P k v [] new all = (new, tt)
-  all_inserted P k v (e ∷ es) new all = by (stamp_cmp k e.0) refl (all_inserted P k v es new all.1)
-    where
-      by : (o : Ordering) → stamp_cmp k e.0 ≡ o → AllByRecursion P (insert_entry stamp_cmp es k v) → AllByRecursion P (match_ordering o ((k, v) ∷ e ∷ es) ((e.0, v) ∷ es) (e ∷ insert_entry stamp_cmp es k v))
-      by Less is rest = (new, all)
-      by Equal is rest = (subst (λ (q : Moment). P (q, v)) (stamp_cmp-IsAntisymmetric k e.0 is) new, all.1)
-      by Greater is rest = (all.0, rest)
-
-  all_removed : (P : Moment × X → Type 0) (test : Moment → Bool) (es : List (Moment × X)) → AllByRecursion P es → AllByRecursion P (remove_entry test es)
-  all_removed P test [] all = tt
-  all_removed P test (e ∷ es) all = by (test e.0) (all_removed P test es all.1)
-    where
-      by : (b : Bool) → AllByRecursion P (remove_entry test es) → AllByRecursion P (cond b es (e ∷ remove_entry test es))
-      by true rest = all.1
-      by false rest = (all.0, rest)
-
-  none_found : (k : Moment) (es : List (Moment × X)) → lookup (is_at (stamp_cmp k)) es ≡ None → AllByRecursion (λ e. is_eq (stamp_cmp k e.0) ≡ false) es
-  none_found k [] none = tt
-  none_found k (e ∷ es) none = by (is_eq (stamp_cmp k e.0)) refl none (none_found k es)
-    where
-      by : (b : Bool) → is_eq (stamp_cmp k e.0) ≡ b → cond b (Some e.1) (lookup (is_at (stamp_cmp k)) es) ≡ None → (lookup (is_at (stamp_cmp k)) es ≡ None → AllByRecursion (λ e. is_eq (stamp_cmp k e.0) ≡ false) es)
-          → (is_eq (stamp_cmp k e.0) ≡ false) × AllByRecursion (λ e. is_eq (stamp_cmp k e.0) ≡ false) es
-      by true is h rest = absurd (none-some e.1 (sym h))
-      by false is h rest = (is, rest h)
-
-  -- without the entry of a key, all others have other keys
-  others_left : (k : Moment) (es : List (Moment × X)) → IsStrictlySortedBy stamp_cmp (keys_of es) → AllByRecursion (λ e. is_eq (stamp_cmp k e.0) ≡ false) (remove_entry (is_at (stamp_cmp k)) es)
-  unfolding IsStrictlySortedBy
-  others_left k [] sorted = tt
-  others_left k (e ∷ es) sorted = by (is_eq (stamp_cmp k e.0)) refl (others_left k es sorted.1)
-    where
-      differ : is_eq (stamp_cmp k e.0) ≡ true → (fs : List (Moment × X)) → AllByRecursion (λ y. stamp_cmp e.0 y ≡ Less) (keys_of fs) → AllByRecursion (λ f. is_eq (stamp_cmp k f.0) ≡ false) fs
-      differ is [] above = tt
-      differ is (f ∷ fs) above = (ap (λ (q : Moment). is_eq (stamp_cmp q f.0)) (is_same k e.0 is) ∙ ap is_eq above.0, differ is fs above.1)
-
-      by : (b : Bool) → is_eq (stamp_cmp k e.0) ≡ b → AllByRecursion (λ f. is_eq (stamp_cmp k f.0) ≡ false) (remove_entry (is_at (stamp_cmp k)) es)
-          → AllByRecursion (λ f. is_eq (stamp_cmp k f.0) ≡ false) (cond b es (e ∷ remove_entry (is_at (stamp_cmp k)) es))
-      by true is rest = differ is es sorted.0
-      by false is rest = (is, rest)
-
-module _ {T : Type 0} where
-  pub length_items : (es : List (Moment × Waiter T)) → length es ≡ length (items_of es)
-  length_items [] = refl
-  length_items (e ∷ es) = ap suc (length_items es)
-
-  -- an entry that is taken out and put in again
-  pub reinserted : (k : Moment) (es : List (Moment × Waiter T)) (v w : Waiter T) → IsStrictlySortedBy stamp_cmp (keys_of es) → lookup (is_at (stamp_cmp k)) es ≡ Some v → w.item ≡ v.item
-      → items_of (insert_entry stamp_cmp (remove_entry (is_at (stamp_cmp k)) es) k w) ≡ items_of es
-  unfolding IsStrictlySortedBy
-  reinserted k [] v w sorted found same = absurd (none-some v found)
-  reinserted k (e ∷ es) v w sorted found same = by (is_eq (stamp_cmp k e.0)) refl found (λ h. reinserted k es v w sorted.1 h same)
-    where
-      first : (fs : List (Moment × Waiter T)) → is_eq (stamp_cmp k e.0) ≡ true → AllByRecursion (λ y. stamp_cmp e.0 y ≡ Less) (keys_of fs) → items_of (insert_entry stamp_cmp fs k w) ≡ w.item ∷ items_of fs
-      first [] is above = refl
-      first (f ∷ fs) is above =
-          ap (λ (o : Ordering). items_of (match_ordering o ((k, w) ∷ f ∷ fs) ((f.0, w) ∷ fs) (f ∷ insert_entry stamp_cmp fs k w)))
-          (ap (λ (q : Moment). stamp_cmp q f.0) (is_same k e.0 is) ∙ above.0)
-
-      behind : stamp_cmp e.0 k ≡ Less → items_of (insert_entry stamp_cmp (e ∷ remove_entry (is_at (stamp_cmp k)) es) k w) ≡ e.1.item ∷ items_of (insert_entry stamp_cmp (remove_entry (is_at (stamp_cmp k)) es) k w)
-      behind less =
-          ap (λ (o : Ordering). items_of (match_ordering o ((k, w) ∷ e ∷ remove_entry (is_at (stamp_cmp k)) es) ((e.0, w) ∷ remove_entry (is_at (stamp_cmp k)) es) (e ∷ insert_entry stamp_cmp (remove_entry (is_at (stamp_cmp k)) es) k w)))
-          (stamp_cmp_total.antisymm k e.0 ∙ ap ordering_reverse less)
-
-      by : (b : Bool) → is_eq (stamp_cmp k e.0) ≡ b → cond b (Some e.1) (lookup (is_at (stamp_cmp k)) es) ≡ Some v
-          → (lookup (is_at (stamp_cmp k)) es ≡ Some v → items_of (insert_entry stamp_cmp (remove_entry (is_at (stamp_cmp k)) es) k w) ≡ items_of es)
-          → items_of (insert_entry stamp_cmp (cond b es (e ∷ remove_entry (is_at (stamp_cmp k)) es)) k w) ≡ e.1.item ∷ items_of es
-      by true is h rest = first es is sorted.0 ∙ ap (λ (t : T). t ∷ items_of es) (same ∙ ap (λ (u : Waiter T). u.item) (sym (same_Some e.1 v h)))
-      by false is h rest = behind (found_key (λ y. stamp_cmp e.0 y ≡ Less) k es v h sorted.0) ∙ ap (λ (ts : List T). e.1.item ∷ ts) (rest h)
+use Rattle.mt_holdback.proofs.Released.{finds_more}
 
 module _ {T R : Type 0} (key : T → Moment) (needs : T → List (Moment × R)) (fits : R → T → Bool) where
   -- what lacks a need is not met
@@ -395,21 +161,21 @@ module _ {T R : Type 0} (key : T → Moment) (needs : T → List (Moment × R)) 
 
   -- the next one that is to be looked at does not wait
 
-  pub pop_absent : (released : List T) (place : Moment → Option ℕ) (es fs : List (Moment × Waiter T)) (lists : Moment → Moment → Bool) (woken woken' : Moment → Bool) (k : Moment)
-      → Works key needs fits released place es lists woken → ((q : Moment) → woken' q ≡ cond (is_eq (stamp_cmp k q)) false (woken q)) → lookup (is_at (stamp_cmp k)) es ≡ None → fs ≡ es
-      → Works key needs fits released place fs lists woken'
-  pop_absent released place es fs lists woken woken' k works popped none same =
-      subst (λ (gs : List (Moment × Waiter T)). Works key needs fits released place gs lists woken') (sym same)
+  pub pop_absent : {A : Type 0} (released : List T) (places : StampIndex A) (es fs : List (Moment × Waiter T)) (lists : Moment → Moment → Bool) (woken woken' : Moment → Bool) (k : Moment)
+      → Works key needs fits released places es lists woken → ((q : Moment) → woken' q ≡ cond (is_eq (stamp_cmp k q)) false (woken q)) → lookup (is_at (stamp_cmp k)) es ≡ None → fs ≡ es
+      → Works key needs fits released places fs lists woken'
+  pop_absent released places es fs lists woken woken' k works popped none same =
+      subst (λ (gs : List (Moment × Waiter T)). Works key needs fits released places gs lists woken') (sym same)
       (record { finds = works.finds; sorted = works.sorted; each = stands_less released lists woken woken' k popped es (none_found k es none) works.each })
 
   -- it waits, and is taken out
-  module _ (released : List T) (place : Moment → Option ℕ) (es fs : List (Moment × Waiter T)) (lists : Moment → Moment → Bool) (woken woken' : Moment → Bool) (k : Moment) (v : Waiter T)
-      (works : Works key needs fits released place es lists woken) (popped : (q : Moment) → woken' q ≡ cond (is_eq (stamp_cmp k q)) false (woken q)) (found : lookup (is_at (stamp_cmp k)) es ≡ Some v)
+  module _ {A : Type 0} (released : List T) (places : StampIndex A) (es fs : List (Moment × Waiter T)) (lists : Moment → Moment → Bool) (woken woken' : Moment → Bool) (k : Moment) (v : Waiter T)
+      (works : Works key needs fits released places es lists woken) (popped : (q : Moment) → woken' q ≡ cond (is_eq (stamp_cmp k q)) false (woken q)) (found : lookup (is_at (stamp_cmp k)) es ≡ Some v)
       (taken_out : fs ≡ remove_entry (is_at (stamp_cmp k)) es) (sorted : IsStrictlySortedBy stamp_cmp (keys_of fs)) where
     pub stood : Stands key needs fits released lists woken (k, v)
     stood = stands_at released lists woken k es v found works.each
 
-    pub pop_works : Works key needs fits released place fs lists woken'
+    pub pop_works : Works key needs fits released places fs lists woken'
     pop_works = record {
       finds = works.finds;
       sorted = sorted;
@@ -435,7 +201,7 @@ module _ {T R : Type 0} (key : T → Moment) (needs : T → List (Moment × R)) 
     -- it lacks a need, and is put in again
     pub held_works : (lists' : Moment → Moment → Bool) (w : Waiter T) (gs : List (Moment × Waiter T)) (stamp : Moment) → w.item ≡ v.item → MetTo key needs fits released w.item w.met → LacksAt key needs fits released w.item w.met stamp
         → ((s q : Moment) → lists s q ≡ true → lists' s q ≡ true) → lists' stamp k ≡ true → gs ≡ insert_entry stamp_cmp fs k w → IsStrictlySortedBy stamp_cmp (keys_of gs)
-        → Works key needs fits released place gs lists' woken'
+        → Works key needs fits released places gs lists' woken'
     held_works lists' w gs stamp same met lack stay there put ascend = record {
       finds = works.finds;
       sorted = ascend;
@@ -454,58 +220,6 @@ module _ {T R : Type 0} (key : T → Moment) (needs : T → List (Moment × R)) 
         ap items_of put ∙ ap (λ (hs : List (Moment × Waiter T)). items_of (insert_entry stamp_cmp hs k w)) taken_out ∙ reinserted k es v w works.sorted found same
 
   -- one more is released
-
-  or_true : (a : Bool) → (a || true) ≡ true
-  or_true true = refl
-  or_true false = refl
-
-  absent_place : (o : Option ℕ) → is_some o ≡ false → o ≡ None
-  absent_place None h = refl
-  absent_place (Some i) h = absurd (true≢false h)
-
-  finds_more : (released : List T) (t : T) (place place' : Moment → Option ℕ) → Finds key needs fits released place → ((q : Moment) → place' q ≡ cond (is_eq (stamp_cmp (key t) q)) (Some (length released)) (place q))
-      → list_any (λ u. stamp_eq (key u) (key t)) released ≡ false → Finds key needs fits (released ++ t ∷ []) place'
-  finds_more released t place place' finds put fresh = record {
-    known = λ q. ap is_some (put q) ∙ known q (is_eq (stamp_cmp (key t) q)) refl ∙ sym (any_push (λ u. stamp_eq (key u) q) released t);
-    meet = λ need. any_push (meets key needs fits need) released t ∙ meet need (is_eq (stamp_cmp (key t) need.0)) refl
-        ∙ ap (λ (o : Option ℕ). fits_at key needs fits (released ++ t ∷ []) o need.1) (sym (put need.0));
-    within = λ q i h. within q i (is_eq (stamp_cmp (key t) q)) refl (sym (put q) ∙ h);
-  }
-    where
-      known : (q : Moment) (b : Bool) → is_eq (stamp_cmp (key t) q) ≡ b → is_some (cond (is_eq (stamp_cmp (key t) q)) (Some (length released)) (place q)) ≡ (list_any (λ u. stamp_eq (key u) q) released || stamp_eq (key t) q)
-      known q true e =
-          ap (λ (b : Bool). is_some (cond b (Some (length released)) (place q))) e
-          ∙ sym (ap (λ (b : Bool). list_any (λ u. stamp_eq (key u) q) released || b) (same_test (key t) q ∙ e) ∙ or_true (list_any (λ u. stamp_eq (key u) q) released))
-      known q false e =
-          ap (λ (b : Bool). is_some (cond b (Some (length released)) (place q))) e ∙ finds.known q
-          ∙ sym (ap (λ (b : Bool). list_any (λ u. stamp_eq (key u) q) released || b) (same_test (key t) q ∙ e) ∙ or_none (list_any (λ u. stamp_eq (key u) q) released))
-
-      none_there : (need : Moment × R) → key t ≡ need.0 → is_met_in key needs fits released need ≡ false
-      none_there need e =
-          finds.meet need
-          ∙ ap (λ (o : Option ℕ). fits_at key needs fits released o need.1) (absent_place (place need.0) (finds.known need.0 ∙ ap (λ (q : Moment). list_any (λ u. stamp_eq (key u) q) released) (sym e) ∙ fresh))
-
-      kept_at : (o : Option ℕ) (role : R) → ((i : ℕ) → o ≡ Some i → i < length released) → fits_at key needs fits released o role ≡ fits_at key needs fits (released ++ t ∷ []) o role
-      kept_at None role small = refl
-      kept_at (Some i) role small = ap (λ (o : Option T). fits_there key needs fits o role) (sym (get_kept released t i (small i refl)))
-
-      meet : (need : Moment × R) (b : Bool) → is_eq (stamp_cmp (key t) need.0) ≡ b
-          → (list_any (meets key needs fits need) released || meets key needs fits need t) ≡ fits_at key needs fits (released ++ t ∷ []) (cond (is_eq (stamp_cmp (key t) need.0)) (Some (length released)) (place need.0)) need.1
-      meet need true e =
-          ap (λ (b : Bool). b || meets key needs fits need t) (none_there need (is_same (key t) need.0 e))
-          ∙ ap (λ (b : Bool). b && fits need.1 t) (eq_turned need.0 (key t) ∙ same_test (key t) need.0 ∙ e)
-          ∙ ap (λ (o : Option T). fits_there key needs fits o need.1) (sym (get_pushed released t))
-          ∙ ap (λ (b : Bool). fits_at key needs fits (released ++ t ∷ []) (cond b (Some (length released)) (place need.0)) need.1) (sym e)
-      meet need false e =
-          ap (λ (b : Bool). list_any (meets key needs fits need) released || b) (not_and (stamp_eq need.0 (key t)) (fits need.1 t) (eq_turned need.0 (key t) ∙ same_test (key t) need.0 ∙ e))
-          ∙ or_none (list_any (meets key needs fits need) released) ∙ finds.meet need ∙ kept_at (place need.0) need.1 (finds.within need.0)
-          ∙ ap (λ (b : Bool). fits_at key needs fits (released ++ t ∷ []) (cond b (Some (length released)) (place need.0)) need.1) (sym e)
-
-      within : (q : Moment) (i : ℕ) (b : Bool) → is_eq (stamp_cmp (key t) q) ≡ b → cond (is_eq (stamp_cmp (key t) q)) (Some (length released)) (place q) ≡ Some i → i < length (released ++ t ∷ [])
-      within q i true e h =
-          let same = same_Some (length released) i (ap (λ (b : Bool). cond b (Some (length released)) (place q)) (sym e) ∙ h) in omega (arith, same, length-append released (t ∷ []))
-      within q i false e h =
-          let small = finds.within q i (ap (λ (b : Bool). cond b (Some (length released)) (place q)) (sym e) ∙ h) in omega (arith, small, length-append released (t ∷ []))
 
   module _ (released : List T) (t : T) (lists lists' : Moment → Moment → Bool) (woken woken' : Moment → Bool)
       (others : (s q : Moment) → stamp_eq s (key t) ≡ false → lists s q ≡ true → lists' s q ≡ true) (woke : (q : Moment) → lists (key t) q ≡ true → woken' q ≡ true)
@@ -533,12 +247,13 @@ module _ {T R : Type 0} (key : T → Moment) (needs : T → List (Moment × R)) 
         by (inl h) = inl (stay e.0 h)
         by (inr l) = waits_for l (stamp_eq l.stamp (key t)) refl
 
-    pub release_works : (more : List T) (place place' : Moment → Option ℕ) (es : List (Moment × Waiter T)) → Works key needs fits released place es lists woken
-        → more ≡ released ++ t ∷ [] → ((q : Moment) → place' q ≡ cond (is_eq (stamp_cmp (key t) q)) (Some (length released)) (place q)) → list_any (λ u. stamp_eq (key u) (key t)) released ≡ false
-        → AllByRecursion (λ e. stamp_eq e.0 (key t) ≡ false) es → Works key needs fits more place' es lists' woken'
-    release_works more place place' es works is_more put fresh apart =
-        subst (λ (rs : List T). Works key needs fits rs place' es lists' woken') (sym is_more)
-        (record { finds = finds_more released t place place' works.finds put fresh; sorted = works.sorted; each = stands_released es apart works.each })
+    pub release_works : {A : Type 0} (more : List T) (places places' : StampIndex A) (es : List (Moment × Waiter T)) → Works key needs fits released places es lists woken
+        → more ≡ released ++ t ∷ [] → ((s : Moment) (i : ℕ) → first_place places s ≡ Some i → first_place places' s ≡ Some i) → ((s : Moment) → stamp_eq (key t) s ≡ false → other_place places' s ≡ other_place places s)
+        → (first_place places' (key t) ≡ Some (length released)) ⊎ (other_place places' (key t) ≡ Some (length released)) → list_any (λ u. stamp_eq (key u) (key t)) released ≡ false
+        → AllByRecursion (λ e. stamp_eq e.0 (key t) ≡ false) es → Works key needs fits more places' es lists' woken'
+    release_works more places places' es works is_more stays others_stay points fresh apart =
+        subst (λ (rs : List T). Works key needs fits rs places' es lists' woken') (sym is_more)
+        (record { finds = finds_more key released t places places' works.finds stays others_stay points fresh; sorted = works.sorted; each = stands_released es apart works.each })
 
   -- what is known
 
@@ -554,11 +269,11 @@ module _ {T R : Type 0} (key : T → Moment) (needs : T → List (Moment × R)) 
       by true rest = refl
       by false rest = rest
 
-  pub works_known : (released : List T) (place : Moment → Option ℕ) (es : List (Moment × Waiter T)) (lists : Moment → Moment → Bool) (woken : Moment → Bool) (q : Moment) → Works key needs fits released place es lists woken
-      → list_any (λ t. stamp_eq (key t) q) (released ++ items_of es) ≡ (is_some (place q) || is_some (lookup (is_at (stamp_cmp q)) es))
-  works_known released place es lists woken q works =
+  pub works_known : {A : Type 0} (released : List T) (places : StampIndex A) (es : List (Moment × Waiter T)) (lists : Moment → Moment → Bool) (woken : Moment → Bool) (q : Moment) → Works key needs fits released places es lists woken
+      → list_any (λ t. stamp_eq (key t) q) (released ++ items_of es) ≡ (list_any (λ t. stamp_eq (key t) q) released || is_some (lookup (is_at (stamp_cmp q)) es))
+  works_known released places es lists woken q works =
       any_append (λ t. stamp_eq (key t) q) released (items_of es)
-      ∙ (λ i. sym (works.finds.known q) i || items_known released lists woken q es works.each i)
+      ∙ ap (λ (b : Bool). list_any (λ t. stamp_eq (key t) q) released || b) (items_known released lists woken q es works.each)
 
   -- one more item waits, or is released at once
 
@@ -589,10 +304,10 @@ module _ {T R : Type 0} (key : T → Moment) (needs : T → List (Moment × R)) 
           ∙ ap (λ (ts : List T). e.1.item ∷ ts) rest
           ∙ ap (λ (o : Ordering). cond (is_lt o) (e.1.item ∷ queued key needs fits w.item (items_of es)) (w.item ∷ e.1.item ∷ items_of es)) (sym (stamp_cmp_total.antisymm e.0 (key w.item) ∙ ap ordering_reverse is))
 
-  module _ (released : List T) (place : Moment → Option ℕ) (es : List (Moment × Waiter T)) (lists : Moment → Moment → Bool) (woken : Moment → Bool) (t : T)
-      (works : Works key needs fits released place es lists woken) (unknown : list_any (λ u. stamp_eq (key u) (key t)) (released ++ items_of es) ≡ false) where
+  module _ {A : Type 0} (released : List T) (places : StampIndex A) (es : List (Moment × Waiter T)) (lists : Moment → Moment → Bool) (woken : Moment → Bool) (t : T)
+      (works : Works key needs fits released places es lists woken) (unknown : list_any (λ u. stamp_eq (key u) (key t)) (released ++ items_of es) ≡ false) where
     apart : AllByRecursion (λ e. is_eq (stamp_cmp (key t) e.0) ≡ false) es
-    apart = none_found (key t) es (absent (lookup (is_at (stamp_cmp (key t))) es) (second_false _ _ (sym (works_known released place es lists woken (key t) works) ∙ unknown)))
+    apart = none_found (key t) es (absent (lookup (is_at (stamp_cmp (key t))) es) (second_false _ _ (sym (works_known released places es lists woken (key t) works) ∙ unknown)))
       where
         absent : (o : Option (Waiter T)) → is_some o ≡ false → o ≡ None
         absent None h = refl
@@ -610,7 +325,7 @@ module _ {T R : Type 0} (key : T → Moment) (needs : T → List (Moment × R)) 
 
     module _ (fs : List (Moment × Waiter T)) (i : ℕ) (put : fs ≡ insert_entry stamp_cmp es (key t) (record { item = t; met = i })) where
       pub put_works : (lists' : Moment → Moment → Bool) (stamp : Moment) → NamesOlder (key t) (needs t) → MetTo key needs fits released t i → LacksAt key needs fits released t i stamp
-          → ((s q : Moment) → lists s q ≡ true → lists' s q ≡ true) → lists' stamp (key t) ≡ true → IsStrictlySortedBy stamp_cmp (keys_of fs) → Works key needs fits released place fs lists' woken
+          → ((s q : Moment) → lists s q ≡ true → lists' s q ≡ true) → lists' stamp (key t) ≡ true → IsStrictlySortedBy stamp_cmp (keys_of fs) → Works key needs fits released places fs lists' woken
       put_works lists' stamp older met lack stay there sorted = record {
         finds = works.finds;
         sorted = sorted;
@@ -628,18 +343,14 @@ module _ {T R : Type 0} (key : T → Moment) (needs : T → List (Moment × R)) 
       put_items = ap items_of put ∙ queued_items released lists woken (record { item = t; met = i }) es works.each apart
 
   -- nothing waits yet
-  pub none_yet : (released : List T) (place : Moment → Option ℕ) (es : List (Moment × Waiter T)) (lists : Moment → Moment → Bool) (woken : Moment → Bool) → released ≡ [] → ((q : Moment) → place q ≡ None) → es ≡ []
-      → IsStrictlySortedBy stamp_cmp (keys_of es) → Works key needs fits released place es lists woken
-  none_yet released place es lists woken no_released nowhere empty sorted = record {
-    finds = record {
-      known = λ q. ap is_some (nowhere q) ∙ sym (ap (λ (rs : List T). list_any (λ t. stamp_eq (key t) q) rs) no_released);
-      meet = λ need. ap (λ (rs : List T). is_met_in key needs fits rs need) no_released ∙ sym (ap (λ (o : Option ℕ). fits_at key needs fits released o need.1) (nowhere need.0));
-      within = λ q i h. absurd (none-some i (sym (nowhere q) ∙ h));
-    };
+  pub none_yet : {A : Type 0} (released : List T) (places : StampIndex A) (es : List (Moment × Waiter T)) (lists : Moment → Moment → Bool) (woken : Moment → Bool) → released ≡ [] → es ≡ []
+      → IsStrictlySortedBy stamp_cmp (keys_of es) → Works key needs fits released places es lists woken
+  none_yet released places es lists woken no_released empty sorted = record {
+    finds = subst (λ (rs : List T). Finds (map key rs) places) (sym no_released) (λ k stamp at. absurd (none-some stamp at));
     sorted = sorted;
     each = subst (λ (gs : List (Moment × Waiter T)). AllByRecursion (Stands key needs fits released lists woken) gs) (sym empty) tt;
   }
 
-  pub asleep_works : (released : List T) (place : Moment → Option ℕ) (es : List (Moment × Waiter T)) (lists : Moment → Moment → Bool) (keys keys' : List Moment) → keys' ≡ keys
-      → Works key needs fits released place es lists (λ q. list_any (is_at (stamp_cmp q)) keys) → Works key needs fits released place es lists (λ q. list_any (is_at (stamp_cmp q)) keys')
-  asleep_works released place es lists keys keys' same works = subst (λ (ks : List Moment). Works key needs fits released place es lists (λ q. list_any (is_at (stamp_cmp q)) ks)) (sym same) works
+  pub asleep_works : {A : Type 0} (released : List T) (places : StampIndex A) (es : List (Moment × Waiter T)) (lists : Moment → Moment → Bool) (keys keys' : List Moment) → keys' ≡ keys
+      → Works key needs fits released places es lists (λ q. list_any (is_at (stamp_cmp q)) keys) → Works key needs fits released places es lists (λ q. list_any (is_at (stamp_cmp q)) keys')
+  asleep_works released places es lists keys keys' same works = subst (λ (ks : List Moment). Works key needs fits released places es lists (λ q. list_any (is_at (stamp_cmp q)) ks)) (sym same) works

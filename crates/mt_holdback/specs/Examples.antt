@@ -5,7 +5,7 @@ use Rattle.mt_op.specs.Gain.{unchanged}
 use Rattle.mt_op.specs.Needs.{fits}
 use Rattle.mt_op.specs.Operation.{AddTrack, SetGain, Remove, Restore, AddMarker, Retitle, Operation}
 use Rattle.mt_holdback.specs.Ops.{op_key, op_needs}
-use Rattle.mt_holdback.specs.HoldBack.{Kept, knows, kept_with, newly_ready}
+use Rattle.mt_holdback.specs.HoldBack.{Contents, knows, contents_with, newly_ready}
 use Rattle.mt_holdback.specs.Offering.{empty, answer}
 use Rattle.mt_holdback.specs.declared.hold_back.Offered.{Offered}
 use Rattle.mt_holdback.specs.declared.hold_back.Offered.TheVariants.{Held, Ready}
@@ -14,19 +14,19 @@ abbrev by : ℕ → ℕ → ℕ → Moment
 by c r n = record { clock = c; replica = record { 0 = r }; seq = n }
 
 -- what an offer answers, what is kept after it, and what it releases
-abbrev told : Kept Operation → Operation → Offered
-told kept o = answer op_key op_needs fits kept o
+abbrev told : Contents Operation → Operation → Offered
+told contents o = answer op_key op_needs fits contents o
 
-abbrev after : Kept Operation → Operation → Kept Operation
-after kept o = kept_with op_key op_needs fits kept o
+abbrev after : Contents Operation → Operation → Contents Operation
+after contents o = contents_with op_key op_needs fits contents o
 
-abbrev released_by : Kept Operation → Operation → List Operation
-released_by kept o = newly_ready op_key op_needs fits kept o
+abbrev released_by : Contents Operation → Operation → List Operation
+released_by contents o = newly_ready op_key op_needs fits contents o
 
-abbrev is_known : Kept Operation → Moment → Bool
-is_known kept stamp = knows op_key op_needs fits kept stamp
+abbrev is_known : Contents Operation → Moment → Bool
+is_known contents stamp = knows op_key op_needs fits contents stamp
 
-abbrev kept_of : List Operation → List Operation → Kept Operation
+abbrev kept_of : List Operation → List Operation → Contents Operation
 kept_of released waiting = record { released = released; waiting = waiting }
 
 -- ---- a marker, and its title that comes before it

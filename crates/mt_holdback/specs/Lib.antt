@@ -1,7 +1,7 @@
 pub mod Waiting
 pub mod Laws
 pub mod HoldBack
-pub mod State
+pub mod Value
 pub mod Passing
 pub mod Queue
 pub mod Offering

@@ -2,15 +2,15 @@
 use Rattle.std.specs.Prelude.{Bool, cond, List, [], length}
 use Rattle.mt_stamp.specs.Moment.{Moment}
 use Rattle.mt_holdback.specs.Waiting.{is_ready}
-use Rattle.mt_holdback.specs.HoldBack.{Kept, offered_with}
+use Rattle.mt_holdback.specs.HoldBack.{Contents, offered_with}
 use Rattle.mt_holdback.specs.declared.hold_back.Offered.{Offered}
 use Rattle.mt_holdback.specs.declared.hold_back.Offered.TheVariants.{Held, Ready}
 
 -- nothing was offered, or a growth was refused
-abbrev pub empty : {T : Type 0} → Kept T
+abbrev pub empty : {T : Type 0} → Contents T
 empty = record { released = []; waiting = [] }
 
 module _ {T R : Type 0} (key : T → Moment) (needs : T → List (Moment × R)) (fits : R → T → Bool) where
   -- what an offer answers: from where on what was released is new, or that the item is held
-  abbrev pub answer : Kept T → T → Offered
-  answer kept t = cond (is_ready key needs fits (offered_with key needs fits kept t) t) (Ready (length kept.released)) Held
+  abbrev pub answer : Contents T → T → Offered
+  answer contents t = cond (is_ready key needs fits (offered_with key needs fits contents t) t) (Ready (length contents.released)) Held

@@ -1,12 +1,17 @@
 -- What an offer's steps keep: what waits, each item known to lack a need or noted to be looked at. Working predicates, and no definition of the subject.
-use Rattle.std.specs.Prelude.{◌≡◌, ℕ, ◌<◌, Bool, true, false, List, [], ◌∷◌, ◌++◌, length, take, slice_get, is_some, Option, None, Some, ◌⊎◌}
+use Rattle.std.specs.Prelude.{◌≡◌, ℕ, ◌<◌, Bool, true, false, List, [], ◌∷◌, ◌++◌, map, take, slice_get, Option, None, Some, ◌⊎◌}
 use Rattle.std.specs.List.{AllByRecursion, list_all, list_any}
 use Rattle.std.specs.List.Sorted.{IsStrictlySortedBy}
+use Rattle.std.specs.BTreeMap.{get}
+use Rattle.std.specs.BTreeSet.{contains}
 use Rattle.std.specs.Map.{keys_of}
 use Rattle.mt_stamp.specs.Moment.{Moment, stamp_cmp, stamp_eq}
+use Rattle.mt_stampmap.specs.Index.{Finds}
+use Rattle.mt_stampmap.specs.declared.index.StampIndex.{StampIndex}
 use Rattle.mt_holdback.specs.Waiting.{NamesOlder, meets}
 use Rattle.mt_holdback.specs.Laws.{is_met_by, passed}
 use Rattle.mt_holdback.specs.Passing.{left}
+use Rattle.mt_holdback.specs.declared.queue.Queue.{Queue}
 use Rattle.mt_holdback.specs.declared.queue.Waiter.{Waiter}
 
 -- the items of entries, in their order
@@ -23,25 +28,20 @@ is_in keys (Some v) key = list_any (stamp_eq key) (keys v)
 abbrev pub listed : {V : Type 0} → (V → List Moment) → (Moment → Option V) → Moment → Moment → Bool
 listed keys lists stamp key = is_in keys (lists stamp) key
 
+-- whether what is there passes a test
+abbrev pub passes : {T : Type 0} → (T → Bool) → Option T → Bool
+passes p None = false
+passes p (Some t) = p t
+
+-- whether what stands at a place passes a test
+abbrev pub passes_at : {T : Type 0} → (T → Bool) → List T → Option ℕ → Bool
+passes_at p items None = false
+passes_at p items (Some i) = passes p (slice_get items i)
+
 module _ {T R : Type 0} (key : T → Moment) (needs : T → List (Moment × R)) (fits : R → T → Bool) where
   -- whether one of these meets a need
   abbrev pub is_met_in : List T → Moment × R → Bool
   is_met_in released need = list_any (meets key needs fits need) released
-
-  abbrev pub fits_there : Option T → R → Bool
-  fits_there None role = false
-  fits_there (Some t) role = fits role t
-
-  -- whether what stands at a place fits a role
-  abbrev pub fits_at : List T → Option ℕ → R → Bool
-  fits_at released None role = false
-  fits_at released (Some i) role = fits_there (slice_get released i) role
-
-  -- each of these is found at its place by its key
-  pub record Finds (released : List T) (place : Moment → Option ℕ) : Type 0 where
-    pub known : (q : Moment) → is_some (place q) ≡ list_any (λ t. stamp_eq (key t) q) released
-    pub meet : (need : Moment × R) → is_met_in released need ≡ fits_at released (place need.0) need.1
-    pub within : (q : Moment) (i : ℕ) → place q ≡ Some i → i < length released
 
   -- an item's need at a place names this stamp, and is met by none
   pub record LacksAt (released : List T) (t : T) (i : ℕ) (stamp : Moment) : Type 0 where
@@ -67,10 +67,15 @@ module _ {T R : Type 0} (key : T → Moment) (needs : T → List (Moment × R)) 
     pub met : MetTo released e.1.item e.1.met
     pub waits : (woken e.0 ≡ true) ⊎ Lacks released lists e
 
-  pub record Works (released : List T) (place : Moment → Option ℕ) (entries : List (Moment × Waiter T)) (lists : Moment → Moment → Bool) (woken : Moment → Bool) : Type 0 where
-    pub finds : Finds released place
+  -- each of those that were released is found by its stamp, and each of those that wait lacks a need or is to be looked at
+  pub record Works {A : Type 0} (released : List T) (places : StampIndex A) (entries : List (Moment × Waiter T)) (lists : Moment → Moment → Bool) (woken : Moment → Bool) : Type 0 where
+    pub finds : Finds (map key released) places
     pub sorted : IsStrictlySortedBy stamp_cmp (keys_of entries)
     pub each : AllByRecursion (Stands released lists woken) entries
+
+  -- the queue of what waits beside those that were released
+  abbrev pub IsQueueOf : {A : Type 0} → List T → Queue T A → Type 0
+  IsQueueOf released q = Works released q.places q.items.entries (listed (λ v. v.items) (get stamp_cmp q.lacking)) (contains stamp_cmp q.woken)
 
   -- an item that is ready was taken out of those that wait: a pass goes on as if it had come to that item
   pub record Takes (released : List T) (t : T) (before after : List T) : Type 0 where

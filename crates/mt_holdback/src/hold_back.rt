@@ -3,7 +3,7 @@
 ghost use Rattle.std.specs.Prelude.{◌≡◌, IsTrue, true, false, cond, ltb, length, IfOk, OnOk, OnErr, IsErrOf, ◌↔◌};
 ghost use Rattle.mt_stamp.specs.Moment.{Moment};
 ghost use Rattle.mt_holdback.specs.Laws.{is_met_by};
-ghost use Rattle.mt_holdback.specs.HoldBack.{KeysRise, knows, kept_with, newly_ready, IsHoldBack};
+ghost use Rattle.mt_holdback.specs.HoldBack.{KeysRise, knows, contents_with, newly_ready, IsHoldBack};
 ghost use Rattle.mt_holdback.specs.declared.hold_back.Offered.TheVariants.{Held, Ready};
 
 use crate::fault::HoldBackFault;
@@ -32,20 +32,20 @@ pub struct HoldBack<T: Waits, A: Allocator = Global> {
 }
 
 impl<T: Waits, A: Allocator> Model for HoldBack<T, A> {
-    ghost use Rattle.mt_holdback.specs.State.{State, items_in};
+    ghost use Rattle.mt_holdback.specs.Value.{HoldBackValue, items_in};
     ghost use Rattle.std.specs.Prelude.{◌≡◌, [], MatchOption};
     ghost use Rattle.std.specs.BTreeMap.{get};
     ghost use Rattle.std.specs.BTreeSet.{contains};
     ghost use Rattle.mt_stamp.specs.Moment.{stamp_cmp};
     ghost use Rattle.mt_holdback.specs.HoldBack.{IsHoldBack};
-    ghost use Rattle.mt_holdback.specs.Queue.{items_of, listed, Works};
+    ghost use Rattle.mt_holdback.specs.Queue.{items_of, listed, IsQueueOf};
 
-    ghost Value = { State T };
+    ghost Value = { HoldBackValue T };
 
-    ghost view = { λ h. record { kept = record { released = h.released.items; waiting = items_in (λ q. items_of q.items.entries) h.waiting }; failed = h.failed } };
+    ghost view = { λ h. record { contents = record { released = h.released.items; waiting = items_in (λ q. items_of q.items.entries) h.waiting }; failed = h.failed } };
 
     ghost invariant = { λ h. IsHoldBack T.key_of T.needs_of T.fits_role (record { released = h.released.items; waiting = items_in (λ q. items_of q.items.entries) h.waiting })
-        × MatchOption h.waiting (h.released.items ≡ []) (λ q. Works T.key_of T.needs_of T.fits_role h.released.items (get stamp_cmp q.places) q.items.entries (listed (λ v. v.items) (get stamp_cmp q.lacking)) (contains stamp_cmp q.woken)) };
+        × MatchOption h.waiting (h.released.items ≡ []) (λ q. IsQueueOf T.key_of T.needs_of T.fits_role h.released.items q) };
 }
 
 impl<T: Waits + Drop, A: Allocator> HoldBack<T, A> {
@@ -53,7 +53,7 @@ impl<T: Waits + Drop, A: Allocator> HoldBack<T, A> {
 
     /// A hold-back to which nothing was offered. Takes no memory.
     pub fn new(alloc: A) -> Self
-        ensures { result ≡ record { kept = empty; failed = false } }
+        ensures { result ≡ record { contents = empty; failed = false } }
     {
         HoldBack {
             released: Vec::new(alloc),
@@ -64,17 +64,17 @@ impl<T: Waits + Drop, A: Allocator> HoldBack<T, A> {
 
     /// Whether an item with this key was offered. Never, where the hold-back has failed.
     pub fn knows(&self, key: &Stamp) -> bool
-        ensures { result ≡ knows T.key_of T.needs_of T.fits_role self.now.kept key.now }
+        ensures { result ≡ knows T.key_of T.needs_of T.fits_role self.now.contents key.now }
     {
         match &self.waiting {
-            Some(queue) => knows_key(queue, key),
+            Some(queue) => knows_key(&self.released, queue, *key),
             None => false,
         }
     }
 
     /// How many items were offered that wait; 0 where the hold-back has failed.
     pub fn held(&self) -> u64
-        ensures { result ≡ length self.now.kept.waiting }
+        ensures { result ≡ length self.now.contents.waiting }
     {
         match &self.waiting {
             Some(queue) => count_of(queue),
@@ -84,8 +84,8 @@ impl<T: Waits + Drop, A: Allocator> HoldBack<T, A> {
 
     /// The items that were released, in the order in which they were; none where the hold-back has failed.
     pub fn released(&self) -> &[T]
-        ensures value { result.now ≡ self.now.kept.released }
-        ensures exact { IsHoldBack T.key_of T.needs_of T.fits_role self.now.kept }
+        ensures value { result.now ≡ self.now.contents.released }
+        ensures exact { IsHoldBack T.key_of T.needs_of T.fits_role self.now.contents }
     {
         self.released.as_slice()
     }
@@ -97,13 +97,16 @@ impl<T: Waits + Drop, A: Allocator> HoldBack<T, A> {
     pub fn offer(&mut self, item: T) -> Result<Offered, HoldBackFault>
     where
         A: Clone,
-        requires unknown { knows T.key_of T.needs_of T.fits_role self.old.kept (T.key_of item) ≡ false }
-        ensures answered { IfOk result (λ offered. offered ≡ answer T.key_of T.needs_of T.fits_role self.old.kept item) }
-        ensures kept { OnOk result (self.new ≡ record { kept = kept_with T.key_of T.needs_of T.fits_role self.old.kept item; failed = false }) }
-        ensures rising { OnOk result (KeysRise T.key_of T.needs_of T.fits_role (newly_ready T.key_of T.needs_of T.fits_role self.old.kept item)) }
+        requires unknown { knows T.key_of T.needs_of T.fits_role self.old.contents (T.key_of item) ≡ false }
+        ensures answered { IfOk result (λ offered. offered
+            ≡ answer T.key_of T.needs_of T.fits_role self.old.contents item) }
+        ensures kept { OnOk result (self.new ≡ record { contents = contents_with T.key_of T.needs_of T.fits_role
+            self.old.contents item; failed = false }) }
+        ensures rising { OnOk result (KeysRise T.key_of T.needs_of T.fits_role
+            (newly_ready T.key_of T.needs_of T.fits_role self.old.contents item)) }
         ensures failed { IsErrOf result HoldBackFault.Failed ↔ (self.old.failed ≡ true) }
         ensures unchanged { IsErrOf result HoldBackFault.Failed → self.new ≡ self.old }
-        ensures emptied { IsErrOf result HoldBackFault.Memory → self.new ≡ record { kept = empty; failed = true } }
+        ensures emptied { IsErrOf result HoldBackFault.Memory → self.new ≡ record { contents = empty; failed = true } }
     {
         self.take(item, false)
     }
@@ -113,14 +116,17 @@ impl<T: Waits + Drop, A: Allocator> HoldBack<T, A> {
     pub fn offer_met(&mut self, item: T) -> Result<Offered, HoldBackFault>
     where
         A: Clone,
-        requires unknown { knows T.key_of T.needs_of T.fits_role self.old.kept (T.key_of item) ≡ false }
-        requires met { is_met_by T.key_of T.needs_of T.fits_role self.old.kept.released item ≡ true }
-        ensures answered { IfOk result (λ offered. offered ≡ answer T.key_of T.needs_of T.fits_role self.old.kept item) }
-        ensures kept { OnOk result (self.new ≡ record { kept = kept_with T.key_of T.needs_of T.fits_role self.old.kept item; failed = false }) }
-        ensures rising { OnOk result (KeysRise T.key_of T.needs_of T.fits_role (newly_ready T.key_of T.needs_of T.fits_role self.old.kept item)) }
+        requires unknown { knows T.key_of T.needs_of T.fits_role self.old.contents (T.key_of item) ≡ false }
+        requires met { is_met_by T.key_of T.needs_of T.fits_role self.old.contents.released item ≡ true }
+        ensures answered { IfOk result (λ offered. offered
+            ≡ answer T.key_of T.needs_of T.fits_role self.old.contents item) }
+        ensures kept { OnOk result (self.new ≡ record { contents = contents_with T.key_of T.needs_of T.fits_role
+            self.old.contents item; failed = false }) }
+        ensures rising { OnOk result (KeysRise T.key_of T.needs_of T.fits_role
+            (newly_ready T.key_of T.needs_of T.fits_role self.old.contents item)) }
         ensures failed { IsErrOf result HoldBackFault.Failed ↔ (self.old.failed ≡ true) }
         ensures unchanged { IsErrOf result HoldBackFault.Failed → self.new ≡ self.old }
-        ensures emptied { IsErrOf result HoldBackFault.Memory → self.new ≡ record { kept = empty; failed = true } }
+        ensures emptied { IsErrOf result HoldBackFault.Memory → self.new ≡ record { contents = empty; failed = true } }
     {
         self.take(item, true)
     }
@@ -129,14 +135,18 @@ impl<T: Waits + Drop, A: Allocator> HoldBack<T, A> {
     fn take(&mut self, item: T, is_met: bool) -> Result<Offered, HoldBackFault>
     where
         A: Clone,
-        requires unknown { knows T.key_of T.needs_of T.fits_role self.old.kept (T.key_of item) ≡ false }
-        requires told { IsTrue is_met → is_met_by T.key_of T.needs_of T.fits_role self.old.kept.released item ≡ true }
-        ensures answered { IfOk result (λ offered. offered ≡ answer T.key_of T.needs_of T.fits_role self.old.kept item) }
-        ensures kept { OnOk result (self.new ≡ record { kept = kept_with T.key_of T.needs_of T.fits_role self.old.kept item; failed = false }) }
-        ensures rising { OnOk result (KeysRise T.key_of T.needs_of T.fits_role (newly_ready T.key_of T.needs_of T.fits_role self.old.kept item)) }
+        requires unknown { knows T.key_of T.needs_of T.fits_role self.old.contents (T.key_of item) ≡ false }
+        requires told { IsTrue is_met → is_met_by T.key_of T.needs_of T.fits_role self.old.contents.released item
+            ≡ true }
+        ensures answered { IfOk result (λ offered. offered
+            ≡ answer T.key_of T.needs_of T.fits_role self.old.contents item) }
+        ensures kept { OnOk result (self.new ≡ record { contents = contents_with T.key_of T.needs_of T.fits_role
+            self.old.contents item; failed = false }) }
+        ensures rising { OnOk result (KeysRise T.key_of T.needs_of T.fits_role
+            (newly_ready T.key_of T.needs_of T.fits_role self.old.contents item)) }
         ensures failed { IsErrOf result HoldBackFault.Failed ↔ (self.old.failed ≡ true) }
         ensures unchanged { IsErrOf result HoldBackFault.Failed → self.new ≡ self.old }
-        ensures emptied { IsErrOf result HoldBackFault.Memory → self.new ≡ record { kept = empty; failed = true } }
+        ensures emptied { IsErrOf result HoldBackFault.Memory → self.new ≡ record { contents = empty; failed = true } }
     {
         if self.failed {
             return Err(HoldBackFault::Failed);

@@ -1,20 +1,21 @@
 //! One item more.
 
-ghost use Rattle.std.specs.Prelude.{◌≡◌, true, false, [], IsTrue, ltb, length, IfOk, OnOk, MatchOption};
+ghost use Rattle.std.specs.Prelude.{◌≡◌, true, false, [], IsTrue, ltb, length, IfOk, OnOk, MatchOption, map};
 ghost use Rattle.std.specs.BTreeMap.{get};
 ghost use Rattle.std.specs.BTreeSet.{contains};
 ghost use Rattle.mt_stamp.specs.Moment.{stamp_cmp};
 ghost use Rattle.mt_holdback.specs.Waiting.{NamesOlder, is_ready};
 ghost use Rattle.mt_holdback.specs.Laws.{is_met_by, passed};
 ghost use Rattle.mt_holdback.specs.Passing.{left};
-ghost use Rattle.mt_holdback.specs.HoldBack.{KeysRise, knows, queued, newly_ready, kept_with, offered_with, IsHoldBack};
-ghost use Rattle.mt_holdback.specs.State.{items_in};
-ghost use Rattle.mt_holdback.specs.Queue.{items_of, listed, Finds, MetTo, LacksAt, Works};
+ghost use Rattle.mt_holdback.specs.HoldBack.{KeysRise, knows, queued, newly_ready, contents_with, offered_with, IsHoldBack};
+ghost use Rattle.mt_holdback.specs.Value.{items_in};
+ghost use Rattle.mt_stampmap.specs.Index.{Finds};
+ghost use Rattle.mt_holdback.specs.Queue.{items_of, listed, MetTo, LacksAt, IsQueueOf};
 
 use crate::fault::HoldBackFault;
 use crate::queue::{Lack, Queue, Waiter, first_lack, put_under, release, settle};
 use crate::waits::Waits;
-use mt_stamp::Stamp;
+use mt_stampmap::StampIndex;
 use std::alloc::Allocator;
 use std::collections::{BTreeMap, BTreeSet};
 
@@ -24,14 +25,14 @@ fn queue_of<T: Waits + Drop, A: Allocator + Clone>(
     released: &[T],
     waiting: Option<Queue<T, A>>,
 ) -> Result<Queue<T, A>, HoldBackFault>
-    requires { MatchOption waiting (released.now ≡ []) (λ q. Works T.key_of T.needs_of T.fits_role released.now (get stamp_cmp q.places) q.items.entries (listed (λ v. v.items) (get stamp_cmp q.lacking)) (contains stamp_cmp q.woken)) }
-    ensures works { IfOk result (λ q. Works T.key_of T.needs_of T.fits_role released.now (get stamp_cmp q.places) q.items.entries (listed (λ v. v.items) (get stamp_cmp q.lacking)) (contains stamp_cmp q.woken)) }
+    requires { MatchOption waiting (released.now ≡ []) (λ q. IsQueueOf T.key_of T.needs_of T.fits_role released.now q) }
+    ensures works { IfOk result (λ q. IsQueueOf T.key_of T.needs_of T.fits_role released.now q) }
     ensures same { IfOk result (λ q. items_of q.items.entries ≡ items_in (λ q. items_of q.items.entries) waiting) }
 {
     match waiting {
         Some(queue) => Ok(queue),
         None => Ok(Queue {
-            places: BTreeMap::new(alloc.clone()?),
+            places: StampIndex::new(alloc.clone()?)?,
             items: BTreeMap::new(alloc.clone()?),
             lacking: BTreeMap::new(alloc.clone()?),
             woken: BTreeSet::new(alloc.clone()?),
@@ -47,11 +48,14 @@ fn hold<T: Waits + Drop, A: Allocator + Clone>(
     item: T,
     lack: Lack,
 ) -> Result<(), HoldBackFault>
-    requires works { Works T.key_of T.needs_of T.fits_role released.now (get stamp_cmp queue.old.places) queue.old.items.entries (listed (λ v. v.items) (get stamp_cmp queue.old.lacking)) (contains stamp_cmp queue.old.woken) }
-    requires unknown { knows T.key_of T.needs_of T.fits_role (record { released = released.now; waiting = items_of queue.old.items.entries }) (T.key_of item) ≡ false }
-    requires lacks { MetTo T.key_of T.needs_of T.fits_role released.now item lack.place × LacksAt T.key_of T.needs_of T.fits_role released.now item lack.place lack.stamp }
-    ensures works { OnOk result (Works T.key_of T.needs_of T.fits_role released.now (get stamp_cmp queue.new.places) queue.new.items.entries (listed (λ v. v.items) (get stamp_cmp queue.new.lacking)) (contains stamp_cmp queue.new.woken)) }
-    ensures queued { OnOk result (items_of queue.new.items.entries ≡ queued T.key_of T.needs_of T.fits_role item (items_of queue.old.items.entries)) }
+    requires works { IsQueueOf T.key_of T.needs_of T.fits_role released.now queue.old }
+    requires unknown { knows T.key_of T.needs_of T.fits_role
+        (record { released = released.now; waiting = items_of queue.old.items.entries }) (T.key_of item) ≡ false }
+    requires lacks { MetTo T.key_of T.needs_of T.fits_role released.now item lack.place
+        × LacksAt T.key_of T.needs_of T.fits_role released.now item lack.place lack.stamp }
+    ensures works { OnOk result (IsQueueOf T.key_of T.needs_of T.fits_role released.now queue.new) }
+    ensures queued { OnOk result (items_of queue.new.items.entries
+        ≡ queued T.key_of T.needs_of T.fits_role item (items_of queue.old.items.entries)) }
 {
     let key = item.key();
     put_under(alloc, &mut queue.lacking, lack.stamp, key)?;
@@ -63,13 +67,15 @@ fn hold<T: Waits + Drop, A: Allocator + Clone>(
 // The first need of an item that is not met, looked for where it is not known that all are.
 fn lack_of<T: Waits, A: Allocator>(
     released: &[T],
-    places: &BTreeMap<Stamp, usize, A>,
+    places: &StampIndex<A>,
     item: &T,
     is_met: bool,
 ) -> Option<Lack>
-    requires finds { Finds T.key_of T.needs_of T.fits_role released.now (get stamp_cmp places.now) }
+    requires finds { Finds (map T.key_of released.now) places.now }
     requires told { IsTrue is_met → is_met_by T.key_of T.needs_of T.fits_role released.now item.now ≡ true }
-    ensures { MatchOption result (is_met_by T.key_of T.needs_of T.fits_role released.now item.now ≡ true) (λ lack. MetTo T.key_of T.needs_of T.fits_role released.now item.now lack.place × LacksAt T.key_of T.needs_of T.fits_role released.now item.now lack.place lack.stamp) }
+    ensures { MatchOption result (is_met_by T.key_of T.needs_of T.fits_role released.now item.now ≡ true)
+        (λ lack. MetTo T.key_of T.needs_of T.fits_role released.now item.now lack.place
+        × LacksAt T.key_of T.needs_of T.fits_role released.now item.now lack.place lack.stamp) }
 {
     if is_met {
         return None;
@@ -86,14 +92,21 @@ fn admit<T: Waits + Drop, A: Allocator + Clone>(
     item: T,
     is_met: bool,
 ) -> Result<(), HoldBackFault>
-    requires rule { IsHoldBack T.key_of T.needs_of T.fits_role (record { released = released.old.items; waiting = items_of queue.old.items.entries }) }
-    requires works { Works T.key_of T.needs_of T.fits_role released.old.items (get stamp_cmp queue.old.places) queue.old.items.entries (listed (λ v. v.items) (get stamp_cmp queue.old.lacking)) (contains stamp_cmp queue.old.woken) }
-    requires unknown { knows T.key_of T.needs_of T.fits_role (record { released = released.old.items; waiting = items_of queue.old.items.entries }) (T.key_of item) ≡ false }
+    requires rule { IsHoldBack T.key_of T.needs_of T.fits_role
+        (record { released = released.old.items; waiting = items_of queue.old.items.entries }) }
+    requires works { IsQueueOf T.key_of T.needs_of T.fits_role released.old.items queue.old }
+    requires unknown { knows T.key_of T.needs_of T.fits_role
+        (record { released = released.old.items; waiting = items_of queue.old.items.entries }) (T.key_of item)
+        ≡ false }
     requires told { IsTrue is_met → is_met_by T.key_of T.needs_of T.fits_role released.old.items item ≡ true }
     ensures older { NamesOlder (T.key_of item) (T.needs_of item) }
-    ensures works { OnOk result (Works T.key_of T.needs_of T.fits_role released.new.items (get stamp_cmp queue.new.places) queue.new.items.entries (listed (λ v. v.items) (get stamp_cmp queue.new.lacking)) (contains stamp_cmp queue.new.woken)) }
-    ensures passes { OnOk result (passed T.key_of T.needs_of T.fits_role released.old.items (queued T.key_of T.needs_of T.fits_role item (items_of queue.old.items.entries)) ≡ passed T.key_of T.needs_of T.fits_role released.new.items (items_of queue.new.items.entries)) }
-    ensures leaves { OnOk result (left T.key_of T.needs_of T.fits_role released.old.items (queued T.key_of T.needs_of T.fits_role item (items_of queue.old.items.entries)) ≡ left T.key_of T.needs_of T.fits_role released.new.items (items_of queue.new.items.entries)) }
+    ensures works { OnOk result (IsQueueOf T.key_of T.needs_of T.fits_role released.new.items queue.new) }
+    ensures passes { OnOk result (passed T.key_of T.needs_of T.fits_role released.old.items
+        (queued T.key_of T.needs_of T.fits_role item (items_of queue.old.items.entries))
+        ≡ passed T.key_of T.needs_of T.fits_role released.new.items (items_of queue.new.items.entries)) }
+    ensures leaves { OnOk result (left T.key_of T.needs_of T.fits_role released.old.items
+        (queued T.key_of T.needs_of T.fits_role item (items_of queue.old.items.entries))
+        ≡ left T.key_of T.needs_of T.fits_role released.new.items (items_of queue.new.items.entries)) }
 {
     // for the proof: that it names older ones
     let _ = item.key();
@@ -110,15 +123,29 @@ pub(crate) fn take_in<T: Waits + Drop, A: Allocator + Clone>(
     item: T,
     is_met: bool,
 ) -> Result<Queue<T, A>, HoldBackFault>
-    requires rule { IsHoldBack T.key_of T.needs_of T.fits_role (record { released = released.old.items; waiting = items_in (λ q. items_of q.items.entries) waiting }) }
-    requires works { MatchOption waiting (released.old.items ≡ []) (λ q. Works T.key_of T.needs_of T.fits_role released.old.items (get stamp_cmp q.places) q.items.entries (listed (λ v. v.items) (get stamp_cmp q.lacking)) (contains stamp_cmp q.woken)) }
-    requires unknown { knows T.key_of T.needs_of T.fits_role (record { released = released.old.items; waiting = items_in (λ q. items_of q.items.entries) waiting }) (T.key_of item) ≡ false }
+    requires rule { IsHoldBack T.key_of T.needs_of T.fits_role
+        (record { released = released.old.items; waiting = items_in (λ q. items_of q.items.entries) waiting }) }
+    requires works { MatchOption waiting (released.old.items ≡ [])
+        (λ q. IsQueueOf T.key_of T.needs_of T.fits_role released.old.items q) }
+    requires unknown { knows T.key_of T.needs_of T.fits_role
+        (record { released = released.old.items; waiting = items_in (λ q. items_of q.items.entries) waiting })
+        (T.key_of item) ≡ false }
     requires told { IsTrue is_met → is_met_by T.key_of T.needs_of T.fits_role released.old.items item ≡ true }
-    ensures kept { IfOk result (λ q. record { released = released.new.items; waiting = items_of q.items.entries } ≡ kept_with T.key_of T.needs_of T.fits_role (record { released = released.old.items; waiting = items_in (λ q. items_of q.items.entries) waiting }) item) }
-    ensures rule { IfOk result (λ q. IsHoldBack T.key_of T.needs_of T.fits_role (record { released = released.new.items; waiting = items_of q.items.entries })) }
-    ensures works { IfOk result (λ q. Works T.key_of T.needs_of T.fits_role released.new.items (get stamp_cmp q.places) q.items.entries (listed (λ v. v.items) (get stamp_cmp q.lacking)) (contains stamp_cmp q.woken)) }
-    ensures rising { OnOk result (KeysRise T.key_of T.needs_of T.fits_role (newly_ready T.key_of T.needs_of T.fits_role (record { released = released.old.items; waiting = items_in (λ q. items_of q.items.entries) waiting }) item)) }
-    ensures ready { OnOk result (ltb (length released.old.items) (length released.new.items) ≡ is_ready T.key_of T.needs_of T.fits_role (offered_with T.key_of T.needs_of T.fits_role (record { released = released.old.items; waiting = items_in (λ q. items_of q.items.entries) waiting }) item) item) }
+    ensures kept { IfOk result (λ q. record { released = released.new.items; waiting = items_of q.items.entries }
+        ≡ contents_with T.key_of T.needs_of T.fits_role
+        (record { released = released.old.items; waiting = items_in (λ q. items_of q.items.entries) waiting }) item) }
+    ensures rule { IfOk result (λ q. IsHoldBack T.key_of T.needs_of T.fits_role
+        (record { released = released.new.items; waiting = items_of q.items.entries })) }
+    ensures works { IfOk result (λ q. IsQueueOf T.key_of T.needs_of T.fits_role released.new.items q) }
+    ensures rising { OnOk result (KeysRise T.key_of T.needs_of T.fits_role
+        (newly_ready T.key_of T.needs_of T.fits_role
+        (record { released = released.old.items; waiting = items_in (λ q. items_of q.items.entries) waiting })
+        item)) }
+    ensures ready { OnOk result (ltb (length released.old.items) (length released.new.items)
+        ≡ is_ready T.key_of T.needs_of T.fits_role
+        (offered_with T.key_of T.needs_of T.fits_role
+        (record { released = released.old.items; waiting = items_in (λ q. items_of q.items.entries) waiting }) item)
+        item) }
 {
     let alloc = released.allocator().clone()?;
     let mut queue = queue_of(&alloc, released, waiting)?;

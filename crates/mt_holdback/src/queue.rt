@@ -1,6 +1,6 @@
 //! What waits, each item under one stamp that it lacks.
 
-ghost use Rattle.std.specs.Prelude.{◌≡◌, ◌+◌, ◌<◌, ◌++◌, ◌||◌, is_some, ◌∷◌, [], false, true, length, IfOk, OnOk, IfSome, IfNone, MatchOption, IsTrue, None, cond};
+ghost use Rattle.std.specs.Prelude.{◌≡◌, ◌+◌, ◌<◌, ◌++◌, ◌||◌, is_some, ◌∷◌, [], false, true, length, IfOk, OnOk, IfSome, IfNone, MatchOption, IsTrue, None, cond, map};
 ghost use Rattle.std.specs.Ordering.{is_eq, is_gt};
 ghost use Rattle.std.specs.List.{AllByRecursion, list_any};
 ghost use Rattle.std.specs.BTreeMap.{get};
@@ -8,11 +8,14 @@ ghost use Rattle.std.specs.BTreeSet.{contains};
 ghost use Rattle.mt_stamp.specs.Moment.{Moment, stamp_cmp, stamp_eq};
 ghost use Rattle.mt_holdback.specs.Laws.{is_met_by, passed};
 ghost use Rattle.mt_holdback.specs.Passing.{left};
-ghost use Rattle.mt_holdback.specs.Queue.{items_of, listed, is_met_in, Finds, MetTo, LacksAt, Works, Takes, NoneIsMet};
+ghost use Rattle.mt_stampmap.specs.Index.{Finds};
+ghost use Rattle.mt_holdback.specs.Waiting.{meets};
+ghost use Rattle.mt_holdback.specs.Queue.{items_of, listed, passes_at, is_met_in, MetTo, LacksAt, IsQueueOf, Takes, NoneIsMet};
 
 use crate::fault::HoldBackFault;
 use crate::waits::Waits;
 use mt_stamp::Stamp;
+use mt_stampmap::StampIndex;
 use std::alloc::Allocator;
 use std::collections::{BTreeMap, BTreeSet};
 
@@ -27,7 +30,7 @@ pub(crate) struct Waiter<T> {
 #[derive(Drop)]
 pub(crate) struct Queue<T, A: Allocator> {
     // where each item that was released stands
-    pub(crate) places: BTreeMap<Stamp, usize, A>,
+    pub(crate) places: StampIndex<A>,
     pub(crate) items: BTreeMap<Stamp, Waiter<T>, A>,
     // the keys of the items that wait under a stamp that they lack
     pub(crate) lacking: BTreeMap<Stamp, Vec<Stamp, A>, A>,
@@ -49,41 +52,88 @@ pub(crate) fn count_of<T: Waits, A: Allocator>(queue: &Queue<T, A>) -> u64
     queue.items.len() as u64
 }
 
-// Whether an item with this key was released, or waits.
-pub(crate) fn knows_key<T, A: Allocator>(queue: &Queue<T, A>, key: &Stamp) -> bool
-    ensures { result ≡ (is_some (get stamp_cmp queue.now.places key.now) || is_some (get stamp_cmp queue.now.items key.now)) }
+// Whether the item at a place has this key.
+fn has_key<T: Waits>(released: &[T], place: Option<usize>, key: Stamp) -> bool
+    ensures { result ≡ passes_at (λ t. stamp_eq (T.key_of t) key) released.now place }
 {
-    queue.places.contains_key(key) || queue.items.contains_key(key)
-}
-
-// Whether an item of this stamp and role was released.
-fn has<T: Waits, A: Allocator>(
-    released: &[T],
-    places: &BTreeMap<Stamp, usize, A>,
-    stamp: Stamp,
-    role: &T::Role,
-) -> bool
-    requires { Finds T.key_of T.needs_of T.fits_role released.now (get stamp_cmp places.now) }
-    ensures { result ≡ is_met_in T.key_of T.needs_of T.fits_role released.now (stamp, role.now) }
-{
-    match places.get(&stamp) {
-        Some(place) => match released.get(*place) {
-            Some(item) => item.fits(role),
+    match place {
+        Some(i) => match released.get(i) {
+            Some(item) => item.key() == key,
             None => false,
         },
         None => false,
     }
 }
 
+// Whether an item with this key was released.
+fn was_released<T: Waits, A: Allocator>(
+    released: &[T],
+    places: &StampIndex<A>,
+    key: Stamp,
+) -> bool
+    requires { Finds (map T.key_of released.now) places.now }
+    ensures { result ≡ list_any (λ t. stamp_eq (T.key_of t) key) released.now }
+{
+    has_key(released, places.first_place(key), key)
+        || has_key(released, places.other_place(key), key)
+}
+
+// Whether an item with this key was released, or waits.
+pub(crate) fn knows_key<T: Waits, A: Allocator>(
+    released: &[T],
+    queue: &Queue<T, A>,
+    key: Stamp,
+) -> bool
+    requires { Finds (map T.key_of released.now) queue.now.places }
+    ensures { result ≡ (list_any (λ t. stamp_eq (T.key_of t) key) released.now
+        || is_some (get stamp_cmp queue.now.items key)) }
+{
+    was_released(released, &queue.places, key) || queue.items.contains_key(&key)
+}
+
+// Whether the item at a place has this stamp, and fits this role.
+fn meets_at<T: Waits>(
+    released: &[T],
+    place: Option<usize>,
+    stamp: Stamp,
+    role: &T::Role,
+) -> bool
+    ensures { result ≡ passes_at (meets T.key_of T.needs_of T.fits_role (stamp, role.now)) released.now place }
+{
+    match place {
+        Some(i) => match released.get(i) {
+            Some(item) => stamp == item.key() && item.fits(role),
+            None => false,
+        },
+        None => false,
+    }
+}
+
+// Whether an item of this stamp and role was released.
+fn has<T: Waits, A: Allocator>(
+    released: &[T],
+    places: &StampIndex<A>,
+    stamp: Stamp,
+    role: &T::Role,
+) -> bool
+    requires { Finds (map T.key_of released.now) places.now }
+    ensures { result ≡ is_met_in T.key_of T.needs_of T.fits_role released.now (stamp, role.now) }
+{
+    meets_at(released, places.first_place(stamp), stamp, role)
+        || meets_at(released, places.other_place(stamp), stamp, role)
+}
+
 // The stamp of the need at a place, where no item that was released meets it.
 fn lacks_at<T: Waits, A: Allocator>(
     released: &[T],
-    places: &BTreeMap<Stamp, usize, A>,
+    places: &StampIndex<A>,
     item: &T,
     i: usize,
 ) -> Option<Stamp>
-    requires { Finds T.key_of T.needs_of T.fits_role released.now (get stamp_cmp places.now) }
-    ensures { MatchOption result (MetTo T.key_of T.needs_of T.fits_role released.now item.now i → MetTo T.key_of T.needs_of T.fits_role released.now item.now (i + 1)) (LacksAt T.key_of T.needs_of T.fits_role released.now item.now i) }
+    requires { Finds (map T.key_of released.now) places.now }
+    ensures { MatchOption result (MetTo T.key_of T.needs_of T.fits_role released.now item.now i
+        → MetTo T.key_of T.needs_of T.fits_role released.now item.now (i + 1))
+        (LacksAt T.key_of T.needs_of T.fits_role released.now item.now i) }
 {
     let (stamp, role) = item.need(i)?;
     if has(released, places, stamp, &role) {
@@ -95,13 +145,15 @@ fn lacks_at<T: Waits, A: Allocator>(
 // The first need from a place on that is not met.
 pub(crate) fn first_lack<T: Waits, A: Allocator>(
     released: &[T],
-    places: &BTreeMap<Stamp, usize, A>,
+    places: &StampIndex<A>,
     item: &T,
     from: usize,
 ) -> Option<Lack>
-    requires finds { Finds T.key_of T.needs_of T.fits_role released.now (get stamp_cmp places.now) }
+    requires finds { Finds (map T.key_of released.now) places.now }
     requires met { MetTo T.key_of T.needs_of T.fits_role released.now item.now from }
-    ensures { MatchOption result (is_met_by T.key_of T.needs_of T.fits_role released.now item.now ≡ true) (λ lack. MetTo T.key_of T.needs_of T.fits_role released.now item.now lack.place × LacksAt T.key_of T.needs_of T.fits_role released.now item.now lack.place lack.stamp) }
+    ensures { MatchOption result (is_met_by T.key_of T.needs_of T.fits_role released.now item.now ≡ true)
+        (λ lack. MetTo T.key_of T.needs_of T.fits_role released.now item.now lack.place
+        × LacksAt T.key_of T.needs_of T.fits_role released.now item.now lack.place lack.stamp) }
 {
     for i in from..item.need_count() {
         if let Some(stamp) = lacks_at(released, places, item, i) {
@@ -117,8 +169,11 @@ fn keys_under<A: Allocator + Clone>(
     lacking: &mut BTreeMap<Stamp, Vec<Stamp, A>, A>,
     stamp: Stamp,
 ) -> Result<Vec<Stamp, A>, HoldBackFault>
-    ensures keys { IfOk result (λ keys. (q : Moment) → listed (λ v. v.items) (get stamp_cmp lacking.old) stamp q ≡ true → list_any (stamp_eq q) keys.items ≡ true) }
-    ensures others { OnOk result ((s : Moment) → get stamp_cmp lacking.new s ≡ cond (is_eq (stamp_cmp stamp s)) None (get stamp_cmp lacking.old s)) }
+    ensures keys { IfOk result (λ keys. (q : Moment)
+        → listed (λ v. v.items) (get stamp_cmp lacking.old) stamp q ≡ true
+        → list_any (stamp_eq q) keys.items ≡ true) }
+    ensures others { OnOk result ((s : Moment)
+        → get stamp_cmp lacking.new s ≡ cond (is_eq (stamp_cmp stamp s)) None (get stamp_cmp lacking.old s)) }
 {
     match lacking.remove(&stamp) {
         Some(keys) => Ok(keys),
@@ -133,7 +188,8 @@ pub(crate) fn put_under<A: Allocator + Clone>(
     stamp: Stamp,
     key: Stamp,
 ) -> Result<(), HoldBackFault>
-    ensures stay { OnOk result ((s q : Moment) → listed (λ v. v.items) (get stamp_cmp lacking.old) s q ≡ true → listed (λ v. v.items) (get stamp_cmp lacking.new) s q ≡ true) }
+    ensures stay { OnOk result ((s q : Moment) → listed (λ v. v.items) (get stamp_cmp lacking.old) s q ≡ true
+        → listed (λ v. v.items) (get stamp_cmp lacking.new) s q ≡ true) }
     ensures there { OnOk result (listed (λ v. v.items) (get stamp_cmp lacking.new) stamp key ≡ true) }
 {
     let mut keys = keys_under(alloc, lacking, stamp)?;
@@ -147,8 +203,10 @@ fn note_all<A: Allocator + Clone>(
     woken: &mut BTreeSet<Stamp, A>,
     keys: Vec<Stamp, A>,
 ) -> Result<(), HoldBackFault>
-    ensures woken { OnOk result ((q : Moment) → list_any (stamp_eq q) keys.items ≡ true → contains stamp_cmp woken.new q ≡ true) }
-    ensures stay { OnOk result ((q : Moment) → contains stamp_cmp woken.old q ≡ true → contains stamp_cmp woken.new q ≡ true) }
+    ensures woken { OnOk result ((q : Moment) → list_any (stamp_eq q) keys.items ≡ true
+        → contains stamp_cmp woken.new q ≡ true) }
+    ensures stay { OnOk result ((q : Moment) → contains stamp_cmp woken.old q ≡ true
+        → contains stamp_cmp woken.new q ≡ true) }
 {
     for key in keys {
         woken.insert(key)?;
@@ -163,9 +221,13 @@ fn wake<A: Allocator + Clone>(
     woken: &mut BTreeSet<Stamp, A>,
     stamp: Stamp,
 ) -> Result<(), HoldBackFault>
-    ensures others { OnOk result ((s q : Moment) → stamp_eq s stamp ≡ false → listed (λ v. v.items) (get stamp_cmp lacking.old) s q ≡ true → listed (λ v. v.items) (get stamp_cmp lacking.new) s q ≡ true) }
-    ensures woken { OnOk result ((q : Moment) → listed (λ v. v.items) (get stamp_cmp lacking.old) stamp q ≡ true → contains stamp_cmp woken.new q ≡ true) }
-    ensures stay { OnOk result ((q : Moment) → contains stamp_cmp woken.old q ≡ true → contains stamp_cmp woken.new q ≡ true) }
+    ensures others { OnOk result ((s q : Moment) → stamp_eq s stamp ≡ false
+        → listed (λ v. v.items) (get stamp_cmp lacking.old) s q ≡ true
+        → listed (λ v. v.items) (get stamp_cmp lacking.new) s q ≡ true) }
+    ensures woken { OnOk result ((q : Moment) → listed (λ v. v.items) (get stamp_cmp lacking.old) stamp q ≡ true
+        → contains stamp_cmp woken.new q ≡ true) }
+    ensures stay { OnOk result ((q : Moment) → contains stamp_cmp woken.old q ≡ true
+        → contains stamp_cmp woken.new q ≡ true) }
 {
     let keys = keys_under(alloc, lacking, stamp)?;
     note_all(woken, keys)
@@ -173,8 +235,10 @@ fn wake<A: Allocator + Clone>(
 
 // Takes out the least of the keys that are to be looked at.
 fn next_woken<A: Allocator>(woken: &mut BTreeSet<Stamp, A>) -> Option<Stamp>
-    ensures least { IfSome result (λ key. (q : Moment) → IsTrue (contains stamp_cmp woken.old q) → is_gt (stamp_cmp key q) ≡ false) }
-    ensures removed { IfSome result (λ key. (q : Moment) → contains stamp_cmp woken.new q ≡ cond (is_eq (stamp_cmp key q)) false (contains stamp_cmp woken.old q)) }
+    ensures least { IfSome result (λ key. (q : Moment) → IsTrue (contains stamp_cmp woken.old q)
+        → is_gt (stamp_cmp key q) ≡ false) }
+    ensures removed { IfSome result (λ key. (q : Moment)
+        → contains stamp_cmp woken.new q ≡ cond (is_eq (stamp_cmp key q)) false (contains stamp_cmp woken.old q)) }
     ensures fewer { IfSome result (λ _. length woken.new.keys < length woken.old.keys) }
     ensures unchanged { IfNone result (woken.new.keys ≡ woken.old.keys) }
     ensures empty { IfNone result (length woken.old.keys ≡ 0) }
@@ -188,14 +252,21 @@ fn next_ready<T: Waits + Drop, A: Allocator + Clone>(
     released: &[T],
     queue: &mut Queue<T, A>,
 ) -> Result<Option<T>, HoldBackFault>
-    requires { Works T.key_of T.needs_of T.fits_role released.now (get stamp_cmp queue.old.places) queue.old.items.entries (listed (λ v. v.items) (get stamp_cmp queue.old.lacking)) (contains stamp_cmp queue.old.woken) }
-    ensures works { OnOk result (Works T.key_of T.needs_of T.fits_role released.now (get stamp_cmp queue.new.places) queue.new.items.entries (listed (λ v. v.items) (get stamp_cmp queue.new.lacking)) (contains stamp_cmp queue.new.woken)) }
-    ensures same { IfOk result (λ next. IfNone next (items_of queue.new.items.entries ≡ items_of queue.old.items.entries)) }
-    ensures none { IfOk result (λ next. IfNone next (NoneIsMet T.key_of T.needs_of T.fits_role released.now (items_of queue.new.items.entries))) }
-    ensures takes { IfOk result (λ next. IfSome next (λ t. Takes T.key_of T.needs_of T.fits_role released.now t (items_of queue.old.items.entries) (items_of queue.new.items.entries))) }
-    ensures fresh { IfOk result (λ next. IfSome next (λ t. list_any (λ u. stamp_eq (T.key_of u) (T.key_of t)) released.now ≡ false)) }
-    ensures others { IfOk result (λ next. IfSome next (λ t. AllByRecursion (λ e. stamp_eq e.0 (T.key_of t) ≡ false) queue.new.items.entries)) }
-    ensures shorter { IfOk result (λ next. IfSome next (λ t. length queue.new.items.entries < length queue.old.items.entries)) }
+    requires { IsQueueOf T.key_of T.needs_of T.fits_role released.now queue.old }
+    ensures works { OnOk result (IsQueueOf T.key_of T.needs_of T.fits_role released.now queue.new) }
+    ensures same { IfOk result (λ next. IfNone next
+        (items_of queue.new.items.entries ≡ items_of queue.old.items.entries)) }
+    ensures none { IfOk result (λ next. IfNone next
+        (NoneIsMet T.key_of T.needs_of T.fits_role released.now (items_of queue.new.items.entries))) }
+    ensures takes { IfOk result (λ next. IfSome next
+        (λ t. Takes T.key_of T.needs_of T.fits_role released.now t (items_of queue.old.items.entries)
+        (items_of queue.new.items.entries))) }
+    ensures fresh { IfOk result (λ next. IfSome next
+        (λ t. list_any (λ u. stamp_eq (T.key_of u) (T.key_of t)) released.now ≡ false)) }
+    ensures others { IfOk result (λ next. IfSome next
+        (λ t. AllByRecursion (λ e. stamp_eq e.0 (T.key_of t) ≡ false) queue.new.items.entries)) }
+    ensures shorter { IfOk result (λ next. IfSome next
+        (λ t. length queue.new.items.entries < length queue.old.items.entries)) }
 {
     while let Some(key) = next_woken(&mut queue.woken) {
         let Some(waiter) = queue.items.remove(&key) else {
@@ -221,15 +292,15 @@ pub(crate) fn release<T: Waits + Drop, A: Allocator + Clone>(
     queue: &mut Queue<T, A>,
     item: T,
 ) -> Result<(), HoldBackFault>
-    requires works { Works T.key_of T.needs_of T.fits_role released.old.items (get stamp_cmp queue.old.places) queue.old.items.entries (listed (λ v. v.items) (get stamp_cmp queue.old.lacking)) (contains stamp_cmp queue.old.woken) }
+    requires works { IsQueueOf T.key_of T.needs_of T.fits_role released.old.items queue.old }
     requires fresh { list_any (λ u. stamp_eq (T.key_of u) (T.key_of item)) released.old.items ≡ false }
     requires others { AllByRecursion (λ e. stamp_eq e.0 (T.key_of item) ≡ false) queue.old.items.entries }
-    ensures works { OnOk result (Works T.key_of T.needs_of T.fits_role released.new.items (get stamp_cmp queue.new.places) queue.new.items.entries (listed (λ v. v.items) (get stamp_cmp queue.new.lacking)) (contains stamp_cmp queue.new.woken)) }
+    ensures works { OnOk result (IsQueueOf T.key_of T.needs_of T.fits_role released.new.items queue.new) }
     ensures released { OnOk result (released.new.items ≡ released.old.items ++ item ∷ []) }
     ensures same { OnOk result (queue.new.items.entries ≡ queue.old.items.entries) }
 {
     let key = item.key();
-    queue.places.insert(key, released.len())?;
+    queue.places.point(key, released.len())?;
     wake(alloc, &mut queue.lacking, &mut queue.woken, key)?;
     released.push(item)?;
     Ok(())
@@ -241,10 +312,12 @@ pub(crate) fn settle<T: Waits + Drop, A: Allocator + Clone>(
     released: &mut Vec<T, A>,
     queue: &mut Queue<T, A>,
 ) -> Result<(), HoldBackFault>
-    requires { Works T.key_of T.needs_of T.fits_role released.old.items (get stamp_cmp queue.old.places) queue.old.items.entries (listed (λ v. v.items) (get stamp_cmp queue.old.lacking)) (contains stamp_cmp queue.old.woken) }
-    ensures works { OnOk result (Works T.key_of T.needs_of T.fits_role released.new.items (get stamp_cmp queue.new.places) queue.new.items.entries (listed (λ v. v.items) (get stamp_cmp queue.new.lacking)) (contains stamp_cmp queue.new.woken)) }
-    ensures released { OnOk result (released.new.items ≡ passed T.key_of T.needs_of T.fits_role released.old.items (items_of queue.old.items.entries)) }
-    ensures left { OnOk result (items_of queue.new.items.entries ≡ left T.key_of T.needs_of T.fits_role released.old.items (items_of queue.old.items.entries)) }
+    requires { IsQueueOf T.key_of T.needs_of T.fits_role released.old.items queue.old }
+    ensures works { OnOk result (IsQueueOf T.key_of T.needs_of T.fits_role released.new.items queue.new) }
+    ensures released { OnOk result (released.new.items
+        ≡ passed T.key_of T.needs_of T.fits_role released.old.items (items_of queue.old.items.entries)) }
+    ensures left { OnOk result (items_of queue.new.items.entries
+        ≡ left T.key_of T.needs_of T.fits_role released.old.items (items_of queue.old.items.entries)) }
 {
     while let Some(item) = next_ready(alloc, released, queue)? {
         release(alloc, released, queue, item)?;

@@ -22,7 +22,7 @@ fn append_log<A: Allocator + Clone, B: Allocator>(
     ensures text { OnOk result (string_bytes text.new ≡ string_bytes text.old ++ log_text (operations log.now)) }
     ensures err { IfErr result (λ fault. fault ≡ SessionFault.Memory) }
 {
-    // brings that the dots of a log's operations differ
+    // for the proof: that the dots of a log's operations differ
     let _ = log.runs();
     let ready = ready_stamps(alloc.clone()?, log)?;
     let sorted = sorted_ops(alloc.clone()?, log)?;

@@ -134,7 +134,8 @@ fn stands_there(stood: &Option<PlacedClip>, found: &PlacedClip) -> bool
 fn set_on<A: Allocator>(session: &mut Session<A>, found: PlacedClip)
     requires once { DifferBy (λ (t : Track). t.track) session.old.tracks }
     requires there { IsThere found session.old.tracks }
-    ensures { session.new ≡ record session.old { tracks = map (clip_to found) (map (clip_off found) session.old.tracks) } }
+    ensures { session.new ≡ record session.old
+        { tracks = map (clip_to found) (map (clip_off found) session.old.tracks) } }
 {
     match session.index_of_track(found.track) {
         Some(index) => session.set_clip(index, found.clip),
@@ -151,9 +152,11 @@ fn put_in<A: Allocator>(
     requires once { DifferBy (λ (t : Track). t.track) session.old.tracks }
     requires there { IfSome stood (λ was. IsThere was session.old.tracks) }
     requires new { IsNew found (tracks_without stood session.old.tracks) }
-    ensures ok { OnOk result (session.new ≡ record session.old { tracks = map (clip_to found) (tracks_without stood session.old.tracks) }) }
+    ensures ok { OnOk result (session.new ≡ record session.old
+        { tracks = map (clip_to found) (tracks_without stood session.old.tracks) }) }
     ensures err { IfErr result (λ fault. fault ≡ SessionFault.Memory) }
-    ensures left { OnErr result (session.new ≡ record session.old { tracks = tracks_without stood session.old.tracks }) }
+    ensures left { OnErr result (session.new ≡ record session.old
+        { tracks = tracks_without stood session.old.tracks }) }
 {
     if stands_there(&stood, &found) {
         set_on(session, found);
@@ -179,7 +182,8 @@ pub fn mend_clips<A: Allocator>(
     requires no_track { is_need_met items.now (need_of TrackRole item) ≡ false }
     ensures ok { OnOk result (session.new ≡ record session.old { tracks = tracks_in items.now }) }
     ensures err { IfErr result (λ fault. fault ≡ SessionFault.Memory) }
-    ensures left { OnErr result (session.new ≡ record session.old { tracks = tracks_without stood session.old.tracks }) }
+    ensures left { OnErr result (session.new ≡ record session.old
+        { tracks = tracks_without stood session.old.tracks }) }
 {
     match placed_clip(items, item) {
         Some(found) => put_in(session, stood, found),

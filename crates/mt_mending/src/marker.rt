@@ -25,7 +25,8 @@ use std::alloc::Allocator;
 
 // The title of a marker, where one of this stamp is present.
 fn marker_title<A: Allocator>(items: &Items<A>, item: Stamp) -> Option<&Register<Title<A>>>
-    ensures { option_map (λ r. r.now) result ≡ (if is_need_met items.now (need_of MarkerRole item) && is_present items.now item then last_write title_written item items.now else None) }
+    ensures { option_map (λ r. r.now) result ≡ (if is_need_met items.now (need_of MarkerRole item)
+        && is_present items.now item then last_write title_written item items.now else None) }
 {
     let need = Need {
         stamp: item,
@@ -86,10 +87,13 @@ fn put_in<A: Allocator>(
     view: MarkerView<A>,
 ) -> Result<(), SessionFault>
     requires there { IfSome stood (λ at. list_any (is_marker_at at view.marker) session.old.markers ≡ true) }
-    requires new { list_any (λ x. stamp_eq view.marker x.marker) (without_stood stood view.marker session.old.markers) ≡ false }
-    ensures ok { OnOk result (session.new ≡ record session.old { markers = insert_by marker_cmp view (without_stood stood view.marker session.old.markers) }) }
+    requires new { list_any (λ x. stamp_eq view.marker x.marker) (without_stood stood view.marker session.old.markers)
+        ≡ false }
+    ensures ok { OnOk result (session.new ≡ record session.old
+        { markers = insert_by marker_cmp view (without_stood stood view.marker session.old.markers) }) }
     ensures err { IfErr result (λ fault. fault ≡ SessionFault.Memory) }
-    ensures left { OnErr result (session.new ≡ record session.old { markers = without_stood stood view.marker session.old.markers }) }
+    ensures left { OnErr result (session.new ≡ record session.old
+        { markers = without_stood stood view.marker session.old.markers }) }
 {
     if stood == Some(view.at) {
         session.set_marker(view);
@@ -113,7 +117,8 @@ pub fn mend_markers<A: Allocator + Clone>(
     requires before { MarkersStood items.now item stood session.old.markers }
     ensures ok { OnOk result (session.new ≡ record session.old { markers = markers_in items.now }) }
     ensures err { IfErr result (λ fault. fault ≡ SessionFault.Memory) }
-    ensures left { OnErr result ((session.new ≡ session.old) ⊎ (session.new ≡ record session.old { markers = without_stood stood item session.old.markers })) }
+    ensures left { OnErr result ((session.new ≡ session.old)
+        ⊎ (session.new ≡ record session.old { markers = without_stood stood item session.old.markers })) }
 {
     match marker_at(items, item)? {
         Some(view) => put_in(session, stood, view),

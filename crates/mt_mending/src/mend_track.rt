@@ -26,7 +26,8 @@ use std::alloc::Allocator;
 fn take_out<A: Allocator>(session: &mut Session<A>, item: Stamp) -> Option<TrackView<A>>
     requires once { DifferBy (λ (t : Track). t.track) session.old.tracks }
     ensures taken { result ≡ find (is_track_of item) session.old.tracks }
-    ensures rest { session.new ≡ record session.old { tracks = without (λ (t : Track). t.track) item session.old.tracks } }
+    ensures rest { session.new ≡ record session.old
+        { tracks = without (λ (t : Track). t.track) item session.old.tracks } }
 {
     match session.index_of_track(item) {
         Some(index) => Some(session.take_track(index)),
@@ -127,9 +128,11 @@ fn put_shown<A: Allocator>(
     shown: Option<TrackView<A>>,
 ) -> Result<(), SessionFault>
     requires rise { RisesStrictly (index_order places.now items.now) session.old.tracks }
-    requires apart { IfSome shown (λ t. AllByRecursion (λ x. index_order places.now items.now x t ≢ Equal) session.old.tracks) }
+    requires apart { IfSome shown (λ t. AllByRecursion
+        (λ x. index_order places.now items.now x t ≢ Equal) session.old.tracks) }
     requires new { IfSome shown (λ t. list_any (is_track_of t.track) session.old.tracks ≡ false) }
-    ensures ok { OnOk result (session.new ≡ record session.old { tracks = put (index_order places.now items.now) shown session.old.tracks }) }
+    ensures ok { OnOk result (session.new ≡ record session.old
+        { tracks = put (index_order places.now items.now) shown session.old.tracks }) }
     ensures err { IfErr result (λ fault. fault ≡ SessionFault.Memory) }
     ensures kept { OnErr result (session.new ≡ session.old) }
 {
@@ -161,7 +164,8 @@ pub fn mend_tracks<A: Allocator + Clone>(
     requires places { ArePlacesOf list.now items.now }
     ensures ok { OnOk result (session.new ≡ record session.old { tracks = tracks_in items.now }) }
     ensures err { IfErr result (λ fault. fault ≡ SessionFault.Memory) }
-    ensures left { OnErr result (session.new ≡ record session.old { tracks = without (λ (t : Track). t.track) item session.old.tracks }) }
+    ensures left { OnErr result (session.new ≡ record session.old
+        { tracks = without (λ (t : Track). t.track) item session.old.tracks }) }
 {
     let taken = take_out(session, item);
     let shown = track_now(alloc, items, item, known, taken)?;

@@ -33,7 +33,8 @@ fn put_place<A: Allocator>(list: &mut TrackList<A>, placed: Placed) -> Result<()
     requires new { has_place list.old placed.place ≡ false }
     requires reference { IsReferenceThere list.old placed.after }
     requires newer { IsNewer placed.place placed.after }
-    ensures ok { OnOk result ((f : TreePlace → ℕ) → sum_by f (tree_of list.new) ≡ f (tree_place placed) + sum_by f (tree_of list.old)) }
+    ensures ok { OnOk result ((f : TreePlace → ℕ)
+        → sum_by f (tree_of list.new) ≡ f (tree_place placed) + sum_by f (tree_of list.old)) }
     ensures put_in { OnOk result (list.new ≡ inserted list.old placed) }
     ensures err { IfErr result (λ fault. fault ≡ SessionFault.Memory) }
     ensures refused { OnErr result (list.new ≡ list.old) }

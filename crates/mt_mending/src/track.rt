@@ -37,7 +37,8 @@ fn clips_on<A: Allocator + Clone>(
     items: &Items<A>,
     track: Stamp,
 ) -> Result<Vec<ClipView, A>, SessionFault>
-    ensures ok { IfOk result (λ clips. clips.items ≡ filter_map (clip_on items.now track) (items_of ClipRole items.now)) }
+    ensures ok { IfOk result (λ clips. clips.items
+        ≡ filter_map (clip_on items.now track) (items_of ClipRole items.now)) }
     ensures err { IfErr result (λ fault. fault ≡ SessionFault.Memory) }
 {
     let mut clips = Vec::new(alloc);

@@ -19,7 +19,7 @@ pub mod Union
 pub mod Sets
 pub mod Merging
 pub mod EqualLogs
-mod Agreements
+pub mod Agreements
 pub mod Narrowing
 pub mod Runs
 pub mod Ends

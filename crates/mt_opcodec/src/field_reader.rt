@@ -85,7 +85,8 @@ type Parts = (u64, Replica, u64);
 
 #[tactic(auto, unfolding(crate::specs::OpReading::moment_at))]
 fn moment_of(bytes: &[u8]) -> Result<(Parts, &[u8]), ReadFault>
-    ensures { Gives (λ x. (record { clock = x.0.0; replica = x.0.1; seq = x.0.2 }, x.1.now)) result (moment_at bytes.now) }
+    ensures { Gives (λ x. (record { clock = x.0.0; replica = x.0.1; seq = x.0.2 }, x.1.now)) result
+        (moment_at bytes.now) }
 {
     let (clock, rest) = u64_at(bytes)?;
     let (replica, rest) = u128_at(rest)?;
@@ -95,7 +96,8 @@ fn moment_of(bytes: &[u8]) -> Result<(Parts, &[u8]), ReadFault>
 
 // The stamp of these parts, where they are in range.
 fn in_range(parts: Parts) -> Option<Stamp>
-    ensures { result ≡ (if is_stamp (record { clock = parts.0; replica = parts.1; seq = parts.2 }) then Some (record { clock = parts.0; replica = parts.1; seq = parts.2 }) else None) }
+    ensures { result ≡ (if is_stamp (record { clock = parts.0; replica = parts.1; seq = parts.2 })
+        then Some (record { clock = parts.0; replica = parts.1; seq = parts.2 }) else None) }
 {
     Stamp::new(parts.0, parts.1, parts.2).ok()
 }

@@ -41,7 +41,8 @@ fn move_run<A: Allocator>(
     runs: &mut Vec<Run<A>, A>,
 ) -> Result<(), AllocError>
     ensures rest { from.new.items ≡ drop 1 from.old.items }
-    ensures moved { OnOk result ((r : RunOf) → slice_get from.old.items 0 ≡ Some r → runs.new.items ≡ runs.old.items ++ (r ∷ [])) }
+    ensures moved { OnOk result ((r : RunOf) → slice_get from.old.items 0 ≡ Some r
+        → runs.new.items ≡ runs.old.items ++ (r ∷ [])) }
 {
     if let Some(run) = from.pop_front() {
         runs.push(run)?;
@@ -55,11 +56,15 @@ fn join_first<A: Allocator + Clone>(
     right: &mut VecDeque<Run<A>, A>,
     runs: &mut Vec<Run<A>, A>,
 ) -> Result<(), LogFault>
-    requires { (r s : RunOf) → slice_get left.old.items 0 ≡ Some r → slice_get right.old.items 0 ≡ Some s → r.replica ≡ s.replica }
+    requires { (r s : RunOf) → slice_get left.old.items 0 ≡ Some r → slice_get right.old.items 0 ≡ Some s
+        → r.replica ≡ s.replica }
     ensures rest_left { OnOk result (left.new.items ≡ drop 1 left.old.items) }
     ensures rest_right { OnOk result (right.new.items ≡ drop 1 right.old.items) }
-    ensures joined { OnOk result ((r s : RunOf) → slice_get left.old.items 0 ≡ Some r → slice_get right.old.items 0 ≡ Some s → (t : RunOf) × ((runs.new.items ≡ runs.old.items ++ (t ∷ [])) × IsJoined r s t)) }
-    ensures err { IfErr result (λ fault. (r s : RunOf) → slice_get left.old.items 0 ≡ Some r → slice_get right.old.items 0 ≡ Some s → MergeFails (log_of r.ops) (log_of s.ops) fault) }
+    ensures joined { OnOk result ((r s : RunOf) → slice_get left.old.items 0 ≡ Some r
+        → slice_get right.old.items 0 ≡ Some s
+        → (t : RunOf) × ((runs.new.items ≡ runs.old.items ++ (t ∷ [])) × IsJoined r s t)) }
+    ensures err { IfErr result (λ fault. (r s : RunOf) → slice_get left.old.items 0 ≡ Some r
+        → slice_get right.old.items 0 ≡ Some s → MergeFails (log_of r.ops) (log_of s.ops) fault) }
 {
     let first = left.pop_front();
     let second = right.pop_front();
@@ -86,7 +91,8 @@ pub(crate) fn joined_runs<A: Allocator + Clone>(
     requires left { AreRuns left.items }
     requires right { AreRuns right.items }
     ensures runs { IfOk result (λ runs. AreRuns runs.items) }
-    ensures ok { IfOk result (λ runs. Agree (log_of (run_ops left.items)) (log_of (run_ops right.items)) × (log_of (run_ops runs.items) ≡ union (log_of (run_ops left.items)) (log_of (run_ops right.items)))) }
+    ensures ok { IfOk result (λ runs. Agree (log_of (run_ops left.items)) (log_of (run_ops right.items))
+        × (log_of (run_ops runs.items) ≡ union (log_of (run_ops left.items)) (log_of (run_ops right.items)))) }
     ensures err { IfErr result (MergeFails (log_of (run_ops left.items)) (log_of (run_ops right.items))) }
 {
     let mut runs = Vec::new(left.allocator().clone()?);

@@ -46,7 +46,8 @@ fn move_first<A: Allocator>(
     ops: &mut Vec<Op<A>, A>,
 ) -> Result<(), AllocError>
     ensures rest { from.new.items ≡ drop 1 from.old.items }
-    ensures moved { OnOk result ((o : Operation) → slice_get from.old.items 0 ≡ Some o → ops.new.items ≡ ops.old.items ++ (o ∷ [])) }
+    ensures moved { OnOk result ((o : Operation) → slice_get from.old.items 0 ≡ Some o
+        → ops.new.items ≡ ops.old.items ++ (o ∷ [])) }
 {
     if let Some(op) = from.pop_front() {
         ops.push(op)?;
@@ -72,7 +73,8 @@ fn walked_ops<A: Allocator + Clone>(
     requires left { AreLogged left.items }
     requires right { AreLogged right.items }
     ensures logged { IfOk result (λ ops. AreLogged ops.items) }
-    ensures ok { IfOk result (λ ops. Agree (log_of left.items) (log_of right.items) × (log_of ops.items ≡ union (log_of left.items) (log_of right.items))) }
+    ensures ok { IfOk result (λ ops. Agree (log_of left.items) (log_of right.items)
+        × (log_of ops.items ≡ union (log_of left.items) (log_of right.items))) }
     ensures err { IfErr result (MergeFails (log_of left.items) (log_of right.items)) }
 {
     let room = left.len().saturating_add(right.len());
@@ -126,7 +128,8 @@ pub(crate) fn joined_ops<A: Allocator + Clone>(
     requires left { AreLogged left.items }
     requires right { AreLogged right.items }
     ensures logged { IfOk result (λ ops. AreLogged ops.items) }
-    ensures ok { IfOk result (λ ops. Agree (log_of left.items) (log_of right.items) × (log_of ops.items ≡ union (log_of left.items) (log_of right.items))) }
+    ensures ok { IfOk result (λ ops. Agree (log_of left.items) (log_of right.items)
+        × (log_of ops.items ≡ union (log_of left.items) (log_of right.items))) }
     ensures err { IfErr result (MergeFails (log_of left.items) (log_of right.items)) }
 {
     if ends_before(&left, &right) {

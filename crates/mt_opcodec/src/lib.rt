@@ -26,6 +26,11 @@
 //! }
 //! ```
 //!
+//! Two logs *agree* where no dot has another operation in each, and else they *clash* there (`Log::clash`, `Log::has_another`). `Log::join` makes
+//! the *union* of two logs that agree, which it takes by value, and `Log::merge` of two that it copies; `Log::join_all` joins any number from
+//! left to right. For many logs it walks all operations by rising dot, in *turns*: which log has the next one. Where they do not agree, it notes those
+//! that it has *seen*, log by log, to tell the first that clashes with those before it.
+//!
 //! Numbers have their greatest byte first. A stamp is its clock in 8 bytes, its replica in 16 and its
 //! sequence number in 8. A title is its length in one byte, and that many bytes. A flag is one byte, 0 or 1. A place
 //! is the flag 0 for the head of the tracks, or the flag 1 and the stamp that it comes after. A digest is its 32 bytes.

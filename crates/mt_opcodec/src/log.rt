@@ -185,7 +185,8 @@ impl<A: Allocator + Clone> Log<A> {
         // What is read is the log text of its operations.
         ensures found { IfOk result (λ log. bytes.now ≡ log_text (operations log)) }
         // The log text of operations is read as them, unless memory ran out.
-        ensures only { (ops : List Operation) → AreLogged ops → length ops < 2 ^ 64 → bytes.now ≡ log_text ops → LogGives operations result (Ok ops) }
+        ensures only { (ops : List Operation) → AreLogged ops → length ops < 2 ^ 64 → bytes.now ≡ log_text ops
+            → LogGives operations result (Ok ops) }
         // Which fault it is.
         ensures exact { LogGives operations result (log_at bytes.now) }
     {

@@ -21,7 +21,8 @@ fn push_runs<A: Allocator>(
     lists: &mut Vec<VecDeque<Op<A>, A>, A>,
     runs: Vec<Run<A>, A>,
 ) -> Result<(), AllocError>
-    ensures { OnOk result (list_map (λ l. l.items) lists.new.items ≡ list_map (λ l. l.items) lists.old.items ++ list_map (λ (r : RunOf). r.ops) runs.items) }
+    ensures { OnOk result (list_map (λ l. l.items) lists.new.items
+        ≡ list_map (λ l. l.items) lists.old.items ++ list_map (λ (r : RunOf). r.ops) runs.items) }
 {
     let mut runs = VecDeque::from(runs);
     loop {
@@ -91,7 +92,8 @@ fn add_first<A: Allocator + Clone>(
     i: usize,
 ) -> Result<(), LogFault>
     requires one_each { HaveOneEach log.old (list_map (λ l. l.items) lists.old.items) }
-    ensures ok { OnOk result (HaveTheSame log.old (list_map (λ l. l.items) lists.old.items) log.new (list_map (λ l. l.items) lists.new.items)) }
+    ensures ok { OnOk result (HaveTheSame log.old (list_map (λ l. l.items) lists.old.items) log.new
+        (list_map (λ l. l.items) lists.new.items)) }
     ensures err { IfErr result (λ fault. fault ≡ LogFault.Memory) }
 {
     match take_first(lists, i) {

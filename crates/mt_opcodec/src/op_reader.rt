@@ -314,9 +314,11 @@ pub(crate) fn op_of<A: Allocator>(
 /// them that the bytes give.
 pub fn read_op<A: Allocator>(alloc: A, bytes: &[u8]) -> Result<(Op<A>, usize), ReadFault>
     // What is read stands at the front.
-    ensures found { IfOk result (λ x. IsOperation x.0 × (x.1 ≡ length (op_text x.0)) × (bytes.now ≡ op_text x.0 ++ drop x.1 bytes.now)) }
+    ensures found { IfOk result (λ x. IsOperation x.0 × (x.1 ≡ length (op_text x.0))
+        × (bytes.now ≡ op_text x.0 ++ drop x.1 bytes.now)) }
     // What stands at the front is read, unless memory ran out.
-    ensures only { (o : Operation) (rest : List ℕ) → IsOperation o → bytes.now ≡ op_text o ++ rest → Gives (λ x. x) result (Ok (o, length (op_text o))) }
+    ensures only { (o : Operation) (rest : List ℕ) → IsOperation o → bytes.now ≡ op_text o ++ rest
+        → Gives (λ x. x) result (Ok (o, length (op_text o))) }
     // Which fault it is.
     ensures exact { Gives (λ x. (x.0, drop x.1 bytes.now)) result (op_at newest_version bytes.now) }
 {

@@ -90,7 +90,8 @@ pub(crate) fn add_to_runs<A: Allocator + Clone>(
 ) -> Result<bool, LogFault>
     requires runs { AreRuns runs.old.items }
     ensures answer { Adds op (log_of (run_ops runs.old.items)) result }
-    ensures added { result ≡ Ok true → log_of (run_ops runs.new.items) ≡ map.insert (log_of (run_ops runs.old.items)) (op_dot op) op }
+    ensures added { result ≡ Ok true → log_of (run_ops runs.new.items)
+        ≡ map.insert (log_of (run_ops runs.old.items)) (op_dot op) op }
     ensures kept { ¬ (result ≡ Ok true) → runs.new.items ≡ runs.old.items }
     ensures runs_are { AreRuns runs.new.items }
 {

@@ -22,7 +22,8 @@ use std::collections::BTreeMap;
 
 // Whether another operation was seen under this one's dot.
 fn has_another<A: Allocator, B: Allocator>(seen: &BTreeMap<Dot, &Op<A>, B>, op: &Op<A>) -> bool
-    ensures { (log : LogMap) → AreSeen (λ dot. option_copied (get dot_cmp seen.now dot)) log → HasAnother log op.now result }
+    ensures { (log : LogMap) → AreSeen (λ dot. option_copied (get dot_cmp seen.now dot)) log
+        → HasAnother log op.now result }
 {
     is_another(seen.get(&op.dot()).copied(), op)
 }
@@ -32,7 +33,8 @@ fn first_of_ops<A: Allocator, B: Allocator>(
     seen: &BTreeMap<Dot, &Op<A>, B>,
     ops: &[Op<A>],
 ) -> Option<Dot>
-    ensures { (log : LogMap) → AreSeen (λ dot. option_copied (get dot_cmp seen.now dot)) log → FirstOther log ops.now result }
+    ensures { (log : LogMap) → AreSeen (λ dot. option_copied (get dot_cmp seen.now dot)) log
+        → FirstOther log ops.now result }
 {
     for op in ops {
         if has_another(seen, op) {
@@ -47,7 +49,8 @@ fn first_other<A: Allocator, B: Allocator>(
     seen: &BTreeMap<Dot, &Op<A>, B>,
     runs: &[Run<A>],
 ) -> Option<Dot>
-    ensures { (log : LogMap) → AreSeen (λ dot. option_copied (get dot_cmp seen.now dot)) log → FirstOther log (run_ops runs.now) result }
+    ensures { (log : LogMap) → AreSeen (λ dot. option_copied (get dot_cmp seen.now dot)) log
+        → FirstOther log (run_ops runs.now) result }
 {
     for run in runs {
         if let Some(dot) = first_of_ops(seen, run.ops()) {
@@ -62,7 +65,8 @@ fn note_ops<'a, A: Allocator, B: Allocator + Clone>(
     seen: &mut BTreeMap<Dot, &'a Op<A>, B>,
     ops: &'a [Op<A>],
 ) -> Result<(), AllocError>
-    ensures { OnOk result ((dot : DotOf) → option_copied (get dot_cmp seen.new dot) ≡ seen_after ops.now (λ q. option_copied (get dot_cmp seen.old q)) dot) }
+    ensures { OnOk result ((dot : DotOf) → option_copied (get dot_cmp seen.new dot)
+        ≡ seen_after ops.now (λ q. option_copied (get dot_cmp seen.old q)) dot) }
 {
     for op in ops {
         seen.insert(op.dot(), op)?;
@@ -75,7 +79,8 @@ fn note_runs<'a, A: Allocator, B: Allocator + Clone>(
     seen: &mut BTreeMap<Dot, &'a Op<A>, B>,
     runs: &'a [Run<A>],
 ) -> Result<(), AllocError>
-    ensures { OnOk result ((dot : DotOf) → option_copied (get dot_cmp seen.new dot) ≡ seen_after (run_ops runs.now) (λ q. option_copied (get dot_cmp seen.old q)) dot) }
+    ensures { OnOk result ((dot : DotOf) → option_copied (get dot_cmp seen.new dot)
+        ≡ seen_after (run_ops runs.now) (λ q. option_copied (get dot_cmp seen.old q)) dot) }
 {
     for run in runs {
         note_ops(seen, run.ops())?;

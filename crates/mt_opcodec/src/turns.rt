@@ -15,7 +15,8 @@ fn push_runs<'a, A: Allocator, B: Allocator>(
     lists: &mut Vec<&'a [Op<A>], B>,
     runs: &'a [Run<A>],
 ) -> Result<(), AllocError>
-    ensures { OnOk result (list_map (λ l. l.now) lists.new.items ≡ list_map (λ l. l.now) lists.old.items ++ list_map (λ (r : RunOf). r.ops) runs.now) }
+    ensures { OnOk result (list_map (λ l. l.now) lists.new.items
+        ≡ list_map (λ l. l.now) lists.old.items ++ list_map (λ (r : RunOf). r.ops) runs.now) }
 {
     for run in runs {
         lists.push(run.ops())?;

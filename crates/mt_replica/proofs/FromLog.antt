@@ -14,9 +14,9 @@ use Rattle.mt_items.specs.Noting.{is_noted, is_need_met, are_needs_met}
 use Rattle.mt_items.proofs.Noting.{first_false, rest_false}
 use Rattle.mt_holdback.specs.Waiting.{NamesOlder}
 use Rattle.mt_holdback.specs.Laws.{is_met_by}
-use Rattle.mt_holdback.specs.HoldBack.{Kept, IsHoldBack}
+use Rattle.mt_holdback.specs.HoldBack.{Contents, IsHoldBack}
 use Rattle.mt_holdback.specs.Offering.{empty}
-use Rattle.mt_holdback.specs.State.{State}
+use Rattle.mt_holdback.specs.Value.{HoldBackValue}
 use Rattle.mt_holdback.specs.Ops.{op_key, op_needs}
 use Rattle.mt_holdback.proofs.Offers.{last_released, all_waiting}
 use Rattle.mt_replica.specs.Holding.{is_offered, with_offered, AreOffered}
@@ -33,7 +33,7 @@ unknown_noted (x ∷ released) waiting stamp unknown =
     let first = turned stamp x.stamp ∙ first_false (stamp_eq x.stamp stamp) (list_any (λ (t : Operation). stamp_eq t.stamp stamp) (released ++ waiting)) unknown in
     ap (λ (b : Bool). b || is_noted released stamp) first ∙ unknown_noted released waiting stamp (rest_false (stamp_eq x.stamp stamp) (list_any (λ (t : Operation). stamp_eq t.stamp stamp) (released ++ waiting)) unknown)
 
-module _ (items : List Operation) (kept : Kept Operation) (same : SameItems items kept.released) (o : Operation) where
+module _ (items : List Operation) (kept : Contents Operation) (same : SameItems items kept.released) (o : Operation) where
   -- nor is what was noted
   pub not_noted : is_offered kept o.stamp ≡ false → is_noted items o.stamp ≡ false
   not_noted unknown = same_any items kept.released same (λ (x : Operation). stamp_eq o.stamp x.stamp) ∙ unknown_noted kept.released kept.waiting o.stamp unknown
@@ -69,16 +69,16 @@ abbrev AreBelow : List Operation → List Operation → Type 0
 AreBelow waiting rest = AllByRecursion (λ u. AllByRecursion (λ v. op_cmp u v ≡ Less) rest) waiting
 
 -- Those so far were taken, of which those that wait are smaller than each that is left.
-pub record IsTaking (waiting : State Operation) (items rest all : List Operation) : Type 0 where
+pub record IsTaking (waiting : HoldBackValue Operation) (items rest all : List Operation) : Type 0 where
   pub offered : AreOffered waiting rest all
-  pub same : SameItems items waiting.kept.released
-  pub below : AreBelow waiting.kept.waiting rest
+  pub same : SameItems items waiting.contents.released
+  pub below : AreBelow waiting.contents.waiting rest
   pub rises : RisesStrictly op_cmp rest
 
-pub none_taken : (waiting : State Operation) (items all : List Operation) → waiting ≡ record { kept = empty; failed = false } → items ≡ [] → RisesStrictly op_cmp all → IsTaking waiting items all all
+pub none_taken : (waiting : HoldBackValue Operation) (items all : List Operation) → waiting ≡ record { contents = empty; failed = false } → items ≡ [] → RisesStrictly op_cmp all → IsTaking waiting items all all
 none_taken waiting items all waiting_is items_are rises =
-    subst (λ (w : State Operation). IsTaking w items all all) (sym waiting_is)
-    (subst (λ (l : List Operation). IsTaking (record { kept = empty; failed = false }) l all all) (sym items_are)
+    subst (λ (w : HoldBackValue Operation). IsTaking w items all all) (sym waiting_is)
+    (subst (λ (l : List Operation). IsTaking (record { contents = empty; failed = false }) l all all) (sym items_are)
     (record { offered = record { whole = refl; offered = λ f. omega arith }; same = λ f. refl; below = tt; rises = rises }))
 
 pub above_those : (o : Operation) (rest waiting : List Operation) → AreBelow waiting (o ∷ rest) → AllByRecursion (λ u. op_cmp u o ≡ Less) waiting
@@ -89,11 +89,11 @@ below_rest : (o : Operation) (rest waiting : List Operation) → AreBelow waitin
 below_rest o rest [] below = tt
 below_rest o rest (u ∷ waiting) below = (below.0.1, below_rest o rest waiting below.1)
 
-pub next_taken : (waiting after : State Operation) (o : Operation) (items now rest all : List Operation) → IsTaking waiting items (o ∷ rest) all → after ≡ record { kept = with_offered waiting.kept o; failed = false } → SameItems now after.kept.released → IsTaking after now rest all
+pub next_taken : (waiting after : HoldBackValue Operation) (o : Operation) (items now rest all : List Operation) → IsTaking waiting items (o ∷ rest) all → after ≡ record { contents = with_offered waiting.contents o; failed = false } → SameItems now after.contents.released → IsTaking after now rest all
 next_taken waiting after o items now rest all so_far is same = record {
   offered = next_offered waiting after o rest all so_far.offered is;
   same = same;
-  below = subst (λ (w : State Operation). AreBelow w.kept.waiting rest) (sym is)
-      (all_waiting op_key op_needs fits (λ u. AllByRecursion (λ v. op_cmp u v ≡ Less) rest) waiting.kept o so_far.rises.0 (below_rest o rest waiting.kept.waiting so_far.below));
+  below = subst (λ (w : HoldBackValue Operation). AreBelow w.contents.waiting rest) (sym is)
+      (all_waiting op_key op_needs fits (λ u. AllByRecursion (λ v. op_cmp u v ≡ Less) rest) waiting.contents o so_far.rises.0 (below_rest o rest waiting.contents.waiting so_far.below));
   rises = so_far.rises.1;
 }

@@ -18,7 +18,7 @@ use Rattle.mt_op.proofs.Readiness.{is_ready-met}
 use Rattle.mt_items.specs.Noting.{is_need_met}
 use Rattle.mt_holdback.specs.Waiting as waits
 use Rattle.mt_holdback.specs.Waiting.{NamesOlder}
-use Rattle.mt_holdback.specs.HoldBack.{Kept, IsHoldBack, queued, offered_with}
+use Rattle.mt_holdback.specs.HoldBack.{Contents, IsHoldBack, queued, offered_with}
 use Rattle.mt_holdback.specs.Ops.{op_key, op_needs}
 use Rattle.mt_holdback.proofs.Readiness.{all_older}
 use Rattle.mt_holdback.proofs.Offers.{less_clock, offered_stays}
@@ -62,7 +62,7 @@ split_by r [] [] pass fail = refl
 split_by r [] (y ∷ ys) pass fail = ap (λ (b : Bool). cond b (y ∷ filter r ys) (filter r ys)) fail.0 ∙ split_by r [] ys tt fail.1
 split_by r (x ∷ xs) ys pass fail = ap (λ (b : Bool). cond b (x ∷ filter r (xs ++ ys)) (filter r (xs ++ ys))) pass.0 ∙ ap (λ (zs : List Operation). x ∷ zs) (split_by r xs ys pass.1 fail)
 
-pub released_same : (kept : Kept Operation) (ops : List Operation) → IsHoldBack op_key op_needs fits kept → SameItems (all_offered kept) ops → SameItems kept.released (ready_ops ops)
+pub released_same : (kept : Contents Operation) (ops : List Operation) → IsHoldBack op_key op_needs fits kept → SameItems (all_offered kept) ops → SameItems kept.released (ready_ops ops)
 released_same kept ops is same f =
     ap (sum_by f) (sym (split_by (as_waiting (all_offered kept)) kept.released kept.waiting is.ready is.held))
     ∙ (λ i. sum_by f (filter (one_readiness (all_offered kept) ops same i) (all_offered kept)))
@@ -70,7 +70,7 @@ released_same kept ops is same f =
 
 -- ---- one operation more
 
-with_one : (f : Operation → ℕ) (kept : Kept Operation) (o : Operation) → sum_by f (offered_with op_key op_needs fits kept o) ≡ f o + sum_by f (all_offered kept)
+with_one : (f : Operation → ℕ) (kept : Contents Operation) (o : Operation) → sum_by f (offered_with op_key op_needs fits kept o) ≡ f o + sum_by f (all_offered kept)
 with_one f kept o =
     let both = sum_by-append f kept.released (queued op_key op_needs fits o kept.waiting) in
     let one = sum_by-insert f kept.waiting (prefix_len (λ u. is_lt (stamp_cmp (op_key u) (op_key o))) kept.waiting) o in
@@ -78,11 +78,11 @@ with_one f kept o =
     omega (arith, both, one, all)
 
 -- what was offered stays offered
-pub offered_more : (f : Operation → ℕ) (kept : Kept Operation) (o : Operation) → sum_by f (all_offered (with_offered kept o)) ≡ f o + sum_by f (all_offered kept)
+pub offered_more : (f : Operation → ℕ) (kept : Contents Operation) (o : Operation) → sum_by f (all_offered (with_offered kept o)) ≡ f o + sum_by f (all_offered kept)
 offered_more f kept o =
     sum_by-IsPermutation f (o ∷ all_offered kept) (all_offered (with_offered kept o)) (offered_stays op_key op_needs fits kept o) ∙ sum_by-cons f o (all_offered kept)
 
-module _ (kept : Kept Operation) (o : Operation) (ops all : List Operation) (was : SameItems (all_offered kept) ops) (are : SameItems all (o ∷ ops)) where
+module _ (kept : Contents Operation) (o : Operation) (ops all : List Operation) (was : SameItems (all_offered kept) ops) (are : SameItems all (o ∷ ops)) where
   added : (f : Operation → ℕ) → f o + sum_by f (all_offered kept) ≡ sum_by f all
   added f = ap (λ (n : ℕ). f o + n) (was f) ∙ sym (sum_by-cons f o ops) ∙ sym (are f)
 
@@ -196,7 +196,7 @@ noted_more noted (o ∷ ops) f =
     omega (arith, rest, first, second)
 
 -- what one offer releases
-module _ (kept : Kept Operation) (o : Operation) (ops all noted : List Operation) (was : SameItems (all_offered kept) ops) (are : SameItems all (o ∷ ops)) (own : HaveOwnStamps all) (before : IsHoldBack op_key op_needs fits kept) (after : IsHoldBack op_key op_needs fits (with_offered kept o)) (rise : StampsRise (newly_released kept o)) (same : SameItems noted (ready_ops ops)) where
+module _ (kept : Contents Operation) (o : Operation) (ops all noted : List Operation) (was : SameItems (all_offered kept) ops) (are : SameItems all (o ∷ ops)) (own : HaveOwnStamps all) (before : IsHoldBack op_key op_needs fits kept) (after : IsHoldBack op_key op_needs fits (with_offered kept o)) (rise : StampsRise (newly_released kept o)) (same : SameItems noted (ready_ops ops)) where
   as_released : SameItems noted kept.released
   as_released f = same f ∙ sym (released_same kept ops before was f)
 

@@ -32,7 +32,7 @@ use Rattle.mt_items.specs.Noting.{MayFollow, is_noted, is_need_met}
 use Rattle.mt_sessionview.specs.Session.{ready_ops}
 use Rattle.mt_sessionview.proofs.SameReady.{ready_same}
 use Rattle.mt_sessionview.proofs.TrackSorting.{every_stamp}
-use Rattle.mt_holdback.specs.State.{State}
+use Rattle.mt_holdback.specs.Value.{HoldBackValue}
 use Rattle.mt_replica.specs.Edit.{Edit}
 use Rattle.mt_replica.specs.Holding.{all_offered, with_offered}
 use Rattle.mt_replica.specs.Joins.{joins_of}
@@ -137,12 +137,12 @@ module _ (name : Replica) (log : LogMap) (edit : Edit) (logged : AreLogged (oper
       ready_same clock_of needs meets (operations (with_op log (made_op (operations log) name edit))) (made_op (operations log) name edit ∷ operations log) with_same f
       ∙ ap (sum_by f) (ready_gains (operations log) (made_op (operations log) name edit) older_all (newest (operations log)) (all_met (operations log) name edit none))
 
-  pub kept : (was now : State Operation) (items : List Operation) (clock seq : ℕ) → now ≡ record { kept = with_offered was.kept (made_op (operations log) name edit); failed = false } → IsState (record { name = name; log = log }) was items clock seq
+  pub kept : (was now : HoldBackValue Operation) (items : List Operation) (clock seq : ℕ) → now ≡ record { contents = with_offered was.contents (made_op (operations log) name edit); failed = false } → IsState (record { name = name; log = log }) was items clock seq
       → IsState (record { name = name; log = with_op log (made_op (operations log) name edit) }) now (made_op (operations log) name edit ∷ items) (suc (greatest_clock (operations log))) (suc (greatest_seq name (operations log)))
   kept was now items clock seq offered is = record {
-    whole = ap (λ (w : State Operation). w.failed) offered;
-    offered = λ f. ap (λ (w : State Operation). sum_by f (all_offered w.kept)) offered
-        ∙ offered_same was.kept (made_op (operations log) name edit) (operations log) (operations (with_op log (made_op (operations log) name edit))) is.offered with_same f;
+    whole = ap (λ (w : HoldBackValue Operation). w.failed) offered;
+    offered = λ f. ap (λ (w : HoldBackValue Operation). sum_by f (all_offered w.contents)) offered
+        ∙ offered_same was.contents (made_op (operations log) name edit) (operations log) (operations (with_op log (made_op (operations log) name edit))) is.offered with_same f;
     noted = λ f. sum_by-cons f (made_op (operations log) name edit) items ∙ ap (λ (n : ℕ). f (made_op (operations log) name edit) + n) (is.noted f) ∙ sym (sum_by-cons f (made_op (operations log) name edit) (ready_ops (operations log))) ∙ sym (ready_more f);
     clock_is = sym (clock_same (operations (with_op log (made_op (operations log) name edit))) (made_op (operations log) name edit ∷ operations log) with_same ∙ max-eq_left (omega arith));
     seq_is = sym (seq_same name (operations (with_op log (made_op (operations log) name edit))) (made_op (operations log) name edit ∷ operations log) with_same
@@ -200,13 +200,13 @@ module _ (state : Named) (o : Operation) (made_it : IsMade state o) (logged : Ar
       let parts = unmade (refused (operations state.log) state.name made_it.0) (made_op (operations state.log) state.name made_it.0) o made_it.1 in
       subst (λ (p : Operation). fin.get state.log (op_dot p) ≡ None) parts.1 (absent state.name state.log made_it.0 logged whole parts.0)
 
-  pub made_kept : (was now : State Operation) (items : List Operation) (clock seq : ℕ) → now ≡ record { kept = with_offered was.kept o; failed = false } → IsState state was items clock seq
+  pub made_kept : (was now : HoldBackValue Operation) (items : List Operation) (clock seq : ℕ) → now ≡ record { contents = with_offered was.contents o; failed = false } → IsState state was items clock seq
       → IsState (record { name = state.name; log = with_op state.log o }) now (o ∷ items) o.stamp.clock o.stamp.seq
   made_kept was now items clock seq offered is =
       let parts = unmade (refused (operations state.log) state.name made_it.0) (made_op (operations state.log) state.name made_it.0) o made_it.1 in
       let it : Operation = made_op (operations state.log) state.name made_it.0 in
       subst (λ (p : Operation). IsState (record { name = state.name; log = with_op state.log p }) now (p ∷ items) p.stamp.clock p.stamp.seq) parts.1
-      (kept state.name state.log made_it.0 logged whole parts.0 was now items clock seq (offered ∙ ap (λ (p : Operation). record { kept = with_offered was.kept p; failed = false }) (sym parts.1)) is)
+      (kept state.name state.log made_it.0 logged whole parts.0 was now items clock seq (offered ∙ ap (λ (p : Operation). record { contents = with_offered was.contents p; failed = false }) (sym parts.1)) is)
 
   -- nothing else becomes ready by it
   pub made_alone : AreLogged (operations (with_op state.log o)) → joins_by (Some state.log) o ≡ joins_of o

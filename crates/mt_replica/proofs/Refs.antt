@@ -8,7 +8,7 @@ use Rattle.mt_stamp.proofs.Order.{stamp_cmp_total}
 use Rattle.mt_stamp.proofs.Sorting.{sorts}
 use Rattle.mt_op.specs.Operation.{Operation}
 use Rattle.mt_op.specs.ByStamp.{stamp_of, op_cmp}
-use Rattle.mt_holdback.specs.State.{State}
+use Rattle.mt_holdback.specs.Value.{HoldBackValue}
 use Rattle.mt_replica.specs.Holding.{stamp_count, HaveOwnStamps, AreOffered}
 
 -- sorted, their stamps are their own still
@@ -19,5 +19,5 @@ sorted_own sorted ops is own s =
     omega (arith, same, once)
 
 -- those that were offered sorted are those that were offered
-pub sorted_offered : (waiting : State Operation) (sorted ops : List Operation) → sorted ≡ sort_by op_cmp ops → AreOffered waiting [] sorted → AreOffered waiting [] ops
+pub sorted_offered : (waiting : HoldBackValue Operation) (sorted ops : List Operation) → sorted ≡ sort_by op_cmp ops → AreOffered waiting [] sorted → AreOffered waiting [] ops
 sorted_offered waiting sorted ops is are = record { whole = are.whole; offered = λ f. are.offered f ∙ ap (sum_by f) is ∙ (sorts op_cmp (on_total stamp_of stamp_cmp_total)).same f ops }

@@ -30,8 +30,8 @@ use Rattle.mt_op.proofs.Needs.{stamp_eq-true}
 use Rattle.mt_opcodec.specs.LogValue.{LogMap, operations, AreLogged}
 use Rattle.mt_items.specs.Noting.{is_noted}
 use Rattle.mt_holdback.specs.declared.hold_back.Offered.{Offered}
-use Rattle.mt_holdback.specs.HoldBack.{Kept, IsHoldBack, offered_with}
-use Rattle.mt_holdback.specs.State.{State}
+use Rattle.mt_holdback.specs.HoldBack.{Contents, IsHoldBack, offered_with}
+use Rattle.mt_holdback.specs.Value.{HoldBackValue}
 use Rattle.mt_holdback.specs.Ops.{op_key, op_needs}
 use Rattle.mt_sessionview.specs.Session.{ready_ops, stamps_of}
 use Rattle.mt_sessionview.proofs.Items.{stamp_eq_same}
@@ -103,27 +103,27 @@ found_is log o there false is same = (there, (sym is, (λ one. false≢true (sam
 
 -- ---- the operations of a log, offered one after another
 
-pub next_unknown : (waiting : State Operation) (o : Operation) (left all : List Operation) → HaveOwnStamps all → AreOffered waiting (o ∷ left) all → is_offered waiting.kept o.stamp ≡ false
+pub next_unknown : (waiting : HoldBackValue Operation) (o : Operation) (left all : List Operation) → HaveOwnStamps all → AreOffered waiting (o ∷ left) all → is_offered waiting.contents o.stamp ≡ false
 next_unknown waiting o left all own are =
     let once = own o.stamp in
     let sum = are.offered (λ (x : Operation). cond (stamp_eq o.stamp x.stamp) 1 0) in
     let one = count_own o left in
-    none_known o.stamp (all_offered waiting.kept) (omega (arith, once, sum, one))
+    none_known o.stamp (all_offered waiting.contents) (omega (arith, once, sum, one))
 
-pub next_offered : (waiting after : State Operation) (o : Operation) (left all : List Operation) → AreOffered waiting (o ∷ left) all → after ≡ record { kept = with_offered waiting.kept o; failed = false } → AreOffered after left all
-next_offered waiting after o left all are is = subst (λ (w : State Operation). AreOffered w left all) (sym is) (record {
+pub next_offered : (waiting after : HoldBackValue Operation) (o : Operation) (left all : List Operation) → AreOffered waiting (o ∷ left) all → after ≡ record { contents = with_offered waiting.contents o; failed = false } → AreOffered after left all
+next_offered waiting after o left all are is = subst (λ (w : HoldBackValue Operation). AreOffered w left all) (sym is) (record {
   whole = refl;
-  offered = λ f. let sum = are.offered f in let first = sum_by-cons f o left in let more = offered_more f waiting.kept o in omega (arith, sum, first, more);
+  offered = λ f. let sum = are.offered f in let first = sum_by-cons f o left in let more = offered_more f waiting.contents o in omega (arith, sum, first, more);
 })
 
 -- what was offered, where nothing is left, is all
-pub all_were_offered : (waiting : State Operation) (ops : List Operation) → AreOffered waiting [] ops → SameItems (all_offered waiting.kept) ops
+pub all_were_offered : (waiting : HoldBackValue Operation) (ops : List Operation) → AreOffered waiting [] ops → SameItems (all_offered waiting.contents) ops
 all_were_offered waiting ops are f = let sum = are.offered f in omega (arith, sum)
 
 -- what was released stays released
-pub still_released : (was now : State Operation) (o : Operation) (before : ℕ) → now ≡ record { kept = with_offered was.kept o; failed = false } → before ≡ length was.kept.released → before ≤ length now.kept.released
+pub still_released : (was now : HoldBackValue Operation) (o : Operation) (before : ℕ) → now ≡ record { contents = with_offered was.contents o; failed = false } → before ≡ length was.contents.released → before ≤ length now.contents.released
 still_released was now o before is before_is =
-    let longer = ap (λ (w : State Operation). length w.kept.released) is ∙ length-append was.kept.released (newly_released was.kept o) in
+    let longer = ap (λ (w : HoldBackValue Operation). length w.contents.released) is ∙ length-append was.contents.released (newly_released was.contents o) in
     omega (arith, longer, before_is)
 
 -- ---- the stamps of what became ready
@@ -193,7 +193,7 @@ module _ (first newly old ready : List Operation) (differ : DifferBy stamp_of re
 -- ---- one operation more
 
 -- one under a new dot was not offered before
-pub it_is_new : (log : LogMap) (o : Operation) (kept : Kept Operation) → fin.get log (op_dot o) ≡ None → AreLogged (operations (with_op log o)) → SameItems (all_offered kept) (operations log) → is_offered kept o.stamp ≡ false
+pub it_is_new : (log : LogMap) (o : Operation) (kept : Contents Operation) → fin.get log (op_dot o) ≡ None → AreLogged (operations (with_op log o)) → SameItems (all_offered kept) (operations log) → is_offered kept o.stamp ≡ false
 it_is_new log o kept absent logged offered =
     let count : Operation → ℕ = λ x. cond (stamp_eq o.stamp x.stamp) 1 0 in
     let once = own_stamps (operations (with_op log o)) (every_stamp (operations (with_op log o)) logged.rise) o.stamp in
@@ -202,7 +202,7 @@ it_is_new log o kept absent logged offered =
     let same = offered count in
     none_known o.stamp (all_offered kept) (omega (arith, once, sum, one, same))
 
-module _ (state : Named) (o : Operation) (was : State Operation) (items : List Operation) (clock seq : ℕ) (absent : fin.get state.log (op_dot o) ≡ None) (logged : AreLogged (operations (with_op state.log o))) (is : IsState state was items clock seq) where
+module _ (state : Named) (o : Operation) (was : HoldBackValue Operation) (items : List Operation) (clock seq : ℕ) (absent : fin.get state.log (op_dot o) ≡ None) (logged : AreLogged (operations (with_op state.log o))) (is : IsState state was items clock seq) where
   differ : DifferBy stamp_of (operations (with_op state.log o))
   differ = every_stamp (operations (with_op state.log o)) logged.rise
 
@@ -213,8 +213,8 @@ module _ (state : Named) (o : Operation) (was : State Operation) (items : List O
   are = insert_same state.log o absent
 
   -- what is offered with it is what is in the log with it
-  pub still_offered : SameItems (all_offered (with_offered was.kept o)) (operations (with_op state.log o))
-  still_offered = offered_same was.kept o (operations state.log) (operations (with_op state.log o)) is.offered are
+  pub still_offered : SameItems (all_offered (with_offered was.contents o)) (operations (with_op state.log o))
+  still_offered = offered_same was.contents o (operations state.log) (operations (with_op state.log o)) is.offered are
 
   pub clock_with : max (clock_of o) clock ≡ greatest_clock (operations (with_op state.log o))
   clock_with = ap (max (clock_of o)) is.clock_is ∙ sym (clock_same (operations (with_op state.log o)) (o ∷ operations state.log) are)
@@ -224,25 +224,25 @@ module _ (state : Named) (o : Operation) (was : State Operation) (items : List O
       ap (max (own_seq state.name o)) (is.seq_is ∙ sym (own_is state.name (operations state.log))) ∙ own_is state.name (o ∷ operations state.log)
       ∙ sym (seq_same state.name (operations (with_op state.log o)) (o ∷ operations state.log) are)
 
-  module _ (now : State Operation) (before : ℕ) (offered : now ≡ record { kept = with_offered was.kept o; failed = false }) (rule_was : IsHoldBack op_key op_needs fits was.kept) (rule_now : IsHoldBack op_key op_needs fits now.kept) (rise : StampsRise (newly_released was.kept o)) (before_is : before ≡ length was.kept.released) where
+  module _ (now : HoldBackValue Operation) (before : ℕ) (offered : now ≡ record { contents = with_offered was.contents o; failed = false }) (rule_was : IsHoldBack op_key op_needs fits was.contents) (rule_now : IsHoldBack op_key op_needs fits now.contents) (rise : StampsRise (newly_released was.contents o)) (before_is : before ≡ length was.contents.released) where
     abbrev newly : List Operation
-    newly = drop before now.kept.released
+    newly = drop before now.contents.released
 
-    rule_with : IsHoldBack op_key op_needs fits (with_offered was.kept o)
-    rule_with = subst (λ (w : State Operation). IsHoldBack op_key op_needs fits w.kept) offered rule_now
+    rule_with : IsHoldBack op_key op_needs fits (with_offered was.contents o)
+    rule_with = subst (λ (w : HoldBackValue Operation). IsHoldBack op_key op_needs fits w.contents) offered rule_now
 
-    newly_are : newly ≡ newly_released was.kept o
-    newly_are = (λ i. drop (before_is i) (offered i).kept.released) ∙ drop-append_seam was.kept.released (newly_released was.kept o)
+    newly_are : newly ≡ newly_released was.contents o
+    newly_are = (λ i. drop (before_is i) (offered i).contents.released) ∙ drop-append_seam was.contents.released (newly_released was.contents o)
 
     -- what became ready may be noted
     pub all_follow : MayAllFollow items newly
-    all_follow = subst (MayAllFollow items) (sym newly_are) (released_follow was.kept o (operations state.log) (operations (with_op state.log o)) items is.offered are own rule_was rule_with rise is.noted)
+    all_follow = subst (MayAllFollow items) (sym newly_are) (released_follow was.contents o (operations state.log) (operations (with_op state.log o)) items is.offered are own rule_was rule_with rise is.noted)
 
     pub state_with : IsState (record { name = state.name; log = with_op state.log o }) now (noted_after items newly) (max (clock_of o) clock) (max (own_seq state.name o) seq)
     state_with = record {
-      whole = ap (λ (w : State Operation). w.failed) offered;
-      offered = λ f. ap (λ (w : State Operation). sum_by f (all_offered w.kept)) offered ∙ still_offered f;
-      noted = λ f. ap (λ (l : List Operation). sum_by f (noted_after items l)) newly_are ∙ released_noted was.kept o (operations state.log) (operations (with_op state.log o)) items is.offered are own rule_was rule_with rise is.noted f;
+      whole = ap (λ (w : HoldBackValue Operation). w.failed) offered;
+      offered = λ f. ap (λ (w : HoldBackValue Operation). sum_by f (all_offered w.contents)) offered ∙ still_offered f;
+      noted = λ f. ap (λ (l : List Operation). sum_by f (noted_after items l)) newly_are ∙ released_noted was.contents o (operations state.log) (operations (with_op state.log o)) items is.offered are own rule_was rule_with rise is.noted f;
       clock_is = clock_with;
       seq_is = seq_with;
     }
@@ -253,29 +253,29 @@ module _ (state : Named) (o : Operation) (was : State Operation) (items : List O
     newly_told : stamps_of newly ≡ newly_ready_stamps state.log o
     newly_told =
         ap stamps_of newly_are
-        ∙ newly_in_order was.kept.released (newly_released was.kept o) (ready_ops (operations state.log)) (ready_ops (operations (with_op state.log o))) ready_differ
-        (released_same was.kept (operations state.log) rule_was is.offered)
-        (released_same (with_offered was.kept o) (operations (with_op state.log o)) rule_with still_offered) rise
+        ∙ newly_in_order was.contents.released (newly_released was.contents o) (ready_ops (operations state.log)) (ready_ops (operations (with_op state.log o))) ready_differ
+        (released_same was.contents (operations state.log) rule_was is.offered)
+        (released_same (with_offered was.contents o) (operations (with_op state.log o)) rule_with still_offered) rise
 
     -- the cells that they join are counted
     pub joins_told : sum_by joins_of newly ≡ joins_by (Some state.log) o
     joins_told =
         ap (sum_by joins_of) newly_are
-        ∙ newly_same was.kept.released (newly_released was.kept o) (ready_ops (operations state.log)) (ready_ops (operations (with_op state.log o))) ready_differ
-        (released_same was.kept (operations state.log) rule_was is.offered)
-        (released_same (with_offered was.kept o) (operations (with_op state.log o)) rule_with still_offered) joins_of
+        ∙ newly_same was.contents.released (newly_released was.contents o) (ready_ops (operations state.log)) (ready_ops (operations (with_op state.log o))) ready_differ
+        (released_same was.contents (operations state.log) rule_was is.offered)
+        (released_same (with_offered was.contents o) (operations (with_op state.log o)) rule_with still_offered) joins_of
 
-    told : (offer : Offered) (b : Bool) → offer ≡ offer_gives was.kept o → is_held offer ≡ b → is_ready clock_of needs meets (operations (with_op state.log o)) o ≡ not b
+    told : (offer : Offered) (b : Bool) → offer ≡ offer_gives was.contents o → is_held offer ≡ b → is_ready clock_of needs meets (operations (with_op state.log o)) o ≡ not b
     told offer b answered held =
-        sym (ready_tells was.kept o (operations state.log) (operations (with_op state.log o)) is.offered are)
-        ∙ by (as_waiting (offered_with op_key op_needs fits was.kept o) o) refl
+        sym (ready_tells was.contents o (operations state.log) (operations (with_op state.log o)) is.offered are)
+        ∙ by (as_waiting (offered_with op_key op_needs fits was.contents o) o) refl
       where
-        by : (r : Bool) → as_waiting (offered_with op_key op_needs fits was.kept o) o ≡ r → r ≡ not b
-        by true r_is = ap not (sym (ap (λ (r : Bool). is_held (cond r (Offered.Ready (length was.kept.released)) Offered.Held)) r_is) ∙ ap is_held (sym answered) ∙ held)
-        by false r_is = ap not (sym (ap (λ (r : Bool). is_held (cond r (Offered.Ready (length was.kept.released)) Offered.Held)) r_is) ∙ ap is_held (sym answered) ∙ held)
+        by : (r : Bool) → as_waiting (offered_with op_key op_needs fits was.contents o) o ≡ r → r ≡ not b
+        by true r_is = ap not (sym (ap (λ (r : Bool). is_held (cond r (Offered.Ready (length was.contents.released)) Offered.Held)) r_is) ∙ ap is_held (sym answered) ∙ held)
+        by false r_is = ap not (sym (ap (λ (r : Bool). is_held (cond r (Offered.Ready (length was.contents.released)) Offered.Held)) r_is) ∙ ap is_held (sym answered) ∙ held)
 
     -- what became of it is what a take answers
-    pub take_tells : {A : Type 0} (offer : Offered) (taken : Taken A) → offer ≡ offer_gives was.kept o → TakenGives offer newly taken → TakeOf state.log o (Ok taken)
+    pub take_tells : {A : Type 0} (offer : Offered) (taken : Taken A) → offer ≡ offer_gives was.contents o → TakenGives offer newly taken → TakeOf state.log o (Ok taken)
     take_tells offer Already answered gives = absurd gives
     take_tells offer Held answered gives = (absent, told offer true answered gives)
     take_tells offer (Applied stamps) answered gives = (absent, (told offer false answered gives.0, gives.1 ∙ newly_told))

@@ -7,7 +7,7 @@ use Rattle.mt_op.specs.Operation.{Operation}
 use Rattle.mt_op.specs.Codes.{operation_code}
 use Rattle.mt_opcodec.specs.LogValue.{LogMap}
 use Rattle.mt_replica.specs.Kept.{Kept}
-use Rattle.mt_replica.specs.State.{Named, Stated}
+use Rattle.mt_replica.specs.State.{Named, StateValue}
 use Rattle.mt_replica.specs.Viewed.{Viewed}
 
 abbrev pub log_code : Coded LogMap
@@ -19,7 +19,7 @@ named_code = code_by (ℕ × LogMap) (coded× coded_ℕ log_code) (λ n. (n.name
 abbrev pub kept_code : Coded Kept
 kept_code = code_by ((ℕ × Option LogMap) × ℕ) (coded× (coded× coded_ℕ (coded_option log_code)) coded_ℕ) (λ k. ((k.name.0, k.log), k.joins)) (λ p. record { name = record { 0 = p.0.0 }; log = p.0.1; joins = p.1 }) (λ _. refl)
 
-abbrev pub stated_code : Coded Stated
+abbrev pub stated_code : Coded StateValue
 stated_code = code_by (Named × Bool) (coded× named_code coded_bool) (λ s. (s.named, s.shown)) (λ p. record { named = p.0; shown = p.1 }) (λ _. refl)
 
 abbrev pub viewed_code : Coded Viewed

@@ -8,7 +8,7 @@ use Rattle.mt_items.specs.Noting.{MayFollow}
 use Rattle.mt_holdback.specs.declared.hold_back.Offered.{Offered}
 use Rattle.mt_holdback.specs.declared.hold_back.Offered.TheVariants as offer
 use Rattle.mt_holdback.specs.HoldBack as holding
-use Rattle.mt_holdback.specs.State.{State}
+use Rattle.mt_holdback.specs.Value.{HoldBackValue}
 use Rattle.mt_holdback.specs.Offering.{answer}
 use Rattle.mt_holdback.specs.Ops.{op_key, op_needs}
 use Rattle.mt_sessionview.specs.Session.{stamps_of}
@@ -18,24 +18,24 @@ use Rattle.mt_replica.specs.declared.taken.Taken.TheVariants.{Already, Held, App
 -- ---- what operations are to what holds them back
 
 -- all operations that were offered, those that were released and those that wait
-abbrev pub all_offered : holding.Kept Operation → List Operation
+abbrev pub all_offered : holding.Contents Operation → List Operation
 all_offered kept = holding.offered op_key op_needs fits kept
 
 -- whether an operation of this stamp was offered
-abbrev pub is_offered : holding.Kept Operation → Moment → Bool
+abbrev pub is_offered : holding.Contents Operation → Moment → Bool
 is_offered kept stamp = holding.knows op_key op_needs fits kept stamp
 
 -- the operations that one more makes ready, by rising stamp
-abbrev pub newly_released : holding.Kept Operation → Operation → List Operation
+abbrev pub newly_released : holding.Contents Operation → Operation → List Operation
 newly_released kept o = holding.newly_ready op_key op_needs fits kept o
 
-abbrev pub with_offered : holding.Kept Operation → Operation → holding.Kept Operation
-with_offered kept o = holding.kept_with op_key op_needs fits kept o
+abbrev pub with_offered : holding.Contents Operation → Operation → holding.Contents Operation
+with_offered kept o = holding.contents_with op_key op_needs fits kept o
 
 abbrev pub StampsRise : List Operation → Type 0
 StampsRise ops = holding.KeysRise op_key op_needs fits ops
 
-abbrev pub offer_gives : holding.Kept Operation → Operation → Offered
+abbrev pub offer_gives : holding.Contents Operation → Operation → Offered
 offer_gives kept o = answer op_key op_needs fits kept o
 
 -- how many operations of a list have a stamp
@@ -47,9 +47,9 @@ abbrev pub HaveOwnStamps : List Operation → Type 0
 HaveOwnStamps ops = (stamp : Moment) → stamp_count stamp ops ≤ 1
 
 -- These operations were offered, and nothing has failed; the others are left.
-pub record AreOffered (waiting : State Operation) (left ops : List Operation) : Type 0 where
+pub record AreOffered (waiting : HoldBackValue Operation) (left ops : List Operation) : Type 0 where
   pub whole : waiting.failed ≡ false
-  pub offered : (f : Operation → ℕ) → sum_by f (all_offered waiting.kept) + sum_by f left ≡ sum_by f ops
+  pub offered : (f : Operation → ℕ) → sum_by f (all_offered waiting.contents) + sum_by f left ≡ sum_by f ops
 
 -- ---- what is noted of them
 

@@ -6,7 +6,7 @@ use Rattle.mt_op.specs.Dots.{op_dot}
 use Rattle.mt_stamp.specs.declared.name.Replica.{Replica}
 use Rattle.mt_op.specs.Operation.{Act, Operation, Remove}
 use Rattle.mt_op.specs.Tags.{greatest_tag_count}
-use Rattle.mt_holdback.specs.State as holding
+use Rattle.mt_holdback.specs.Value as holding
 use Rattle.mt_opcodec.specs.LogValue.{LogMap, operations}
 use Rattle.mt_sessionview.specs.Session.{ready_ops, held_ops}
 use Rattle.mt_replica.specs.Edit.{Edit}
@@ -22,15 +22,15 @@ pub record Named : Type 0 where
   pub log : LogMap
 
 -- the same, and whether its session is kept beside it
-pub record Stated : Type 0 where
+pub record StateValue : Type 0 where
   pub named : Named
   pub shown : Bool
 
 -- What is in the log was offered to what holds operations back, which has not failed; noted are the ready operations of the log, and the
 -- greatest clock and number are known.
-pub record IsState (state : Named) (waiting : holding.State Operation) (items : List Operation) (clock seq : ℕ) : Type 0 where
+pub record IsState (state : Named) (waiting : holding.HoldBackValue Operation) (items : List Operation) (clock seq : ℕ) : Type 0 where
   pub whole : waiting.failed ≡ false
-  pub offered : (f : Operation → ℕ) → sum_by f (all_offered waiting.kept) ≡ sum_by f (operations state.log)
+  pub offered : (f : Operation → ℕ) → sum_by f (all_offered waiting.contents) ≡ sum_by f (operations state.log)
   pub noted : (f : Operation → ℕ) → sum_by f items ≡ sum_by f (ready_ops (operations state.log))
   pub clock_is : clock ≡ greatest_clock (operations state.log)
   pub seq_is : seq ≡ greatest_seq state.name (operations state.log)

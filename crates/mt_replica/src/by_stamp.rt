@@ -28,11 +28,11 @@ fn take_next<A: Allocator + Clone>(
     op: &Op<A>,
 ) -> Result<Items<A>, EditorFault>
     requires whole { waiting.old.failed ≡ false }
-    requires unknown { is_offered waiting.old.kept op.now.stamp ≡ false }
-    requires above { AllByRecursion (λ u. op_cmp u op.now ≡ Less) waiting.old.kept.waiting }
-    requires same { (f : Operation → ℕ) → sum_by f items ≡ sum_by f waiting.old.kept.released }
-    ensures kept { OnOk result (waiting.new ≡ record { kept = with_offered waiting.old.kept op.now; failed = false }) }
-    ensures same { IfOk result (λ after. (f : Operation → ℕ) → sum_by f after ≡ sum_by f waiting.new.kept.released) }
+    requires unknown { is_offered waiting.old.contents op.now.stamp ≡ false }
+    requires above { AllByRecursion (λ u. op_cmp u op.now ≡ Less) waiting.old.contents.waiting }
+    requires same { (f : Operation → ℕ) → sum_by f items ≡ sum_by f waiting.old.contents.released }
+    ensures kept { OnOk result (waiting.new ≡ record { contents = with_offered waiting.old.contents op.now; failed = false }) }
+    ensures same { IfOk result (λ after. (f : Operation → ℕ) → sum_by f after ≡ sum_by f waiting.new.contents.released) }
     ensures err { IfErr result (λ fault. fault ≡ EditorFault.Memory) }
 {
     // for the proof: that what was released is what is ready, and that the operation names older ones
@@ -54,7 +54,7 @@ fn all_taken<A: Allocator + Clone>(
     requires rising { RisesStrictly op_cmp (map (λ o. o.now) ops.now) }
     requires own { HaveOwnStamps (map (λ o. o.now) ops.now) }
     ensures offered { IfOk result (λ both. AreOffered both.0 [] (map (λ o. o.now) ops.now)) }
-    ensures noted { IfOk result (λ both. (f : Operation → ℕ) → sum_by f both.1 ≡ sum_by f both.0.kept.released) }
+    ensures noted { IfOk result (λ both. (f : Operation → ℕ) → sum_by f both.1 ≡ sum_by f both.0.contents.released) }
     ensures err { IfErr result (λ fault. fault ≡ EditorFault.Memory) }
 {
     let mut waiting = HoldBack::new(alloc.clone()?);

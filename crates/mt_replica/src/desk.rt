@@ -67,16 +67,16 @@ pub type Draft<A = Global> = Desk<A, WithoutSession>;
 impl<A: Allocator, S: Sessions> Model for Desk<A, S> {
     ghost use Rattle.std.specs.Prelude.{◌≡◌, option_map, IfSome};
     ghost use Rattle.mt_replica.specs.Kept.{Kept};
-    ghost use Rattle.mt_replica.specs.State.{Stated};
+    ghost use Rattle.mt_replica.specs.State.{StateValue};
     ghost use Rattle.mt_replica.specs.Codes.{kept_code};
 
     ghost Value = { Kept };
 
     ghost coded = { kept_code };
 
-    ghost view = { λ d. record { name = d.name; log = option_map (λ (s : Stated). s.named.log) d.state; joins = d.joins } };
+    ghost view = { λ d. record { name = d.name; log = option_map (λ (s : StateValue). s.named.log) d.state; joins = d.joins } };
 
-    ghost invariant = { λ d. IfSome d.state (λ (s : Stated). (s.named.name ≡ d.name) × (s.shown ≡ S.SHOWN)) };
+    ghost invariant = { λ d. IfSome d.state (λ (s : StateValue). (s.named.name ≡ d.name) × (s.shown ≡ S.SHOWN)) };
 }
 
 impl<A: Allocator, S: Sessions> Desk<A, S> {
@@ -122,8 +122,8 @@ impl<A: Allocator + Clone> Draft<A> {
             ..
         } = self;
         let state = match state {
-            Some(state) => Some(shown_by::<A, S>(&alloc, state)?),
-            None => None,
+            Some(state) if S::SHOWN => Some(state.show(&alloc)?),
+            state => state,
         };
         Ok(Desk {
             alloc,
@@ -132,22 +132,6 @@ impl<A: Allocator + Clone> Draft<A> {
             state,
             sessions: PhantomData,
         })
-    }
-}
-
-// A state with its session, where that is asked. Refused as `Memory` (0) where a growth was refused.
-fn shown_by<A: Allocator + Clone, S: Sessions>(
-    alloc: &A,
-    state: State<A>,
-) -> Result<State<A>, EditorFault>
-    requires { state.shown ≡ false }
-    ensures ok { IfOk result (λ shown. shown ≡ record { named = state.named; shown = S.SHOWN }) }
-    ensures err { IfErr result (λ fault. fault ≡ EditorFault.Memory) }
-{
-    if S::SHOWN {
-        state.show(alloc)
-    } else {
-        Ok(state)
     }
 }
 
@@ -204,6 +188,16 @@ impl<A: Allocator + Clone, S: Sessions> Desk<A, S> {
         // for the proof: that the name and the count are those of the desk as a whole
         let (_state, joins) = (&self.state, self.joins);
         joins
+    }
+
+    /// Its log by value, `None` where it has failed: what else it kept is let go.
+    pub fn into_log(self) -> Option<Log<A>>
+        ensures { result ≡ self.log }
+    {
+        match self.state {
+            Some(state) => Some(state.into_log()),
+            None => None,
+        }
     }
 
     /// A draft of its name with a copy of its log: for many edits between which nobody looks at the session. Refused as `Failed`

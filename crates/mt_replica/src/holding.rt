@@ -29,10 +29,10 @@ pub(crate) fn offer_new<A: Allocator + Clone>(
     op: Op<A>,
 ) -> Result<Offered, EditorFault>
     requires whole { waiting.old.failed ≡ false }
-    requires unknown { is_offered waiting.old.kept op.stamp ≡ false }
-    ensures answered { IfOk result (λ offered. offered ≡ offer_gives waiting.old.kept op) }
-    ensures kept { OnOk result (waiting.new ≡ record { kept = with_offered waiting.old.kept op; failed = false }) }
-    ensures rising { OnOk result (StampsRise (newly_released waiting.old.kept op)) }
+    requires unknown { is_offered waiting.old.contents op.stamp ≡ false }
+    ensures answered { IfOk result (λ offered. offered ≡ offer_gives waiting.old.contents op) }
+    ensures kept { OnOk result (waiting.new ≡ record { contents = with_offered waiting.old.contents op; failed = false }) }
+    ensures rising { OnOk result (StampsRise (newly_released waiting.old.contents op)) }
     ensures err { IfErr result (λ fault. fault ≡ EditorFault.Memory) }
 {
     match waiting.offer(op) {
@@ -48,9 +48,9 @@ pub(crate) fn offer_met<A: Allocator + Clone>(
     op: Op<A>,
 ) -> Result<(), EditorFault>
     requires whole { waiting.old.failed ≡ false }
-    requires unknown { is_offered waiting.old.kept op.stamp ≡ false }
-    requires met { is_met_by op_key op_needs fits waiting.old.kept.released op ≡ true }
-    ensures kept { OnOk result (waiting.new ≡ record { kept = with_offered waiting.old.kept op; failed = false }) }
+    requires unknown { is_offered waiting.old.contents op.stamp ≡ false }
+    requires met { is_met_by op_key op_needs fits waiting.old.contents.released op ≡ true }
+    ensures kept { OnOk result (waiting.new ≡ record { contents = with_offered waiting.old.contents op; failed = false }) }
     ensures err { IfErr result (λ fault. fault ≡ EditorFault.Memory) }
 {
     match waiting.offer_met(op) {
@@ -62,9 +62,9 @@ pub(crate) fn offer_met<A: Allocator + Clone>(
 
 /// What was released from an index on.
 pub(crate) fn released_from<A: Allocator>(waiting: &HoldBack<Op<A>, A>, first: usize) -> &[Op<A>]
-    requires bound { first ≤ length waiting.now.kept.released }
-    ensures value { result.now ≡ drop first waiting.now.kept.released }
-    ensures exact { IsHoldBack op_key op_needs fits waiting.now.kept }
+    requires bound { first ≤ length waiting.now.contents.released }
+    ensures value { result.now ≡ drop first waiting.now.contents.released }
+    ensures exact { IsHoldBack op_key op_needs fits waiting.now.contents }
 {
     &waiting.released()[first..]
 }

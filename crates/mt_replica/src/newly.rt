@@ -79,17 +79,17 @@ pub(crate) fn outcome_of<A: Allocator + Clone>(
     offered: Offered,
     view: View<A>,
 ) -> Result<Outcome<A>, EditorFault>
-    requires bound { first ≤ length waiting.now.kept.released }
-    requires follow { MayAllFollow view.ops (drop first waiting.now.kept.released) }
+    requires bound { first ≤ length waiting.now.contents.released }
+    requires follow { MayAllFollow view.ops (drop first waiting.now.contents.released) }
     ensures view { IfOk result (λ outcome. outcome.view
         ≡ record {
-          ops = noted_after view.ops (drop first waiting.now.kept.released);
+          ops = noted_after view.ops (drop first waiting.now.contents.released);
           held = option_map
-              (λ h. length waiting.now.kept.waiting) view.held;
+              (λ h. length waiting.now.contents.waiting) view.held;
         }) }
-    ensures taken { IfOk result (λ outcome. TakenGives offered (drop first waiting.now.kept.released) outcome.taken) }
+    ensures taken { IfOk result (λ outcome. TakenGives offered (drop first waiting.now.contents.released) outcome.taken) }
     ensures joins { IfOk result (λ outcome. outcome.joins
-        ≡ u64_saturate (sum_by joins_of (drop first waiting.now.kept.released))) }
+        ≡ u64_saturate (sum_by joins_of (drop first waiting.now.contents.released))) }
     ensures err { IfErr result (λ fault. fault ≡ EditorFault.Memory) }
 {
     let newly = released_from(waiting, first);

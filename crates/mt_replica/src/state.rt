@@ -54,10 +54,10 @@ pub(crate) struct State<A: Allocator> {
 
 impl<A: Allocator> Model for State<A> {
     ghost use Rattle.std.specs.Prelude.{is_some};
-    ghost use Rattle.mt_replica.specs.State.{Stated, IsState, IsHeldOf};
+    ghost use Rattle.mt_replica.specs.State.{StateValue, IsState, IsHeldOf};
     ghost use Rattle.mt_replica.specs.Codes.{stated_code};
 
-    ghost Value = { Stated };
+    ghost Value = { StateValue };
 
     ghost coded = { stated_code };
 
@@ -82,6 +82,14 @@ impl<A: Allocator> State<A> {
         // for the proof: that the log is the one of the state
         let _ = &self.view;
         &self.log
+    }
+
+    /// The log by value.
+    pub fn into_log(self) -> Log<A>
+        ensures { result ≡ self.named.log }
+    {
+        let State { log, .. } = self;
+        log
     }
 
     /// The session of its log, where it is kept.
@@ -304,13 +312,13 @@ fn taken_in<A: Allocator + Clone>(
 ) -> Result<Offered, EditorFault>
     requires new { map.get log.old (op_dot op) ≡ None }
     requires whole { waiting.old.failed ≡ false }
-    requires offered { (f : Operation → ℕ) → sum_by f (all_offered waiting.old.kept) ≡ sum_by f (operations log.old) }
+    requires offered { (f : Operation → ℕ) → sum_by f (all_offered waiting.old.contents) ≡ sum_by f (operations log.old) }
     ensures added { OnOk result (log.new ≡ with_op log.old op) }
     ensures logged { OnOk result (AreLogged (operations (with_op log.old op))) }
-    ensures kept { OnOk result (waiting.new ≡ record { kept = with_offered waiting.old.kept op; failed = false }) }
-    ensures answered { IfOk result (λ offered. offered ≡ offer_gives waiting.old.kept op) }
-    ensures rising { OnOk result (StampsRise (newly_released waiting.old.kept op)) }
-    ensures exact { OnOk result (IsHoldBack op_key op_needs fits waiting.new.kept) }
+    ensures kept { OnOk result (waiting.new ≡ record { contents = with_offered waiting.old.contents op; failed = false }) }
+    ensures answered { IfOk result (λ offered. offered ≡ offer_gives waiting.old.contents op) }
+    ensures rising { OnOk result (StampsRise (newly_released waiting.old.contents op)) }
+    ensures exact { OnOk result (IsHoldBack op_key op_needs fits waiting.new.contents) }
     ensures err { IfErr result (λ fault. fault ≡ EditorFault.Memory) }
 {
     add_copy(log, &op)?;

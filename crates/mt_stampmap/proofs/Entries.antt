@@ -10,7 +10,7 @@ use Rattle.std.proofs.lemmas.Map.Entries.{lookup_from_place}
 use Rattle.std.proofs.lemmas.Option.{same_Some, none-some, get_or_from_slice_get}
 use Rattle.mt_stamp.specs.Moment.{Moment, stamp_cmp, stamp_eq}
 use Rattle.mt_stamp.proofs.Order.{stamp_eq-true}
-use Rattle.mt_stampmap.specs.declared.index.Index.{Index}
+use Rattle.mt_stampmap.specs.declared.index.StampIndex.{StampIndex}
 use Rattle.mt_stampmap.specs.Index.{in_run, is_key, or_else, checked, Finds}
 use Rattle.mt_stampmap.proofs.Finding.{stamp_eq_equiv, IsNew, checked_is, is_key_at}
 
@@ -66,7 +66,7 @@ module _ {V : Type 0} where
   entry_at (e ∷ es) stamp (suc i) h = entry_at es stamp i h
 
   -- what is found neither by the runs nor elsewhere has no value
-  pub told : {A : Type 0} (es : List (Moment × V)) (index : Index A) (stamp : Moment) (r : Option ℕ) → Finds (keys_of es) index → checked (keys_of es) (in_run index.runs stamp) stamp ≡ None → r ≡ checked (keys_of es) (get stamp_cmp index.others stamp) stamp
+  pub told : {A : Type 0} (es : List (Moment × V)) (index : StampIndex A) (stamp : Moment) (r : Option ℕ) → Finds (keys_of es) index → checked (keys_of es) (in_run index.runs stamp) stamp ≡ None → r ≡ checked (keys_of es) (get stamp_cmp index.others stamp) stamp
       → MatchOption r (lookup (stamp_eq stamp) es ≡ None) (λ i. is_key (slice_get (keys_of es) i) stamp ≡ true)
   told es index stamp (Some i) finds first is = is_key_at (keys_of es) stamp i (checked_is (keys_of es) (get stamp_cmp index.others stamp) stamp i (sym is))
   told es index stamp None finds first is = no_key es stamp (λ k at. none-some k ((λ x. or_else (sym first x) (is x)) ∙ finds k stamp at))

@@ -9,7 +9,7 @@ use Rattle.std.proofs.lemmas.Option.{same_Some, none-some}
 use Rattle.mt_stamp.specs.Moment.{Moment, stamp_cmp, stamp_eq}
 use Rattle.mt_stamp.proofs.Order.{stamp_eq-true, stamp_eq-itself}
 use Rattle.mt_stampmap.specs.Index.{in_run, StaysInRun, is_key, or_else, checked, index_in, Finds}
-use Rattle.mt_stampmap.specs.declared.index.Index.{Index}
+use Rattle.mt_stampmap.specs.declared.index.StampIndex.{StampIndex}
 
 pub stamp_eq_equiv : IsEquivalence stamp_eq
 stamp_eq_equiv = record {
@@ -43,13 +43,13 @@ checked_is ks (Some i) stamp j h = by (slice_get ks i) refl h
 pub checked_at : (ks : List Moment) (stamp : Moment) (i : ℕ) → slice_get ks i ≡ Some stamp → checked ks (Some i) stamp ≡ Some i
 checked_at ks stamp i at = (λ x. cond (is_key (at x) stamp) (Some i) None) ∙ ap (λ (b : Bool). cond b (Some i) None) (stamp_eq-itself stamp)
 
-module _ {A : Type 0} (ks : List Moment) (index : Index A) (finds : Finds ks index) where
+module _ {A : Type 0} (ks : List Moment) (index : StampIndex A) (finds : Finds ks index) where
   -- so a stamp stands at one index
   pub one_index : (i j : ℕ) (stamp : Moment) → slice_get ks i ≡ Some stamp → slice_get ks j ≡ Some stamp → i ≡ j
   one_index i j stamp a b = same_Some i j (sym (finds i stamp a) ∙ finds j stamp b)
 
   -- and what was said of it before is said still
-  pub still_found : (after : Index A) (k : ℕ) (stamp : Moment) → slice_get ks k ≡ Some stamp → StaysInRun index.runs after.runs stamp → get stamp_cmp after.others stamp ≡ get stamp_cmp index.others stamp → index_in ks after stamp ≡ Some k
+  pub still_found : (after : StampIndex A) (k : ℕ) (stamp : Moment) → slice_get ks k ≡ Some stamp → StaysInRun index.runs after.runs stamp → get stamp_cmp after.others stamp ≡ get stamp_cmp index.others stamp → index_in ks after stamp ≡ Some k
   still_found after k stamp at stays others = by (checked ks (in_run after.runs stamp) stamp) refl
     where
       before : (old : Option ℕ) → ((i : ℕ) → old ≡ Some i → in_run after.runs stamp ≡ Some i) → checked ks (in_run after.runs stamp) stamp ≡ None → checked ks old stamp ≡ None
@@ -105,12 +105,12 @@ at_last [] stamp = refl
 at_last (k ∷ ks) stamp = at_last ks stamp
 
 -- an index that says where the new key will stand finds all keys, as before
-pub pointed_before : {A : Type 0} (ks : List Moment) (index after : Index A) (stamp : Moment) → IsNew ks stamp → ((s : Moment) → StaysInRun index.runs after.runs s)
+pub pointed_before : {A : Type 0} (ks : List Moment) (index after : StampIndex A) (stamp : Moment) → IsNew ks stamp → ((s : Moment) → StaysInRun index.runs after.runs s)
     → ((s : Moment) → stamp_eq stamp s ≡ false → get stamp_cmp after.others s ≡ get stamp_cmp index.others s) → Finds ks index → Finds ks after
 pointed_before ks index after stamp new stays others finds k key at = still_found ks index finds after k key at (stays key) (others key (new_at ks stamp new k key at))
 
 -- and finds the new one behind them
-pub pointed : {A : Type 0} (ks : List Moment) (index after : Index A) (stamp : Moment) → IsNew ks stamp → ((s : Moment) → StaysInRun index.runs after.runs s)
+pub pointed : {A : Type 0} (ks : List Moment) (index after : StampIndex A) (stamp : Moment) → IsNew ks stamp → ((s : Moment) → StaysInRun index.runs after.runs s)
     → ((s : Moment) → stamp_eq stamp s ≡ false → get stamp_cmp after.others s ≡ get stamp_cmp index.others s)
     → (in_run after.runs stamp ≡ Some (length ks)) ⊎ (get stamp_cmp after.others stamp ≡ Some (length ks)) → Finds ks index → Finds (ks ++ stamp ∷ []) after
 pointed ks index after stamp new stays others points finds k key at = by (split ks stamp k key at)

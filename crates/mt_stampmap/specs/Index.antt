@@ -1,14 +1,22 @@
--- Where the entries of a map stand. Working definitions.
+-- Where items stand in a list, by their stamps. Working definitions.
 use Rattle.std.specs.Prelude.{◌≡◌, ℕ, Bool, false, List, Option, Some, None, Vec, slice_get, if◌then◌else◌}
 use Rattle.std.specs.Option.{option_and_then}
 use Rattle.std.specs.BTreeMap.{BTreeMap, get}
 use Rattle.std.specs.Ordering.{nat_cmp}
 use Rattle.mt_stamp.specs.Moment.{Moment, stamp_cmp, stamp_eq}
-use Rattle.mt_stampmap.specs.declared.index.Index.{Index}
+use Rattle.mt_stampmap.specs.declared.index.StampIndex.{StampIndex}
 
 -- the index at a stamp's number in the run of its replica
 abbrev pub in_run : {A : Type 0} → BTreeMap ℕ (Vec ℕ A) → Moment → Option ℕ
 in_run runs stamp = option_and_then (λ run. slice_get run.items stamp.seq) (get nat_cmp runs stamp.replica.0)
+
+-- where the item of a stamp stands, if it stands in the run of its replica
+abbrev pub first_place : {A : Type 0} → StampIndex A → Moment → Option ℕ
+first_place index stamp = in_run index.runs stamp
+
+-- where it stands, if it does not
+abbrev pub other_place : {A : Type 0} → StampIndex A → Moment → Option ℕ
+other_place index stamp = get stamp_cmp index.others stamp
 
 -- what the runs say of a stamp, they say of it still
 abbrev pub StaysInRun : {A : Type 0} → BTreeMap ℕ (Vec ℕ A) → BTreeMap ℕ (Vec ℕ A) → Moment → Type 0
@@ -30,9 +38,9 @@ module _ (ks : List Moment) where
   checked (Some i) stamp = if is_key (slice_get ks i) stamp then Some i else None
 
   -- the index that is found of a stamp
-  abbrev pub index_in : {A : Type 0} → Index A → Moment → Option ℕ
-  index_in index stamp = or_else (checked (in_run index.runs stamp) stamp) (checked (get stamp_cmp index.others stamp) stamp)
+  abbrev pub index_in : {A : Type 0} → StampIndex A → Moment → Option ℕ
+  index_in index stamp = or_else (checked (first_place index stamp) stamp) (checked (other_place index stamp) stamp)
 
   -- each key is found at its index
-  abbrev pub Finds : {A : Type 0} → Index A → Type 0
+  abbrev pub Finds : {A : Type 0} → StampIndex A → Type 0
   Finds index = (k : ℕ) (stamp : Moment) → slice_get ks k ≡ Some stamp → index_in index stamp ≡ Some k

@@ -6,16 +6,18 @@ ghost use Rattle.mt_stamp.specs.Moment.{Moment, stamp_cmp, stamp_eq};
 ghost use Rattle.mt_stampmap.specs.Index.{in_run, StaysInRun};
 
 use mt_stamp::Stamp;
-use std::alloc::{AllocError, Allocator};
+use std::alloc::{AllocError, Allocator, Global};
 use std::collections::BTreeMap;
 
 // How many places of runs may stay empty for each entry.
 const EMPTY_FOR_EACH: usize = 8;
 
-// For each replica a run: at the number of a stamp the index of its entry. What would leave too many places of a run empty, or comes
-// after a greater number of its replica, stands in a map by stamp.
+/// Where items that have stamps stand in a list that grows at its end: for each replica a run, which has at the number of a stamp the index of its
+/// item. What would leave too many places of a run empty, or comes after a greater number of its replica, stands in a map by stamp.
+///
+/// It keeps four bytes for an item and no stamp: of each stamp it tells two places where its item may stand, and whoever asks looks whether it does.
 #[derive(Drop)]
-pub(crate) struct Index<A: Allocator> {
+pub struct StampIndex<A: Allocator = Global> {
     alloc: A,
     runs: BTreeMap<u128, Vec<u32, A>, A>,
     others: BTreeMap<Stamp, usize, A>,
@@ -64,13 +66,15 @@ fn put_in_run<A: Allocator + Clone>(
     Ok(true)
 }
 
-impl<A: Allocator> Index<A> {
-    // No entries.
-    pub(crate) fn new(alloc: A) -> Result<Self, AllocError>
+impl<A: Allocator> StampIndex<A> {
+    ghost use Rattle.mt_stampmap.specs.Index.{first_place, other_place};
+
+    /// The index of an empty list. Refused only where the allocator could not be cloned.
+    pub fn new(alloc: A) -> Result<Self, AllocError>
     where
         A: Clone,
     {
-        Ok(Index {
+        Ok(StampIndex {
             runs: BTreeMap::new(alloc.clone()?),
             others: BTreeMap::new(alloc.clone()?),
             alloc,
@@ -78,9 +82,9 @@ impl<A: Allocator> Index<A> {
         })
     }
 
-    // What the runs say of a stamp.
-    pub(crate) fn in_run(&self, stamp: Stamp) -> Option<usize>
-        ensures { result ≡ in_run self.now.runs stamp }
+    /// Where the item of a stamp stands, if it is in the list and stands in the run of its replica.
+    pub fn first_place(&self, stamp: Stamp) -> Option<usize>
+        ensures { result ≡ first_place self.now stamp }
     {
         match self.runs.get(&stamp.replica().0) {
             Some(run) => match run.get(stamp.seq() as usize) {
@@ -91,20 +95,21 @@ impl<A: Allocator> Index<A> {
         }
     }
 
-    // What the map by stamp says of it.
-    pub(crate) fn elsewhere(&self, stamp: Stamp) -> Option<usize>
-        ensures { result ≡ get stamp_cmp self.now.others stamp }
+    /// Where it stands, if it is in the list and not there.
+    pub fn other_place(&self, stamp: Stamp) -> Option<usize>
+        ensures { result ≡ other_place self.now stamp }
     {
         self.others.get(&stamp).copied()
     }
 
-    // Notes the index of the entry of a new stamp.
-    pub(crate) fn point(&mut self, stamp: Stamp, index: usize) -> Result<(), AllocError>
+    /// Notes the index of the item of a new stamp. Where a growth was refused, it tells of each other stamp what it told before.
+    pub fn point(&mut self, stamp: Stamp, index: usize) -> Result<(), AllocError>
     where
         A: Clone,
-        ensures stays { (s : Moment) → StaysInRun self.old.runs self.new.runs s }
-        ensures others { (s : Moment) → stamp_eq stamp s ≡ false → get stamp_cmp self.new.others s ≡ get stamp_cmp self.old.others s }
-        ensures points { OnOk result ((in_run self.new.runs stamp ≡ Some index) ⊎ (get stamp_cmp self.new.others stamp ≡ Some index)) }
+        ensures stays { (s : Moment) (i : ℕ) → first_place self.old s ≡ Some i → first_place self.new s ≡ Some i }
+        ensures others { (s : Moment) → stamp_eq stamp s ≡ false → other_place self.new s ≡ other_place self.old s }
+        ensures points { OnOk result ((first_place self.new stamp ≡ Some index)
+            ⊎ (other_place self.new stamp ≡ Some index)) }
     {
         self.spare = self.spare.saturating_add(EMPTY_FOR_EACH);
         if let Ok(short) = u32::try_from(index) {

@@ -31,9 +31,12 @@
 //! places to spare for each entry, is found by a search in a map by stamp. So a look-up takes at worst the logarithm of the number
 //! of entries, in whatever order they came and whatever stamps a hostile log has, and the runs take at most 36 bytes for
 //! each entry: four for each place, their own growth aside.
+//!
+//! `StampIndex` is what such a map finds its entries by, for a list that somebody else keeps and that grows at its end: four bytes for an item, and no stamp.
 #![tactic(auto)]
 
 mod index;
 mod map;
 
+pub use index::StampIndex;
 pub use map::StampMap;

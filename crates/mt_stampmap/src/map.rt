@@ -8,7 +8,7 @@ ghost use Rattle.std.specs.List.{IsDistinct};
 ghost use Rattle.mt_stamp.specs.Moment.{stamp_eq};
 ghost use Rattle.mt_stampmap.specs.Index.{is_key, checked};
 
-use crate::index::Index;
+use crate::index::StampIndex;
 use mt_stamp::Stamp;
 use std::alloc::{AllocError, Allocator, Global};
 use std::marker::Model;
@@ -18,7 +18,7 @@ use std::marker::Model;
 pub struct StampMap<V: Drop, A: Allocator = Global> {
     entries: Vec<(Stamp, V), A>,
     // in a block of its own, so that little moves where a map does
-    index: Box<Index<A>, A>,
+    index: Box<StampIndex<A>, A>,
 }
 
 impl<V: Drop, A: Allocator> Model for StampMap<V, A> {
@@ -55,7 +55,7 @@ impl<V: Drop, A: Allocator> StampMap<V, A> {
         A: Clone,
         ensures { IfOk result (λ map. map ≡ []) }
     {
-        let index = Index::new(alloc.clone()?)?;
+        let index = StampIndex::new(alloc.clone()?)?;
         Ok(StampMap {
             entries: Vec::with_capacity(alloc.clone()?, capacity)?,
             index: Box::new(alloc, index)?,
@@ -87,15 +87,16 @@ impl<V: Drop, A: Allocator> StampMap<V, A> {
 
     // The index at which a stamp stands.
     fn index_of(&self, stamp: Stamp) -> Option<usize>
-        ensures { MatchOption result (lookup (stamp_eq stamp) self.now ≡ None) (λ i. is_key (slice_get (keys_of self.now) i) stamp ≡ true) }
+        ensures { MatchOption result (lookup (stamp_eq stamp) self.now ≡ None)
+            (λ i. is_key (slice_get (keys_of self.now) i) stamp ≡ true) }
     {
         if self.entries.is_empty() {
             return None;
         }
-        if let Some(index) = self.checked(self.index.in_run(stamp), stamp) {
+        if let Some(index) = self.checked(self.index.first_place(stamp), stamp) {
             return Some(index);
         }
-        self.checked(self.index.elsewhere(stamp), stamp)
+        self.checked(self.index.other_place(stamp), stamp)
     }
 
     /// The value of a stamp, and `None` where it has none.

@@ -10,6 +10,7 @@ use Rattle.mt_op.specs.Operation.{Operation}
 use Rattle.mt_opcodec.specs.LogValue.{LogMap, log_of}
 use Rattle.mt_opcodec.specs.Laws.{PairsAgree}
 use Rattle.mt_opcodec.specs.Union.{Agree, union, union_all}
+use Rattle.mt_opcodec.proofs.Agreements.{in_first, in_second, of_first, of_second}
 use Rattle.mt_opcodec.proofs.Union.{get-union}
 use Rattle.mt_opcodec.proofs.Halves.{all_apart, pairs_first, pairs_second, halves_agree, last_alone}
 use Rattle.mt_opcodec.proofs.JoiningAll.{none_first, first_apart, with_all}
@@ -19,30 +20,12 @@ use Rattle.mt_sync.specs.Conversation.{joined}
 use Rattle.mt_sync.specs.Holding.{held_by, growing}
 use Rattle.mt_sync.specs.Taking.{TakesIn}
 
--- ---- agreement
-
-in_first : (x y : Option Operation) (o : Operation) → x ≡ Some o → cond (is_some x) x y ≡ Some o
-in_first x y o e = subst (λ (z : Option Operation). cond (is_some z) z y ≡ Some o) (sym e) refl
-
-in_second : (x y : Option Operation) → x ≡ None → cond (is_some x) x y ≡ y
-in_second x y e = subst (λ (z : Option Operation). cond (is_some z) z y ≡ y) (sym e) refl
-
 -- ---- one log more
 
 -- what agrees with all of them stands behind them
 each_with : (y : LogMap) (logs : List LogMap) (more : LogMap) → AllByRecursion (Agree y) logs → Agree y more → AllByRecursion (Agree y) (logs ++ more ∷ [])
 each_with y [] more all h = (h, tt)
 each_with y (z ∷ logs) more all h = (all.0, each_with y logs more all.1 h)
-
-of_first : (a b c : LogMap) → Agree (union a b) c → Agree a c
-of_first a b c h dot o p at_a at_c = h dot o p (get-union a b dot ∙ in_first (fin.get a dot) (fin.get b dot) o at_a) at_c
-
-of_second : (a b c : LogMap) → Agree a b → Agree (union a b) c → Agree b c
-of_second a b c ab h dot o p at_b at_c = by (fin.get a dot) refl
-  where
-    by : (x : Option Operation) → fin.get a dot ≡ x → o ≡ p
-    by None e = h dot o p (get-union a b dot ∙ in_second (fin.get a dot) (fin.get b dot) e ∙ at_b) at_c
-    by (Some q) e = sym (ab dot q o e at_b) ∙ h dot q p (get-union a b dot ∙ in_first (fin.get a dot) (fin.get b dot) q e) at_c
 
 pub pairs_with : (logs : List LogMap) (more : LogMap) → PairsAgree logs → Agree (union_all logs) more → PairsAgree (logs ++ more ∷ [])
 pairs_with [] more pairs agree = (tt, tt)

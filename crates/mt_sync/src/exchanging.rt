@@ -1,4 +1,4 @@
-//! An exchange between two editors in memory.
+//! An exchange between two holders of operations in memory.
 
 ghost use Rattle.std.specs.Prelude.{◌≡◌, ◌≢◌, ◌⊎◌, None, IsErrOf};
 ghost use Rattle.mt_opcodec.specs.LogValue.{AreLogged};
@@ -14,7 +14,7 @@ use mt_opcodec::Log;
 use mt_summary::{Summary, lacking};
 use std::alloc::Allocator;
 
-/// Swaps between two editors what each lacks, as a conversation does that the first one begins: each holds its own operations after
+/// Swaps between two holders, editors or logs that grow, what each lacks, as a conversation does that the first one begins: each holds its own operations after
 /// it, and the other's under dots that it had not. So both hold the union of their operations, where that is a log; of two operations
 /// under one dot each keeps its own, which nobody is told, as in every conversation.
 ///

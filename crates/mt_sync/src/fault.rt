@@ -26,7 +26,7 @@ pub enum TalkFault {
     /// An operation came whose dot names another one in the log.
     #[error("two operations have one dot")]
     Conflict(Dot),
-    /// The editor has failed, and its log was needed.
+    /// The holder has failed, and its log was needed.
     #[error("the editor has failed")]
     Failed,
     /// The body of a frame is the text of no message.

@@ -64,7 +64,7 @@ pub fn lack_bytes<A: Allocator + Clone>(
 
 /// Takes the operations of frames of Ops up to Bye, frame by frame. Refused as an answerer's `Talk::feed` is, which waits for
 /// operations: 40, 38, 39 (so too for a byte after Bye), 20, 17 or 0; and as `Ended` (49) where the bytes end before Bye. After a
-/// refusal the editor holds its own operations and those before the fault; where a growth was refused while operations joined it has failed.
+/// refusal the holder has its own operations and those before the fault; where a growth was refused while operations joined it has failed.
 /// `frames` is where the bytes are kept while they are read.
 pub fn take_ops<A: Allocator + Clone, H: Holder<A>>(
     alloc: A,

@@ -14,7 +14,7 @@ pub fn frames()
 {}
 
 /// What stops an end, where it stands at the front of a stream: a body that is no message (38); a message that is not due, or a byte
-/// after the end (39); a length over 8,388,608 (40); an operation whose dot names another one (17); an editor that has failed, where
+/// after the end (39); a length over 8,388,608 (40); an operation whose dot names another one (17); a holder that has failed, where
 /// its log is needed (20); and the own summary where it does not fit a frame (40). Nothing is sent then, and what follows is not
 /// looked at.
 pub fn stops()

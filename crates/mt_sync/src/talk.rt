@@ -56,7 +56,7 @@ impl<A: Allocator + Clone> Talk<A> {
     }
 
     /// The caller's end, and the bytes that begin the conversation: the frame of its summary. `frames` is where the bytes of a frame that
-    /// is not whole are kept. Refused, in this order, as `Failed` (20) where the editor has failed and as `FrameTooLong`
+    /// is not whole are kept. Refused, in this order, as `Failed` (20) where the holder has failed and as `FrameTooLong`
     /// (40) where its summary does not fit a frame; as `Memory` (0) where a growth was refused.
     pub fn call<H: HoldsLog<A>>(
         alloc: A,
@@ -89,17 +89,17 @@ impl<A: Allocator + Clone> Talk<A> {
         matches!(self.turn, Turn::Ended)
     }
 
-    /// Reads a piece of the other end's bytes, and answers the bytes to send back. Operations join the editor's log frame by
-    /// frame. Those of a frame are taken one by one where the log has at least 16 times as many, and where each of them has a greater number
+    /// Reads a piece of the other end's bytes, and answers the bytes to send back. Operations join the holder's log frame by
+    /// frame. An editor takes those of a frame one by one where the log has at least 16 times as many, and where each of them has a greater number
     /// than those of its replica there; so such a frame costs what it brings. Others join as a whole: the editor is then made anew of
-    /// its log, and counts its joins from 0.
+    /// its log, and counts its joins from 0. A log that grows puts those of a frame behind those that it has.
     ///
     /// Refused as `OutOfTurn` (39) after a fault, and after the end for a piece that is not empty. Then frame by frame:
     /// `FrameTooLong` (40) where its length is over 8,388,608, before the body is looked at; `BadMessage` (38) where the body is no message;
-    /// `OutOfTurn` (39) where nobody waits for that message; `Failed` (20) where the editor has failed and its log is
+    /// `OutOfTurn` (39) where nobody waits for that message; `Failed` (20) where the holder has failed and its log is
     /// needed; `Conflict` (17) where an operation's dot names another one in the log; `FrameTooLong` (40) where the own
-    /// summary does not fit a frame. `Memory` (0) where a growth was refused. After a fault the editor holds its own operations and those before
-    /// the fault, and the talk answers 39 from then on; where a growth was refused while operations joined, the editor has failed.
+    /// summary does not fit a frame. `Memory` (0) where a growth was refused. After a fault the holder has its own operations and those before
+    /// the fault, and the talk answers 39 from then on; where a growth was refused while operations joined, the holder has failed.
     pub fn feed<H: Holder<A>>(
         &mut self,
         holder: &mut H,

@@ -11,7 +11,7 @@ use Rattle.mt_holdback.proofs.offer.admit.Goals as goal
 
 pub release-requires-clause-others : goal.release-requires-clause-others
 release-requires-clause-others g c =
-    new_others g.T.Waits.key_of g.T.Waits.needs_of g.T.Waits.fits_role c.args.released.now.items (get stamp_cmp c.args.queue.now.places) c.args.queue.now.items.entries
+    new_others g.T.Waits.key_of g.T.Waits.needs_of g.T.Waits.fits_role c.args.released.now.items c.args.queue.now.places c.args.queue.now.items.entries
     (listed (λ v. v.items) (get stamp_cmp c.args.queue.now.lacking)) (contains stamp_cmp c.args.queue.now.woken) c.args.item c.requires.works c.requires.unknown
 
 pub returns-in-None-clause-passes : goal.returns-in-None-clause-passes

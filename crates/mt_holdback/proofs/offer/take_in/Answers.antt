@@ -1,6 +1,6 @@
 use Rattle.std.proofs.Common.{[], refl, sym, ap, ◌∙◌}
 use Rattle.mt_holdback.specs.HoldBack.{queued}
-use Rattle.mt_holdback.specs.State.{items_in}
+use Rattle.mt_holdback.specs.Value.{items_in}
 use Rattle.mt_holdback.specs.Queue.{items_of}
 use Rattle.mt_holdback.proofs.Offers.{newly_ready_rises, taken_in, rule_of, ready_of}
 use Rattle.mt_holdback.proofs.offer.take_in.Goals as goal

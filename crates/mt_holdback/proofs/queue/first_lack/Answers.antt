@@ -1,6 +1,6 @@
 use Rattle.std.proofs.Common.{arith}
 use Rattle.mt_holdback.specs.Queue.{is_met_in}
-use Rattle.mt_holdback.proofs.Queueing.{all_past}
+use Rattle.mt_holdback.proofs.Needs.{all_past}
 use Rattle.mt_holdback.proofs.queue.first_lack.Goals as goal
 
 pub returns-in-Some : goal.returns-in-Some

@@ -1,6 +1,6 @@
 use Rattle.std.proofs.Common.{◌≡◌, ◌+◌, suc, sym, ◌∙◌, subst, ℕ, arith}
 use Rattle.mt_holdback.specs.Queue.{is_met_in, MetTo}
-use Rattle.mt_holdback.proofs.Queueing.{all_step}
+use Rattle.mt_holdback.proofs.Needs.{all_step}
 use Rattle.mt_holdback.proofs.queue.lacks_at.Goals as goal
 
 pub returns-then-has : goal.returns-then-has

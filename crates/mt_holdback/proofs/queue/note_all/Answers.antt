@@ -2,12 +2,12 @@ use Rattle.std.proofs.Common.{◌||◌, sym, ◌∙◌, ap, arith}
 use Rattle.std.specs.List.{list_any}
 use Rattle.std.specs.BTreeSet.{contains}
 use Rattle.mt_stamp.specs.Moment.{stamp_cmp, stamp_eq}
-use Rattle.mt_holdback.proofs.Queueing.{first_seen, noted, note_stays, seen_all}
+use Rattle.mt_holdback.proofs.Keys.{or_second, noted, note_stays, seen_all}
 use Rattle.mt_holdback.proofs.queue.note_all.Goals as goal
 
 pub loop-key-init : goal.loop-key-init
 loop-key-init g c = record {
-  woken = λ q there. first_seen (contains stamp_cmp c.args.woken.now q) _ (ap (λ (keys : _). list_any (stamp_eq q) keys) c.into_iter-key-iterator.ensures.into_iter_gives.0 ∙ there);
+  woken = λ q there. or_second (contains stamp_cmp c.args.woken.now q) _ (ap (λ (keys : _). list_any (stamp_eq q) keys) c.into_iter-key-iterator.ensures.into_iter_gives.0 ∙ there);
   stay = λ q h. h;
 }
 

@@ -1,6 +1,6 @@
 use Rattle.std.specs.BTreeMap.{get}
 use Rattle.mt_stamp.specs.Moment.{stamp_cmp}
-use Rattle.mt_holdback.proofs.Queueing.{put_stays}
+use Rattle.mt_holdback.proofs.Keys.{put_stays}
 use Rattle.mt_holdback.proofs.queue.put_under.Goals as goal
 
 pub returns-clause-stay : goal.returns-clause-stay

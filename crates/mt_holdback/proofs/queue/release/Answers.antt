@@ -1,4 +1,5 @@
-use Rattle.std.proofs.Common.{◌≡◌, cond, Some, ap, ◌∙◌}
+use Rattle.std.proofs.Common.{◌≡◌, ◌⊎◌, ℕ, length, Some, ap, ◌∙◌, subst}
+use Rattle.mt_stampmap.specs.Index.{first_place, other_place}
 use Rattle.std.specs.BTreeMap.{get}
 use Rattle.std.specs.BTreeSet.{contains}
 use Rattle.std.specs.Ordering.{is_eq}
@@ -15,6 +16,9 @@ returns-clause-works g c =
     (λ s q differs. c.in_ok-wake.ensures.others s q (ap (stamp_eq s) key ∙ differs))
     (λ q under. c.in_ok-wake.ensures.woken q (ap (λ (s : Moment). listed (λ v. v.items) (get stamp_cmp c.args.queue.now.lacking) s q) key ∙ under))
     c.in_ok-wake.ensures.stay
-    c.push.new.self.items (get stamp_cmp c.args.queue.now.places) (get stamp_cmp c.insert.new.self) c.args.queue.now.items.entries c.requires.works c.in_ok-push.ensures.items
-    (λ q. c.in_ok-insert.ensures.updates.0 q ∙ (λ i. cond (is_eq (stamp_cmp (key i) q)) (Some ((c.len.ensures ∙ c.args.released.now.ok.0) i)) (get stamp_cmp c.args.queue.now.places q)))
+    c.push.new.self.items c.args.queue.now.places c.point.new.self c.args.queue.now.items.entries c.requires.works c.in_ok-push.ensures.items
+    c.in_ok-point.ensures.stays
+    (λ s differs. c.in_ok-point.ensures.others s (ap (λ (k : Moment). stamp_eq k s) key ∙ differs))
+    (subst (λ (k : Moment). (first_place c.point.new.self k ≡ Some (length c.args.released.now.items)) ⊎ (other_place c.point.new.self k ≡ Some (length c.args.released.now.items))) key
+    (subst (λ (n : ℕ). (first_place c.point.new.self c.key-key.result ≡ Some n) ⊎ (other_place c.point.new.self c.key-key.result ≡ Some n)) (c.len.ensures ∙ c.args.released.now.ok.0) c.in_ok-point.ensures.points))
     c.requires.fresh c.requires.others

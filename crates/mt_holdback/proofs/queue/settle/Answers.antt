@@ -5,7 +5,8 @@ use Rattle.mt_stamp.specs.Moment.{stamp_cmp}
 use Rattle.mt_holdback.specs.Laws.{passed}
 use Rattle.mt_holdback.specs.Passing.{left}
 use Rattle.mt_holdback.specs.Queue.{items_of, listed, Works, Takes, NoneIsMet}
-use Rattle.mt_holdback.proofs.Queueing.{on_some, on_none, passed_none, left_none}
+use Rattle.mt_holdback.proofs.Keys.{on_some, on_none}
+use Rattle.mt_holdback.proofs.Queueing.{passed_none, left_none}
 use Rattle.mt_holdback.proofs.queue.settle.Goals as goal
 
 pub loop-item-init : goal.loop-item-init
@@ -13,7 +14,7 @@ loop-item-init g c = record { works = c.requires; passed = refl; left = refl }
 
 pub next_ready-requires : goal.next_ready-requires
 next_ready-requires g c =
-    subst (λ (released : List g.row.T.Denot). Works g.T.Waits.key_of g.T.Waits.needs_of g.T.Waits.fits_role released (get stamp_cmp c.loop-item.queue.places) c.loop-item.queue.items.entries (listed (λ v. v.items) (get stamp_cmp c.loop-item.queue.lacking)) (contains stamp_cmp c.loop-item.queue.woken))
+    subst (λ (released : List g.row.T.Denot). Works g.T.Waits.key_of g.T.Waits.needs_of g.T.Waits.fits_role released c.loop-item.queue.places c.loop-item.queue.items.entries (listed (λ v. v.items) (get stamp_cmp c.loop-item.queue.lacking)) (contains stamp_cmp c.loop-item.queue.woken))
     (sym c.deref.ensures.value) c.loop-item.invariant.works
 
 pub loop-item-smaller : goal.loop-item-smaller

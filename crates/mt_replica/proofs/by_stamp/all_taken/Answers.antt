@@ -24,7 +24,7 @@ take_next-requires-clause-above g c =
     let ops = c.args.ops.now in
     let here = ap now (drop_here ops c.loop-op.op-index c.op-item.result c.loop-op-test.true c.op-item.is) in
     let so_far = subst (λ (l : List Operation). IsTaking c.loop-op.waiting c.loop-op.items l (now ops)) here c.loop-op.invariant in
-    above_those c.op-item.result.now (now (drop (c.loop-op.op-index + 1) ops)) c.loop-op.waiting.kept.waiting so_far.below
+    above_those c.op-item.result.now (now (drop (c.loop-op.op-index + 1) ops)) c.loop-op.waiting.contents.waiting so_far.below
 
 pub loop-op-preserved : goal.loop-op-preserved
 loop-op-preserved g c =

@@ -32,4 +32,4 @@ returns-clause-offered g c =
 pub returns-clause-noted : goal.returns-clause-noted
 returns-clause-noted g c = λ f.
     c.in_ok-waiting.ensures.noted f
-    ∙ released_same c.in_ok-waiting.waiting.kept (operations c.args.log.now) c.released.ensures.exact (all_were_offered c.in_ok-waiting.waiting (operations c.args.log.now) (returns-clause-offered g c)) f
+    ∙ released_same c.in_ok-waiting.waiting.contents (operations c.args.log.now) c.released.ensures.exact (all_were_offered c.in_ok-waiting.waiting (operations c.args.log.now) (returns-clause-offered g c)) f

@@ -5,7 +5,7 @@ use Rattle.mt_op.specs.Dots.{dots_rise}
 use Rattle.mt_op.specs.Operation.{Operation}
 use Rattle.mt_opcodec.specs.LogValue.{operations}
 use Rattle.mt_replica.specs.Changes.{edit_of}
-use Rattle.mt_replica.specs.State.{Stated, Named}
+use Rattle.mt_replica.specs.State.{StateValue, Named}
 use Rattle.mt_replica.proofs.Keeping.{made_is, made_as, it_is_made, unstamped}
 use Rattle.mt_replica.proofs.state.State.made.Goals as goal
 
@@ -14,7 +14,7 @@ unwrap-requires g c =
     let ops = operations c.args.self.now.named.log in
     let edit = edit_of c.args.change.now in
     let o : Operation = record { stamp = c.in_ok-stamp.stamp; act = act_of c.in_ok-body.body } in
-    let rise : dots_rise ops ≡ true = subst (λ (n : Named). dots_rise (operations n.log) ≡ true) (ap (λ (s : Stated). s.named) c.self.view_is) c.runs.ensures.logged.rise in
+    let rise : dots_rise ops ≡ true = subst (λ (n : Named). dots_rise (operations n.log) ≡ true) (ap (λ (s : StateValue). s.named) c.self.view_is) c.runs.ensures.logged.rise in
     let parts = made_is ops c.args.self.now.named.name edit c.in_ok-stamp.stamp (act_of c.in_ok-body.body) c.in_ok-body.ensures.passes (sym c.in_ok-stamp.ensures) c.in_ok-body.ensures.ok in
     it_is_made ops c.args.self.now.named.name edit o c.new.result rise parts.0 parts.1 c.new.ensures.not_older.0 (λ e. (c.new.ensures.zero_length.0 e).1) (λ e. (c.new.ensures.fade_too_long.0 e).2) (λ e. (c.new.ensures.bad_tags.0 e).3) c.new.ensures.err
 

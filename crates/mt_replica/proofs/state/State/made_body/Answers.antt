@@ -5,7 +5,7 @@ use Rattle.mt_opcodec.specs.LogValue.{operations}
 use Rattle.mt_sessionview.specs.Session.{ready_ops}
 use Rattle.mt_replica.specs.Changes.{edit_of}
 use Rattle.mt_replica.specs.Made.{names_of, names_present, names_refused, made_act, tags_fit}
-use Rattle.mt_replica.specs.State.{Stated, Named, lists_few}
+use Rattle.mt_replica.specs.State.{StateValue, Named, lists_few}
 use Rattle.mt_replica.proofs.Bridging.{names_same, act_same, few_fit, numbers_pass, stopped_by_name, stopped_by_tags, not_stopped}
 use Rattle.mt_replica.proofs.state.State.made_body.Goals as goal
 
@@ -13,7 +13,7 @@ pub returns-in-Some-clause-err : goal.returns-in-Some-clause-err
 returns-in-Some-clause-err g c =
     let ops = operations c.self.inside.log in
     let edit = edit_of c.args.change.now in
-    rw (sym (ap (λ (n : Named). n.log) (ap (λ (s : Stated). s.named) c.self.view_is)))
+    rw (sym (ap (λ (n : Named). n.log) (ap (λ (s : StateValue). s.named) c.self.view_is)))
     (inr (stopped_by_name ops edit (numbers_pass edit c.if-not-plays.ensures c.if-not-fades_fit.ensures) c.in-Some.fault
     (sym (names_same c.self.inside.view.ops (ready_ops ops) c.self.invariant.0.noted (names_present edit) (names_of edit)) ∙ sym (c.names_refused.ensures ∙ ap (λ (r : List Operation). names_refused r (names_present edit) (names_of edit)) c.items.ensures) ∙ c.in-Some.is)))
 
@@ -23,7 +23,7 @@ returns-then-not-lists_few-clause-err g c =
     let edit = edit_of c.args.change.now in
     let acts : act_of c.in_ok-body.body ≡ made_act (ready_ops ops) edit = c.in_ok-body.ensures.ok ∙ ap (λ (r : List Operation). made_act r edit) c.items-2.ensures ∙ act_same c.self.inside.view.ops (ready_ops ops) c.self.invariant.0.noted edit in
     let many : tags_fit (ready_ops ops) edit ≡ false = sym (few_fit (ready_ops ops) edit) ∙ sym (ap lists_few acts) ∙ sym c.if-not-lists_few.ensures in
-    rw (sym (ap (λ (n : Named). n.log) (ap (λ (s : Stated). s.named) c.self.view_is)))
+    rw (sym (ap (λ (n : Named). n.log) (ap (λ (s : StateValue). s.named) c.self.view_is)))
     (inr (stopped_by_tags ops edit (numbers_pass edit c.if-not-plays.ensures c.if-not-fades_fit.ensures)
     (sym (names_same c.self.inside.view.ops (ready_ops ops) c.self.invariant.0.noted (names_present edit) (names_of edit)) ∙ sym (c.names_refused.ensures ∙ ap (λ (r : List Operation). names_refused r (names_present edit) (names_of edit)) c.items.ensures) ∙ c.in_default.is) many))
 
@@ -33,11 +33,11 @@ returns-clause-passes g c =
     let edit = edit_of c.args.change.now in
     let acts : act_of c.in_ok-body.body ≡ made_act (ready_ops ops) edit = c.in_ok-body.ensures.ok ∙ ap (λ (r : List Operation). made_act r edit) c.items-2.ensures ∙ act_same c.self.inside.view.ops (ready_ops ops) c.self.invariant.0.noted edit in
     let few : tags_fit (ready_ops ops) edit ≡ true = sym (few_fit (ready_ops ops) edit) ∙ sym (ap lists_few acts) ∙ sym c.if-not-lists_few.ensures in
-    rw (sym (ap (λ (n : Named). n.log) (ap (λ (s : Stated). s.named) c.self.view_is)))
+    rw (sym (ap (λ (n : Named). n.log) (ap (λ (s : StateValue). s.named) c.self.view_is)))
     (not_stopped ops edit (numbers_pass edit c.if-not-plays.ensures c.if-not-fades_fit.ensures)
     (sym (names_same c.self.inside.view.ops (ready_ops ops) c.self.invariant.0.noted (names_present edit) (names_of edit)) ∙ sym (c.names_refused.ensures ∙ ap (λ (r : List Operation). names_refused r (names_present edit) (names_of edit)) c.items.ensures) ∙ c.in_default.is) few)
 
 pub returns-clause-ok : goal.returns-clause-ok
 returns-clause-ok g c =
     let ops = operations c.self.inside.log in
-    rw (sym (ap (λ (n : Named). n.log) (ap (λ (s : Stated). s.named) c.self.view_is))) (c.in_ok-body.ensures.ok ∙ ap (λ (r : List Operation). made_act r (edit_of c.args.change.now)) c.items-2.ensures ∙ act_same c.self.inside.view.ops (ready_ops ops) c.self.invariant.0.noted (edit_of c.args.change.now))
+    rw (sym (ap (λ (n : Named). n.log) (ap (λ (s : StateValue). s.named) c.self.view_is))) (c.in_ok-body.ensures.ok ∙ ap (λ (r : List Operation). made_act r (edit_of c.args.change.now)) c.items-2.ensures ∙ act_same c.self.inside.view.ops (ready_ops ops) c.self.invariant.0.noted (edit_of c.args.change.now))

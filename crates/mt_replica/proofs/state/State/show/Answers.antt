@@ -10,13 +10,13 @@ use Rattle.mt_replica.proofs.state.State.show.Goals as goal
 
 pub show-requires-clause-same : goal.show-requires-clause-same
 show-requires-clause-same g c = λ f.
-    c.self.invariant.0.noted f ∙ sym (released_same c.self.inside.waiting.kept (operations c.self.inside.log) c.released.ensures.exact c.self.invariant.0.offered f) ∙ ap (sum_by f) (sym c.released.ensures.value)
+    c.self.invariant.0.noted f ∙ sym (released_same c.self.inside.waiting.contents (operations c.self.inside.log) c.released.ensures.exact c.self.invariant.0.offered f) ∙ ap (sum_by f) (sym c.released.ensures.value)
 
 pub show-requires-clause-tree : goal.show-requires-clause-tree
 show-requires-clause-tree g c =
     subst (λ (l : List Operation). IsTree (places_in l)) (sym c.released.ensures.value)
-    (released_tree (operations c.self.inside.log) c.self.inside.waiting.kept.released c.runs.ensures.logged (released_same c.self.inside.waiting.kept (operations c.self.inside.log) c.released.ensures.exact c.self.invariant.0.offered))
+    (released_tree (operations c.self.inside.log) c.self.inside.waiting.contents.released c.runs.ensures.logged (released_same c.self.inside.waiting.contents (operations c.self.inside.log) c.released.ensures.exact c.self.invariant.0.offered))
 
 pub invariant_of-result : goal.invariant_of-result
 invariant_of-result g c =
-    rw c.in_ok-view.ensures.ok (c.self.invariant.0, c.held.ensures ∙ held_count c.self.inside.waiting.kept (operations c.self.inside.log) c.released.ensures.exact c.self.invariant.0.offered)
+    rw c.in_ok-view.ensures.ok (c.self.invariant.0, c.held.ensures ∙ held_count c.self.inside.waiting.contents (operations c.self.inside.log) c.released.ensures.exact c.self.invariant.0.offered)

@@ -12,4 +12,4 @@ returns g c =
     let es = c.self.inside.entries.items in
     let s = c.args.stamp in
     subst (λ (l : List (Moment × g.row.V.Denot)). MatchOption c.checked-2.result (lookup (stamp_eq s) l ≡ None) (λ i. is_key (slice_get (keys_of l) i) s ≡ true)) c.self.view_is
-    (told es c.self.inside.index.value s c.checked-2.result c.self.invariant ((λ x. checked (keys_of (c.self.view_is x)) (sym (c.in_run.ensures ∙ (λ y. in_run (c.deref.ensures y).runs s)) x) s) ∙ sym c.checked.ensures ∙ c.in_default.is) (c.checked-2.ensures ∙ (λ x. checked (keys_of (sym c.self.view_is x)) ((c.elsewhere.ensures ∙ (λ y. get stamp_cmp (c.deref-2.ensures y).others s)) x) s)))
+    (told es c.self.inside.index.value s c.checked-2.result c.self.invariant ((λ x. checked (keys_of (c.self.view_is x)) (sym (c.first_place.ensures ∙ (λ y. in_run (c.deref.ensures y).runs s)) x) s) ∙ sym c.checked.ensures ∙ c.in_default.is) (c.checked-2.ensures ∙ (λ x. checked (keys_of (sym c.self.view_is x)) ((c.other_place.ensures ∙ (λ y. get stamp_cmp (c.deref-2.ensures y).others s)) x) s)))

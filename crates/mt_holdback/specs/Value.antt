@@ -1,9 +1,9 @@
 -- What contracts see of a hold-back.
 use Rattle.std.specs.Prelude.{Bool, List, [], Option, None, Some}
-use Rattle.mt_holdback.specs.HoldBack.{Kept}
+use Rattle.mt_holdback.specs.HoldBack.{Contents}
 
-pub record State (T : Type 0) : Type 0 where
-  pub kept : Kept T
+pub record HoldBackValue (T : Type 0) : Type 0 where
+  pub contents : Contents T
   pub failed : Bool
 
 -- the items of a vector that is made at the first item
