@@ -28,10 +28,10 @@ impl Telling for Operations {
     fn tell<A: Allocator + Clone, W: Write>(
         &self,
         alloc: A,
-        log: &Log<A>,
+        log: Log<A>,
         output: &mut Latch<W>,
     ) -> Result<(), CliFault> {
-        match write_log_text(alloc, log, output) {
+        match write_log_text(alloc, &log, output) {
             Ok(()) => Ok(()),
             Err(SessionFault::Memory) => Err(CliFault::Memory),
             Err(SessionFault::Write) => Err(CliFault::Write),

@@ -44,10 +44,10 @@ impl Telling for Logs {
     fn tell<A: Allocator + Clone, W: Write>(
         &self,
         _alloc: A,
-        log: &Log<A>,
+        log: Log<A>,
         output: &mut Latch<W>,
     ) -> Result<(), CliFault> {
-        put_log(log, output)
+        put_log(&log, output)
     }
 }
 

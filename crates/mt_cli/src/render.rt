@@ -15,7 +15,7 @@ use mt_cuewrite::{BounceFault, Head, bounce};
 use mt_opcodec::Latch;
 use mt_preflight::Audible;
 use mt_render::{Format, HashedFile, Mix, MixFault};
-use mt_sessionview::{Session, from_scratch};
+use mt_sessionview::{Session, of_log};
 use std::alloc::Allocator;
 use std::io::{Read, Write};
 
@@ -128,9 +128,8 @@ pub fn bounce_logs<A: Allocator + Clone, R: Read, W: Write>(
         Ok(log) => log,
         Err(fault) => return Err(fault),
     };
-    let Ok(session) = from_scratch(alloc.clone()?, &log) else {
+    let Ok(session) = of_log(alloc.clone()?, log) else {
         return Err(CliFault::Memory);
     };
-    drop(log);
     put_audible(alloc, count, &session, sources, head, format, output)
 }

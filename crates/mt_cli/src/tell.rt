@@ -18,15 +18,15 @@ use std::io::{Read, Write};
 pub(crate) trait Telling {
     ghost told: { LogMap → List ℕ };
 
-    /// Writes the text, and nothing else.
+    /// Writes the text of a log, which may be let go before it is written, and nothing else.
     fn tell<A: Allocator + Clone, W: Write>(
         &self,
         alloc: A,
-        log: &Log<A>,
+        log: Log<A>,
         output: &mut Latch<W>,
     ) -> Result<(), CliFault>
-        ensures ok { OnOk result (Appends (W.contents output.old.inner) (W.contents output.new.inner) (told log.now)) }
-        ensures err { IfErr result (WriteFails told W.contents log.now output.old output.new) }
+        ensures ok { OnOk result (Appends (W.contents output.old.inner) (W.contents output.new.inner) (told log)) }
+        ensures err { IfErr result (WriteFails told W.contents log output.old output.new) }
         ensures sound { OnOk result (output.new.failed ≡ false) }
         ensures stays_failed { output.old.failed ≡ true → output.new ≡ output.old };
 }
@@ -47,7 +47,7 @@ pub(crate) fn tell_logs<T: Telling, A: Allocator + Clone, R: Read, W: Write>(
     ensures stays_failed { output.old.failed ≡ true → output.new ≡ output.old }
 {
     match union_of(alloc.clone()?, inputs) {
-        Ok(all) => text.tell(alloc, &all, output),
+        Ok(all) => text.tell(alloc, all, output),
         Err(fault) => Err(fault),
     }
 }
@@ -67,7 +67,7 @@ pub(crate) fn tell_log<T: Telling, A: Allocator + Clone, R: Read, W: Write>(
     ensures stays_failed { output.old.failed ≡ true → output.new ≡ output.old }
 {
     match read_log(alloc.clone()?, 0, input) {
-        Ok(log) => text.tell(alloc, &log, output),
+        Ok(log) => text.tell(alloc, log, output),
         Err(fault) => Err(fault),
     }
 }

@@ -11,7 +11,7 @@ ghost use Rattle.mt_cli.specs.Writing.{WriteFails, InputsFail, InputFails};
 use crate::fault::CliFault;
 use crate::tell::{Telling, tell_log, tell_logs};
 use mt_opcodec::{Latch, Log};
-use mt_sessionview::{from_scratch, write_text};
+use mt_sessionview::{of_log, write_text};
 use std::alloc::Allocator;
 use std::io::{Read, Write};
 
@@ -27,10 +27,10 @@ impl Telling for Sessions {
     fn tell<A: Allocator + Clone, W: Write>(
         &self,
         alloc: A,
-        log: &Log<A>,
+        log: Log<A>,
         output: &mut Latch<W>,
     ) -> Result<(), CliFault> {
-        let Ok(session) = from_scratch(alloc, log) else {
+        let Ok(session) = of_log(alloc, log) else {
             return Err(CliFault::Memory);
         };
         match write_text(&session, output) {

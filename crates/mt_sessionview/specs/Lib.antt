@@ -7,3 +7,4 @@ pub mod SessionLaws
 pub mod Noted
 pub mod Read
 pub mod Changing
+pub mod Parts

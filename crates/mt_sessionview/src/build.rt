@@ -1,6 +1,6 @@
 //! The session of operations, from nothing.
 
-ghost use Rattle.std.specs.Prelude.{◌≡◌, ◌-◌, ◌≤◌, ℕ, length, map, IfOk, IfErr};
+ghost use Rattle.std.specs.Prelude.{◌≡◌, ◌-◌, ◌≤◌, ℕ, List as ListOf, length, map, IfOk, IfErr};
 ghost use Rattle.std.specs.List.{sum_by};
 ghost use Rattle.mt_stamp.specs.Sorting.{RisesStrictly};
 ghost use Rattle.mt_stamp.specs.Tree.{IsTree};
@@ -9,7 +9,7 @@ ghost use Rattle.mt_op.specs.Operation.{Operation};
 ghost use Rattle.mt_opcodec.specs.LogValue.{operations};
 ghost use Rattle.mt_items.specs.Noting.{AreNoted};
 ghost use Rattle.mt_sessionview.specs.Noted.{markers_in, tracks_in, places_in, placed_in};
-ghost use Rattle.mt_sessionview.specs.Session.{session_of};
+ghost use Rattle.mt_sessionview.specs.Parts.{session_in, ArePartsOf, ArePartsOfSession};
 
 use crate::by_stamp::sorted_ops;
 use crate::clip::clips_by_track;
@@ -20,10 +20,10 @@ use crate::ready::{Ready, ready_of};
 use crate::session::{MarkerView, Session, TrackView};
 use crate::taken::taken_tracks;
 use crate::track::tracks;
-use mt_items::Items;
+use mt_items::{Items, MarkerCells};
 use mt_op::Op;
 use mt_opcodec::Log;
-use mt_stamp::List;
+use mt_stamp::{List, Stamp};
 use std::alloc::Allocator;
 
 // The tracks that noted operations leave, in the order of their places, from the operations that gave these, in order.
@@ -101,26 +101,34 @@ pub fn session_of_ready<'a, A: Allocator + Clone>(
     Ok((session, placed))
 }
 
-// The same session alone, of items that are let go: it has the titles that their cells held.
-fn session_of_items<A: Allocator + Clone>(
-    alloc: A,
+// What a session is made of: the tracks in order, the cells of the markers, with the titles that they hold, and how many operations are held. None of it
+// stands on the log's memory.
+#[derive(Drop)]
+pub(crate) struct Parts<A: Allocator> {
+    tracks: Vec<TrackView<A>, A>,
+    cells: Vec<(Stamp, MarkerCells<A>), A>,
+    held: u64,
+}
+
+// The parts of what ready operations show, from the items that they leave, which are let go.
+fn parts_of_items<A: Allocator + Clone>(
+    alloc: &A,
     ready: &[&Op<A>],
     items: Items<A>,
     held: u64,
-) -> Result<Session<A>, SessionFault>
+) -> Result<Parts<A>, SessionFault>
     requires noted { AreNoted items }
     requires same { (f : Operation → ℕ) → sum_by f items ≡ sum_by f (map (λ o. o.now) ready.now) }
     requires rising { RisesStrictly op_cmp (map (λ o. o.now) ready.now) }
     requires tree { IsTree (places_in (map (λ o. o.now) ready.now)) }
-    ensures session { IfOk result (λ session. session ≡ record { tracks = tracks_in items; markers = markers_in items; held = held }) }
+    ensures parts { IfOk result (λ parts. ArePartsOf items parts.tracks.items parts.cells.items) }
+    ensures held { IfOk result (λ parts. parts.held ≡ held) }
     ensures err { IfErr result (λ fault. fault ≡ SessionFault.Memory) }
 {
-    let (tracks, cells) = taken_tracks(&alloc, ready, items)?;
-    let mut markers = taken_markers(alloc, cells)?;
-    sort_markers(&mut markers)?;
-    Ok(Session {
-        tracks: List::new(tracks),
-        markers: List::new(markers),
+    let (tracks, cells) = taken_tracks(alloc, ready, items)?;
+    Ok(Parts {
+        tracks,
+        cells,
         held,
     })
 }
@@ -133,22 +141,47 @@ fn count_held<A: Allocator>(ops: &[&Op<A>], ready: &[&Op<A>]) -> u64
     (ops.len() - ready.len()) as u64
 }
 
-/// The session of a log's operations: in a time of n log n for n of them and of the tags that they list. Refused only as
+/// What the session of a log's operations is made of: in a time of n log n for n of them and of the tags that they list. Refused only as
 /// `Memory` (0).
-pub(crate) fn session_of_log<A: Allocator + Clone>(
-    alloc: A,
+pub(crate) fn parts_of_log<A: Allocator + Clone>(
+    alloc: &A,
     log: &Log<A>,
-) -> Result<Session<A>, SessionFault>
-    ensures ok { IfOk result (λ session. session ≡ session_of (operations log.now)) }
+) -> Result<Parts<A>, SessionFault>
+    ensures ok { IfOk result (λ parts. ArePartsOfSession (operations log.now) parts.tracks.items parts.cells.items
+        parts.held) }
     ensures err { IfErr result (λ fault. fault ≡ SessionFault.Memory) }
 {
     // for the proof: that the dots of a log's operations differ
     let _ = log.runs();
     let sorted = sorted_ops(alloc.clone()?, log)?;
-    let ready = ready_of(&alloc, &sorted)?;
+    let ready = ready_of(alloc, &sorted)?;
     let held = count_held(&sorted, &ready.ops);
     drop(sorted);
     let Ready { ops, items } = ready;
-    let session = session_of_items(alloc, &ops, items, held)?;
-    Ok(session)
+    let parts = parts_of_items(alloc, &ops, items, held)?;
+    Ok(parts)
+}
+
+/// The session that is made of parts. Refused only as `Memory` (0).
+pub(crate) fn session_of_parts<A: Allocator + Clone>(
+    alloc: A,
+    parts: Parts<A>,
+) -> Result<Session<A>, SessionFault>
+    requires { (items : ListOf Operation) × ArePartsOf items parts.tracks.items parts.cells.items }
+    ensures ok { IfOk result (λ session. (items : ListOf Operation) → ArePartsOf items parts.tracks.items parts.cells.items
+        → session ≡ session_in items parts.held) }
+    ensures err { IfErr result (λ fault. fault ≡ SessionFault.Memory) }
+{
+    let Parts {
+        tracks,
+        cells,
+        held,
+    } = parts;
+    let mut markers = taken_markers(alloc, cells)?;
+    sort_markers(&mut markers)?;
+    Ok(Session {
+        tracks: List::new(tracks),
+        markers: List::new(markers),
+        held,
+    })
 }

@@ -86,5 +86,5 @@ pub use by_stamp::sorted_ops;
 pub use fault::SessionFault;
 pub use places::placed_by;
 pub use readiness::ready_stamps;
-pub use scratch::{from_scratch, write_text};
+pub use scratch::{from_scratch, of_log, write_text};
 pub use session::{ClipView, MarkerView, Session, TrackView};

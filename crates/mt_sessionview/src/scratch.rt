@@ -7,7 +7,7 @@ ghost use Rattle.mt_opcodec.specs.LogValue.{operations};
 ghost use Rattle.mt_sessionview.specs.Session.{session_of};
 ghost use Rattle.mt_sessionview.specs.SessionText.{session_text};
 
-use crate::build::session_of_log;
+use crate::build::{parts_of_log, session_of_parts};
 use crate::fault::SessionFault;
 use crate::session::Session;
 use crate::text::put_session;
@@ -24,7 +24,18 @@ pub fn from_scratch<A: Allocator + Clone>(
     ensures ok { IfOk result (λ session. session ≡ session_of (operations log.now)) }
     ensures err { IfErr result (λ fault. fault ≡ SessionFault.Memory) }
 {
-    session_of_log(alloc, log)
+    let parts = parts_of_log(&alloc, log)?;
+    session_of_parts(alloc, parts)
+}
+
+/// The same of a log by value, which is let go before the session's markers are made: so it takes less memory.
+pub fn of_log<A: Allocator + Clone>(alloc: A, log: Log<A>) -> Result<Session<A>, SessionFault>
+    ensures ok { IfOk result (λ session. session ≡ session_of (operations log)) }
+    ensures err { IfErr result (λ fault. fault ≡ SessionFault.Memory) }
+{
+    let parts = parts_of_log(&alloc, &log)?;
+    drop(log);
+    session_of_parts(alloc, parts)
 }
 
 /// Writes a session's text: a line for each track, followed by one for each of its clips, a line for each marker, all

@@ -24,9 +24,9 @@ returns-in_default-clause-err g c =
 pub returns-clause-ok : goal.returns-clause-ok
 returns-clause-ok g c =
     rendered g.W.Write.contents g.R.Read.remaining c.args.format c.args.head.now c.args.logs.now c.union_of.new.inputs (lent_files c.args.sources.now c.args.output.now) (lent_files c.put_audible.new.sources c.put_audible.new.output) c.in-Ok.log
-    c.in-Ok.ensures.ok c.in-Ok-from_scratch.session c.in-Ok-from_scratch.ensures.ok c.put_audible.result c.put_audible.ensures.ok
+    c.in-Ok.ensures.ok c.in-Ok-of_log.session c.in-Ok-of_log.ensures.ok c.put_audible.result c.put_audible.ensures.ok
 
 pub returns-clause-err : goal.returns-clause-err
 returns-clause-err g c =
     not_rendered g.W.Write.contents g.R.Read.remaining c.args.format c.args.head.now c.args.logs.now c.union_of.new.inputs (lent_files c.args.sources.now c.args.output.now) (lent_files c.put_audible.new.sources c.put_audible.new.output) c.in-Ok.log
-    c.in-Ok.ensures.ok c.in-Ok-from_scratch.session c.in-Ok-from_scratch.ensures.ok c.put_audible.result c.in-Ok.ensures.read c.put_audible.ensures.err
+    c.in-Ok.ensures.ok c.in-Ok-of_log.session c.in-Ok-of_log.ensures.ok c.put_audible.result c.in-Ok.ensures.read c.put_audible.ensures.err
