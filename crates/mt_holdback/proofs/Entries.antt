@@ -92,4 +92,3 @@ module _ {T : Type 0} where
           → items_of (insert_entry stamp_cmp (cond b es (e ∷ remove_entry (is_at (stamp_cmp k)) es)) k w) ≡ e.1.item ∷ items_of es
       by true is h rest = first es is sorted.0 ∙ ap (λ (t : T). t ∷ items_of es) (same ∙ ap (λ (u : Waiter T). u.item) (sym (same_Some e.1 v h)))
       by false is h rest = behind (found_key (λ y. stamp_cmp e.0 y ≡ Less) k es v h sorted.0) ∙ ap (λ (ts : List T). e.1.item ∷ ts) (rest h)
-

@@ -103,4 +103,3 @@ on_none o P is h = subst (λ (p : Option _). IfNone p P) is h
 
 pub on_match : {X : Type 0} (o : Option X) (x : X) (P : Type 0) (Q : X → Type 0) → o ≡ Some x → MatchOption o P Q → Q x
 on_match o x P Q is h = subst (λ (p : Option _). MatchOption p P Q) is h
-

@@ -100,8 +100,11 @@ impl<T: Waits + Drop, A: Allocator> HoldBack<T, A> {
         requires unknown { knows T.key_of T.needs_of T.fits_role self.old.contents (T.key_of item) ≡ false }
         ensures answered { IfOk result (λ offered. offered
             ≡ answer T.key_of T.needs_of T.fits_role self.old.contents item) }
-        ensures kept { OnOk result (self.new ≡ record { contents = contents_with T.key_of T.needs_of T.fits_role
-            self.old.contents item; failed = false }) }
+        ensures kept { OnOk result (self.new ≡ record {
+          contents = contents_with T.key_of T.needs_of T.fits_role
+              self.old.contents item;
+          failed = false;
+        }) }
         ensures rising { OnOk result (KeysRise T.key_of T.needs_of T.fits_role
             (newly_ready T.key_of T.needs_of T.fits_role self.old.contents item)) }
         ensures failed { IsErrOf result HoldBackFault.Failed ↔ (self.old.failed ≡ true) }
@@ -120,8 +123,11 @@ impl<T: Waits + Drop, A: Allocator> HoldBack<T, A> {
         requires met { is_met_by T.key_of T.needs_of T.fits_role self.old.contents.released item ≡ true }
         ensures answered { IfOk result (λ offered. offered
             ≡ answer T.key_of T.needs_of T.fits_role self.old.contents item) }
-        ensures kept { OnOk result (self.new ≡ record { contents = contents_with T.key_of T.needs_of T.fits_role
-            self.old.contents item; failed = false }) }
+        ensures kept { OnOk result (self.new ≡ record {
+          contents = contents_with T.key_of T.needs_of T.fits_role
+              self.old.contents item;
+          failed = false;
+        }) }
         ensures rising { OnOk result (KeysRise T.key_of T.needs_of T.fits_role
             (newly_ready T.key_of T.needs_of T.fits_role self.old.contents item)) }
         ensures failed { IsErrOf result HoldBackFault.Failed ↔ (self.old.failed ≡ true) }
@@ -140,8 +146,11 @@ impl<T: Waits + Drop, A: Allocator> HoldBack<T, A> {
             ≡ true }
         ensures answered { IfOk result (λ offered. offered
             ≡ answer T.key_of T.needs_of T.fits_role self.old.contents item) }
-        ensures kept { OnOk result (self.new ≡ record { contents = contents_with T.key_of T.needs_of T.fits_role
-            self.old.contents item; failed = false }) }
+        ensures kept { OnOk result (self.new ≡ record {
+          contents = contents_with T.key_of T.needs_of T.fits_role
+              self.old.contents item;
+          failed = false;
+        }) }
         ensures rising { OnOk result (KeysRise T.key_of T.needs_of T.fits_role
             (newly_ready T.key_of T.needs_of T.fits_role self.old.contents item)) }
         ensures failed { IsErrOf result HoldBackFault.Failed ↔ (self.old.failed ≡ true) }

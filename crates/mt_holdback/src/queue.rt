@@ -66,11 +66,7 @@ fn has_key<T: Waits>(released: &[T], place: Option<usize>, key: Stamp) -> bool
 }
 
 // Whether an item with this key was released.
-fn was_released<T: Waits, A: Allocator>(
-    released: &[T],
-    places: &StampIndex<A>,
-    key: Stamp,
-) -> bool
+fn was_released<T: Waits, A: Allocator>(released: &[T], places: &StampIndex<A>, key: Stamp) -> bool
     requires { Finds (map T.key_of released.now) places.now }
     ensures { result ≡ list_any (λ t. stamp_eq (T.key_of t) key) released.now }
 {
@@ -92,12 +88,7 @@ pub(crate) fn knows_key<T: Waits, A: Allocator>(
 }
 
 // Whether the item at a place has this stamp, and fits this role.
-fn meets_at<T: Waits>(
-    released: &[T],
-    place: Option<usize>,
-    stamp: Stamp,
-    role: &T::Role,
-) -> bool
+fn meets_at<T: Waits>(released: &[T], place: Option<usize>, stamp: Stamp, role: &T::Role) -> bool
     ensures { result ≡ passes_at (meets T.key_of T.needs_of T.fits_role (stamp, role.now)) released.now place }
 {
     match place {

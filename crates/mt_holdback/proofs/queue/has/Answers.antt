@@ -1,4 +1,4 @@
-use Rattle.std.proofs.Common.{◌≡◌, sym, ap, ◌∙◌}
+use Rattle.std.proofs.Common.{sym, ap, ◌∙◌}
 use Rattle.mt_holdback.specs.Waiting.{meets}
 use Rattle.mt_holdback.specs.Queue.{passes_at}
 use Rattle.mt_holdback.proofs.Released.{there_passes, found_need}

@@ -2,7 +2,6 @@ use Rattle.std.proofs.Common.{◌≡◌, ◌⊎◌, ℕ, length, Some, ap, ◌�
 use Rattle.mt_stampmap.specs.Index.{first_place, other_place}
 use Rattle.std.specs.BTreeMap.{get}
 use Rattle.std.specs.BTreeSet.{contains}
-use Rattle.std.specs.Ordering.{is_eq}
 use Rattle.mt_stamp.specs.Moment.{Moment, stamp_cmp, stamp_eq}
 use Rattle.mt_holdback.specs.Queue.{listed}
 use Rattle.mt_holdback.proofs.Queueing.{release_works}

@@ -51,7 +51,12 @@ parts_of_items-requires-clause-same g c = λ f.
 pub returns-clause-ok : goal.returns-clause-ok
 returns-clause-ok g c =
     let now : List (Bor (Op g.row.A.Denot)) → List Operation = λ l. map (λ (o : Bor (Op g.row.A.Denot)). o.now) l in
-    let sorted : now c.deref.result.now ≡ sort_by op_cmp (operations c.args.log.now) = ap now c.deref.ensures.value ∙ c.in_ok-sorted.ensures in
-    (c.in_ok-ready.ready.items, (c.in_ok-parts.ensures.parts, ap (session_in c.in_ok-ready.ready.items) c.in_ok-parts.ensures.held
-    ∙ whole (operations c.args.log.now) c.runs.ensures.logged (λ (o : Bor (Op g.row.A.Denot)). o.now) c.in_ok-ready.ready.items c.deref-2.result.now c.deref-3.result.now c.count_held-held.result
-    (c.in_ok-ready.ensures.items ∙ ap (λ (l : List Operation). reverse (ready_ops l)) sorted) (ap now c.deref-2.ensures.value ∙ c.in_ok-sorted.ensures) (ap now c.deref-3.ensures.value ∙ c.in_ok-ready.ensures.ops ∙ ap ready_ops sorted) c.count_held-held.ensures))
+    let sorted : now c.deref.result.now ≡ sort_by op_cmp (operations c.args.log.now) = ap now c.deref.ensures.value ∙ c.in_ok-sorted.ensures in (
+      c.in_ok-ready.ready.items,
+      (
+        c.in_ok-parts.ensures.parts,
+        ap (session_in c.in_ok-ready.ready.items) c.in_ok-parts.ensures.held
+            ∙ whole (operations c.args.log.now) c.runs.ensures.logged (λ (o : Bor (Op g.row.A.Denot)). o.now) c.in_ok-ready.ready.items c.deref-2.result.now c.deref-3.result.now c.count_held-held.result
+            (c.in_ok-ready.ensures.items ∙ ap (λ (l : List Operation). reverse (ready_ops l)) sorted) (ap now c.deref-2.ensures.value ∙ c.in_ok-sorted.ensures) (ap now c.deref-3.ensures.value ∙ c.in_ok-ready.ensures.ops ∙ ap ready_ops sorted) c.count_held-held.ensures,
+      ),
+    )
