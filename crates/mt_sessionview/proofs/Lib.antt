@@ -24,3 +24,4 @@ mod Equal
 pub mod Placing
 pub mod Beside
 pub mod Retold
+pub mod Parting
