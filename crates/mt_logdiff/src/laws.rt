@@ -1,0 +1,13 @@
+//! What holds of two logs beside each other: each law is the contract of a function that does nothing.
+
+ghost use Rattle.mt_logdiff.specs.Laws.{SameTellsNothing, EachIsCounted};
+
+/// Of a log beside itself nothing is told, and all its operations are shared.
+pub fn same_logs()
+    ensures { SameTellsNothing }
+{}
+
+/// Each operation of a log is alone, shared, or one of two under its dot, and only one of these: the last line counts each once.
+pub fn counts()
+    ensures { EachIsCounted }
+{}
