@@ -6,16 +6,17 @@ use Rattle.std.specs.Option.{is_none}
 use Rattle.std.specs.Str.{bytes_eq}
 use Rattle.std.proofs.lemmas.List.{length-map}
 use Rattle.std.proofs.lemmas.Slice.Eq.{bytes_eq-Decides}
-use Rattle.mt_stamp.proofs.Listed.{is_contained}
+use Rattle.mt_stamp.specs.declared.name.Dot.{Dot}
+use Rattle.mt_stamp.proofs.Listed.{is_contained, is_member}
 use Rattle.mt_stamp.proofs.Members.{IsMember}
 use Rattle.mt_op.specs.Dots.{op_dot}
 use Rattle.mt_op.specs.Operation.{Operation}
-use Rattle.mt_opcodec.specs.LogValue.{LogMap, operations, log_of, AreLogged}
+use Rattle.mt_opcodec.specs.LogValue.{LogMap, operations}
 use Rattle.mt_opcodec.specs.OpText.{op_text}
 use Rattle.mt_opcodec.proofs.Sets.{logs_are_sets}
 use Rattle.mt_logdiff.specs.Beside.{lacks, has, has_another, is_it, is_other, alone, shared, clashing, told}
 use Rattle.mt_logdiff.specs.Parts.{PartsOf}
-use Rattle.mt_logdiff.specs.Laws.{SameTellsNothing, EachIsCounted}
+use Rattle.mt_logdiff.specs.Laws.{IsLog, SameTellsNothing, EachIsCounted}
 
 -- one operation, from what stands under its dot
 one_counted : (o : Operation) (there : Option Operation) (a b c n : ℕ) (x y z : List Operation) → length x ≡ a → length y ≡ b → length z ≡ c → a + (b + c) ≡ n
@@ -52,13 +53,20 @@ all_stay : {X : Type 0} (p : X → Bool) (xs : List X) → ((x : X) → IsMember
 all_stay p [] all = refl
 all_stay p (x ∷ xs) all = rw (all x (inl refl)) (ap (λ (l : List _). x ∷ l) (all_stay p xs (λ y m. all y (inr m))))
 
-module _ (log : LogMap) (logged : AreLogged (operations log)) (whole : log_of (operations log) ≡ log) where
-  -- under the dot of each of its operations stands this one
-  there : (o : Operation) → IsMember o (operations log) → fin.get log (op_dot o) ≡ Some o
-  there o m = (logs_are_sets.listed log (logs_are_sets.logged log logged whole) o).0 (is_contained (operations log) o m)
+pub itself : (o : Operation) → bytes_eq (op_text o) (op_text o) ≡ true
+itself o = (bytes_eq-Decides (op_text o) (op_text o)).1 refl
 
-  itself : (o : Operation) → bytes_eq (op_text o) (op_text o) ≡ true
-  itself o = (bytes_eq-Decides (op_text o) (op_text o)).1 refl
+module _ (log : LogMap) (is_log : IsLog log) where
+  -- under the dot of each of its operations stands this one
+  pub there : (o : Operation) → IsMember o (operations log) → fin.get log (op_dot o) ≡ Some o
+  there o m = (logs_are_sets.listed log (logs_are_sets.logged log is_log.0 is_log.1) o).0 (is_contained (operations log) o m)
+
+  -- what stands under a dot is one of its operations, of this dot
+  pub stands : (dot : Dot) (o : Operation) → fin.get log dot ≡ Some o → (dot ≡ op_dot o) × IsMember o (operations log)
+  stands dot o at =
+      let is_set = logs_are_sets.logged log is_log.0 is_log.1 in
+      let own : dot ≡ op_dot o = is_set.own_dot dot o at in
+      (own, is_member (operations log) o ((logs_are_sets.listed log is_set o).1 (ap (fin.get log) (sym own) ∙ at)))
 
   none_alone : alone log log ≡ []
   none_alone = none_stay (lacks log) (operations log) (λ o m. ap is_none (there o m))
@@ -73,4 +81,4 @@ module _ (log : LogMap) (logged : AreLogged (operations log)) (whole : log_of (o
   tells_nothing = rw (none_alone, none_clashing) refl
 
 pub same_tells_nothing : SameTellsNothing
-same_tells_nothing log logged whole = (tells_nothing log logged whole, all_shared log logged whole)
+same_tells_nothing log is_log = (tells_nothing log is_log, all_shared log is_log)

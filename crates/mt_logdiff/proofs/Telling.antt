@@ -24,7 +24,7 @@ use Rattle.mt_sessionview.proofs.TrackSorting.{every_stamp}
 use Rattle.mt_logdiff.specs.Parts.{PartsOf}
 use Rattle.mt_logdiff.specs.Beside.{lacks, has_another, is_other, alone, clashing, Told, told_as, told_of, told_cmp, told}
 
-told_total : IsTotalOrder told_cmp
+pub told_total : IsTotalOrder told_cmp
 told_total = then_total (on_total (λ (t : Told). t.op.stamp) stamp_cmp_total) (on_total (λ (t : Told). t.right) bool_cmp_total)
 
 tied_first : (a b : Ordering) → ordering_then a b ≡ Equal → a ≡ Equal
@@ -43,7 +43,7 @@ same_side false true tied = absurd cc
 same_side true false tied = absurd cc
 same_side true true tied = refl
 
-map_member : {X Y : Type 0} (f : X → Y) (xs : List X) (y : Y) → IsMember y (map f xs) → (x : X) × (IsMember x xs × (f x ≡ y))
+pub map_member : {X Y : Type 0} (f : X → Y) (xs : List X) (y : Y) → IsMember y (map f xs) → (x : X) × (IsMember x xs × (f x ≡ y))
 map_member f [] y m = absurd m
 map_member f (x ∷ xs) y (inl here) = (x, (inl refl, here))
 map_member f (x ∷ xs) y (inr later) = let rest = map_member f xs y later in (rest.0, (inr rest.1.0, rest.1.1))
