@@ -35,4 +35,5 @@ mod act;
 mod line;
 mod log_text;
 
+pub use act::append_act;
 pub use log_text::write_log_text;

@@ -1,0 +1,4 @@
+mod Dividing
+mod Counting
+mod Telling
+mod Exchanging

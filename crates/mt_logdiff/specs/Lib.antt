@@ -1,0 +1,4 @@
+pub mod Beside
+pub mod Parts
+pub mod DiffText
+pub mod Laws

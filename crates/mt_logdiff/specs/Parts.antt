@@ -1,0 +1,16 @@
+-- The operations of one log, beside another (working definitions).
+use Rattle.std.specs.Prelude.{List, ◌++◌, filter}
+use Rattle.mt_op.specs.Operation.{Operation}
+use Rattle.mt_opcodec.specs.LogValue.{LogMap}
+use Rattle.mt_logdiff.specs.Beside.{lacks, has_another}
+
+-- those under whose dots the other one has nothing, and those under whose dots it has another one
+pub record PartsOf : Type 0 where
+  pub alone : List Operation
+  pub clashing : List Operation
+
+abbrev pub parts_of : LogMap → List Operation → PartsOf
+parts_of other ops = record { alone = filter (lacks other) ops; clashing = filter (has_another other) ops }
+
+abbrev pub both_parts : PartsOf → PartsOf → PartsOf
+both_parts p q = record { alone = p.alone ++ q.alone; clashing = p.clashing ++ q.clashing }

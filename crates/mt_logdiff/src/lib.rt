@@ -1,0 +1,42 @@
+//! Two logs beside each other as text: the operations that one of them alone has, a line each.
+//!
+//! ```rust
+//! use mt_logdiff::write_diff;
+//! use mt_op::{Body, Op, Title};
+//! use mt_opcodec::{Latch, Log};
+//! use mt_stamp::{Replica, Stamp};
+//! use std::test::Fail;
+//!
+//! const TEXT: &[u8] = b"\
+//! - 2.1.00000000-0000-0000-0000-00000000000b move-marker 1.1.00000000-0000-0000-0000-00000000000a 960
+//! + 2.1.00000000-0000-0000-0000-00000000000c move-marker 1.1.00000000-0000-0000-0000-00000000000a 720
+//! left 1 right 1 both 1 clashes 0
+//! ";
+//!
+//! fn tells_what_one_alone_has(rt: HostRuntime) -> Result<(), Fail> {
+//!     let marker = Stamp::new(1, Replica(10), 1)?;
+//!     let title = Title::new(rt.alloc(), "News")?;
+//!     let mut desk = Log::new(rt.alloc());
+//!     let _new = desk.add(Op::new(marker, Body::AddMarker { at: 480, title })?)?;
+//!     let mut home = desk.try_clone()?;
+//!     let _new = desk.add(Op::new(Stamp::new(2, Replica(11), 1)?, Body::MoveMarker { marker, at: 960 })?)?;
+//!     let _new = home.add(Op::new(Stamp::new(2, Replica(12), 1)?, Body::MoveMarker { marker, at: 720 })?)?;
+//!     let mut output = Latch::new(Vec::new(rt.alloc()));
+//!     write_diff(rt.alloc(), &desk, &home, &mut output)?;
+//!     assert!(rt; output.into_inner().as_slice() == TEXT);
+//!     Ok(())
+//! }
+//! ```
+//!
+//! Lines stand by rising stamp, and tell what an operation does in the words of a log's text. Where both logs have an operation of one dot,
+//! and these are not the same, both stand there, that of the left log first where their stamps are one. The last line counts. `specs/DiffText.antt` is the
+//! text.
+#![tactic(auto)]
+
+pub mod laws;
+mod lines;
+mod parts;
+mod text;
+mod told;
+
+pub use text::write_diff;
