@@ -1,6 +1,7 @@
 """What `radio` answers to words and files, by the second reading in this folder: status, standard output, the refusal's number, and the files that it makes.
 The order of the refusals is that of docs/refusals.md and of the README: a command checks its words, opens its files from left to right, and reads and checks
 each in turn (`sources` opens each where it reads it); `merge` and `render` make OUT.part once their files are open, the others once all is known."""
+from formats.diff_text import diff_text
 from formats.find_text import find_text, source_of
 from formats.log_text import log_text
 from formats.mixes import Mix, check_format, check_head
@@ -140,6 +141,11 @@ def find(folder, *words):
     return Answer(output=find_text(session_of(read_log(*folder.open(log))), kind, what, "--one" in words).encode())
 
 
+def diff(folder, *names):
+    left, right = [[op.text() for op in read_log(data)] for data in folder.open(*names)]
+    return Answer(output=diff_text(left, right).encode())
+
+
 def parted_well(words):
     """The names among the words, the options of the head and those of the format, which both have to be taken."""
     names, options = parted(words)
@@ -185,7 +191,7 @@ def parted(words):
     return names, options
 
 
-COMMANDS = {"view": view, "log": list_ops, "merge": merge, "pull": pull, "edit": edit, "have": have, "lack": lack, "take": take, "info": info, "sources": sources, "find": find, "check": check, "render": render}
+COMMANDS = {"view": view, "log": list_ops, "merge": merge, "pull": pull, "edit": edit, "have": have, "lack": lack, "take": take, "info": info, "sources": sources, "find": find, "diff": diff, "check": check, "render": render}
 
 
 def answer(words, files, stdin=b""):

@@ -42,12 +42,17 @@ WORDS = {
 }
 
 
+def act_words(take):
+    """What the operation does whose next byte tells its kind."""
+    act, *fields = ACTS[take(1)[0]]
+    return [act] + [WORDS[field](take) for field in fields]
+
+
 def log_line(text, held):
     """The line of the operation of these bytes, and whether it waits."""
     take = io.BytesIO(text).read
     words = [stamp(take), "held" if held else "ready"]
-    act, *fields = ACTS[take(1)[0]]
-    return " ".join(words + [act] + [WORDS[field](take) for field in fields]) + "\n"
+    return " ".join(words + act_words(take)) + "\n"
 
 
 def log_text(ops, held=()):

@@ -34,6 +34,11 @@ caused("none_found", 21, "log log items 0", ["find", "--one", "log", "track", "N
 caused("two_found", 21, "log log items 2", ["find", "--one", "log", "marker", "News"], {"log": log([NEWS, add_marker((2, A, 2), 9, "News")])})
 caused("no_digest_to_find", 50, "word voice.wav", ["find", "log", "clip", "voice.wav"], {"log": ONE})
 caused("missing_log_to_find_in", 45, "input nothing", ["find", "nothing", "track", "News"])
+caused("missing_left_log", 45, "input desk", ["diff", "desk", "home"], {"home": ONE})
+caused("missing_right_log", 45, "input home", ["diff", "desk", "home"], {"desk": ONE})
+caused("damaged_left_log", 13, "log desk", ["diff", "desk", "home"], {"desk": CUT, "home": CUT})
+caused("damaged_right_log", 13, "log home", ["diff", "desk", "home"], {"desk": ONE, "home": CUT})
+caused("bad_record_of_the_right_log", 14, "log home record 0", ["diff", "desk", "home"], {"desk": ONE, "home": seal(head(1) + b"\0" * 41)})
 # before the command's name, and between its words
 case("why_before_the_command", ["--why", "view", "missing"], status=1, stderr="radio: fault 45\nradio: why: input missing\n")
 case("why_among_the_words", ["merge", "out", "--why", "missing"], status=1, stderr="radio: fault 45\nradio: why: input missing\n")

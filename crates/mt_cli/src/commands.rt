@@ -16,6 +16,7 @@ use std::rt::Files;
 use std::time::Duration;
 
 pub(crate) mod check;
+pub(crate) mod diff;
 pub(crate) mod edit;
 pub(crate) mod explain;
 pub(crate) mod find;

@@ -5,7 +5,7 @@ ghost use Rattle.mt_cli.specs.Telling.{asks_why, TellsCauses, TellsFault, TellsR
 ghost use Rattle.mt_cli.specs.Mistakes.{IsMistake};
 
 use crate::commands::{
-    check, edit, explain, find, have, id, info, lack, log, meet, merge, pull, render, serve,
+    check, diff, edit, explain, find, have, id, info, lack, log, meet, merge, pull, render, serve,
     sources, take, view,
 };
 use crate::fault::CliFault;
@@ -169,6 +169,7 @@ fn print<
         "log" => stopped_by(log::run(rt, words, input, output)),
         "sources" => stopped_by(sources::run(rt, words, output)),
         "find" => stopped_by(find::run(rt, words, output)),
+        "diff" => stopped_by(diff::run(rt, words, output)),
         "check" => stopped_by(check::run(rt, words, output)),
         "info" => stopped_by(info::run(rt, words, output)),
         "explain" => explain::run(rt.alloc(), words, output),
@@ -239,7 +240,7 @@ fn of_logs() -> &'static [Words] {
     &OF_LOGS
 }
 
-const OF_LOGS: [Words; 9] = [
+const OF_LOGS: [Words; 10] = [
     view::WORDS,
     log::WORDS,
     pull::WORDS,
@@ -247,6 +248,7 @@ const OF_LOGS: [Words; 9] = [
     edit::WORDS,
     sources::WORDS,
     find::WORDS,
+    diff::WORDS,
     check::WORDS,
     render::WORDS,
 ];

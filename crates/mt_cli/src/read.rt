@@ -49,8 +49,8 @@ pub(crate) fn read_log<A: Allocator + Clone, R: Read>(
     }
 }
 
-// The refusal of the input of this index.
-fn refused(index: usize, fault: LogFault) -> CliFault
+/// The refusal of the input of this index, whose bytes are no log's text.
+pub(crate) fn refused(index: usize, fault: LogFault) -> CliFault
     ensures memory { fault ≡ log.Memory → result ≡ CliFault.Memory }
     ensures other { fault ≢ log.Memory → result ≡ CliFault.Log index fault }
 {

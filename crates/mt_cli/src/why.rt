@@ -95,6 +95,7 @@ impl<'w> Call<'_, 'w> {
         match self.name {
             "edit" => &["LOG", "SCRIPT"],
             "pull" => &["LOG", "FROM"],
+            "diff" => &["LEFT", "RIGHT"],
             "lack" => &["LOG", "HAVE"],
             "take" => &["LOG", "OPS"],
             "render" | "check" => &["LOG", "SOURCE"],

@@ -1,10 +1,10 @@
 //! The commands over a few texts, one of each, whatever the memory, the readers and the writer are.
 use super::texts::{
-    ANSWER, BOTH, EDITED, EMPTY, FILE, FOUND_CLIP, FOUND_MARKER, HAS_NEWS, HAS_NOTHING, LABELLED,
+    ANSWER, BOTH, COMPARED, EDITED, EMPTY, FILE, FOUND_CLIP, FOUND_MARKER, HAS_NEWS, HAS_NOTHING, LABELLED,
     LATE, LISTED, NEWS, PLAYED, PULLED, SCRIPT, SENT, SHOWN, TOLD, VOICE,
 };
 use mt_cli::{
-    CliFault, Wanted, bounce_logs, check_log, edit_log, find_items, have_log, lack_log, list_log,
+    CliFault, Wanted, bounce_logs, check_log, diff_logs, edit_log, find_items, have_log, lack_log, list_log,
     list_logs, list_sources, merge_logs, pull_logs, read_growing, swap_log, take_log, view_log,
     view_logs, write_info,
 };
@@ -35,13 +35,14 @@ pub(crate) enum Call {
     Sources,
     FindMarker,
     FindClip,
+    Diff,
     Check,
     Bounce,
     Info,
 }
 
 /// All of them.
-pub(crate) const CALLS: [Call; 19] = [
+pub(crate) const CALLS: [Call; 20] = [
     Call::ViewLog,
     Call::ViewLogs,
     Call::ListLog,
@@ -58,6 +59,7 @@ pub(crate) const CALLS: [Call; 19] = [
     Call::Sources,
     Call::FindMarker,
     Call::FindClip,
+    Call::Diff,
     Call::Check,
     Call::Bounce,
     Call::Info,
@@ -70,7 +72,7 @@ pub(crate) fn inputs_of(call: Call) -> (&'static [u8], &'static [u8]) {
     match call {
         Call::ViewLog | Call::ListLog | Call::FindMarker => (BOTH, NOTHING),
         Call::FindClip => (VOICE, NOTHING),
-        Call::ViewLogs | Call::ListLogs | Call::Merge | Call::Pull { .. } => (NEWS, LATE),
+        Call::ViewLogs | Call::ListLogs | Call::Merge | Call::Pull { .. } | Call::Diff => (NEWS, LATE),
         Call::Have => (NEWS, NOTHING),
         Call::Lack => (NEWS, HAS_NOTHING),
         Call::Take => (EMPTY, SENT),
@@ -95,6 +97,7 @@ fn output_of(call: Call) -> &'static [u8] {
         Call::Sources => PLAYED,
         Call::FindMarker => FOUND_MARKER,
         Call::FindClip => FOUND_CLIP,
+        Call::Diff => COMPARED,
         Call::Check => b"warnings 0\n",
         Call::Bounce => NOTHING,
         Call::Info => TOLD,
@@ -182,7 +185,7 @@ fn run_on_log<M: Allocator + Clone, R: Read + Drop, W: Write>(
     }
 }
 
-// Those of a log and what is carried by hand.
+// Those of a log and what is carried by hand, or another log.
 fn run_by_hand<M: Allocator + Clone, R: Read + Drop, W: Write>(
     memory: M,
     alloc: Global,
@@ -193,6 +196,7 @@ fn run_by_hand<M: Allocator + Clone, R: Read + Drop, W: Write>(
     let (mut log, mut other) = (Latch::new(log), Latch::new(other));
     match call {
         Call::Lack => lack_log(memory, &mut log, &mut other, output),
+        Call::Diff => diff_logs(memory, &mut log, &mut other, output),
         _ => take_log(memory, alloc, &mut log, &mut other, output),
     }
 }
@@ -338,7 +342,9 @@ pub(crate) fn run<M: Allocator + Copy, R: Read + Drop, W: Write>(
         Call::ViewLog | Call::ListLog | Call::FindMarker | Call::FindClip | Call::Have => {
             Some(run_on_log(memory, call, inputs, output))
         }
-        Call::Lack | Call::Take => Some(run_by_hand(memory, alloc, call, inputs, output)),
+        Call::Lack | Call::Take | Call::Diff => {
+            Some(run_by_hand(memory, alloc, call, inputs, output))
+        }
         Call::Edit { told } => edit(memory, alloc, told, inputs, output),
         Call::Pull { told } => pull(memory, alloc, told, inputs, output),
         Call::Swap => swap(memory, alloc, inputs, output),

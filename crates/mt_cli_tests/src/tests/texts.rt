@@ -62,6 +62,13 @@ pub(crate) const FOUND_MARKER: &[u8] = b"1.1.00000000-0000-0000-0000-00000000000
 
 pub(crate) const FOUND_CLIP: &[u8] = b"2.2.00000000-0000-0000-0000-00000000000a\n";
 
+/// The first two logs beside each other.
+pub(crate) const COMPARED: &[u8] = b"\
+- 1.1.00000000-0000-0000-0000-00000000000a add-marker 480 News
++ 2.1.00000000-0000-0000-0000-00000000000b retitle 1.1.00000000-0000-0000-0000-00000000000a Late
+left 1 right 1 both 0 clashes 0
+";
+
 /// The file of that, of 692 bytes.
 pub(crate) const FILE: [&[u8]; 7] = [
     b"RIFF\xac\x02\0\0WAVEbext\x75\x02\0\0",

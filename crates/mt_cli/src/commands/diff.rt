@@ -1,0 +1,36 @@
+//! `radio diff`.
+
+use crate::diff::diff_logs;
+use crate::fault::CliFault;
+use crate::files::open;
+use crate::words::{Word, Words};
+use clap::ArgMatches;
+use mt_opcodec::Latch;
+use std::io::Write;
+use std::rt::Files;
+
+pub(crate) const WORDS: Words = Words {
+    name: "diff",
+    about: "Prints the operations that one of two logs alone has",
+    after: "Example: radio diff desk.log home.log\n\nPrints them by rising stamp: `- ` stands before what LEFT alone has, `+ ` before what RIGHT alone has, and `! ` before both of two that have one name. Last it counts them.\n\nExit status: 0 done, also where they differ, 1 refused (the line `radio: fault N`; `radio explain N` tells why), 2 the command line does not parse.",
+    words: &[
+        Word::Needed {
+            name: "LEFT",
+            help: "A log",
+        },
+        Word::Needed {
+            name: "RIGHT",
+            help: "The log that is compared with it",
+        },
+    ],
+};
+
+pub(crate) fn run<F: Files + AllocGlobal, W: Write>(
+    rt: &F,
+    words: &ArgMatches<'_>,
+    output: &mut Latch<W>,
+) -> Result<(), CliFault> {
+    let mut left = open(rt, 0, words.get_str("LEFT").unwrap_or(""))?;
+    let mut right = open(rt, 1, words.get_str("RIGHT").unwrap_or(""))?;
+    diff_logs(rt.alloc(), &mut left, &mut right, output)
+}
