@@ -194,7 +194,8 @@ impl<A: Allocator + Clone, S: Sessions> Desk<A, S> {
     pub fn into_log(self) -> Option<Log<A>>
         ensures { result ≡ self.log }
     {
-        match self.state {
+        let Desk { state, .. } = self;
+        match state {
             Some(state) => Some(state.into_log()),
             None => None,
         }
