@@ -21,4 +21,3 @@ same_text o p r valid_o valid_p told =
     same_truth r (bytes_eq (op_text o) (op_text p))
     (λ e. decides.1 (ap op_text (told.0 e)))
     (λ e. told.1 (op_text-apart o p [] [] valid_o valid_p (ap (λ (t : List ℕ). t ++ []) (decides.0 e))).0)
-

@@ -3,8 +3,7 @@
 ghost use Rattle.std.specs.Prelude.{◌≡◌, ◌∷◌, [], map, OnOk, IfOk};
 ghost use Rattle.std.specs.Str.{bytes_eq};
 ghost use Rattle.mt_opcodec.specs.OpText.{op_text};
-ghost use Rattle.mt_logdiff.specs.Beside.{alone, clashing};
-ghost use Rattle.mt_logdiff.specs.Parts.{both_parts, parts_of};
+ghost use Rattle.mt_logdiff.specs.Parts.{both_parts, parts_of, parts_beside};
 
 use mt_op::Op;
 use mt_op::laws::equal_ops;
@@ -62,7 +61,7 @@ pub(crate) fn parts_of<'a, A: Allocator + Clone>(
     log: &'a Log<A>,
     other: &Log<A>,
 ) -> Result<Parts<'a, A>, AllocError>
-    ensures { IfOk result (λ parts. parts ≡ record { alone = alone log.now other.now; clashing = clashing log.now other.now }) }
+    ensures { IfOk result (λ parts. parts ≡ parts_beside log.now other.now) }
 {
     let ops = log.refs(alloc.clone()?)?;
     let mut parts = Parts {

@@ -4,8 +4,9 @@ ghost use Rattle.std.specs.Prelude.{◌≡◌, ◌++◌, length, true, false, On
 ghost use Rattle.std.specs.Io.KnownBytes.{Appends};
 ghost use Rattle.std.specs.String.{string_bytes};
 ghost use Rattle.mt_latch.specs.Latch.{AppendsPrefix};
-ghost use Rattle.mt_logdiff.specs.Beside.{alone, shared, clashing};
+ghost use Rattle.mt_logdiff.specs.Beside.{shared};
 ghost use Rattle.mt_logdiff.specs.DiffText.{diff_text};
+ghost use Rattle.mt_logdiff.specs.Parts.{parts_beside};
 
 use crate::lines::{append_counts, append_lines};
 use crate::parts::{Parts, parts_of};
@@ -17,7 +18,7 @@ use std::io::Write;
 
 // How many operations of a log another one has too.
 fn count_shared<A: Allocator>(log: &Log<A>, other: &Log<A>, parts: &Parts<'_, A>) -> usize
-    requires { parts.now ≡ record { alone = alone log.now other.now; clashing = clashing log.now other.now } }
+    requires { parts.now ≡ parts_beside log.now other.now }
     ensures { result ≡ length (shared log.now other.now) }
 {
     log.len() - parts.alone.len() - parts.clashing.len()

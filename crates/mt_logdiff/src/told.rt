@@ -1,7 +1,8 @@
 //! The operations that are told, in order.
 
-ghost use Rattle.std.specs.Prelude.{◌≡◌, ◌++◌, true, false, map, OnOk, IfOk};
-ghost use Rattle.mt_logdiff.specs.Beside.{alone, clashing, told_as, told};
+ghost use Rattle.std.specs.Prelude.{◌≡◌, ◌++◌, map, OnOk, IfOk};
+ghost use Rattle.mt_logdiff.specs.Beside.{told_as, told};
+ghost use Rattle.mt_logdiff.specs.Parts.{parts_beside, told_in};
 
 use crate::parts::Parts;
 use mt_op::Op;
@@ -50,7 +51,7 @@ fn push_parts<'a, A: Allocator, B: Allocator>(
     parts: &Parts<'a, A>,
     right: bool,
 ) -> Result<(), AllocError>
-    ensures { OnOk result (told.new.items ≡ told.old.items ++ (map (told_as right false) parts.now.alone ++ map (told_as right true) parts.now.clashing)) }
+    ensures { OnOk result (told.new.items ≡ told.old.items ++ told_in right parts.now) }
 {
     push_told(told, &parts.alone, right, false)?;
     push_told(told, &parts.clashing, right, true)
@@ -64,8 +65,8 @@ pub(crate) fn told_ops<'a, A: Allocator + Clone>(
     of_left: &Parts<'a, A>,
     of_right: &Parts<'a, A>,
 ) -> Result<Vec<Told<'a, A>, A>, AllocError>
-    requires left { of_left.now ≡ record { alone = alone left.now right.now; clashing = clashing left.now right.now } }
-    requires right { of_right.now ≡ record { alone = alone right.now left.now; clashing = clashing right.now left.now } }
+    requires left { of_left.now ≡ parts_beside left.now right.now }
+    requires right { of_right.now ≡ parts_beside right.now left.now }
     ensures { IfOk result (λ all. all.items ≡ told left.now right.now) }
 {
     // for the proof: that the stamps of a log's operations differ

@@ -1,12 +1,12 @@
 //! The commands over a few texts, one of each, whatever the memory, the readers and the writer are.
 use super::texts::{
-    ANSWER, BOTH, COMPARED, EDITED, EMPTY, FILE, FOUND_CLIP, FOUND_MARKER, HAS_NEWS, HAS_NOTHING, LABELLED,
-    LATE, LISTED, NEWS, PLAYED, PULLED, SCRIPT, SENT, SHOWN, TOLD, VOICE,
+    ANSWER, BOTH, COMPARED, EDITED, EMPTY, FILE, FOUND_CLIP, FOUND_MARKER, HAS_NEWS, HAS_NOTHING,
+    LABELLED, LATE, LISTED, NEWS, PLAYED, PULLED, SCRIPT, SENT, SHOWN, TOLD, VOICE,
 };
 use mt_cli::{
-    CliFault, Wanted, bounce_logs, check_log, diff_logs, edit_log, find_items, have_log, lack_log, list_log,
-    list_logs, list_sources, merge_logs, pull_logs, read_growing, swap_log, take_log, view_log,
-    view_logs, write_info,
+    CliFault, Wanted, bounce_logs, check_log, diff_logs, edit_log, find_items, have_log, lack_log,
+    list_log, list_logs, list_sources, merge_logs, pull_logs, read_growing, swap_log, take_log,
+    view_log, view_logs, write_info,
 };
 use mt_cuewrite::Head;
 use mt_op::Digest;
@@ -72,7 +72,9 @@ pub(crate) fn inputs_of(call: Call) -> (&'static [u8], &'static [u8]) {
     match call {
         Call::ViewLog | Call::ListLog | Call::FindMarker => (BOTH, NOTHING),
         Call::FindClip => (VOICE, NOTHING),
-        Call::ViewLogs | Call::ListLogs | Call::Merge | Call::Pull { .. } | Call::Diff => (NEWS, LATE),
+        Call::ViewLogs | Call::ListLogs | Call::Merge | Call::Pull { .. } | Call::Diff => (
+            NEWS, LATE,
+        ),
         Call::Have => (NEWS, NOTHING),
         Call::Lack => (NEWS, HAS_NOTHING),
         Call::Take => (EMPTY, SENT),
