@@ -1,6 +1,6 @@
 //! The commands of `radio`.
 //!
-//! `view_logs`, `list_logs`, `merge_logs`, `pull_logs`, `list_sources`, `find_items`, `check_log`, `bounce_logs`, `write_info`, `edit_log`, `have_log`, `lack_log`, `take_log` and
+//! `view_logs`, `list_logs`, `draw_logs`, `merge_logs`, `pull_logs`, `list_sources`, `find_items`, `check_log`, `bounce_logs`, `write_info`, `edit_log`, `have_log`, `lack_log`, `take_log` and
 //! `swap_log` do the work of commands over any readers and writers, of which each is in a latch:
 //!
 //! ```rust
@@ -44,6 +44,7 @@ mod base;
 mod both;
 mod check;
 mod commands;
+mod draw;
 mod edit;
 mod fault;
 mod files;
@@ -75,6 +76,7 @@ mod words;
 
 pub use both::read_growing;
 pub use check::check_log;
+pub use draw::{draw_log, draw_logs};
 pub use edit::edit_log;
 pub use fault::{CliFault, PartFault};
 pub use find::{Wanted, find_items};
