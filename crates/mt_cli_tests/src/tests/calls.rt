@@ -1,12 +1,12 @@
 //! The commands over a few texts, one of each, whatever the memory, the readers and the writer are.
 use super::texts::{
-    ANSWER, BOTH, EDITED, EMPTY, FILE, FOUND_CLIP, FOUND_MARKER, HAS_NEWS, HAS_NOTHING, LABELLED,
-    LATE, LISTED, NEWS, PLAYED, PULLED, SCRIPT, SENT, SHOWN, TOLD, VOICE,
+    ANSWER, BOTH, DRAWN, DRAWN_VOICE, EDITED, EMPTY, FILE, FOUND_CLIP, FOUND_MARKER, HAS_NEWS,
+    HAS_NOTHING, LABELLED, LATE, LISTED, NEWS, PLAYED, PULLED, SCRIPT, SENT, SHOWN, TOLD, VOICE,
 };
 use mt_cli::{
-    CliFault, Wanted, bounce_logs, check_log, edit_log, find_items, have_log, lack_log, list_log,
-    list_logs, list_sources, merge_logs, pull_logs, read_growing, swap_log, take_log, view_log,
-    view_logs, write_info,
+    CliFault, Wanted, bounce_logs, check_log, draw_log, draw_logs, edit_log, find_items, have_log,
+    lack_log, list_log, list_logs, list_sources, merge_logs, pull_logs, read_growing, swap_log,
+    take_log, view_log, view_logs, write_info,
 };
 use mt_cuewrite::Head;
 use mt_op::Digest;
@@ -25,6 +25,8 @@ pub(crate) enum Call {
     ViewLogs,
     ListLog,
     ListLogs,
+    DrawLog,
+    DrawLogs,
     Merge,
     Pull { told: bool },
     Have,
@@ -41,11 +43,13 @@ pub(crate) enum Call {
 }
 
 /// All of them.
-pub(crate) const CALLS: [Call; 19] = [
+pub(crate) const CALLS: [Call; 21] = [
     Call::ViewLog,
     Call::ViewLogs,
     Call::ListLog,
     Call::ListLogs,
+    Call::DrawLog,
+    Call::DrawLogs,
     Call::Merge,
     Call::Pull { told: false },
     Call::Pull { told: true },
@@ -69,8 +73,10 @@ const NOTHING: &[u8] = b"";
 pub(crate) fn inputs_of(call: Call) -> (&'static [u8], &'static [u8]) {
     match call {
         Call::ViewLog | Call::ListLog | Call::FindMarker => (BOTH, NOTHING),
-        Call::FindClip => (VOICE, NOTHING),
-        Call::ViewLogs | Call::ListLogs | Call::Merge | Call::Pull { .. } => (NEWS, LATE),
+        Call::FindClip | Call::DrawLog => (VOICE, NOTHING),
+        Call::ViewLogs | Call::ListLogs | Call::DrawLogs | Call::Merge | Call::Pull { .. } => (
+            NEWS, LATE,
+        ),
         Call::Have => (NEWS, NOTHING),
         Call::Lack => (NEWS, HAS_NOTHING),
         Call::Take => (EMPTY, SENT),
@@ -86,6 +92,8 @@ fn output_of(call: Call) -> &'static [u8] {
     match call {
         Call::ViewLog | Call::ViewLogs => SHOWN,
         Call::ListLog | Call::ListLogs => LISTED,
+        Call::DrawLog => DRAWN_VOICE,
+        Call::DrawLogs => DRAWN,
         Call::Merge | Call::Pull { told: false } => BOTH,
         Call::Pull { told: true } => PULLED,
         Call::Have => HAS_NEWS,
@@ -156,6 +164,7 @@ fn run_on_logs<M: Allocator + Clone, R: Read + Drop, W: Write>(
     Some(match call {
         Call::ViewLogs => view_logs(memory, &mut inputs, output),
         Call::ListLogs => list_logs(memory, &mut inputs, output),
+        Call::DrawLogs => draw_logs(memory, 3, 48_000, &mut inputs, output),
         _ => merge_logs(memory, &mut inputs, output),
     })
 }
@@ -171,6 +180,7 @@ fn run_on_log<M: Allocator + Clone, R: Read + Drop, W: Write>(
     match call {
         Call::ViewLog => view_log(memory, &mut input, output),
         Call::ListLog => list_log(memory, &mut input, output),
+        Call::DrawLog => draw_log(memory, 3, 48_000, &mut input, output),
         Call::FindMarker => {
             find_items(memory, true, &Wanted::Marker("Late"), &mut input, output)
         }
@@ -332,12 +342,15 @@ pub(crate) fn run<M: Allocator + Copy, R: Read + Drop, W: Write>(
     output: &mut Latch<W>,
 ) -> Option<Result<(), CliFault>> {
     match call {
-        Call::ViewLogs | Call::ListLogs | Call::Merge => {
+        Call::ViewLogs | Call::ListLogs | Call::DrawLogs | Call::Merge => {
             run_on_logs(memory, alloc, call, inputs, output)
         }
-        Call::ViewLog | Call::ListLog | Call::FindMarker | Call::FindClip | Call::Have => {
-            Some(run_on_log(memory, call, inputs, output))
-        }
+        Call::ViewLog
+        | Call::ListLog
+        | Call::DrawLog
+        | Call::FindMarker
+        | Call::FindClip
+        | Call::Have => Some(run_on_log(memory, call, inputs, output)),
         Call::Lack | Call::Take => Some(run_by_hand(memory, alloc, call, inputs, output)),
         Call::Edit { told } => edit(memory, alloc, told, inputs, output),
         Call::Pull { told } => pull(memory, alloc, told, inputs, output),
