@@ -21,6 +21,7 @@ import subjects.renders
 import subjects.sources
 import subjects.finds
 import subjects.diffs
+import subjects.timelines
 import subjects.warnings
 import subjects.command_lines
 import subjects.edits

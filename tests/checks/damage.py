@@ -3,7 +3,7 @@
 
 Logs, scripts, messages and wave files are drawn at random, damaged (formats/mutations.py: bits, bytes, numbers, counts and sizes changed, parts cut, put in,
 doubled, and spliced with others; the digest of a log, the frames of messages and the digests that a session names are mended, mostly, so that what is behind them
-is reached) and put through each command that reads them: view, log, merge and diff; edit; have, lack and take; info, render, check, sources and find. So are the files of the stored cases. The second reading, of docs/formats.md
+is reached) and put through each command that reads them: view, log, merge, timeline and diff; edit; have, lack and take; info, render, check, sources and find. So are the files of the stored cases. The second reading, of docs/formats.md
 alone, is formats/answers.py. Status, standard output, the refusal's line and every file of the folder have to be the same, byte for byte. First the reading itself is
 compared with the stored cases of these commands. Stops at the first that differs, and prints what repeats it."""
 import argparse
@@ -80,7 +80,7 @@ def read_log(draw, cases):
     if draw.random() < 0.4:
         files["b"] = logs.log([op.text() for op in ops if draw.random() < 0.6])
     names = draw.sample(sorted(files), len(files))
-    return [(["view", *names], files), (["log", *names], files), (["merge", draw.choice(["out", "a"]), *names], files), (["pull", *names, names[0]], files),
+    return [(["view", *names], files), (["log", *names], files), (["timeline", *draw.choice([[], ["--width", "7"]]), *names], files), (["merge", draw.choice(["out", "a"]), *names], files), (["pull", *names, names[0]], files),
             (["diff", names[0], draw.choice(names)], files)]
 
 
@@ -135,7 +135,12 @@ def read_session(draw, cases):
     files = {"log": log, **waves}
     listing = ["sources", *draw.choice([[], [], ["--missing"], ["--files"]]), "log", *draw.sample(list(waves), draw.randint(0, len(waves)))]
     options = drawings.options(draw, rate)
-    return [(["render", "out", "log", *waves, *options], files), (["check", "log", *waves, *options], files), (listing, files), finding(draw, waves, files)]
+    return [(["render", "out", "log", *waves, *options], files), (["check", "log", *waves, *options], files), (listing, files), finding(draw, waves, files), drawing(draw, files)]
+
+
+def drawing(draw, files):
+    """The session in some columns, its times at some rate."""
+    return (["timeline", "--width", str(draw.choice([1, 5, 60, 1000])), "--rate", str(draw.choice([1, 8000, 48000, 384000])), "log"], files)
 
 
 def finding(draw, waves, files):

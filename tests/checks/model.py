@@ -1,5 +1,5 @@
 #!/usr/bin/env python3
-"""Compares `radio view`, `radio log` and `radio merge` with a model of the session in Python: tests/checks/model.py PROGRAM [--sets N] [--seed N]
+"""Compares `radio view`, `radio log`, `radio timeline` and `radio merge` with a model of the session in Python: tests/checks/model.py PROGRAM [--sets N] [--seed N]
 
 The model (tests/formats/sessions.py) is written from docs/formats.md alone. The sets are drawn at random: a few replicas whose numbers may have gaps,
 names of operations that are there, that are not, that have another clock or do not fit the role. Each set is handed to the
@@ -16,7 +16,8 @@ sys.dont_write_bytecode = True
 sys.path.insert(0, os.path.dirname(os.path.dirname(os.path.abspath(__file__))))
 from formats import logs
 from formats.log_text import log_text
-from formats.sessions import ADDS, FITS, NAMED, Op, ready_of, session_text
+from formats.sessions import ADDS, FITS, NAMED, Op, ready_of, session_of, session_text
+from formats.timeline_text import timeline_text
 
 TITLES = ["", "News", "  two  ", "held 9", "Wetter für morgen", "新聞", "t" * 255]
 SOURCES = [bytes(32), b"\xff" * 32, bytes(range(32))]
@@ -29,6 +30,10 @@ FADES = [0, 0, 1, 480, 1048576]
 def operations_text(ops):
     ready = {op.own for op in ready_of(ops)}
     return log_text([op.text() for op in ops], {op.own for op in ops} - ready)
+
+
+def drawn_text(ops):
+    return timeline_text(session_of(ops))
 
 
 KINDS = sorted(ADDS) + ["add_track", "add_clip", "move_track", "remove"] + sorted(NAMED.keys() - {"add_clip", "move_track"})
@@ -156,7 +161,7 @@ def main():
             draw = random.Random(seed)
             ops = drawn(draw)
             files = files_of(draw, ops, folder)
-            for command, text in (("log", operations_text), ("view", session_text)):
+            for command, text in (("log", operations_text), ("timeline", drawn_text), ("view", session_text)):
                 told = subprocess.run([program, command] + files, capture_output=True)
                 wanted = text(ops)
                 if told.stdout.decode() != wanted or told.stderr or told.returncode != 0:

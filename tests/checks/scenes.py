@@ -63,6 +63,7 @@ def scenes(count, size):
         Scene("view", ["view", "log", "other"], {"log": whole, "other": other}),
         Scene("view of standard input", ["view"], {}, whole),
         Scene("log", ["log", "log"], {"log": whole}),
+        Scene("timeline", ["timeline", "--width", "9", "log"], {"log": log(played)}),
         Scene("merge", ["merge", "out", "log", "other"], {"log": whole, "other": other, "out": OLD}),
         Scene("merge onto a log", ["merge", "log", "log", "other"], {"log": whole, "other": other}),
         Scene("merge that is refused", ["merge", "out", "log", "other"], {"log": whole, "other": other[:-1], "out": OLD}),
@@ -92,7 +93,7 @@ def endless_scenes():
     """Commands that read an input without end, which no memory holds."""
     whole, zero, editor = log(markers(A, 3, 8)), "/dev/zero", "00000000-0000-0000-0000-00000000000c"
     words = [
-        ["view", zero], ["log", "log", zero], ["merge", "out", zero], ["edit", editor, zero, "log", "out"], ["edit", editor, "log", zero, "out"], ["have", zero, "out"],
+        ["view", zero], ["log", "log", zero], ["timeline", zero], ["merge", "out", zero], ["edit", editor, zero, "log", "out"], ["edit", editor, "log", zero, "out"], ["have", zero, "out"],
         ["lack", "log", zero, "out"], ["take", "log", zero, "out"], ["render", "out", "log", zero], ["info", zero], ["sources", "log", zero], ["find", zero, "track", "Voice"], ["diff", "log", zero], ["check", "log", zero], ["serve", "127.0.0.1:0", zero, "out"]]
     return [Scene(" ".join(some), some, {"log": whole, "out": OLD}, right=Answer(0)) for some in words]
 

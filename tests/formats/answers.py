@@ -12,6 +12,7 @@ from formats.refused import Refused, refuse_unless
 from formats.scripts import read_replica, run
 from formats.sessions import ready_of, session_of, session_text
 from formats.sources_text import sources_text
+from formats.timeline_text import timeline_text
 from formats.warnings_text import warnings_text
 
 WRITE, READ = 37, 45
@@ -71,6 +72,11 @@ def list_ops(folder, *names):
     ops = folder.logs(names)
     held = {op.own for op in ops} - {op.own for op in ready_of(ops)}
     return Answer(output=log_text([op.text() for op in ops], held).encode())
+
+
+def timeline(folder, *words):
+    names, options = parted(words, {"width": "60", "rate": "48000"})
+    return Answer(output=timeline_text(session_of(folder.logs(names)), int(options["width"]), int(options["rate"])).encode())
 
 
 def merge(folder, out, *names):
@@ -178,9 +184,9 @@ def check(folder, *words):
     return Answer(output=warnings_text(ops, session, mix).encode())
 
 
-def parted(words):
-    """The names among the words of `render`, and its options."""
-    names, options, left = [], dict(OPTIONS), list(words)
+def parted(words, defaults=OPTIONS):
+    """The names among the words, and the options, as `render` has them."""
+    names, options, left = [], dict(defaults), list(words)
     while left:
         word = left.pop(0)
         if not word.startswith("--"):
@@ -191,7 +197,7 @@ def parted(words):
     return names, options
 
 
-COMMANDS = {"view": view, "log": list_ops, "merge": merge, "pull": pull, "edit": edit, "have": have, "lack": lack, "take": take, "info": info, "sources": sources, "find": find, "diff": diff, "check": check, "render": render}
+COMMANDS = {"view": view, "log": list_ops, "timeline": timeline, "merge": merge, "pull": pull, "edit": edit, "have": have, "lack": lack, "take": take, "info": info, "sources": sources, "find": find, "diff": diff, "check": check, "render": render}
 
 
 def answer(words, files, stdin=b""):

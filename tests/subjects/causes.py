@@ -30,6 +30,8 @@ caused("missing_log_of_sources", 45, "input log", ["sources", "log", "wave"], {"
 caused("missing_file_of_sources", 45, "input second", ["sources", "log", "first", "second"], {"log": ONE, "first": SMALLEST})
 caused("missing_source_of_check", 45, "input second", ["check", "log", "first", "second"], {"log": ONE, "first": SMALLEST})
 caused("damaged_log_of_sources", 13, "log bad", ["sources", "bad", "wave"], {"bad": CUT, "wave": SMALLEST})
+caused("missing_log_to_draw", 45, "input nothing", ["timeline", "nothing"])
+caused("damaged_log_to_draw", 13, "log bad", ["timeline", "log", "bad"], {"log": ONE, "bad": ONE[:-1]})
 caused("none_found", 21, "log log items 0", ["find", "--one", "log", "track", "News"], {"log": ONE})
 caused("two_found", 21, "log log items 2", ["find", "--one", "log", "marker", "News"], {"log": log([NEWS, add_marker((2, A, 2), 9, "News")])})
 caused("no_digest_to_find", 50, "word voice.wav", ["find", "log", "clip", "voice.wav"], {"log": ONE})

@@ -15,9 +15,9 @@ both_refuse("output_to_a_closed_pipe", 37, ["log"], files={"log": ONE}, output="
 # command lines
 STATUS = "\nExit status: 0 done, 1 refused (the line `radio: fault N`; `radio explain N` tells why), 2 the command line does not parse.\n"
 USAGE = "Usage: radio [OPTIONS] <COMMAND>\n\nFor more information, try '--help'.\n"
-case("no_argument", [], status=2, stderr="error: 'radio' requires a subcommand but one was not provided\n  [subcommands: view, log, pull, merge, edit, sources, find, diff, check, render, have, lack, take, serve, meet, info, id, explain, help]\n\n" + USAGE)
+case("no_argument", [], status=2, stderr="error: 'radio' requires a subcommand but one was not provided\n  [subcommands: view, log, timeline, pull, merge, edit, sources, find, diff, check, render, have, lack, take, serve, meet, info, id, explain, help]\n\n" + USAGE)
 case("frob", ["frob"], status=2, stderr="error: unrecognized subcommand 'frob'\n\n" + USAGE)
-for command in ("view", "log"):
+for command in ("view", "log", "timeline"):
     case(command + "_unknown_option", [command, "--frob"], status=2, stderr="error: unexpected argument '--frob' found\n\n  tip: to pass '--frob' as a value, use '-- --frob'\n\nUsage: radio %s [OPTIONS] [LOG]...\n\nFor more information, try '--help'.\n" % command)
     case(command + "_word_of_no_text", [command, b"\xff\xfe"], status=2, stderr="error: invalid UTF-8 was detected in one or more arguments\n\n" + USAGE)
 case("version", ["--version"], stdout="radio 0.1.0\n")
@@ -27,25 +27,26 @@ HELP = """A nondestructive multitrack audio editor whose sessions are replicated
 Usage: radio [OPTIONS] <COMMAND>
 
 Commands:
-  view     Prints the session of the union of the logs
-  log      Prints the operations of the union of the logs, a line each by rising stamp
-  pull     Adds the operations of other logs to a log, and tells how many were new
-  merge    Writes the union of the logs as one log
-  edit     Makes the changes of a script, all or none, and writes the new log
-  sources  Tells which recordings a session plays, and which of the files these are
-  find     Prints the stamps of the items that have a title, or of the clips that play a recording
-  diff     Prints the operations that one of two logs alone has
-  check    Tells what a render would come to: how it is refused, or what sounds otherwise than one may think
-  render   Writes the session of a log as a broadcast wave file, its markers as cue points
-  have     Writes which operations a log has, for another editor to see what it lacks
-  lack     Writes the operations of a log that another editor lacks
-  take     Takes the operations that another editor sent, and writes the new log
-  serve    Waits for one editor who meets it, swaps operations, and writes the new log
-  meet     Meets an editor who serves, swaps operations, and writes the new log
-  info     Prints what a wave file says of itself
-  id       Prints a new name for an editor: a random UUID
-  explain  Prints what refusal N means, and what can be done about it; with no N all refusals
-  help     Print this message or the help of the given subcommand(s)
+  view      Prints the session of the union of the logs
+  log       Prints the operations of the union of the logs, a line each by rising stamp
+  timeline  Draws the session of the union of the logs: its markers and tracks, a line each
+  pull      Adds the operations of other logs to a log, and tells how many were new
+  merge     Writes the union of the logs as one log
+  edit      Makes the changes of a script, all or none, and writes the new log
+  sources   Tells which recordings a session plays, and which of the files these are
+  find      Prints the stamps of the items that have a title, or of the clips that play a recording
+  diff      Prints the operations that one of two logs alone has
+  check     Tells what a render would come to: how it is refused, or what sounds otherwise than one may think
+  render    Writes the session of a log as a broadcast wave file, its markers as cue points
+  have      Writes which operations a log has, for another editor to see what it lacks
+  lack      Writes the operations of a log that another editor lacks
+  take      Takes the operations that another editor sent, and writes the new log
+  serve     Waits for one editor who meets it, swaps operations, and writes the new log
+  meet      Meets an editor who serves, swaps operations, and writes the new log
+  info      Prints what a wave file says of itself
+  id        Prints a new name for an editor: a random UUID
+  explain   Prints what refusal N means, and what can be done about it; with no N all refusals
+  help      Print this message or the help of the given subcommand(s)
 
 Options:
       --why      Behind a refusal tell in one more line what it is about

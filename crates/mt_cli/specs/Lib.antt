@@ -3,6 +3,7 @@ pub mod Reading
 pub mod Joining
 pub mod Viewing
 pub mod Listing
+pub mod Drawing
 pub mod Writing
 pub mod Info
 pub mod Sources

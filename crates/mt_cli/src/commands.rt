@@ -32,6 +32,7 @@ pub(crate) mod render;
 pub(crate) mod serve;
 pub(crate) mod sources;
 pub(crate) mod take;
+pub(crate) mod timeline;
 pub(crate) mod view;
 
 // The log in a file, which is to grow, and the file where it is OUT.

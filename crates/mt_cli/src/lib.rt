@@ -1,6 +1,6 @@
 //! The commands of `radio`.
 //!
-//! `view_logs`, `list_logs`, `merge_logs`, `pull_logs`, `list_sources`, `find_items`, `diff_logs`, `check_log`, `bounce_logs`, `write_info`, `edit_log`, `have_log`, `lack_log`, `take_log` and
+//! `view_logs`, `list_logs`, `draw_logs`, `merge_logs`, `pull_logs`, `list_sources`, `find_items`, `diff_logs`, `check_log`, `bounce_logs`, `write_info`, `edit_log`, `have_log`, `lack_log`, `take_log` and
 //! `swap_log` do the work of commands over any readers and writers, of which each is in a latch:
 //!
 //! ```rust
@@ -45,6 +45,7 @@ mod both;
 mod check;
 mod commands;
 mod diff;
+mod draw;
 mod edit;
 mod fault;
 mod files;
@@ -77,6 +78,7 @@ mod words;
 pub use both::read_growing;
 pub use check::check_log;
 pub use diff::diff_logs;
+pub use draw::{draw_log, draw_logs};
 pub use edit::edit_log;
 pub use fault::{CliFault, PartFault};
 pub use find::{Wanted, find_items};

@@ -23,7 +23,7 @@ struct Operations;
 impl Telling for Operations {
     ghost use Rattle.mt_cli.specs.Listing.{log_list};
 
-    ghost told = { log_list };
+    ghost told = { λ _. log_list };
 
     fn tell<A: Allocator + Clone, W: Write>(
         &self,

@@ -6,7 +6,7 @@ ghost use Rattle.mt_cli.specs.Mistakes.{IsMistake};
 
 use crate::commands::{
     check, diff, edit, explain, find, have, id, info, lack, log, meet, merge, pull, render, serve,
-    sources, take, view,
+    sources, take, timeline, view,
 };
 use crate::fault::CliFault;
 use crate::refusal_lines::{asks_why, put_cause, put_refusal, put_text};
@@ -167,6 +167,7 @@ fn print<
     match name {
         "view" => stopped_by(view::run(rt, words, input, output)),
         "log" => stopped_by(log::run(rt, words, input, output)),
+        "timeline" => stopped_by(timeline::run(rt, words, input, output)),
         "sources" => stopped_by(sources::run(rt, words, output)),
         "find" => stopped_by(find::run(rt, words, output)),
         "diff" => stopped_by(diff::run(rt, words, output)),
@@ -243,6 +244,7 @@ fn of_logs() -> &'static [Words] {
 const OF_LOGS: [Words; 10] = [
     view::WORDS,
     log::WORDS,
+    timeline::WORDS,
     pull::WORDS,
     merge::WORDS,
     edit::WORDS,

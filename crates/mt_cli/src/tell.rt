@@ -16,7 +16,7 @@ use std::io::{Read, Write};
 
 /// A text of a log.
 pub(crate) trait Telling {
-    ghost told: { LogMap → List ℕ };
+    ghost told: { Self → LogMap → List ℕ };
 
     /// Writes the text of a log, which may be let go before it is written, and nothing else.
     fn tell<A: Allocator + Clone, W: Write>(
@@ -25,8 +25,8 @@ pub(crate) trait Telling {
         log: Log<A>,
         output: &mut Latch<W>,
     ) -> Result<(), CliFault>
-        ensures ok { OnOk result (Appends (W.contents output.old.inner) (W.contents output.new.inner) (told log)) }
-        ensures err { IfErr result (WriteFails told W.contents log output.old output.new) }
+        ensures ok { OnOk result (Appends (W.contents output.old.inner) (W.contents output.new.inner) (told self.now log)) }
+        ensures err { IfErr result (WriteFails (told self.now) W.contents log output.old output.new) }
         ensures sound { OnOk result (output.new.failed ≡ false) }
         ensures stays_failed { output.old.failed ≡ true → output.new ≡ output.old };
 }
@@ -40,9 +40,9 @@ pub(crate) fn tell_logs<T: Telling, A: Allocator + Clone, R: Read, W: Write>(
 ) -> Result<(), CliFault>
     ensures ok { OnOk result ((logs : List LogMap)
         × (GaveLogs R.remaining inputs.old logs × AllAgree logs × Appends (W.contents output.old.inner)
-        (W.contents output.new.inner) (T.told (union_all logs)))) }
+        (W.contents output.new.inner) (T.told text.now (union_all logs)))) }
     ensures read { OnOk result (AreRead R.remaining inputs.new) }
-    ensures err { IfErr result (InputsFail T.told W.contents R.remaining inputs.old inputs.new output.old output.new) }
+    ensures err { IfErr result (InputsFail (T.told text.now) W.contents R.remaining inputs.old inputs.new output.old output.new) }
     ensures sound { OnOk result (output.new.failed ≡ false) }
     ensures stays_failed { output.old.failed ≡ true → output.new ≡ output.old }
 {
@@ -60,9 +60,9 @@ pub(crate) fn tell_log<T: Telling, A: Allocator + Clone, R: Read, W: Write>(
     output: &mut Latch<W>,
 ) -> Result<(), CliFault>
     ensures ok { OnOk result ((log : LogMap) × (GaveLog R.remaining input.old log
-        × Appends (W.contents output.old.inner) (W.contents output.new.inner) (T.told log))) }
+        × Appends (W.contents output.old.inner) (W.contents output.new.inner) (T.told text.now log))) }
     ensures read { OnOk result (IsRead R.remaining input.new) }
-    ensures err { IfErr result (InputFails T.told W.contents R.remaining input.old input.new output.old output.new) }
+    ensures err { IfErr result (InputFails (T.told text.now) W.contents R.remaining input.old input.new output.old output.new) }
     ensures sound { OnOk result (output.new.failed ≡ false) }
     ensures stays_failed { output.old.failed ≡ true → output.new ≡ output.old }
 {

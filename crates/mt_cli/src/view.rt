@@ -22,7 +22,7 @@ struct Sessions;
 impl Telling for Sessions {
     ghost use Rattle.mt_cli.specs.Viewing.{log_view};
 
-    ghost told = { log_view };
+    ghost told = { λ _. log_view };
 
     fn tell<A: Allocator + Clone, W: Write>(
         &self,

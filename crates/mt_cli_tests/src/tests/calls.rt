@@ -1,12 +1,13 @@
 //! The commands over a few texts, one of each, whatever the memory, the readers and the writer are.
 use super::texts::{
-    ANSWER, BOTH, COMPARED, EDITED, EMPTY, FILE, FOUND_CLIP, FOUND_MARKER, HAS_NEWS, HAS_NOTHING,
-    LABELLED, LATE, LISTED, NEWS, PLAYED, PULLED, SCRIPT, SENT, SHOWN, TOLD, VOICE,
+    ANSWER, BOTH, COMPARED, DRAWN, DRAWN_VOICE, EDITED, EMPTY, FILE, FOUND_CLIP, FOUND_MARKER,
+    HAS_NEWS, HAS_NOTHING, LABELLED, LATE, LISTED, NEWS, PLAYED, PULLED, SCRIPT, SENT, SHOWN, TOLD,
+    VOICE,
 };
 use mt_cli::{
-    CliFault, Wanted, bounce_logs, check_log, diff_logs, edit_log, find_items, have_log, lack_log,
-    list_log, list_logs, list_sources, merge_logs, pull_logs, read_growing, swap_log, take_log,
-    view_log, view_logs, write_info,
+    CliFault, Wanted, bounce_logs, check_log, diff_logs, draw_log, draw_logs, edit_log, find_items,
+    have_log, lack_log, list_log, list_logs, list_sources, merge_logs, pull_logs, read_growing,
+    swap_log, take_log, view_log, view_logs, write_info,
 };
 use mt_cuewrite::Head;
 use mt_op::Digest;
@@ -25,6 +26,8 @@ pub(crate) enum Call {
     ViewLogs,
     ListLog,
     ListLogs,
+    DrawLog,
+    DrawLogs,
     Merge,
     Pull { told: bool },
     Have,
@@ -42,11 +45,13 @@ pub(crate) enum Call {
 }
 
 /// All of them.
-pub(crate) const CALLS: [Call; 20] = [
+pub(crate) const CALLS: [Call; 22] = [
     Call::ViewLog,
     Call::ViewLogs,
     Call::ListLog,
     Call::ListLogs,
+    Call::DrawLog,
+    Call::DrawLogs,
     Call::Merge,
     Call::Pull { told: false },
     Call::Pull { told: true },
@@ -71,8 +76,8 @@ const NOTHING: &[u8] = b"";
 pub(crate) fn inputs_of(call: Call) -> (&'static [u8], &'static [u8]) {
     match call {
         Call::ViewLog | Call::ListLog | Call::FindMarker => (BOTH, NOTHING),
-        Call::FindClip => (VOICE, NOTHING),
-        Call::ViewLogs | Call::ListLogs | Call::Merge | Call::Pull { .. } | Call::Diff => (
+        Call::FindClip | Call::DrawLog => (VOICE, NOTHING),
+        Call::ViewLogs | Call::ListLogs | Call::DrawLogs | Call::Merge | Call::Pull { .. } | Call::Diff => (
             NEWS, LATE,
         ),
         Call::Have => (NEWS, NOTHING),
@@ -90,6 +95,8 @@ fn output_of(call: Call) -> &'static [u8] {
     match call {
         Call::ViewLog | Call::ViewLogs => SHOWN,
         Call::ListLog | Call::ListLogs => LISTED,
+        Call::DrawLog => DRAWN_VOICE,
+        Call::DrawLogs => DRAWN,
         Call::Merge | Call::Pull { told: false } => BOTH,
         Call::Pull { told: true } => PULLED,
         Call::Have => HAS_NEWS,
@@ -161,6 +168,7 @@ fn run_on_logs<M: Allocator + Clone, R: Read + Drop, W: Write>(
     Some(match call {
         Call::ViewLogs => view_logs(memory, &mut inputs, output),
         Call::ListLogs => list_logs(memory, &mut inputs, output),
+        Call::DrawLogs => draw_logs(memory, 3, 48_000, &mut inputs, output),
         _ => merge_logs(memory, &mut inputs, output),
     })
 }
@@ -176,6 +184,7 @@ fn run_on_log<M: Allocator + Clone, R: Read + Drop, W: Write>(
     match call {
         Call::ViewLog => view_log(memory, &mut input, output),
         Call::ListLog => list_log(memory, &mut input, output),
+        Call::DrawLog => draw_log(memory, 3, 48_000, &mut input, output),
         Call::FindMarker => {
             find_items(memory, true, &Wanted::Marker("Late"), &mut input, output)
         }
@@ -338,12 +347,15 @@ pub(crate) fn run<M: Allocator + Copy, R: Read + Drop, W: Write>(
     output: &mut Latch<W>,
 ) -> Option<Result<(), CliFault>> {
     match call {
-        Call::ViewLogs | Call::ListLogs | Call::Merge => {
+        Call::ViewLogs | Call::ListLogs | Call::DrawLogs | Call::Merge => {
             run_on_logs(memory, alloc, call, inputs, output)
         }
-        Call::ViewLog | Call::ListLog | Call::FindMarker | Call::FindClip | Call::Have => {
-            Some(run_on_log(memory, call, inputs, output))
-        }
+        Call::ViewLog
+        | Call::ListLog
+        | Call::DrawLog
+        | Call::FindMarker
+        | Call::FindClip
+        | Call::Have => Some(run_on_log(memory, call, inputs, output)),
         Call::Lack | Call::Take | Call::Diff => {
             Some(run_by_hand(memory, alloc, call, inputs, output))
         }

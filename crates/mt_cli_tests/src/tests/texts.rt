@@ -27,6 +27,9 @@ pub(crate) const LISTED: &[u8] = b"\
 operations 2
 ";
 
+/// The timeline of both, in three columns.
+pub(crate) const DRAWN: &[u8] = b"markers ..^\nspan 481 0:00:00.010 column 161 0:00:00.003\n";
+
 /// What is told of the second, which was brought to the first.
 pub(crate) const PULLED: &[u8] = b"from home.log new 1 shared 0\nops 2\n";
 
@@ -52,6 +55,10 @@ pub(crate) const SENT: &[u8] =
 /// The log of a track with a clip of mt_testkit's recording, of its three frames.
 pub(crate) const VOICE: &[u8] =
     b"RMTS\x01\0\0\0\0\0\0\0\x02\0\0\0\0\0\0\0\x01\0\0\0\0\0\0\0\0\0\0\0\0\0\0\0\n\0\0\0\0\0\0\0\x01\x01\0\x05Voice\0\0\0\0\0\0\0\x02\0\0\0\0\0\0\0\0\0\0\0\0\0\0\0\n\0\0\0\0\0\0\0\x02\x03\xcc\n\x0e\x06Q\xf6\xe9\xe3\x04D&eCz\xb6\x1a\xc3\xb50+Q\xbbJ\x16\x1b\x14K\xf9\x98]\xfby\0\0\0\0\0\0\0\x01\0\0\0\0\0\0\0\0\0\0\0\0\0\0\0\n\0\0\0\0\0\0\0\x01\0\0\0\0\0\0\0\0\0\0\0\x03\xec!j\xa9@.\x0c\xb4\x15\xf4\xa9_\x1b\x01U:Y\xbe\x07\xf4F\xd4\xce\x92\x93OK2\xa26\x1f`";
+
+/// The timeline of that, in three columns.
+pub(crate) const DRAWN_VOICE: &[u8] =
+    b"markers ...\nVoice   [==\nspan 3 0:00:00.000 column 1 0:00:00.000\n";
 
 /// What is told of the recording that the log plays.
 pub(crate) const PLAYED: &[u8] =

@@ -1,0 +1,6 @@
+mod Characters
+mod Ends
+mod Noting
+mod Pieces
+mod Searching
+mod Sounding
