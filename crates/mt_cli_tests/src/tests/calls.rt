@@ -77,9 +77,12 @@ pub(crate) fn inputs_of(call: Call) -> (&'static [u8], &'static [u8]) {
     match call {
         Call::ViewLog | Call::ListLog | Call::FindMarker => (BOTH, NOTHING),
         Call::FindClip | Call::DrawLog => (VOICE, NOTHING),
-        Call::ViewLogs | Call::ListLogs | Call::DrawLogs | Call::Merge | Call::Pull { .. } | Call::Diff => (
-            NEWS, LATE,
-        ),
+        Call::ViewLogs
+        | Call::ListLogs
+        | Call::DrawLogs
+        | Call::Merge
+        | Call::Pull { .. }
+        | Call::Diff => (NEWS, LATE),
         Call::Have => (NEWS, NOTHING),
         Call::Lack => (NEWS, HAS_NOTHING),
         Call::Take => (EMPTY, SENT),
