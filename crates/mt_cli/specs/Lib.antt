@@ -18,4 +18,5 @@ pub mod Editing
 pub mod Telling
 pub mod Pulling
 pub mod Working
+pub mod Escaping
 pub mod Mistakes
