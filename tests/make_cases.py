@@ -20,6 +20,7 @@ import subjects.waves
 import subjects.renders
 import subjects.sources
 import subjects.finds
+import subjects.lays
 import subjects.warnings
 import subjects.command_lines
 import subjects.edits

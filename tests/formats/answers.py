@@ -1,7 +1,8 @@
 """What `radio` answers to words and files, by the second reading in this folder: status, standard output, the refusal's number, and the files that it makes.
 The order of the refusals is that of docs/refusals.md and of the README: a command checks its words, opens its files from left to right, and reads and checks
-each in turn (`sources` opens each where it reads it); `merge` and `render` make OUT.part once their files are open, the others once all is known."""
+each in turn (`sources` and `lay` open each where they read it); `merge` and `render` make OUT.part once their files are open, the others once all is known."""
 from formats.find_text import find_text, source_of
+from formats.lay_text import check_track, lay_text
 from formats.log_text import log_text
 from formats.mixes import Mix, check_format, check_head
 from formats.read_logs import dot, read_log, union, write_log
@@ -140,6 +141,16 @@ def find(folder, *words):
     return Answer(output=find_text(session_of(read_log(*folder.open(log))), kind, what, "--one" in words).encode())
 
 
+def lay(folder, *words):
+    (track, *names), options = parted(words, {"at": "0", "gap": "0", "rate": "48000"})
+    check_track(track)
+    files = []
+    for name in names:
+        files += folder.open(name)
+        Wave(files[-1])
+    return Answer(output=lay_text(track, files, **{name: int(value) for name, value in options.items()}).encode())
+
+
 def parted_well(words):
     """The names among the words, the options of the head and those of the format, which both have to be taken."""
     names, options = parted(words)
@@ -172,9 +183,9 @@ def check(folder, *words):
     return Answer(output=warnings_text(ops, session, mix).encode())
 
 
-def parted(words):
-    """The names among the words of `render`, and its options."""
-    names, options, left = [], dict(OPTIONS), list(words)
+def parted(words, defaults=None):
+    """The names among the words of `render`, or of another command whose options these are, and its options."""
+    names, options, left = [], dict(defaults or OPTIONS), list(words)
     while left:
         word = left.pop(0)
         if not word.startswith("--"):
@@ -185,7 +196,7 @@ def parted(words):
     return names, options
 
 
-COMMANDS = {"view": view, "log": list_ops, "merge": merge, "pull": pull, "edit": edit, "have": have, "lack": lack, "take": take, "info": info, "sources": sources, "find": find, "check": check, "render": render}
+COMMANDS = {"view": view, "log": list_ops, "merge": merge, "pull": pull, "edit": edit, "have": have, "lack": lack, "take": take, "info": info, "sources": sources, "find": find, "lay": lay, "check": check, "render": render}
 
 
 def answer(words, files, stdin=b""):

@@ -15,7 +15,7 @@ both_refuse("output_to_a_closed_pipe", 37, ["log"], files={"log": ONE}, output="
 # command lines
 STATUS = "\nExit status: 0 done, 1 refused (the line `radio: fault N`; `radio explain N` tells why), 2 the command line does not parse.\n"
 USAGE = "Usage: radio [OPTIONS] <COMMAND>\n\nFor more information, try '--help'.\n"
-case("no_argument", [], status=2, stderr="error: 'radio' requires a subcommand but one was not provided\n  [subcommands: view, log, pull, merge, edit, sources, find, check, render, have, lack, take, serve, meet, info, id, explain, completions, man, help]\n\n" + USAGE)
+case("no_argument", [], status=2, stderr="error: 'radio' requires a subcommand but one was not provided\n  [subcommands: view, log, pull, merge, edit, sources, find, check, render, have, lack, take, serve, meet, info, lay, id, explain, completions, man, help]\n\n" + USAGE)
 case("frob", ["frob"], status=2, stderr="error: unrecognized subcommand 'frob'\n\n" + USAGE)
 for command in ("view", "log"):
     case(command + "_unknown_option", [command, "--frob"], status=2, stderr="error: unexpected argument '--frob' found\n\n  tip: to pass '--frob' as a value, use '-- --frob'\n\nUsage: radio %s [OPTIONS] [LOG]...\n\nFor more information, try '--help'.\n" % command)
@@ -42,6 +42,7 @@ Commands:
   serve        Waits for one editor who meets it, swaps operations, and writes the new log
   meet         Meets an editor who serves, swaps operations, and writes the new log
   info         Prints what a wave file says of itself
+  lay          Prints lines of a script that lay recordings on a track, one behind another
   id           Prints a new name for an editor: a random UUID
   explain      Prints what refusal N means, and what can be done about it; with no N all refusals
   completions  Prints a script by which a shell completes the words of radio

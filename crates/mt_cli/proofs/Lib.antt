@@ -13,4 +13,5 @@ mod Pulling
 mod LogAndFiles
 mod SourcesListing
 mod Finding
+mod LaidLines
 mod Checking

@@ -9,6 +9,7 @@ pub mod Sources
 pub mod LogAndFiles
 pub mod SourcesListing
 pub mod Finding
+pub mod Laying
 pub mod Bouncing
 pub mod Checking
 pub mod Headline

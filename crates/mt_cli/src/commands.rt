@@ -24,6 +24,7 @@ pub(crate) mod have;
 pub(crate) mod id;
 pub(crate) mod info;
 pub(crate) mod lack;
+pub(crate) mod lay;
 pub(crate) mod log;
 pub(crate) mod man;
 pub(crate) mod meet;

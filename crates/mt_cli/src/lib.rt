@@ -1,6 +1,6 @@
 //! The commands of `radio`.
 //!
-//! `view_logs`, `list_logs`, `merge_logs`, `pull_logs`, `list_sources`, `find_items`, `check_log`, `bounce_logs`, `write_info`, `edit_log`, `have_log`, `lack_log`, `take_log` and
+//! `view_logs`, `list_logs`, `merge_logs`, `pull_logs`, `list_sources`, `find_items`, `lay_files`, `check_log`, `bounce_logs`, `write_info`, `edit_log`, `have_log`, `lack_log`, `take_log` and
 //! `swap_log` do the work of commands over any readers and writers, of which each is in a latch:
 //!
 //! ```rust
@@ -54,6 +54,7 @@ mod have;
 mod info;
 mod lack;
 pub mod laws;
+mod lay;
 mod list;
 mod manual;
 mod merge;
@@ -79,11 +80,12 @@ mod words;
 pub use both::read_growing;
 pub use check::check_log;
 pub use edit::edit_log;
-pub use fault::{CliFault, PartFault};
+pub use fault::{CliFault, LayFault, PartFault};
 pub use find::{Wanted, find_items};
 pub use have::have_log;
 pub use info::write_info;
 pub use lack::lack_log;
+pub use lay::{Laying, lay_files};
 pub use list::{list_log, list_logs};
 pub use merge::merge_logs;
 pub use program::command;

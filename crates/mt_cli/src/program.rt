@@ -5,8 +5,8 @@ ghost use Rattle.mt_cli.specs.Telling.{asks_why, TellsCauses, TellsFault, TellsR
 ghost use Rattle.mt_cli.specs.Mistakes.{IsMistake};
 
 use crate::commands::{
-    check, completions, edit, explain, find, have, id, info, lack, log, man, meet, merge, pull,
-    render, serve, sources, take, view,
+    check, completions, edit, explain, find, have, id, info, lack, lay, log, man, meet, merge,
+    pull, render, serve, sources, take, view,
 };
 use crate::fault::CliFault;
 use crate::refusal_lines::{asks_why, put_cause, put_refusal, put_text};
@@ -171,6 +171,7 @@ fn print<
         "find" => stopped_by(find::run(rt, words, output)),
         "check" => stopped_by(check::run(rt, words, output)),
         "info" => stopped_by(info::run(rt, words, output)),
+        "lay" => stopped_by(lay::run(rt, words, output)),
         "explain" => explain::run(rt.alloc(), words, output),
         "id" => stopped_by(id::run(rt, output)),
         "completions" => stopped_by(completions::run(&lists(), words, output)),
@@ -271,8 +272,9 @@ fn of_others() -> &'static [Words] {
     &OF_OTHERS
 }
 
-const OF_OTHERS: [Words; 5] = [
+const OF_OTHERS: [Words; 6] = [
     info::WORDS,
+    lay::WORDS,
     id::WORDS,
     explain::WORDS,
     completions::WORDS,
