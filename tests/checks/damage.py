@@ -139,7 +139,10 @@ def read_session(draw, cases):
 
 def finding(draw, waves, files):
     """What plays a recording, or has a title that sessions have."""
-    what = hashlib.sha256(files[draw.choice(list(waves))]).hexdigest()
+    name = draw.choice(list(waves))
+    if draw.random() < 0.3:
+        return (["find", *draw.choice([[], ["--one"]]), "--wave", "log", "clip", name], files)
+    what = hashlib.sha256(files[name]).hexdigest()
     kind = draw.choice(["track", "marker", "clip", "clip"])
     return (["find", *draw.choice([[], ["--one"]]), "log", kind, what if kind == "clip" else draw.choice(["T", "T", "News", ""])], files)
 

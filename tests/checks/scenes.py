@@ -76,6 +76,7 @@ def scenes(count, size):
         Scene("check that is refused", ["check", "log"], {"log": log(played)}),
         Scene("sources", ["sources", "log", "r", "script"], {"log": log(played), "r": recording, "script": script}),
         Scene("find", ["find", "log", "clip", hashlib.sha256(recording).hexdigest()], {"log": log(played)}),
+        Scene("find by a file", ["find", "--wave", "log", "clip", "r"], {"log": log(played), "r": recording}),
         Scene("lay", ["lay", "--at", "7", "--gap", "2", "$1", "r", "r"], {"r": recording}),
         Scene("lay that is refused", ["lay", "$1", "r", "script"], {"r": recording, "script": script}),
         Scene("have", ["have", "log", "out"], {"log": whole, "out": OLD}),
@@ -93,7 +94,7 @@ def endless_scenes():
     whole, zero, editor = log(markers(A, 3, 8)), "/dev/zero", "00000000-0000-0000-0000-00000000000c"
     words = [
         ["view", zero], ["log", "log", zero], ["merge", "out", zero], ["edit", editor, zero, "log", "out"], ["edit", editor, "log", zero, "out"], ["have", zero, "out"],
-        ["lack", "log", zero, "out"], ["take", "log", zero, "out"], ["render", "out", "log", zero], ["info", zero], ["sources", "log", zero], ["find", zero, "track", "Voice"], ["lay", "$1", zero], ["check", "log", zero], ["serve", "127.0.0.1:0", zero, "out"]]
+        ["lack", "log", zero, "out"], ["take", "log", zero, "out"], ["render", "out", "log", zero], ["info", zero], ["sources", "log", zero], ["find", zero, "track", "Voice"], ["find", "--wave", "log", "clip", zero], ["lay", "$1", zero], ["check", "log", zero], ["serve", "127.0.0.1:0", zero, "out"]]
     return [Scene(" ".join(some), some, {"log": whole, "out": OLD}, right=Answer(0)) for some in words]
 
 

@@ -1,6 +1,8 @@
 """What `radio` answers to words and files, by the second reading in this folder: status, standard output, the refusal's number, and the files that it makes.
 The order of the refusals is that of docs/refusals.md and of the README: a command checks its words, opens its files from left to right, and reads and checks
 each in turn (`sources` and `lay` open each where they read it); `merge` and `render` make OUT.part once their files are open, the others once all is known."""
+import hashlib
+
 from formats.find_text import find_text, source_of
 from formats.lay_text import check_track, lay_text
 from formats.log_text import log_text
@@ -136,8 +138,9 @@ def sources(folder, *words):
 
 
 def find(folder, *words):
-    log, kind, what = [word for word in words if word != "--one"]
-    what = source_of(what) if kind == "clip" else what
+    log, kind, what = [word for word in words if word not in ("--one", "--wave")]
+    if kind == "clip":
+        what = hashlib.sha256(*folder.open(what)).digest() if "--wave" in words else source_of(what)
     return Answer(output=find_text(session_of(read_log(*folder.open(log))), kind, what, "--one" in words).encode())
 
 

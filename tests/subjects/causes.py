@@ -35,6 +35,8 @@ caused("damaged_log_of_sources", 13, "log bad", ["sources", "bad", "wave"], {"ba
 caused("none_found", 21, "log log items 0", ["find", "--one", "log", "track", "News"], {"log": ONE})
 caused("two_found", 21, "log log items 2", ["find", "--one", "log", "marker", "News"], {"log": log([NEWS, add_marker((2, A, 2), 9, "News")])})
 caused("no_digest_to_find", 50, "word voice.wav", ["find", "log", "clip", "voice.wav"], {"log": ONE})
+caused("missing_file_to_find", 45, "input voice.wav", ["find", "--wave", "log", "clip", "voice.wav"], {"log": ONE})
+caused("missing_log_to_find_a_file_in", 45, "input log", ["find", "--wave", "log", "clip", "wave"], {"wave": SMALLEST})
 caused("missing_file_to_lay", 45, "input second", ["lay", "--rate", "44100", "$1", "first", "second"], {"first": SMALLEST})
 caused("no_wave_to_lay", 26, "recording second", ["lay", "$1", "first", "second"], {"first": SMALLEST, "second": ONE})
 caused("a_rate_to_lay", 34, "source %s rate 44100 file first" % DIGEST.hex(), ["lay", "$1", "first"], {"first": SMALLEST})

@@ -168,7 +168,7 @@ fn print<
         "view" => stopped_by(view::run(rt, words, input, output)),
         "log" => stopped_by(log::run(rt, words, input, output)),
         "sources" => stopped_by(sources::run(rt, words, output)),
-        "find" => stopped_by(find::run(rt, words, output)),
+        "find" => find::run(rt, words, output),
         "check" => stopped_by(check::run(rt, words, output)),
         "info" => stopped_by(info::run(rt, words, output)),
         "lay" => stopped_by(lay::run(rt, words, output)),

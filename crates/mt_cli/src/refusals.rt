@@ -345,7 +345,7 @@ const OF_FILES_AND_PARTS: [Refusal; 16] = [
         number: 50,
         name: "BadDigest",
         meaning: "a text is no digest",
-        advice: "Write a digest as the 64 hex digits that `radio info` prints. `radio find LOG clip` takes a digest, and no file's name.",
+        advice: "Write a digest as the 64 hex digits that `radio info` prints. `radio find LOG clip` takes a digest, and a file's name with --wave.",
     },
     Refusal {
         number: 51,

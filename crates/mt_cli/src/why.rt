@@ -100,6 +100,7 @@ impl<'w> Call<'_, 'w> {
             "render" | "check" => &["LOG", "SOURCE"],
             "sources" => &["LOG", "WAVE"],
             "info" | "lay" => &["WAVE"],
+            "find" => &["LOG", "WHAT"],
             _ => &["LOG"],
         }
     }
