@@ -3,7 +3,7 @@
 
 Logs, scripts, messages and wave files are drawn at random, damaged (formats/mutations.py: bits, bytes, numbers, counts and sizes changed, parts cut, put in,
 doubled, and spliced with others; the digest of a log, the frames of messages and the digests that a session names are mended, mostly, so that what is behind them
-is reached) and put through each command that reads them: view, log, merge, timeline and diff; edit; have, lack and take; info, render, check, sources and find. So are the files of the stored cases. The second reading, of docs/formats.md
+is reached) and put through each command that reads them: view, log, merge, timeline and diff; edit; have, lack and take; info, render, check, sources, find and lay. So are the files of the stored cases. The second reading, of docs/formats.md
 alone, is formats/answers.py. Status, standard output, the refusal's line and every file of the folder have to be the same, byte for byte. First the reading itself is
 compared with the stored cases of these commands. Stops at the first that differs, and prints what repeats it."""
 import argparse
@@ -118,7 +118,7 @@ def damaged_ops(draw, sent):
 def read_wave(draw, cases):
     whole = drawings.wave(draw)
     file = whole if draw.random() < 0.04 else damaged_wave(draw, whole, drawings.wave(draw))
-    return [(["info", "wave"], {"wave": file})]
+    return [(["info", "wave"], {"wave": file}), laying(draw, {"wave": file}, 48000)]
 
 
 def read_session(draw, cases):
@@ -135,7 +135,7 @@ def read_session(draw, cases):
     files = {"log": log, **waves}
     listing = ["sources", *draw.choice([[], [], ["--missing"], ["--files"]]), "log", *draw.sample(list(waves), draw.randint(0, len(waves)))]
     options = drawings.options(draw, rate)
-    return [(["render", "out", "log", *waves, *options], files), (["check", "log", *waves, *options], files), (listing, files), finding(draw, waves, files), drawing(draw, files)]
+    return [(["render", "out", "log", *waves, *options], files), (["check", "log", *waves, *options], files), (listing, files), finding(draw, waves, files), drawing(draw, files), laying(draw, waves, rate)]
 
 
 def drawing(draw, files):
@@ -145,9 +145,20 @@ def drawing(draw, files):
 
 def finding(draw, waves, files):
     """What plays a recording, or has a title that sessions have."""
-    what = hashlib.sha256(files[draw.choice(list(waves))]).hexdigest()
+    name = draw.choice(list(waves))
+    if draw.random() < 0.3:
+        return (["find", *draw.choice([[], ["--one"]]), "--wave", "log", "clip", name], files)
+    what = hashlib.sha256(files[name]).hexdigest()
     kind = draw.choice(["track", "marker", "clip", "clip"])
     return (["find", *draw.choice([[], ["--one"]]), "log", kind, what if kind == "clip" else draw.choice(["T", "T", "News", ""])], files)
+
+
+def laying(draw, waves, rate):
+    """Some of the recordings on a track, one behind another."""
+    names = draw.choices(list(waves), k=draw.randint(1, 3))
+    options = draw.choice([[], ["--at", str(draw.choice([0, 48000, 2**32 - 1]))], ["--gap", str(draw.choice([1, 24000, 2**32 - 1]))]])
+    track = draw.choice(["$1", "$1", "1.1.00000000-0000-0000-0000-00000000000a", "Voice"])
+    return (["lay", *options, "--rate", str(draw.choice([rate, rate, 44100])), track, *names], waves)
 
 
 def read_have(draw, cases):

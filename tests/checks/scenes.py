@@ -79,6 +79,9 @@ def scenes(count, size):
         Scene("find", ["find", "log", "clip", hashlib.sha256(recording).hexdigest()], {"log": log(played)}),
         Scene("diff", ["diff", "log", "other"], {"log": whole, "other": other}),
         Scene("diff that is refused", ["diff", "log", "other"], {"log": whole, "other": other[:-1]}),
+        Scene("find by a file", ["find", "--wave", "log", "clip", "r"], {"log": log(played), "r": recording}),
+        Scene("lay", ["lay", "--at", "7", "--gap", "2", "$1", "r", "r"], {"r": recording}),
+        Scene("lay that is refused", ["lay", "$1", "r", "script"], {"r": recording, "script": script}),
         Scene("have", ["have", "log", "out"], {"log": whole, "out": OLD}),
         Scene("lack", ["lack", "log", "have", "out"], {"log": whole, "have": asked, "out": OLD}),
         Scene("take", ["take", "log", "ops", "out"], {"log": whole, "ops": sent, "out": OLD}),
@@ -94,7 +97,7 @@ def endless_scenes():
     whole, zero, editor = log(markers(A, 3, 8)), "/dev/zero", "00000000-0000-0000-0000-00000000000c"
     words = [
         ["view", zero], ["log", "log", zero], ["timeline", zero], ["merge", "out", zero], ["edit", editor, zero, "log", "out"], ["edit", editor, "log", zero, "out"], ["have", zero, "out"],
-        ["lack", "log", zero, "out"], ["take", "log", zero, "out"], ["render", "out", "log", zero], ["info", zero], ["sources", "log", zero], ["find", zero, "track", "Voice"], ["diff", "log", zero], ["check", "log", zero], ["serve", "127.0.0.1:0", zero, "out"]]
+        ["lack", "log", zero, "out"], ["take", "log", zero, "out"], ["render", "out", "log", zero], ["info", zero], ["sources", "log", zero], ["find", zero, "track", "Voice"], ["diff", "log", zero], ["find", "--wave", "log", "clip", zero], ["lay", "$1", zero], ["check", "log", zero], ["serve", "127.0.0.1:0", zero, "out"]]
     return [Scene(" ".join(some), some, {"log": whole, "out": OLD}, right=Answer(0)) for some in words]
 
 

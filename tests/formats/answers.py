@@ -1,8 +1,11 @@
 """What `radio` answers to words and files, by the second reading in this folder: status, standard output, the refusal's number, and the files that it makes.
 The order of the refusals is that of docs/refusals.md and of the README: a command checks its words, opens its files from left to right, and reads and checks
-each in turn (`sources` opens each where it reads it); `merge` and `render` make OUT.part once their files are open, the others once all is known."""
+each in turn (`sources` and `lay` open each where they read it); `merge` and `render` make OUT.part once their files are open, the others once all is known."""
 from formats.diff_text import diff_text
+import hashlib
+
 from formats.find_text import find_text, source_of
+from formats.lay_text import check_track, lay_text
 from formats.log_text import log_text
 from formats.mixes import Mix, check_format, check_head
 from formats.read_logs import dot, read_log, union, write_log
@@ -142,14 +145,25 @@ def sources(folder, *words):
 
 
 def find(folder, *words):
-    log, kind, what = [word for word in words if word != "--one"]
-    what = source_of(what) if kind == "clip" else what
+    log, kind, what = [word for word in words if word not in ("--one", "--wave")]
+    if kind == "clip":
+        what = hashlib.sha256(*folder.open(what)).digest() if "--wave" in words else source_of(what)
     return Answer(output=find_text(session_of(read_log(*folder.open(log))), kind, what, "--one" in words).encode())
 
 
 def diff(folder, *names):
     left, right = [[op.text() for op in read_log(data)] for data in folder.open(*names)]
     return Answer(output=diff_text(left, right).encode())
+
+
+def lay(folder, *words):
+    (track, *names), options = parted(words, {"at": "0", "gap": "0", "rate": "48000"})
+    check_track(track)
+    files = []
+    for name in names:
+        files += folder.open(name)
+        Wave(files[-1])
+    return Answer(output=lay_text(track, files, **{name: int(value) for name, value in options.items()}).encode())
 
 
 def parted_well(words):
@@ -184,9 +198,9 @@ def check(folder, *words):
     return Answer(output=warnings_text(ops, session, mix).encode())
 
 
-def parted(words, defaults=OPTIONS):
-    """The names among the words, and the options, as `render` has them."""
-    names, options, left = [], dict(defaults), list(words)
+def parted(words, defaults=OPTIONS, defaults=None):
+    """The names among the words, and the options, as `render`, or of another command whose options these are has them."""
+    names, options, left = [], dict(defaults or defaults), list(words)
     while left:
         word = left.pop(0)
         if not word.startswith("--"):
@@ -197,7 +211,7 @@ def parted(words, defaults=OPTIONS):
     return names, options
 
 
-COMMANDS = {"view": view, "log": list_ops, "timeline": timeline, "merge": merge, "pull": pull, "edit": edit, "have": have, "lack": lack, "take": take, "info": info, "sources": sources, "find": find, "diff": diff, "check": check, "render": render}
+COMMANDS = {"view": view, "log": list_ops, "timeline": timeline, "merge": merge, "pull": pull, "edit": edit, "have": have, "lack": lack, "take": take, "info": info, "sources": sources, "find": find, "diff": diff, "lay": lay, "check": check, "render": render}
 
 
 def answer(words, files, stdin=b""):

@@ -6,12 +6,14 @@ from subjects.logs import FADED, ON_V, SPAN, V, in_version
 from subjects.waves import SMALLEST
 from formats.exchange import BYE, have, ops
 from formats.logs import A, B, add_clip, add_marker, add_track, head, log, seal, set_fade
+from formats.waves import data, fmt, riff
 
 EDITOR = "00000000-0000-0000-0000-%012x" % A
 CUT = ONE[:-1]
 TWO = log([NEWS, LATE])
 OTHER = log([add_marker((1, A, 1), 481, "News")])
 DIGEST = sha256(SMALLEST).digest()
+EMPTY_WAVE = riff(fmt(rate=44100, bits=8), data(b""))
 
 
 def caused(name, number, why, words, files=None, **more):
@@ -35,6 +37,14 @@ caused("damaged_log_to_draw", 13, "log bad", ["timeline", "log", "bad"], {"log":
 caused("none_found", 21, "log log items 0", ["find", "--one", "log", "track", "News"], {"log": ONE})
 caused("two_found", 21, "log log items 2", ["find", "--one", "log", "marker", "News"], {"log": log([NEWS, add_marker((2, A, 2), 9, "News")])})
 caused("no_digest_to_find", 50, "word voice.wav", ["find", "log", "clip", "voice.wav"], {"log": ONE})
+caused("missing_file_to_find", 45, "input voice.wav", ["find", "--wave", "log", "clip", "voice.wav"], {"log": ONE})
+caused("missing_log_to_find_a_file_in", 45, "input log", ["find", "--wave", "log", "clip", "wave"], {"wave": SMALLEST})
+caused("missing_file_to_lay", 45, "input second", ["lay", "--rate", "44100", "$1", "first", "second"], {"first": SMALLEST})
+caused("no_wave_to_lay", 26, "recording second", ["lay", "$1", "first", "second"], {"first": SMALLEST, "second": ONE})
+caused("a_rate_to_lay", 34, "source %s rate 44100 file first" % DIGEST.hex(), ["lay", "$1", "first"], {"first": SMALLEST})
+caused("no_frame_to_lay", 6, "recording second", ["lay", "--rate", "44100", "$1", "first", "second"], {"first": SMALLEST, "second": EMPTY_WAVE})
+caused("laid_too_far", 35, "recording second", ["lay", "--rate", "44100", "--at", "4294967295", "$1", "first", "second"], {"first": SMALLEST, "second": SMALLEST})
+caused("no_track_to_lay_on", 4, "word Voice", ["lay", "Voice", "first"], {"first": SMALLEST})
 caused("missing_log_to_find_in", 45, "input nothing", ["find", "nothing", "track", "News"])
 caused("missing_left_log", 45, "input desk", ["diff", "desk", "home"], {"home": ONE})
 caused("missing_right_log", 45, "input home", ["diff", "desk", "home"], {"desk": ONE})

@@ -67,6 +67,27 @@ for name, what in [("no_digest", "voice.wav"), ("an_empty_digest", ""), ("a_shor
     refused(name, 50, ["log", "clip", what])
 refused("no_digest_of_no_log", 50, ["nothing", "clip", "x"])
 finds("a_title_that_is_a_digest", [add_marker(POINT, 0, VOICE)], "marker", VOICE, [POINT])
+
+# by the file of a recording, whatever its bytes are, which is read before the log
+def finds_by_file(name, recording, found, flags=(), **more):
+    case("find_" + name, ["find", *flags, "--wave", "log", "clip", "wave"], files={"log": log(ALL), "wave": recording}, stdout="".join(stamp_text(*own) + "\n" for own in found), **more)
+
+
+finds_by_file("clips_by_their_file", THREE, [(11, A, 11), CLIP, (7, A, 7)])
+finds_by_file("the_one_clip_by_its_file", TENS, [OTHER], ["--one"])
+finds_by_file("no_clip_by_another_file", TWENTIES, [])
+finds_by_file("no_clip_by_a_file_that_is_cut", THREE[:-1], [])
+finds_by_file("no_clip_by_an_empty_file", b"", [])
+case("find_clips_by_a_file_of_a_digests_name", ["find", "log", "clip", MUSIC, "--wave"], files={"log": log(ALL), MUSIC: THREE}, stdout="".join(stamp_text(*own) + "\n" for own in [(11, A, 11), CLIP, (7, A, 7)]))
+refused("by_a_file_that_is_not_there", 45, ["--wave", "log", "clip", "wave"])
+refused("by_a_folder", 45, ["--wave", "log", "clip", "wave"], setup="mkdir wave")
+refused("by_a_digest_that_is_no_file", 45, ["--wave", "log", "clip", VOICE])
+fault("find_the_one_of_three_clips_by_their_file", 21, ["find", "--one", "--wave", "log", "clip", "wave"], files={"log": log(ALL), "wave": THREE})
+fault("find_by_a_file_in_no_log", 45, ["find", "--wave", "nothing", "clip", "wave"], files={"wave": THREE})
+fault("find_by_a_file_in_a_damaged_log", 13, ["find", "--wave", "log", "clip", "wave"], files={"log": ONE[:-1], "wave": THREE})
+for kind in ("track", "marker"):
+    case("find_a_%s_by_a_file" % kind, ["find", "--wave", "nothing", kind, "wave"], status=2, files={"wave": THREE}, stderr="error: the argument '--wave' can only be used with KIND 'clip'\n\nUsage: radio find [OPTIONS] <LOG> <KIND> <WHAT>\n\nFor more information, try '--help'.\n")
+
 refused("in_no_log", 45, ["nothing", "track", "Voice"])
 fault("find_in_a_damaged_log", 13, ["find", "log", "track", "Voice"], files={"log": ONE[:-1]})
 fault("find_the_one_in_a_damaged_log", 13, ["find", "--one", "log", "track", "Silence"], files={"log": ONE[:-1]})
@@ -84,10 +105,11 @@ Usage: radio find [OPTIONS] <LOG> <KIND> <WHAT>
 Arguments:
   <LOG>   The log
   <KIND>  What is looked for [possible values: track, marker, clip]
-  <WHAT>  The exact title of tracks or markers; of clips the digest of the recording that they play, as `radio info` prints it
+  <WHAT>  The exact title of tracks or markers; of clips the digest of the recording that they play, as `radio info` prints it, or with --wave its file
 
 Options:
       --one   Be refused (21) where it is not exactly one item
+      --wave  WHAT is the name of a file: find the clips that play this recording
       --why   Behind a refusal tell in one more line what it is about
   -h, --help  Print help
 

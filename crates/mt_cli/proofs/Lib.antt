@@ -14,4 +14,5 @@ mod LogAndFiles
 mod SourcesListing
 mod Finding
 mod Comparing
+mod LaidLines
 mod Checking

@@ -18,8 +18,16 @@ use Rattle.mt_sync.specs.Faults.{number_of as sync_number}
 use Rattle.mt_sync.specs.declared.fault.TalkFault.TheVariants as talk
 use Rattle.mt_sync.specs.declared.fault.SyncFault.{SyncFault}
 use Rattle.mt_sync.specs.declared.fault.SyncFault.TheVariants as sync
+use Rattle.mt_cli.specs.declared.fault.LayFault.{LayFault}
+use Rattle.mt_cli.specs.declared.fault.LayFault.TheVariants as lay
 use Rattle.mt_cli.specs.declared.fault.CliFault.{CliFault}
-use Rattle.mt_cli.specs.declared.fault.CliFault.TheVariants.{Memory, Read, Log, Merge, Source, Mix, Write, Part, Print, Name, Digest, NoSuchItem, Head, Format, Script, Message, Sync, Net}
+use Rattle.mt_cli.specs.declared.fault.CliFault.TheVariants.{Memory, Read, Log, Merge, Source, Mix, Lay, Write, Part, Print, Name, Digest, NoSuchItem, Head, Format, Script, Message, Sync, Net}
+
+-- A recording that is not laid is refused as a clip without a frame, a recording of another rate, or a programme that is too long.
+abbrev pub lay_number : LayFault → ℕ
+lay_number lay.ZeroLength = 6
+lay_number lay.RateDiffers = 34
+lay_number lay.TooLong = 35
 
 -- of a refusal inside another the inner one's
 abbrev pub number_of : CliFault → ℕ
@@ -29,6 +37,7 @@ number_of (Log index fault) = log_fault_number fault
 number_of (Merge dot) = 17
 number_of (Source index fault) = wave_fault_number fault
 number_of (Mix fault) = mix_number fault
+number_of (Lay index fault) = lay_number fault
 number_of Write = 37
 number_of (Part fault) = 37
 number_of Print = 37

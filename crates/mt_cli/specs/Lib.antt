@@ -11,6 +11,7 @@ pub mod LogAndFiles
 pub mod SourcesListing
 pub mod Finding
 pub mod Comparing
+pub mod Laying
 pub mod Bouncing
 pub mod Checking
 pub mod Headline
@@ -20,4 +21,5 @@ pub mod Editing
 pub mod Telling
 pub mod Pulling
 pub mod Working
+pub mod Escaping
 pub mod Mistakes

@@ -2,8 +2,10 @@
 use Rattle.std.specs.Io.KnownBytes.{IsAtEnd}
 use Rattle.std.specs.List.{AllByRecursion}
 use Rattle.std.specs.Prelude.{false, ◌≡◌, ◌≢◌, ℕ, true, List, [], ◌∷◌, Option, IfSome, ◌+◌, ◌⊎◌}
+use Rattle.sha2.specs.Sha256.{sha256}
 use Rattle.mt_opcodec.specs.declared.fault.LogFault.TheVariants as log
 use Rattle.mt_latch.specs.Latch.{Latched, ConsumesPrefix}
+use Rattle.mt_op.specs.declared.digest.Digest.{Digest}
 use Rattle.mt_opcodec.specs.LogText.{log_text}
 use Rattle.mt_opcodec.specs.LogReading.{log_at, LogFails}
 use Rattle.mt_opcodec.specs.LogValue.{LogMap, operations}
@@ -40,6 +42,10 @@ module _ {R : Type 0} (remaining : R → Option (List ℕ)) where
   -- these bytes are all that the reader had left, where it tells
   abbrev pub Gave : Latched R → List ℕ → Type 0
   Gave latch bytes = IfSome (remaining latch.inner) (λ left. bytes ≡ left)
+
+  -- all that the reader had left has this digest, where it tells
+  abbrev pub GaveDigest : Latched R → Digest → Type 0
+  GaveDigest latch d = IfSome (remaining latch.inner) (λ left. d ≡ record { 0 = sha256 left })
 
   -- the reader was read to its end, and has not failed
   abbrev pub IsRead : Latched R → Type 0

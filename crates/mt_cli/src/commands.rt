@@ -16,6 +16,7 @@ use std::rt::Files;
 use std::time::Duration;
 
 pub(crate) mod check;
+pub(crate) mod completions;
 pub(crate) mod diff;
 pub(crate) mod edit;
 pub(crate) mod explain;
@@ -24,7 +25,9 @@ pub(crate) mod have;
 pub(crate) mod id;
 pub(crate) mod info;
 pub(crate) mod lack;
+pub(crate) mod lay;
 pub(crate) mod log;
+pub(crate) mod man;
 pub(crate) mod meet;
 pub(crate) mod merge;
 pub(crate) mod pull;

@@ -1,7 +1,7 @@
 //! Why a command was refused.
 
 ghost use Rattle.std.specs.Prelude.{◌≡◌};
-ghost use Rattle.mt_cli.specs.Faults.{number_of};
+ghost use Rattle.mt_cli.specs.Faults.{number_of, lay_number};
 ghost use Rattle.mt_cli.specs.declared.fault.CliFault.TheVariants.{Memory};
 
 use mt_bwfread::WaveFault;
@@ -47,6 +47,33 @@ impl PartFault {
     }
 }
 
+/// Why a recording is not laid on a track.
+#[derive(Clone, Copy, Debug, PartialEq, Eq, Error)]
+pub enum LayFault {
+    /// It has no frame, and no clip has none.
+    #[error("it has no frame")]
+    ZeroLength,
+    /// It is of another rate.
+    #[error("it is of another rate")]
+    RateDiffers,
+    /// It would begin behind the last position there is.
+    #[error("it would begin behind frame 4294967295")]
+    TooLong,
+}
+
+impl LayFault {
+    /// The refusal's number: that of a clip without a frame, of another rate in a render, and of a programme that is too long.
+    pub fn number(&self) -> u8
+        ensures { result ≡ lay_number self.now }
+    {
+        match self {
+            LayFault::ZeroLength => 6,
+            LayFault::RateDiffers => 34,
+            LayFault::TooLong => 35,
+        }
+    }
+}
+
 /// Why a command was refused. Inputs are counted from 0. It tells all that is known of the cause: which input, record, line or output.
 #[derive(Clone, Copy, Debug, PartialEq, Eq, Error)]
 pub enum CliFault {
@@ -67,6 +94,9 @@ pub enum CliFault {
     /// The programme cannot be mixed, or its file is too long.
     #[error("the programme cannot be rendered: {0}")]
     Mix(MixFault),
+    /// The recording of this index is not laid on a track.
+    #[error("recording {0} is not laid: {1}")]
+    Lay(usize, LayFault),
     /// The output failed.
     #[error("the output cannot be written")]
     Write,
@@ -76,8 +106,8 @@ pub enum CliFault {
     /// The output failed on which a count or a text is told beside a file that is written.
     #[error("what was done cannot be told")]
     Print,
-    /// A word that is to name an editor is no UUID.
-    #[error("the editor's name: {0}")]
+    /// A word that is to name an editor is no UUID, or one that is to name a track no stamp.
+    #[error("the name of an editor or a track: {0}")]
     Name(StampFault),
     /// A word that is to name a recording is no digest.
     #[error("the recording's name: {0}")]
@@ -117,6 +147,7 @@ impl CliFault {
             CliFault::Merge(_) => 17,
             CliFault::Source(_, fault) => fault.number(),
             CliFault::Mix(fault) => fault.number(),
+            CliFault::Lay(_, fault) => fault.number(),
             CliFault::Write | CliFault::Print => 37,
             CliFault::Part(fault) => fault.number(),
             CliFault::Name(fault) => fault.number(),

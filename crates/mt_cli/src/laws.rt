@@ -2,6 +2,7 @@
 
 ghost use Rattle.std.specs.Prelude.{◌≡◌, ◌↔◌, IsTrue};
 ghost use Rattle.mt_opcodec.specs.Sets.{IsSet};
+ghost use Rattle.mt_cli.specs.Laying.{LaidIsTold};
 ghost use Rattle.mt_cli.specs.Headline.{SameAgree, SameIsTold, SameIsRendered, SameIsShown, OneIsItsUnion, MergedIsSame};
 
 use crate::fault::CliFault;
@@ -31,6 +32,12 @@ pub fn log_in_memory<A: Allocator>(log: &Log<A>)
     // for the proof: that its operations are a log's
     let _ = log.runs();
 }
+
+/// The line of a recording that is laid on a track that a stamp names is what a log tells of an operation that adds a clip of the whole recording: so it is
+/// a line of a script (`mt_script::laws::acts_read_back`), which adds that clip.
+pub fn laid_clips()
+    ensures { LaidIsTold }
+{}
 
 /// Refusals of a command are equal where they are of one case and say the same: the same index, the same dot, and the same fault inside.
 pub fn equal_cli_faults(fault: &CliFault, other: &CliFault) -> bool

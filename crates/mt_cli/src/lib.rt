@@ -1,6 +1,6 @@
 //! The commands of `radio`.
 //!
-//! `view_logs`, `list_logs`, `draw_logs`, `merge_logs`, `pull_logs`, `list_sources`, `find_items`, `diff_logs`, `check_log`, `bounce_logs`, `write_info`, `edit_log`, `have_log`, `lack_log`, `take_log` and
+//! `view_logs`, `list_logs`, `draw_logs`, `merge_logs`, `pull_logs`, `list_sources`, `find_items`, `diff_logs`, `lay_files`, `check_log`, `bounce_logs`, `write_info`, `edit_log`, `have_log`, `lack_log`, `take_log` and
 //! `swap_log` do the work of commands over any readers and writers, of which each is in a latch:
 //!
 //! ```rust
@@ -44,9 +44,11 @@ mod base;
 mod both;
 mod check;
 mod commands;
+mod completions;
 mod diff;
 mod draw;
 mod edit;
+mod escape;
 mod fault;
 mod files;
 mod find;
@@ -54,7 +56,9 @@ mod have;
 mod info;
 mod lack;
 pub mod laws;
+mod lay;
 mod list;
+mod manual;
 mod merge;
 mod part;
 mod program;
@@ -80,11 +84,12 @@ pub use check::check_log;
 pub use diff::diff_logs;
 pub use draw::{draw_log, draw_logs};
 pub use edit::edit_log;
-pub use fault::{CliFault, PartFault};
+pub use fault::{CliFault, LayFault, PartFault};
 pub use find::{Wanted, find_items};
 pub use have::have_log;
 pub use info::write_info;
 pub use lack::lack_log;
+pub use lay::{Laying, lay_files};
 pub use list::{list_log, list_logs};
 pub use merge::merge_logs;
 pub use program::command;

@@ -5,14 +5,14 @@ ghost use Rattle.mt_cli.specs.Telling.{asks_why, TellsCauses, TellsFault, TellsR
 ghost use Rattle.mt_cli.specs.Mistakes.{IsMistake};
 
 use crate::commands::{
-    check, diff, edit, explain, find, have, id, info, lack, log, meet, merge, pull, render, serve,
-    sources, take, timeline, view,
+    check, completions, diff, edit, explain, find, have, id, info, lack, lay, log, man, meet,
+    merge, pull, render, serve, sources, take, timeline, view,
 };
 use crate::fault::CliFault;
 use crate::refusal_lines::{asks_why, put_cause, put_refusal, put_text};
 use crate::stop::{Stop, refused, stopped_by};
 use crate::why::explained;
-use crate::words::{Words, bare, why_flag, with_all};
+use crate::words::{ABOUT, Lists, NUMBER, Words, bare, why_flag, with_all};
 use clap::{ArgMatches, Command};
 use mt_opcodec::Latch;
 use std::alloc::{AllocError, Global};
@@ -169,12 +169,15 @@ fn print<
         "log" => stopped_by(log::run(rt, words, input, output)),
         "timeline" => stopped_by(timeline::run(rt, words, input, output)),
         "sources" => stopped_by(sources::run(rt, words, output)),
-        "find" => stopped_by(find::run(rt, words, output)),
+        "find" => find::run(rt, words, output),
         "diff" => stopped_by(diff::run(rt, words, output)),
         "check" => stopped_by(check::run(rt, words, output)),
         "info" => stopped_by(info::run(rt, words, output)),
+        "lay" => stopped_by(lay::run(rt, words, output)),
         "explain" => explain::run(rt.alloc(), words, output),
         "id" => stopped_by(id::run(rt, output)),
+        "completions" => stopped_by(completions::run(&lists(), words, output)),
+        "man" => stopped_by(man::run(&lists(), output)),
         _ => make(rt, name, words, output, asked, errors),
     }
 }
@@ -273,15 +276,26 @@ fn of_others() -> &'static [Words] {
     &OF_OTHERS
 }
 
-const OF_OTHERS: [Words; 3] = [info::WORDS, id::WORDS, explain::WORDS];
+const OF_OTHERS: [Words; 6] = [
+    info::WORDS,
+    lay::WORDS,
+    id::WORDS,
+    explain::WORDS,
+    completions::WORDS,
+    man::WORDS,
+];
+
+// All commands.
+fn lists() -> Lists {
+    [of_logs(), of_swaps(), of_others()]
+}
 
 // Its name and what is told of it as a whole.
 fn named<'a>(alloc: Global) -> Result<Command<'a>, AllocError> {
-    let about = "A nondestructive multitrack audio editor whose sessions are replicated";
-    let command = bare(alloc, "radio", about, AFTER_HELP).bin_name("radio")?;
+    let command = bare(alloc, "radio", ABOUT, AFTER_HELP).bin_name("radio")?;
     Ok(
         command
-            .version("0.1.0")
+            .version(NUMBER)
             .no_binary_name(true)
             .subcommand_required(true)
             .arg(why_flag(alloc))?,

@@ -2,10 +2,11 @@
 
 ghost use Rattle.std.specs.Prelude.{◌≡◌, ◌≢◌, IfOk, IfErr, OnOk};
 ghost use Rattle.mt_opcodec.specs.declared.fault.LogFault.TheVariants as log;
-ghost use Rattle.mt_cli.specs.Reading.{Gave, GaveLog, IsRead, IsRest, AreRead, GaveLogs, IsReadCause, IsCause, HasCause};
+ghost use Rattle.mt_cli.specs.Reading.{Gave, GaveDigest, GaveLog, IsRead, IsRest, AreRead, GaveLogs, IsReadCause, IsCause, HasCause};
 
 use crate::fault::CliFault;
 use crate::laws::log_in_memory;
+use mt_op::Digest;
 use mt_opcodec::{Latch, LatchFault, Log, LogFault};
 use std::alloc::Allocator;
 use std::io::Read;
@@ -26,6 +27,21 @@ pub(crate) fn read_all<A: Allocator, R: Read>(
         Err(LatchFault::Memory) => Err(CliFault::Memory),
         Err(_) => Err(CliFault::Read(index)),
     }
+}
+
+/// Reads the bytes of the input of this index, and keeps their digest alone.
+pub(crate) fn read_digest<A: Allocator, R: Read>(
+    alloc: A,
+    index: usize,
+    input: &mut Latch<R>,
+) -> Result<Digest, CliFault>
+    ensures read { OnOk result (IsRead R.remaining input.new) }
+    ensures ok { IfOk result (GaveDigest R.remaining input.old) }
+    ensures rest { IsRest R.remaining input.old input.new }
+    ensures err { IfErr result (IsReadCause index input.new) }
+{
+    let bytes = read_all(alloc, index, input)?;
+    Ok(Digest::of(&bytes))
 }
 
 /// Reads the log of the input of this index.

@@ -49,7 +49,7 @@ const OF_OPERATIONS: [Refusal; 11] = [
         number: 4,
         name: "BadText",
         meaning: "a text is no stamp, or no replica",
-        advice: "Write a replica as a UUID, and a stamp as clock.number.replica as `radio view` prints it.",
+        advice: "Write a replica as a UUID, and a stamp as clock.number.replica as `radio view` prints it. A track of `radio lay` may also be $ and the number of a line.",
     },
     Refusal {
         number: 5,
@@ -61,7 +61,7 @@ const OF_OPERATIONS: [Refusal; 11] = [
         number: 6,
         name: "ZeroLength",
         meaning: "a clip would have no frame",
-        advice: "Give the clip a length of at least 1 frame.",
+        advice: "Give the clip a length of at least 1 frame. Leave a recording without a frame out of `radio lay`: `--why` tells which it is.",
     },
     Refusal {
         number: 7,
@@ -245,13 +245,13 @@ const OF_RENDERING: [Refusal; 4] = [
         number: 34,
         name: "RateDiffers",
         meaning: "a recording is of another rate than the programme",
-        advice: "`--why` tells which. Give the programme that rate, or convert the recording (`sox IN -r RATE OUT`) and place it anew: its digest is another then.",
+        advice: "`--why` tells which. Give the programme that rate (`--rate`), or convert the recording (`sox IN -r RATE OUT`) and place it anew: its digest is another then.",
     },
     Refusal {
         number: 35,
         name: "TooLong",
-        meaning: "the programme is too long for a wave file",
-        advice: "Look for a clip that was placed by mistake far behind the others, or render fewer channels or bits.",
+        meaning: "the programme is too long for a wave file, or a clip would begin behind frame 4294967295",
+        advice: "Look for a clip that was placed by mistake far behind the others, or render fewer channels or bits. Of `radio lay` tells `--why` the recording that would begin too far behind: name fewer, or take a smaller --at or --gap.",
     },
     Refusal {
         number: 36,
@@ -345,7 +345,7 @@ const OF_FILES_AND_PARTS: [Refusal; 16] = [
         number: 50,
         name: "BadDigest",
         meaning: "a text is no digest",
-        advice: "Write a digest as the 64 hex digits that `radio info` prints. `radio find LOG clip` takes a digest, and no file's name.",
+        advice: "Write a digest as the 64 hex digits that `radio info` prints. `radio find LOG clip` takes a digest, and a file's name with --wave.",
     },
     Refusal {
         number: 51,

@@ -23,8 +23,8 @@ use std::mem;
 // How many recordings are held until they are hashed together and those that are not audible are let go.
 const GROUP: usize = 8;
 
-// Reads the wave file of the recording of this index, which stands behind so many other inputs.
-fn read_source<A: Allocator, R: Read>(
+/// Reads the wave file of the recording of this index, which stands behind so many other inputs.
+pub(crate) fn read_source<A: Allocator, R: Read>(
     alloc: A,
     others: usize,
     index: usize,

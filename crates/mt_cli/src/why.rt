@@ -3,7 +3,7 @@
 ghost use Rattle.std.specs.Prelude.{◌≡◌, IfErr, Err};
 ghost use Rattle.mt_cli.specs.Mistakes.{IsMistake};
 
-use crate::fault::{CliFault, PartFault};
+use crate::fault::{CliFault, LayFault, PartFault};
 use crate::stop::Stop;
 use clap::ArgMatches;
 use mt_bwfread::Wave;
@@ -100,8 +100,17 @@ impl<'w> Call<'_, 'w> {
             "take" => &["LOG", "OPS"],
             "render" | "check" => &["LOG", "SOURCE"],
             "sources" => &["LOG", "WAVE"],
-            "info" => &["WAVE"],
+            "info" | "lay" => &["WAVE"],
+            "find" => &["LOG", "WHAT"],
             _ => &["LOG"],
+        }
+    }
+
+    // The word that is no name, where it has to be one.
+    fn named(&self) -> &'w str {
+        match self.name {
+            "lay" => self.word("TRACK"),
+            _ => self.word("REPLICA"),
         }
     }
 
@@ -161,10 +170,11 @@ fn cause_of<F: Files + AllocGlobal>(
             told(alloc, "recording ", call.input(&["SOURCE", "WAVE"], index))
         }
         CliFault::Mix(fault) => mix_cause(rt, call, fault),
+        CliFault::Lay(index, fault) => lay_cause(rt, call.input(call.inputs(), index), fault),
         CliFault::Write => output_cause(alloc, call.output(), "cannot be written"),
         CliFault::Print => output_cause(alloc, STANDARD_OUTPUT, "cannot be written"),
         CliFault::Part(fault) => part_cause(alloc, call.output(), fault),
-        CliFault::Name(_) => told(alloc, "word ", call.word("REPLICA")),
+        CliFault::Name(_) => told(alloc, "word ", call.named()),
         CliFault::Digest(_) => told(alloc, "word ", call.word("WHAT")),
         CliFault::NoSuchItem(count) => found_cause(alloc, call.word("LOG"), count),
         CliFault::Head(fault) => told(alloc, "option --", head_option(fault)),
@@ -276,6 +286,18 @@ fn rate_cause<F: Files + AllocGlobal>(
         }
     }
     told(alloc, "source ", &text)
+}
+
+// Why a recording is not laid: its file, and of another rate what it is. It is read once more.
+fn lay_cause<F: Files + AllocGlobal>(rt: &F, name: &str, fault: LayFault) -> Option<String> {
+    let alloc = rt.alloc();
+    if fault != LayFault::RateDiffers {
+        return told(alloc, "recording ", name);
+    }
+    let bytes = bytes_named(rt, name)?;
+    let text = Digest::of(&bytes).text(alloc).ok()?;
+    let rate = Wave::read(&bytes).ok()?.rate();
+    format!(in alloc; "source {text} rate {rate} file {name}").ok()
 }
 
 // The rate of a recording, where its file still has this digest.

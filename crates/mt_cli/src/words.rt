@@ -4,6 +4,15 @@ use clap::builder::ValueParser;
 use clap::{Arg, ArgAction, Command};
 use std::alloc::{AllocError, Global};
 
+/// All commands, in the lists in which help has them one after another.
+pub(crate) type Lists = [&'static [Words]; 3];
+
+/// What the program is, and its version's number.
+pub(crate) const ABOUT: &str =
+    "A nondestructive multitrack audio editor whose sessions are replicated";
+
+pub(crate) const NUMBER: &str = "0.1.0";
+
 /// What a command is called with, and what its help says.
 pub(crate) struct Words {
     pub(crate) name: &'static str,
@@ -76,6 +85,105 @@ pub(crate) enum Word {
     },
 }
 
+/// How a word is written.
+#[derive(Clone, Copy, PartialEq, Eq)]
+pub(crate) enum Shape {
+    /// One that has to be there, at its place among those that are no options.
+    One,
+    /// One that may be left out.
+    Optional,
+    /// Any number of them, or none.
+    Any,
+    /// One or more.
+    Many,
+    /// An option.
+    Flag,
+    /// An option with a value.
+    Valued,
+}
+
+impl Word {
+    /// What it is called; of an option this stands behind two dashes.
+    pub(crate) fn name(&self) -> &'static str {
+        match self {
+            Word::Needed { name, .. } => name,
+            Word::OneOf { name, .. } => name,
+            Word::Any { name, .. } => name,
+            Word::Many { name, .. } => name,
+            Word::Number { name, .. } => name,
+            Word::Text { name, .. } => name,
+            Word::Count { name, .. } => name,
+            Word::Limit { name, .. } => name,
+            Word::Flag { name, .. } => name,
+            Word::Choice { name, .. } => name,
+        }
+    }
+
+    /// What its help says.
+    pub(crate) fn help(&self) -> &'static str {
+        match self {
+            Word::Needed { help, .. } => help,
+            Word::OneOf { help, .. } => help,
+            Word::Any { help, .. } => help,
+            Word::Many { help, .. } => help,
+            Word::Number { help, .. } => help,
+            Word::Text { help, .. } => help,
+            Word::Count { help, .. } => help,
+            Word::Limit { help, .. } => help,
+            Word::Flag { help, .. } => help,
+            Word::Choice { help, .. } => help,
+        }
+    }
+
+    /// How it is written.
+    pub(crate) fn shape(&self) -> Shape {
+        match self {
+            Word::Needed { .. } => Shape::One,
+            Word::OneOf { .. } => Shape::One,
+            Word::Number { .. } => Shape::Optional,
+            Word::Any { .. } => Shape::Any,
+            Word::Many { .. } => Shape::Many,
+            Word::Text { .. } => Shape::Valued,
+            Word::Count { .. } => Shape::Valued,
+            Word::Limit { .. } => Shape::Valued,
+            Word::Flag { .. } => Shape::Flag,
+            Word::Choice { .. } => Shape::Flag,
+        }
+    }
+
+    /// Whether it is an option.
+    pub(crate) fn is_option(&self) -> bool {
+        matches!(self.shape(), Shape::Flag | Shape::Valued)
+    }
+
+    /// What stands for its value; nothing of one that has none.
+    pub(crate) fn value(&self) -> &'static str {
+        match self {
+            Word::Text { .. } => "TEXT",
+            Word::Count { .. } => "N",
+            Word::Limit { .. } => "N",
+            _ => "",
+        }
+    }
+
+    /// The value that it has where it is not said; nothing of one that has none.
+    pub(crate) fn default(&self) -> &'static str {
+        match self {
+            Word::Text { default, .. } => default,
+            Word::Count { default, .. } => default,
+            _ => "",
+        }
+    }
+
+    /// The names of which it is one; none where it is any text.
+    pub(crate) fn names(&self) -> &'static [&'static str] {
+        match self {
+            Word::OneOf { names, .. } => names,
+            _ => &[],
+        }
+    }
+}
+
 /// OUT may not be there yet.
 pub(crate) const NEW: Word = Word::Flag {
     name: "new",
@@ -86,6 +194,34 @@ pub(crate) const NEW: Word = Word::Flag {
 pub(crate) const NO_SYNC: Word = Word::Flag {
     name: "no-sync",
     help: "Do not wait until OUT is on the disk: faster, and lost where the machine stops",
+};
+
+/// The option of all commands, before or behind their names.
+pub(crate) const WHY: Word = Word::Flag {
+    name: "why",
+    help: "Behind a refusal tell in one more line what it is about",
+};
+
+/// The options that the parser adds: to all commands, and to the program alone.
+pub(crate) const HELP: Word = Word::Flag {
+    name: "help",
+    help: "Print help",
+};
+
+pub(crate) const VERSION: Word = Word::Flag {
+    name: "version",
+    help: "Print version",
+};
+
+/// The command that the parser adds.
+pub(crate) const HELP_COMMAND: Words = Words {
+    name: "help",
+    about: "Print this message or the help of the given subcommand(s)",
+    after: "Example: radio help edit",
+    words: &[Word::Any {
+        name: "COMMAND",
+        help: "The command",
+    }],
 };
 
 /// How long is waited for the other end.
@@ -254,10 +390,9 @@ fn limit<'a>(alloc: Global, name: &'a str, least: u64, greatest: u64, help: &'a 
         .value_parser(ValueParser::Unsigned(least, greatest))
 }
 
-/// The option of all commands, before or behind their names.
+/// The option of all commands.
 pub(crate) fn why_flag<'a>(alloc: Global) -> Arg<'a> {
-    let help = "Behind a refusal tell in one more line what it is about";
-    flag(alloc, "why", help)
+    free_word_of(alloc, &WHY)
 }
 
 fn flag<'a>(alloc: Global, name: &'a str, help: &'a str) -> Arg<'a> {

@@ -1,12 +1,18 @@
 //! `radio find`.
 
+ghost use Rattle.std.specs.Prelude.{◌≡◌, IfErr};
+ghost use Rattle.mt_cli.specs.Mistakes.{IsMistake};
+
 use crate::fault::CliFault;
 use crate::files::open;
 use crate::find::{Wanted, find_items};
+use crate::read::read_digest;
+use crate::stop::{Stop, refused, stopped_by};
 use crate::words::{Word, Words};
 use clap::ArgMatches;
 use mt_op::Digest;
 use mt_opcodec::Latch;
+use std::alloc::Global;
 use std::io::Write;
 use std::rt::Files;
 
@@ -26,21 +32,32 @@ pub(crate) const WORDS: Words = Words {
         },
         Word::Needed {
             name: "WHAT",
-            help: "The exact title of tracks or markers; of clips the digest of the recording that they play, as `radio info` prints it",
+            help: "The exact title of tracks or markers; of clips the digest of the recording that they play, as `radio info` prints it, or with --wave its file",
         },
         Word::Flag {
             name: "one",
             help: "Be refused (21) where it is not exactly one item",
         },
+        Word::Flag {
+            name: "wave",
+            help: "WHAT is the name of a file: find the clips that play this recording",
+        },
     ],
 };
 
-// What these words look for.
-fn wanted<'w>(words: &ArgMatches<'w>) -> Result<Wanted<'w>, CliFault> {
+// What these words look for. The file of a recording is read before the log.
+fn wanted<'w, F: Files + AllocGlobal>(
+    rt: &F,
+    words: &ArgMatches<'w>,
+) -> Result<Wanted<'w>, CliFault> {
     let what = words.get_str("WHAT").unwrap_or("");
     match words.get_str("KIND") {
         Some("track") => Ok(Wanted::Track(what)),
         Some("marker") => Ok(Wanted::Marker(what)),
+        _ if words.get_flag("wave") => {
+            let mut file = open(rt, 1, what)?;
+            Ok(Wanted::Clip(read_digest(rt.alloc(), 1, &mut file)?))
+        }
         _ => match Digest::read(what) {
             Ok(source) => Ok(Wanted::Clip(source)),
             Err(fault) => Err(CliFault::Digest(fault)),
@@ -48,12 +65,39 @@ fn wanted<'w>(words: &ArgMatches<'w>) -> Result<Wanted<'w>, CliFault> {
     }
 }
 
-pub(crate) fn run<F: Files + AllocGlobal, W: Write>(
+// Finds what these words look for.
+fn find<F: Files + AllocGlobal, W: Write>(
     rt: &F,
     words: &ArgMatches<'_>,
     output: &mut Latch<W>,
 ) -> Result<(), CliFault> {
-    let wanted = wanted(words)?;
+    let wanted = wanted(rt, words)?;
     let mut log = open(rt, 0, words.get_str("LOG").unwrap_or(""))?;
     find_items(rt.alloc(), words.get_flag("one"), &wanted, &mut log, output)
+}
+
+// What is told where a file is named, and no clips are looked for, as the parser tells of a mistake.
+fn no_clips(alloc: Global) -> Stop {
+    let text =
+        "error: the argument '--wave' can only be used with KIND 'clip'\n\nUsage: radio find [OPTIONS] <LOG> <KIND> <WHAT>\n\nFor more information, try '--help'.\n";
+    match String::from_str(alloc, text) {
+        Ok(text) => Stop::Told {
+            text,
+            is_mistake: true,
+        },
+        Err(_) => refused(CliFault::Memory),
+    }
+}
+
+pub(crate) fn run<F: Files + AllocGlobal, W: Write>(
+    rt: &F,
+    words: &ArgMatches<'_>,
+    output: &mut Latch<W>,
+) -> Result<(), Stop>
+    ensures untouched_output { IfErr result (λ stop. IsMistake stop → output.new ≡ output.old) }
+{
+    if words.get_flag("wave") && words.get_str("KIND") != Some("clip") {
+        return Err(no_clips(rt.alloc()));
+    }
+    stopped_by(find(rt, words, output))
 }

@@ -1,13 +1,13 @@
 //! The commands over a few texts, one of each, whatever the memory, the readers and the writer are.
 use super::texts::{
     ANSWER, BOTH, COMPARED, DRAWN, DRAWN_VOICE, EDITED, EMPTY, FILE, FOUND_CLIP, FOUND_MARKER,
-    HAS_NEWS, HAS_NOTHING, LABELLED, LATE, LISTED, NEWS, PLAYED, PULLED, SCRIPT, SENT, SHOWN, TOLD,
-    VOICE,
+    HAS_NEWS, HAS_NOTHING, LABELLED, LAID, LATE, LISTED, NEWS, PLAYED, PULLED, SCRIPT, SENT, SHOWN,
+    TOLD, VOICE,
 };
 use mt_cli::{
-    CliFault, Wanted, bounce_logs, check_log, diff_logs, draw_log, draw_logs, edit_log, find_items,
-    have_log, lack_log, list_log, list_logs, list_sources, merge_logs, pull_logs, read_growing,
-    swap_log, take_log, view_log, view_logs, write_info,
+    CliFault, Laying, Wanted, bounce_logs, check_log, diff_logs, draw_log, draw_logs, edit_log,
+    find_items, have_log, lack_log, lay_files, list_log, list_logs, list_sources, merge_logs,
+    pull_logs, read_growing, swap_log, take_log, view_log, view_logs, write_info,
 };
 use mt_cuewrite::Head;
 use mt_op::Digest;
@@ -39,13 +39,14 @@ pub(crate) enum Call {
     FindMarker,
     FindClip,
     Diff,
+    Lay,
     Check,
     Bounce,
     Info,
 }
 
 /// All of them.
-pub(crate) const CALLS: [Call; 22] = [
+pub(crate) const CALLS: [Call; 23] = [
     Call::ViewLog,
     Call::ViewLogs,
     Call::ListLog,
@@ -65,6 +66,7 @@ pub(crate) const CALLS: [Call; 22] = [
     Call::FindMarker,
     Call::FindClip,
     Call::Diff,
+    Call::Lay,
     Call::Check,
     Call::Bounce,
     Call::Info,
@@ -88,6 +90,7 @@ pub(crate) fn inputs_of(call: Call) -> (&'static [u8], &'static [u8]) {
         Call::Take => (EMPTY, SENT),
         Call::Edit { .. } => (EMPTY, SCRIPT),
         Call::Swap => (NEWS, ANSWER),
+        Call::Lay => (RECORDING, RECORDING),
         Call::Sources | Call::Check | Call::Bounce => (VOICE, RECORDING),
         Call::Info => (NOTHING, NOTHING),
     }
@@ -110,6 +113,7 @@ fn output_of(call: Call) -> &'static [u8] {
         Call::FindMarker => FOUND_MARKER,
         Call::FindClip => FOUND_CLIP,
         Call::Diff => COMPARED,
+        Call::Lay => LAID,
         Call::Check => b"warnings 0\n",
         Call::Bounce => NOTHING,
         Call::Info => TOLD,
@@ -322,6 +326,22 @@ fn list<M: Allocator + Clone, R: Read + Drop, W: Write>(
     ))
 }
 
+fn lay<M: Allocator + Clone, R: Read + Drop, W: Write>(
+    memory: M,
+    alloc: Global,
+    inputs: (R, R),
+    output: &mut Latch<W>,
+) -> Option<Result<(), CliFault>> {
+    let mut files = two(alloc, inputs)?;
+    let laying = Laying {
+        track: "$1",
+        at: 5,
+        gap: 2,
+        rate: 48000,
+    };
+    Some(lay_files(memory, &laying, &mut files, output))
+}
+
 // Those of a log and its recording that are rendered, or checked before.
 fn render<M: Allocator + Clone, R: Read + Drop, W: Write>(
     memory: M,
@@ -366,6 +386,7 @@ pub(crate) fn run<M: Allocator + Copy, R: Read + Drop, W: Write>(
         Call::Pull { told } => pull(memory, alloc, told, inputs, output),
         Call::Swap => swap(memory, alloc, inputs, output),
         Call::Sources => list(memory, alloc, inputs, output),
+        Call::Lay => lay(memory, alloc, inputs, output),
         Call::Check | Call::Bounce => render(memory, alloc, call, inputs, output),
         Call::Info => Some(write_info(memory, LABELLED, output)),
     }

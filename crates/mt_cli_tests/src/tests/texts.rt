@@ -76,6 +76,12 @@ pub(crate) const COMPARED: &[u8] = b"\
 left 1 right 1 both 0 clashes 0
 ";
 
+/// The lines that lay that recording twice, from frame 5 on and with two frames between.
+pub(crate) const LAID: &[u8] = b"\
+add-clip cc0a0e0651f6e9e304442665437ab61ac3b5302b51bb4a161b144bf9985dfb79 $1 5 0 3
+add-clip cc0a0e0651f6e9e304442665437ab61ac3b5302b51bb4a161b144bf9985dfb79 $1 10 0 3
+";
+
 /// The file of that, of 692 bytes.
 pub(crate) const FILE: [&[u8]; 7] = [
     b"RIFF\xac\x02\0\0WAVEbext\x75\x02\0\0",

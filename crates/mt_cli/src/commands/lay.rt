@@ -1,0 +1,77 @@
+//! `radio lay`.
+
+use crate::fault::CliFault;
+use crate::files::late_files;
+use crate::lay::{Laying, lay_files};
+use crate::words::{Word, Words};
+use clap::ArgMatches;
+use mt_opcodec::Latch;
+use mt_stamp::{Stamp, StampFault};
+use std::io::Write;
+use std::rt::Files;
+
+pub(crate) const WORDS: Words = Words {
+    name: "lay",
+    about: "Prints lines of a script that lay recordings on a track, one behind another",
+    after: "Example: radio lay --at 48000 '$1' jingle.wav interview.wav\n\nPrints a line `add-clip DIGEST TRACK AT 0 FRAMES` for each WAVE, a clip of the whole recording: the first at frame N of --at, each other where the one\nbefore it ends, and the frames of --gap behind it. `radio edit` takes these lines, behind others that make the track where TRACK is $k.\n\nExit status: 0 done, 1 refused (the line `radio: fault N`; `radio explain N` tells why), 2 the command line does not parse.",
+    words: &[
+        Word::Needed {
+            name: "TRACK",
+            help: "The track: its stamp, as `radio view` prints it, or $k for what line k of the script makes",
+        },
+        Word::Many {
+            name: "WAVE",
+            help: "Wave files, in the order in which they are to sound",
+        },
+        Word::Count {
+            name: "at",
+            default: "0",
+            greatest: u32::MAX as u64,
+            help: "Where the first begins, in frames",
+        },
+        Word::Count {
+            name: "gap",
+            default: "0",
+            greatest: u32::MAX as u64,
+            help: "Frames between the end of one and the beginning of the next",
+        },
+        Word::Count {
+            name: "rate",
+            default: "48000",
+            greatest: u32::MAX as u64,
+            help: "Frames a second of the programme; a recording of another rate is refused (34)",
+        },
+    ],
+};
+
+// Whether a text names a track in a script: the text of a stamp, or `$` and digits.
+fn is_track(text: &str) -> bool {
+    match text.strip_prefix('$') {
+        Some(line) => is_number(line),
+        None => Stamp::read(text).is_ok(),
+    }
+}
+
+// Whether a text is digits, and at least one.
+fn is_number(text: &str) -> bool {
+    !text.is_empty() && text.bytes().all(|byte| byte.is_ascii_digit())
+}
+
+pub(crate) fn run<F: Files + AllocGlobal, W: Write>(
+    rt: &F,
+    words: &ArgMatches<'_>,
+    output: &mut Latch<W>,
+) -> Result<(), CliFault> {
+    let track = words.get_str("TRACK").unwrap_or("");
+    if !is_track(track) {
+        return Err(CliFault::Name(StampFault::BadText));
+    }
+    let laying = Laying {
+        track,
+        at: words.get_one::<u32>("at").unwrap_or(0),
+        gap: words.get_one::<u32>("gap").unwrap_or(0),
+        rate: words.get_one::<u32>("rate").unwrap_or(0),
+    };
+    let mut files = late_files(rt, words.get_strs("WAVE").unwrap_or(&[]))?;
+    lay_files(rt.alloc(), &laying, &mut files, output)
+}
