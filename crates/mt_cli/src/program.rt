@@ -244,7 +244,7 @@ fn of_logs() -> &'static [Words] {
     &OF_LOGS
 }
 
-const OF_LOGS: [Words; 10] = [
+const OF_LOGS: [Words; 11] = [
     view::WORDS,
     log::WORDS,
     timeline::WORDS,
