@@ -39,7 +39,7 @@ struct Logs;
 impl Telling for Logs {
     ghost use Rattle.mt_cli.specs.Reading.{text_of};
 
-    ghost told = { text_of };
+    ghost told = { λ _. text_of };
 
     fn tell<A: Allocator + Clone, W: Write>(
         &self,
