@@ -235,22 +235,31 @@ fn swap<
 // The command line of `radio`.
 fn radio<'a>(alloc: Global) -> Result<Command<'a>, AllocError> {
     let command = with_all(alloc, named(alloc)?, of_logs())?;
+    let command = with_all(alloc, command, of_sessions())?;
     let command = with_all(alloc, command, of_swaps())?;
     with_all(alloc, command, of_others())
 }
 
-// The commands that show logs and make files of them.
+// The commands that show logs, and make other logs of them.
 fn of_logs() -> &'static [Words] {
     &OF_LOGS
 }
 
-const OF_LOGS: [Words; 11] = [
+const OF_LOGS: [Words; 6] = [
     view::WORDS,
     log::WORDS,
     timeline::WORDS,
     pull::WORDS,
     merge::WORDS,
     edit::WORDS,
+];
+
+// The commands that look into logs, and make sound of them.
+fn of_sessions() -> &'static [Words] {
+    &OF_SESSIONS
+}
+
+const OF_SESSIONS: [Words; 5] = [
     sources::WORDS,
     find::WORDS,
     diff::WORDS,
@@ -287,7 +296,7 @@ const OF_OTHERS: [Words; 6] = [
 
 // All commands.
 fn lists() -> Lists {
-    [of_logs(), of_swaps(), of_others()]
+    [of_logs(), of_sessions(), of_swaps(), of_others()]
 }
 
 // Its name and what is told of it as a whole.

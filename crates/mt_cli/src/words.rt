@@ -5,7 +5,7 @@ use clap::{Arg, ArgAction, Command};
 use std::alloc::{AllocError, Global};
 
 /// All commands, in the lists in which help has them one after another.
-pub(crate) type Lists = [&'static [Words]; 3];
+pub(crate) type Lists = [&'static [Words]; 4];
 
 /// What the program is, and its version's number.
 pub(crate) const ABOUT: &str =

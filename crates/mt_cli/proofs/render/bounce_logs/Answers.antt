@@ -1,9 +1,8 @@
-use Rattle.std.proofs.Common.{refl, inl, inr}
+use Rattle.std.proofs.Common.{refl, inl}
 use Rattle.mt_cli.specs.declared.fault.CliFault.TheVariants.{Memory}
 use Rattle.mt_cli.specs.Bouncing.{BounceFails}
 use Rattle.mt_cli.specs.LogAndFiles.{lent_files, lent_logs}
 use Rattle.mt_cli.proofs.Readers.{HasCause-memory, told_as}
-use Rattle.mt_cli.proofs.Recordings.{HasSourceCause-memory}
 use Rattle.mt_cli.proofs.Rendering.{rendered, not_rendered, no_memory}
 use Rattle.mt_cli.proofs.render.bounce_logs.Goals as goal
 
