@@ -8,7 +8,7 @@ use Rattle.std.proofs.lemmas.Option.{none-some, same_Some}
 use Rattle.mt_op.specs.Operation.{Operation}
 use Rattle.mt_op.specs.Dots.{op_dot, dots_rise}
 use Rattle.mt_op.specs.Valid.{IsOperation}
-use Rattle.mt_opcodec.specs.LogValue.{LogMap, AreLogged, log_of, operations}
+use Rattle.mt_opcodec.specs.LogValue.{LogMap, AreLogged, log_of}
 use Rattle.mt_opcodec.specs.Union.{Agree, union}
 use Rattle.mt_opcodec.proofs.Logs.{get-log_of}
 use Rattle.mt_opcodec.proofs.Union.{get-union}

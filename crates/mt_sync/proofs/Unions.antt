@@ -1,22 +1,15 @@
 -- The union of two logs is a log.
-use Rattle.std.proofs.Common.{◌≡◌, Bool, true, false, cond, List, [], ◌∷◌, map, Option, Some, None, refl, sym, ap, ◌∙◌, subst}
+use Rattle.std.proofs.Common.{◌≡◌, Bool, true, false, cond, List, [], ◌∷◌, map, Option, Some, None, refl, sym, ap, ◌∙◌}
 use Rattle.std.specs.Prelude.{is_some}
 use Rattle.std.specs.List.{AllByRecursion}
-use Rattle.std.specs.Ordering.{is_eq, is_lt, ordering_reverse}
 use Rattle.std.specs.FinMap as fin
-use Rattle.std.specs.FinMap.Entries.{find, below_all, is_sorted}
-use Rattle.std.specs.declared.cmp.Ordering.{Ordering}
-use Rattle.std.specs.declared.cmp.Ordering.TheVariants.{Less, Equal, Greater}
-use Rattle.std.proofs.lemmas.Option.{none-some, same_Some}
-use Rattle.std.proofs.lemmas.Cmp.{tied_itself}
+use Rattle.std.specs.FinMap.Entries.{is_sorted}
 use lib.Dec.{T}
 use Rattle.mt_stamp.specs.declared.name.Dot.{Dot}
 use Rattle.mt_stamp.specs.Moment.{dot_cmp}
-use Rattle.mt_stamp.proofs.Order.{dot_cmp_total, dot_cmp-IsAntisymmetric}
 use Rattle.mt_op.specs.Operation.{Operation}
 use Rattle.mt_op.specs.Dots.{op_dot, entry_of}
 use Rattle.mt_op.specs.Valid.{IsOperation}
-use Rattle.mt_op.proofs.Needs.{and_first, and_second}
 use Rattle.mt_opcodec.specs.LogValue.{LogMap, AreLogged, operations, log_of}
 use Rattle.mt_opcodec.specs.Union.{union}
 use Rattle.mt_opcodec.proofs.Logs.{get-log_of}
