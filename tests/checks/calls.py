@@ -11,7 +11,8 @@ import sys
 
 TOP = os.path.dirname(os.path.dirname(os.path.dirname(os.path.abspath(__file__))))
 FUNCTION = re.compile(r"^ *(?:pub )?fn (\w+)", re.M)
-BODY = re.compile(r"^ *\{$|;$|\{\}$", re.M)
+# a field of a record in a clause ends with a semicolon too
+BODY = re.compile(r"^ *\{$|[^\w'];$|-> .*;$|\{\}$", re.M)
 
 
 def sources(crate):

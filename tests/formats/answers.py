@@ -198,9 +198,9 @@ def check(folder, *words):
     return Answer(output=warnings_text(ops, session, mix).encode())
 
 
-def parted(words, defaults=OPTIONS, defaults=None):
-    """The names among the words, and the options, as `render`, or of another command whose options these are has them."""
-    names, options, left = [], dict(defaults or defaults), list(words)
+def parted(words, defaults=OPTIONS):
+    """The names among the words of `render`, or of another command whose options these are, and its options."""
+    names, options, left = [], dict(defaults), list(words)
     while left:
         word = left.pop(0)
         if not word.startswith("--"):
