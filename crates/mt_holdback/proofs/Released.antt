@@ -12,7 +12,7 @@ use Rattle.mt_stampmap.specs.declared.index.StampIndex.{StampIndex}
 use Rattle.mt_stampmap.proofs.Finding.{IsNew, pointed}
 use Rattle.mt_holdback.specs.Waiting.{meets}
 use Rattle.mt_holdback.specs.Queue.{is_met_in, passes, passes_at}
-use Rattle.mt_holdback.proofs.Keys.{same_answer, eq_turned}
+use Rattle.mt_holdback.proofs.Keys.{same_answer, or_second, eq_turned}
 
 -- a place that is checked is the place itself
 place_only : (ks : List Moment) (o : Option ℕ) (stamp : Moment) (j : ℕ) → checked ks o stamp ≡ Some j → o ≡ Some j
@@ -25,10 +25,6 @@ place_only ks (Some i) stamp j h = by (is_key (slice_get ks i) stamp) h
 
 or_first : (a b : Bool) → a ≡ true → (a || b) ≡ true
 or_first a b h = ap (λ (c : Bool). c || b) h
-
-or_last : (a b : Bool) → b ≡ true → (a || b) ≡ true
-or_last true b h = refl
-or_last false b h = h
 
 module _ {T : Type 0} (key : T → Moment) where
   -- one that passes a test stands somewhere
@@ -45,7 +41,7 @@ module _ {T : Type 0} (key : T → Moment) where
   one_passes : (p : T → Bool) (items : List T) (k : ℕ) → passes p (slice_get items k) ≡ true → list_any p items ≡ true
   one_passes p [] k h = h
   one_passes p (t ∷ items) zero h = or_first (p t) (list_any p items) h
-  one_passes p (t ∷ items) (suc k) h = or_last (p t) (list_any p items) (one_passes p items k h)
+  one_passes p (t ∷ items) (suc k) h = or_second (p t) (list_any p items) (one_passes p items k h)
 
   pub there_passes : (p : T → Bool) (items : List T) (place : Option ℕ) → passes_at p items place ≡ true → list_any p items ≡ true
   there_passes p items None h = absurd (true≢false (sym h))
