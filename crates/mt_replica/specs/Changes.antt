@@ -1,4 +1,6 @@
--- What a change in memory asks for.
+-- What a change in memory asks for, and which change an act is that of.
+use Rattle.mt_op.specs.Operation.{Act}
+use Rattle.mt_op.specs.Operation as act
 use Rattle.mt_replica.specs.declared.change.Change.{Change}
 use Rattle.mt_replica.specs.declared.change.Change.TheVariants as change
 use Rattle.mt_replica.specs.Edit.{Edit, AddTrack, MoveTrack, AddClip, MoveClip, TrimClip, SetGain, SetMute, Remove, Restore, AddMarker, MoveMarker, Retitle, SetFade, SetMarkerLength}
@@ -18,3 +20,20 @@ edit_of (change.MoveMarker marker at) = MoveMarker marker at
 edit_of (change.Retitle item title) = Retitle item title
 edit_of (change.SetFade clip fade_in fade_out) = SetFade clip fade_in fade_out
 edit_of (change.SetMarkerLength marker len) = SetMarkerLength marker len
+
+-- the change that asks for what an act does: a Remove lists its tags by itself
+abbrev pub same_edit : Act → Edit
+same_edit (act.AddTrack after title) = AddTrack after title
+same_edit (act.MoveTrack track after) = MoveTrack track after
+same_edit (act.AddClip source track at offset len) = AddClip source track at offset len
+same_edit (act.MoveClip clip track at) = MoveClip clip track at
+same_edit (act.TrimClip clip offset len) = TrimClip clip offset len
+same_edit (act.SetGain item gain) = SetGain item gain
+same_edit (act.SetMute item on) = SetMute item on
+same_edit (act.Remove item tags) = Remove item
+same_edit (act.Restore item) = Restore item
+same_edit (act.AddMarker at title) = AddMarker at title
+same_edit (act.MoveMarker marker at) = MoveMarker marker at
+same_edit (act.Retitle item title) = Retitle item title
+same_edit (act.SetFade clip fade_in fade_out) = SetFade clip fade_in fade_out
+same_edit (act.SetMarkerLength marker len) = SetMarkerLength marker len

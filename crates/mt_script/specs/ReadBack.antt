@@ -4,27 +4,16 @@ use Rattle.mt_op.specs.Operation as act
 use Rattle.mt_op.specs.Operation.{Act, Operation}
 use Rattle.mt_op.specs.Valid.{IsOperation}
 use Rattle.mt_logtext.specs.LogText.{act_text}
-use Rattle.mt_replica.specs.Edit.{Edit, AddTrack, MoveTrack, AddClip, MoveClip, TrimClip, SetGain, SetMute, Restore, AddMarker, MoveMarker, Retitle, SetFade, SetMarkerLength}
+use Rattle.mt_replica.specs.Changes.{same_edit}
+use Rattle.mt_replica.specs.Edit.{Edit}
 use Rattle.mt_script.specs.Lines.{is_silent}
 use Rattle.mt_script.specs.Laws.{IsOneLine}
 use Rattle.mt_script.specs.Forms.{Items, asked}
 
 -- The edit of the same fields, a place being named as a track. A Remove that lists its tags is no edit.
 abbrev pub edit_of_act : Act → Option Edit
-edit_of_act (act.AddTrack after title) = Some (AddTrack after title)
-edit_of_act (act.MoveTrack track after) = Some (MoveTrack track after)
-edit_of_act (act.AddClip source track at offset len) = Some (AddClip source track at offset len)
-edit_of_act (act.MoveClip clip track at) = Some (MoveClip clip track at)
-edit_of_act (act.TrimClip clip offset len) = Some (TrimClip clip offset len)
-edit_of_act (act.SetGain item gain) = Some (SetGain item gain)
-edit_of_act (act.SetMute item on) = Some (SetMute item on)
 edit_of_act (act.Remove item tags) = None
-edit_of_act (act.Restore item) = Some (Restore item)
-edit_of_act (act.AddMarker at title) = Some (AddMarker at title)
-edit_of_act (act.MoveMarker marker at) = Some (MoveMarker marker at)
-edit_of_act (act.Retitle item title) = Some (Retitle item title)
-edit_of_act (act.SetFade clip fade_in fade_out) = Some (SetFade clip fade_in fade_out)
-edit_of_act (act.SetMarkerLength marker len) = Some (SetMarkerLength marker len)
+edit_of_act a = Some (same_edit a)
 
 -- what a log tells of an act is one line, which asks for the edit of the same fields, if there is one, and is no remark
 pub record IsReadBack (items : Items) (a : Act) : Type 0 where

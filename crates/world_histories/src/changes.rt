@@ -1,12 +1,18 @@
 //! Changes, from the bodies of operations.
 
+ghost use Rattle.std.specs.Prelude.{◌≡◌, IfSome};
+ghost use Rattle.mt_op.specs.Bodies.{act_of};
+ghost use Rattle.mt_replica.specs.Changes.{edit_of, same_edit};
+
 use mt_op::Body;
 use mt_opcodec::read_op;
 use mt_replica::Change;
 use std::alloc::Global;
 
 // The change of a body that says what becomes of a track, or that has a title.
-fn titled(body: &Body) -> Option<Change> {
+fn titled(body: &Body) -> Option<Change>
+    ensures { IfSome result (λ change. edit_of change ≡ same_edit (act_of body.now)) }
+{
     match body {
         Body::AddTrack { after, title } => {
             let title = title.try_clone().ok()?;
@@ -28,7 +34,9 @@ fn titled(body: &Body) -> Option<Change> {
 }
 
 // The change of a body that has no title and is of no clip.
-fn plain(body: &Body) -> Option<Change> {
+fn plain(body: &Body) -> Option<Change>
+    ensures { IfSome result (λ change. edit_of change ≡ same_edit (act_of body.now)) }
+{
     match *body {
         Body::MoveTrack { track, after } => Some(Change::MoveTrack { track, after }),
         Body::SetGain { item, gain } => Some(Change::SetGain { item, gain }),
@@ -42,7 +50,9 @@ fn plain(body: &Body) -> Option<Change> {
 }
 
 // The change of a body of a clip.
-fn of_clip(body: &Body) -> Option<Change> {
+fn of_clip(body: &Body) -> Option<Change>
+    ensures { IfSome result (λ change. edit_of change ≡ same_edit (act_of body.now)) }
+{
     match *body {
         Body::AddClip {
             source,
@@ -72,11 +82,10 @@ fn of_clip(body: &Body) -> Option<Change> {
     }
 }
 
-/// The change that the body of an operation says, from the operation's text in hex.
-pub(crate) fn change_of(alloc: Global, text: &str) -> Option<Change> {
-    let bytes = hex::decode(alloc, text).ok()?;
-    let (op, _) = read_op(alloc, &bytes).ok()?;
-    let body = op.body();
+// The change that a body says.
+fn said_by(body: &Body) -> Option<Change>
+    ensures { IfSome result (λ change. edit_of change ≡ same_edit (act_of body.now)) }
+{
     if let Some(change) = plain(body) {
         return Some(change);
     }
@@ -84,4 +93,11 @@ pub(crate) fn change_of(alloc: Global, text: &str) -> Option<Change> {
         return Some(change);
     }
     titled(body)
+}
+
+/// The change that the body of an operation says, from the operation's text in hex.
+pub(crate) fn change_of(alloc: Global, text: &str) -> Option<Change> {
+    let bytes = hex::decode(alloc, text).ok()?;
+    let (op, _) = read_op(alloc, &bytes).ok()?;
+    said_by(op.body())
 }
