@@ -1,5 +1,5 @@
 -- What an editor keeps after an edit.
-use Rattle.std.proofs.Common.{◌≡◌, ◌≢◌, ℕ, suc, ◌+◌, ◌≤◌, Bool, true, false, cond, List, [], ◌∷◌, ◌++◌, map, refl, sym, ap, ◌∙◌, subst, inl, inr, arith}
+use Rattle.std.proofs.Common.{◌≡◌, ◌≢◌, ℕ, suc, ◌+◌, ◌≤◌, Bool, true, false, cond, List, [], ◌∷◌, ◌++◌, length, map, refl, sym, ap, ◌∙◌, subst, inl, inr, arith}
 use Rattle.std.specs.Prelude.{Option, Some, None, Result, Ok, Err, IsTrue, IsOk, IsErrOf, IfErr, ◌⊎◌}
 use Rattle.std.specs.List.{AllByRecursion, filter, list_all, sum_by}
 use Rattle.std.specs.FinMap as fin
@@ -29,12 +29,10 @@ use Rattle.mt_op.proofs.Needs.{stamp_eq-true}
 use Rattle.mt_opcodec.specs.LogValue.{LogMap, operations, log_of, AreLogged}
 use Rattle.mt_opcodec.proofs.Logs.{entries-log_of}
 use Rattle.mt_items.specs.Noting.{MayFollow, is_noted, is_need_met}
-use Rattle.mt_sessionview.specs.Session.{ready_ops}
+use Rattle.mt_sessionview.specs.Session.{ready_ops, held_ops}
 use Rattle.mt_sessionview.proofs.SameReady.{ready_same}
 use Rattle.mt_sessionview.proofs.TrackSorting.{every_stamp}
-use Rattle.mt_holdback.specs.Value.{HoldBackValue}
 use Rattle.mt_replica.specs.Edit.{Edit}
-use Rattle.mt_replica.specs.Holding.{all_offered, with_offered}
 use Rattle.mt_replica.specs.Joins.{joins_of}
 use Rattle.mt_replica.specs.Kept.{with_op, joins_by}
 use Rattle.mt_replica.specs.Made.{is_by, greatest_of, greatest_clock, greatest_seq, numbers_refused, names_of, names_present, names_refused, tags_fit, unless, or_else, stamp_refused, refused, or_made, made, made_act, made_stamp, made_op}
@@ -51,9 +49,9 @@ use Rattle.mt_stamp.proofs.Listed.{any_member}
 use Rattle.mt_replica.proofs.Making.{Met, mapped_below, all_members}
 use Rattle.mt_replica.proofs.Valid.{newest, all_met, older, it_plays, it_fades, same_length, same_fades, tags_good}
 use Rattle.mt_replica.proofs.Gaining.{ready_gains}
-use Rattle.mt_replica.proofs.HeldBack.{offered_same}
 use Rattle.mt_replica.proofs.Inserted.{insert_same}
 use Rattle.mt_replica.proofs.Numbers.{clock_same, seq_same}
+use Rattle.mt_replica.proofs.ShownPlaces.{held_still}
 use Rattle.mt_replica.proofs.Taking.{newly_same}
 
 abbrev is_made : {X : Type 0} → Result X EditorFault → Bool
@@ -137,12 +135,9 @@ module _ (name : Replica) (log : LogMap) (edit : Edit) (logged : AreLogged (oper
       ready_same clock_of needs meets (operations (with_op log (made_op (operations log) name edit))) (made_op (operations log) name edit ∷ operations log) with_same f
       ∙ ap (sum_by f) (ready_gains (operations log) (made_op (operations log) name edit) older_all (newest (operations log)) (all_met (operations log) name edit none))
 
-  pub kept : (was now : HoldBackValue Operation) (items : List Operation) (clock seq : ℕ) → now ≡ record { contents = with_offered was.contents (made_op (operations log) name edit); failed = false } → IsState (record { name = name; log = log }) was items clock seq
-      → IsState (record { name = name; log = with_op log (made_op (operations log) name edit) }) now (made_op (operations log) name edit ∷ items) (suc (greatest_clock (operations log))) (suc (greatest_seq name (operations log)))
-  kept was now items clock seq offered is = record {
-    whole = ap (λ (w : HoldBackValue Operation). w.failed) offered;
-    offered = λ f. ap (λ (w : HoldBackValue Operation). sum_by f (all_offered w.contents)) offered
-        ∙ offered_same was.contents (made_op (operations log) name edit) (operations log) (operations (with_op log (made_op (operations log) name edit))) is.offered with_same f;
+  pub kept : (items : List Operation) (clock seq : ℕ) → IsState (record { name = name; log = log }) items clock seq
+      → IsState (record { name = name; log = with_op log (made_op (operations log) name edit) }) (made_op (operations log) name edit ∷ items) (suc (greatest_clock (operations log))) (suc (greatest_seq name (operations log)))
+  kept items clock seq is = record {
     noted = λ f. sum_by-cons f (made_op (operations log) name edit) items ∙ ap (λ (n : ℕ). f (made_op (operations log) name edit) + n) (is.noted f) ∙ sym (sum_by-cons f (made_op (operations log) name edit) (ready_ops (operations log))) ∙ sym (ready_more f);
     clock_is = sym (clock_same (operations (with_op log (made_op (operations log) name edit))) (made_op (operations log) name edit ∷ operations log) with_same ∙ max-eq_left (omega arith));
     seq_is = sym (seq_same name (operations (with_op log (made_op (operations log) name edit))) (made_op (operations log) name edit ∷ operations log) with_same
@@ -200,13 +195,18 @@ module _ (state : Named) (o : Operation) (made_it : IsMade state o) (logged : Ar
       let parts = unmade (refused (operations state.log) state.name made_it.0) (made_op (operations state.log) state.name made_it.0) o made_it.1 in
       subst (λ (p : Operation). fin.get state.log (op_dot p) ≡ None) parts.1 (absent state.name state.log made_it.0 logged whole parts.0)
 
-  pub made_kept : (was now : HoldBackValue Operation) (items : List Operation) (clock seq : ℕ) → now ≡ record { contents = with_offered was.contents o; failed = false } → IsState state was items clock seq
-      → IsState (record { name = state.name; log = with_op state.log o }) now (o ∷ items) o.stamp.clock o.stamp.seq
-  made_kept was now items clock seq offered is =
+  pub made_kept : (items : List Operation) (clock seq : ℕ) → IsState state items clock seq → IsState (record { name = state.name; log = with_op state.log o }) (o ∷ items) o.stamp.clock o.stamp.seq
+  made_kept items clock seq is =
       let parts = unmade (refused (operations state.log) state.name made_it.0) (made_op (operations state.log) state.name made_it.0) o made_it.1 in
-      let it : Operation = made_op (operations state.log) state.name made_it.0 in
-      subst (λ (p : Operation). IsState (record { name = state.name; log = with_op state.log p }) now (p ∷ items) p.stamp.clock p.stamp.seq) parts.1
-      (kept state.name state.log made_it.0 logged whole parts.0 was now items clock seq (offered ∙ ap (λ (p : Operation). record { contents = with_offered was.contents p; failed = false }) (sym parts.1)) is)
+      subst (λ (p : Operation). IsState (record { name = state.name; log = with_op state.log p }) (p ∷ items) p.stamp.clock p.stamp.seq) parts.1 (kept state.name state.log made_it.0 logged whole parts.0 items clock seq is)
+
+  -- as many are held as were
+  pub made_held : length (held_ops (operations (with_op state.log o))) ≡ length (held_ops (operations state.log))
+  made_held =
+      let parts = unmade (refused (operations state.log) state.name made_it.0) (made_op (operations state.log) state.name made_it.0) o made_it.1 in
+      subst (λ (p : Operation). length (held_ops (operations (with_op state.log p))) ≡ length (held_ops (operations state.log))) parts.1
+      (held_still (operations state.log) (operations (with_op state.log (made_op (operations state.log) state.name made_it.0))) (made_op (operations state.log) state.name made_it.0)
+      (with_same state.name state.log made_it.0 logged whole parts.0) (ready_more state.name state.log made_it.0 logged whole parts.0))
 
   -- nothing else becomes ready by it
   pub made_alone : AreLogged (operations (with_op state.log o)) → joins_by (Some state.log) o ≡ joins_of o

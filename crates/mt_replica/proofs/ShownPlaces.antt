@@ -139,6 +139,19 @@ held_count kept ops rule offered =
     let both = parts (is_ready clock_of needs meets ops) ops in
     omega (arith, all, split, ready, both)
 
+-- as many are held where one more is ready
+pub held_still : (ops all : List Operation) (o : Operation) → SameItems all (o ∷ ops) → SameItems (ready_ops all) (o ∷ ready_ops ops) → length (held_ops all) ≡ length (held_ops ops)
+held_still ops all o same ready =
+    let more = same_length all (o ∷ ops) same in
+    let more_ready = same_length (ready_ops all) (o ∷ ready_ops ops) ready in
+    let now = parts (is_ready clock_of needs meets all) all in
+    let before = parts (is_ready clock_of needs meets ops) ops in
+    omega (arith, more, more_ready, now, before)
+
+pub held_moves : (log log' : LogMap) (held : Option ℕ) → length (held_ops (operations log')) ≡ length (held_ops (operations log)) → IsHeldOf log held → IsHeldOf log' held
+held_moves log log' None same is = tt
+held_moves log log' (Some held) same is = is ∙ sym same
+
 -- ---- the session
 
 -- What operations noted show is the session of a set of which they are the ready ones.

@@ -43,7 +43,7 @@ use Rattle.mt_replica.specs.Holding.{all_offered, is_offered, newly_released, wi
 use Rattle.mt_replica.specs.Joins.{joins_of}
 use Rattle.mt_replica.specs.Kept.{with_op, joins_by, TakeOf, newly_ready_stamps}
 use Rattle.mt_replica.specs.Made.{greatest_clock, greatest_seq}
-use Rattle.mt_replica.specs.State.{Named, IsState, Found, own_seq}
+use Rattle.mt_replica.specs.State.{Named, HoldsBack, IsState, Found, own_seq}
 use Rattle.mt_replica.proofs.Bridging.{listed_member, member_listed, not_true}
 use Rattle.mt_replica.proofs.HeldBack.{as_waiting, released_same, offered_same, offered_more, ready_tells, released_follow, released_noted}
 use Rattle.mt_replica.proofs.Inserted.{insert_same}
@@ -202,7 +202,14 @@ it_is_new log o kept absent logged offered =
     let same = offered count in
     none_known o.stamp (all_offered kept) (omega (arith, once, sum, one, same))
 
-module _ (state : Named) (o : Operation) (was : HoldBackValue Operation) (items : List Operation) (clock seq : ℕ) (absent : fin.get state.log (op_dot o) ≡ None) (logged : AreLogged (operations (with_op state.log o))) (is : IsState state was items clock seq) where
+-- what holds a log's operations back, and was offered one more, holds back those of the log with it
+pub held_with : (log : LogMap) (o : Operation) (was now : HoldBackValue Operation) → fin.get log (op_dot o) ≡ None → HoldsBack log was → now ≡ record { contents = with_offered was.contents o; failed = false } → HoldsBack (with_op log o) now
+held_with log o was now absent waits offered = record {
+  whole = ap (λ (w : HoldBackValue Operation). w.failed) offered;
+  offered = λ f. ap (λ (w : HoldBackValue Operation). sum_by f (all_offered w.contents)) offered ∙ offered_same was.contents o (operations log) (operations (with_op log o)) waits.offered (insert_same log o absent) f;
+}
+
+module _ (state : Named) (o : Operation) (was : HoldBackValue Operation) (items : List Operation) (clock seq : ℕ) (absent : fin.get state.log (op_dot o) ≡ None) (logged : AreLogged (operations (with_op state.log o))) (waits : HoldsBack state.log was) (is : IsState state items clock seq) where
   differ : DifferBy stamp_of (operations (with_op state.log o))
   differ = every_stamp (operations (with_op state.log o)) logged.rise
 
@@ -214,7 +221,7 @@ module _ (state : Named) (o : Operation) (was : HoldBackValue Operation) (items 
 
   -- what is offered with it is what is in the log with it
   pub still_offered : SameItems (all_offered (with_offered was.contents o)) (operations (with_op state.log o))
-  still_offered = offered_same was.contents o (operations state.log) (operations (with_op state.log o)) is.offered are
+  still_offered = offered_same was.contents o (operations state.log) (operations (with_op state.log o)) waits.offered are
 
   pub clock_with : max (clock_of o) clock ≡ greatest_clock (operations (with_op state.log o))
   clock_with = ap (max (clock_of o)) is.clock_is ∙ sym (clock_same (operations (with_op state.log o)) (o ∷ operations state.log) are)
@@ -236,13 +243,11 @@ module _ (state : Named) (o : Operation) (was : HoldBackValue Operation) (items 
 
     -- what became ready may be noted
     pub all_follow : MayAllFollow items newly
-    all_follow = subst (MayAllFollow items) (sym newly_are) (released_follow was.contents o (operations state.log) (operations (with_op state.log o)) items is.offered are own rule_was rule_with rise is.noted)
+    all_follow = subst (MayAllFollow items) (sym newly_are) (released_follow was.contents o (operations state.log) (operations (with_op state.log o)) items waits.offered are own rule_was rule_with rise is.noted)
 
-    pub state_with : IsState (record { name = state.name; log = with_op state.log o }) now (noted_after items newly) (max (clock_of o) clock) (max (own_seq state.name o) seq)
+    pub state_with : IsState (record { name = state.name; log = with_op state.log o }) (noted_after items newly) (max (clock_of o) clock) (max (own_seq state.name o) seq)
     state_with = record {
-      whole = ap (λ (w : HoldBackValue Operation). w.failed) offered;
-      offered = λ f. ap (λ (w : HoldBackValue Operation). sum_by f (all_offered w.contents)) offered ∙ still_offered f;
-      noted = λ f. ap (λ (l : List Operation). sum_by f (noted_after items l)) newly_are ∙ released_noted was.contents o (operations state.log) (operations (with_op state.log o)) items is.offered are own rule_was rule_with rise is.noted f;
+      noted = λ f. ap (λ (l : List Operation). sum_by f (noted_after items l)) newly_are ∙ released_noted was.contents o (operations state.log) (operations (with_op state.log o)) items waits.offered are own rule_was rule_with rise is.noted f;
       clock_is = clock_with;
       seq_is = seq_with;
     }
@@ -254,7 +259,7 @@ module _ (state : Named) (o : Operation) (was : HoldBackValue Operation) (items 
     newly_told =
         ap stamps_of newly_are
         ∙ newly_in_order was.contents.released (newly_released was.contents o) (ready_ops (operations state.log)) (ready_ops (operations (with_op state.log o))) ready_differ
-        (released_same was.contents (operations state.log) rule_was is.offered)
+        (released_same was.contents (operations state.log) rule_was waits.offered)
         (released_same (with_offered was.contents o) (operations (with_op state.log o)) rule_with still_offered) rise
 
     -- the cells that they join are counted
@@ -262,12 +267,12 @@ module _ (state : Named) (o : Operation) (was : HoldBackValue Operation) (items 
     joins_told =
         ap (sum_by joins_of) newly_are
         ∙ newly_same was.contents.released (newly_released was.contents o) (ready_ops (operations state.log)) (ready_ops (operations (with_op state.log o))) ready_differ
-        (released_same was.contents (operations state.log) rule_was is.offered)
+        (released_same was.contents (operations state.log) rule_was waits.offered)
         (released_same (with_offered was.contents o) (operations (with_op state.log o)) rule_with still_offered) joins_of
 
     told : (offer : Offered) (b : Bool) → offer ≡ offer_gives was.contents o → is_held offer ≡ b → is_ready clock_of needs meets (operations (with_op state.log o)) o ≡ not b
     told offer b answered held =
-        sym (ready_tells was.contents o (operations state.log) (operations (with_op state.log o)) is.offered are)
+        sym (ready_tells was.contents o (operations state.log) (operations (with_op state.log o)) waits.offered are)
         ∙ by (as_waiting (offered_with op_key op_needs fits was.contents o) o) refl
       where
         by : (r : Bool) → as_waiting (offered_with op_key op_needs fits was.contents o) o ≡ r → r ≡ not b

@@ -26,11 +26,13 @@ pub record StateValue : Type 0 where
   pub named : Named
   pub shown : Bool
 
--- What is in the log was offered to what holds operations back, which has not failed; noted are the ready operations of the log, and the
--- greatest clock and number are known.
-pub record IsState (state : Named) (waiting : holding.HoldBackValue Operation) (items : List Operation) (clock seq : ℕ) : Type 0 where
+-- Each operation of a log was offered to what holds operations back, which has not failed.
+pub record HoldsBack (log : LogMap) (waiting : holding.HoldBackValue Operation) : Type 0 where
   pub whole : waiting.failed ≡ false
-  pub offered : (f : Operation → ℕ) → sum_by f (all_offered waiting.contents) ≡ sum_by f (operations state.log)
+  pub offered : (f : Operation → ℕ) → sum_by f (all_offered waiting.contents) ≡ sum_by f (operations log)
+
+-- Noted are the ready operations of the log, and the greatest clock and number are known.
+pub record IsState (state : Named) (items : List Operation) (clock seq : ℕ) : Type 0 where
   pub noted : (f : Operation → ℕ) → sum_by f items ≡ sum_by f (ready_ops (operations state.log))
   pub clock_is : clock ≡ greatest_clock (operations state.log)
   pub seq_is : seq ≡ greatest_seq state.name (operations state.log)

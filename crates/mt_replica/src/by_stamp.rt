@@ -1,12 +1,13 @@
 //! What an editor keeps beside a log.
 
-ghost use Rattle.std.specs.Prelude.{◌≡◌, ℕ, [], map, false, IfOk, IfErr, OnOk};
+ghost use Rattle.std.specs.Prelude.{◌≡◌, ℕ, [], map, false, IfOk, IfErr, IfSome, OnOk};
 ghost use Rattle.std.specs.List.{AllByRecursion, sum_by};
 ghost use Rattle.std.specs.declared.cmp.Ordering.TheVariants.{Less};
 ghost use Rattle.mt_stamp.specs.Sorting.{RisesStrictly};
 ghost use Rattle.mt_op.specs.Operation.{Operation};
 ghost use Rattle.mt_op.specs.ByStamp.{op_cmp};
 ghost use Rattle.mt_opcodec.specs.LogValue.{operations};
+ghost use Rattle.mt_replica.specs.State.{HoldsBack};
 ghost use Rattle.mt_replica.specs.Holding.{is_offered, with_offered, HaveOwnStamps, AreOffered};
 ghost use Rattle.mt_sessionview.specs.Session.{ready_ops};
 
@@ -14,7 +15,7 @@ use crate::fault::EditorFault;
 use crate::holding::{copied, offer_met, offer_new};
 use crate::view::noted;
 use mt_holdback::HoldBack;
-use mt_items::Items;
+use mt_items::{Items, items_of_ready};
 use mt_op::Op;
 use mt_opcodec::Log;
 use mt_sessionview::sorted_ops;
@@ -67,13 +68,32 @@ fn all_taken<A: Allocator + Clone>(
     Ok((waiting, items))
 }
 
+/// The items that the ready operations of a log leave: each is noted where it is ready, by rising stamp. n operations cost n log n. Refused
+/// as `Memory` (0) where a growth was refused.
+pub(crate) fn items_beside<A: Allocator + Clone>(
+    alloc: &A,
+    log: &Log<A>,
+) -> Result<Items<A>, EditorFault>
+    ensures noted { IfOk result (λ items. (f : Operation → ℕ) → sum_by f items
+        ≡ sum_by f (ready_ops (operations log.now))) }
+    ensures err { IfErr result (λ fault. fault ≡ EditorFault.Memory) }
+{
+    // for the proof: that the dots of a log's operations differ
+    let _ = log.runs();
+    let sorted = sorted_ops(alloc.clone()?, log)?;
+    match items_of_ready(alloc.clone()?, &sorted) {
+        Ok(items) => Ok(items),
+        Err(_) => Err(EditorFault::Memory),
+    }
+}
+
 /// What holds the operations of a log back, and the items that the ready ones leave: each operation is offered, and noted where it
 /// is ready, by rising stamp. n operations cost n log n. Refused as `Memory` (0) where a growth was refused.
 pub(crate) fn beside_log<A: Allocator + Clone>(
     alloc: &A,
     log: &Log<A>,
 ) -> Result<(HoldBack<Op<A>, A>, Items<A>), EditorFault>
-    ensures offered { IfOk result (λ both. AreOffered both.0 [] (operations log.now)) }
+    ensures waits { IfOk result (λ both. HoldsBack log.now both.0) }
     ensures noted { IfOk result (λ both. (f : Operation → ℕ) → sum_by f both.1
         ≡ sum_by f (ready_ops (operations log.now))) }
     ensures err { IfErr result (λ fault. fault ≡ EditorFault.Memory) }
@@ -85,4 +105,24 @@ pub(crate) fn beside_log<A: Allocator + Clone>(
     // for the proof: that what was released is what is ready
     let _ = waiting.released();
     Ok((waiting, items))
+}
+
+/// What holds the operations of a log back, which is made of the log where it is not there yet. Refused as `Memory` (0) where a growth was
+/// refused.
+pub(crate) fn held_back<A: Allocator + Clone>(
+    alloc: &A,
+    log: &Log<A>,
+    waiting: Option<HoldBack<Op<A>, A>>,
+) -> Result<HoldBack<Op<A>, A>, EditorFault>
+    requires waits { IfSome waiting (HoldsBack log.now) }
+    ensures waits { IfOk result (HoldsBack log.now) }
+    ensures err { IfErr result (λ fault. fault ≡ EditorFault.Memory) }
+{
+    match waiting {
+        Some(waiting) => Ok(waiting),
+        None => {
+            let (waiting, _items) = beside_log(alloc, log)?;
+            Ok(waiting)
+        }
+    }
 }

@@ -99,39 +99,7 @@ impl<A: Allocator + Clone> Draft<A> {
         ensures ok { IfOk result (λ draft. draft ≡ record { name = name; log = Some log; joins = 0 }) }
         ensures err { IfErr result (λ fault. fault ≡ EditorFault.Memory) }
     {
-        let state = State::of(&alloc, name, log)?;
-        Ok(Desk {
-            alloc,
-            name,
-            joins: 0,
-            state: Some(state),
-            sessions: PhantomData,
-        })
-    }
-
-    // The same with its session, where that is asked. Refused as `Memory` (0) where a growth was refused.
-    fn with_sessions<S: Sessions>(self) -> Result<Desk<A, S>, EditorFault>
-        ensures ok { IfOk result (λ desk. desk ≡ self) }
-        ensures err { IfErr result (λ fault. fault ≡ EditorFault.Memory) }
-    {
-        let Desk {
-            alloc,
-            name,
-            joins,
-            state,
-            ..
-        } = self;
-        let state = match state {
-            Some(state) if S::SHOWN => Some(state.show(&alloc)?),
-            state => state,
-        };
-        Ok(Desk {
-            alloc,
-            name,
-            joins,
-            state,
-            sessions: PhantomData,
-        })
+        Desk::of_log(alloc, name, log)
     }
 }
 
@@ -143,7 +111,7 @@ impl<A: Allocator + Clone> Editor<A> {
         ensures ok { IfOk result (λ editor. editor ≡ record { name = name; log = Some log; joins = 0 }) }
         ensures err { IfErr result (λ fault. fault ≡ EditorFault.Memory) }
     {
-        Editor::of_draft(Draft::new(alloc, name, log)?)
+        Desk::of_log(alloc, name, log)
     }
 
     /// The editor of a draft, which has not failed. Refused only as `Memory` (0).
@@ -152,7 +120,24 @@ impl<A: Allocator + Clone> Editor<A> {
         ensures ok { IfOk result (λ editor. editor ≡ draft) }
         ensures err { IfErr result (λ fault. fault ≡ EditorFault.Memory) }
     {
-        draft.with_sessions()
+        let Desk {
+            alloc,
+            name,
+            joins,
+            state,
+            ..
+        } = draft;
+        let state = match state {
+            Some(state) => Some(State::shown_of(&alloc, name, state.into_log())?),
+            None => None,
+        };
+        Ok(Desk {
+            alloc,
+            name,
+            joins,
+            state,
+            sessions: PhantomData,
+        })
     }
 
     /// The session of the operations in its log; `None` where it has failed.
@@ -169,6 +154,40 @@ impl<A: Allocator + Clone> Editor<A> {
 impl<A: Allocator + Clone, S: Sessions> Desk<A, S> {
     ghost use Rattle.mt_replica.specs.Kept.{Kept, kept_with, failed, copied, EditGives, after_edit, TakeGives, after_take};
     ghost use Rattle.mt_replica.specs.State.{IsMadeOf, IsNewTo};
+
+    // A desk that has taken a log's operations. Refused only as `Memory` (0).
+    fn of_log(alloc: A, name: Replica, log: Log<A>) -> Result<Self, EditorFault>
+        ensures ok { IfOk result (λ desk. desk ≡ record { name = name; log = Some log; joins = 0 }) }
+        ensures err { IfErr result (λ fault. fault ≡ EditorFault.Memory) }
+    {
+        let state = if S::SHOWN {
+            State::shown_of(&alloc, name, log)?
+        } else {
+            State::of(&alloc, name, log)?
+        };
+        Ok(Desk {
+            alloc,
+            name,
+            joins: 0,
+            state: Some(state),
+            sessions: PhantomData,
+        })
+    }
+
+    // A desk of its name with a copy of its log. Refused as `Failed` (20) where it has failed, and as `Memory` (0).
+    fn copy<T: Sessions>(&self) -> Result<Desk<A, T>, EditorFault>
+        ensures ok { IfOk result (λ copy. copy ≡ copied self.now) }
+        ensures failed { IsErrOf result EditorFault.Failed ↔ (self.now.log ≡ None) }
+        ensures err { IfErr result (λ fault. fault ≢ EditorFault.Failed → fault ≡ EditorFault.Memory) }
+    {
+        let Some(state) = &self.state else {
+            return Err(EditorFault::Failed);
+        };
+        match state.log().try_clone() {
+            Ok(log) => Desk::of_log(self.alloc.clone()?, self.name, log),
+            Err(_) => Err(EditorFault::Memory),
+        }
+    }
 
     /// Its name.
     pub fn name(&self) -> Replica
@@ -208,13 +227,7 @@ impl<A: Allocator + Clone, S: Sessions> Desk<A, S> {
         ensures failed { IsErrOf result EditorFault.Failed ↔ (self.now.log ≡ None) }
         ensures err { IfErr result (λ fault. fault ≢ EditorFault.Failed → fault ≡ EditorFault.Memory) }
     {
-        let Some(state) = &self.state else {
-            return Err(EditorFault::Failed);
-        };
-        match state.log().try_clone() {
-            Ok(log) => Draft::new(self.alloc.clone()?, self.name, log),
-            Err(_) => Err(EditorFault::Memory),
-        }
+        self.copy()
     }
 
     /// An equal one of the same name, which counts its joins from 0. Refused as `Failed` (20) where it has failed, and as `Memory` (0),
@@ -224,8 +237,7 @@ impl<A: Allocator + Clone, S: Sessions> Desk<A, S> {
         ensures failed { IsErrOf result EditorFault.Failed ↔ (self.now.log ≡ None) }
         ensures err { IfErr result (λ fault. fault ≢ EditorFault.Failed → fault ≡ EditorFault.Memory) }
     {
-        let draft = self.draft()?;
-        draft.with_sessions()
+        self.copy()
     }
 
     /// Lets it fail: it has neither log nor session any more. For whoever works out a new log for it in steps of their own and is

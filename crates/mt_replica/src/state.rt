@@ -1,6 +1,6 @@
 //! A log, and what an editor keeps beside it.
 
-ghost use Rattle.std.specs.Prelude.{◌≡◌, ◌⊎◌, ℕ, IfOk, IfErr, OnOk, None, Some, Ok, Err, true, false, if◌then◌else◌};
+ghost use Rattle.std.specs.Prelude.{◌≡◌, ◌⊎◌, ℕ, is_some, IfOk, IfErr, IfSome, OnOk, None, Some, Ok, Err, true, false, if◌then◌else◌};
 ghost use Rattle.std.specs.Option.{option_copied};
 ghost use Rattle.std.specs.FinMap as map;
 ghost use Rattle.std.specs.List.{sum_by};
@@ -8,7 +8,7 @@ ghost use Rattle.mt_holdback.specs.HoldBack.{IsHoldBack};
 ghost use Rattle.mt_holdback.specs.Ops.{op_key, op_needs};
 ghost use Rattle.mt_op.specs.Needs.{fits};
 ghost use Rattle.mt_op.specs.Operation.{Operation};
-ghost use Rattle.mt_replica.specs.Holding.{all_offered, newly_released, offer_gives, with_offered, StampsRise};
+ghost use Rattle.mt_replica.specs.Holding.{newly_released, offer_gives, with_offered, StampsRise};
 ghost use Rattle.mt_op.specs.Dots.{op_dot};
 ghost use Rattle.mt_op.specs.Bodies.{act_of};
 ghost use Rattle.mt_opcodec.specs.LogValue.{operations, AreLogged};
@@ -17,11 +17,11 @@ ghost use Rattle.mt_replica.specs.Made.{made, made_act, made_stamp, stamp_refuse
 ghost use Rattle.std.specs.Io.Iter.{u64_saturate};
 ghost use Rattle.mt_replica.specs.Joins.{joins_of};
 ghost use Rattle.mt_replica.specs.Kept.{with_op, joins_by, TakeOf};
-ghost use Rattle.mt_replica.specs.State.{IsMade, Found, body_refused};
+ghost use Rattle.mt_replica.specs.State.{IsMade, Found, HoldsBack, IsHeldOf, body_refused};
 ghost use Rattle.mt_sessionview.specs.Session.{ready_ops, session_of};
 
 use crate::body::{body_of, fades_fit, lists_few, plays};
-use crate::by_stamp::beside_log;
+use crate::by_stamp::{beside_log, held_back, items_beside};
 use crate::change::Change;
 use crate::fault::EditorFault;
 use crate::greatest::{greater, greatest_clock, greatest_seq, own_seq};
@@ -39,22 +39,23 @@ use mt_stamp::{Replica, Stamp};
 use std::alloc::Allocator;
 use std::marker::Model;
 
-// A log with the name of its editor, its operations held back until they are ready, the items that the ready ones leave, where it is
-// kept the session that they show, its greatest clock, and the greatest number of that replica's operations. Seen as the name, the log,
-// and whether the session is kept.
+// A log with the name of its editor, the items that its ready operations leave, where it is kept the session that they show, its greatest
+// clock, and the greatest number of that replica's operations. What holds its operations back until they are ready is there once it has
+// taken an operation or has its session: an edit makes nothing else ready, and needs none. Seen as the name, the log, and whether the
+// session is kept.
 #[derive(Drop)]
 pub(crate) struct State<A: Allocator> {
     name: Replica,
     log: Log<A>,
-    waiting: HoldBack<Op<A>, A>,
+    waiting: Option<HoldBack<Op<A>, A>>,
     view: View<A>,
     clock: u64,
     seq: u64,
 }
 
 impl<A: Allocator> Model for State<A> {
-    ghost use Rattle.std.specs.Prelude.{is_some};
-    ghost use Rattle.mt_replica.specs.State.{StateValue, IsState, IsHeldOf};
+    ghost use Rattle.std.specs.Prelude.{is_some, IfSome};
+    ghost use Rattle.mt_replica.specs.State.{StateValue, HoldsBack, IsState, IsHeldOf};
     ghost use Rattle.mt_replica.specs.Codes.{stated_code};
 
     ghost Value = { StateValue };
@@ -63,7 +64,8 @@ impl<A: Allocator> Model for State<A> {
 
     ghost view = { λ s. record { named = record { name = s.name; log = s.log }; shown = is_some s.view.held } };
 
-    ghost invariant = { λ s. IsState (record { name = s.name; log = s.log }) s.waiting s.view.ops s.clock s.seq × IsHeldOf s.log s.view.held };
+    ghost invariant = { λ s. IsState (record { name = s.name; log = s.log }) s.view.ops s.clock s.seq
+        × (IsHeldOf s.log s.view.held × IfSome s.waiting (HoldsBack s.log)) };
 }
 
 // A state after a take, what became of the operation, and how many cells were joined, up to the greatest number.
@@ -97,56 +99,60 @@ impl<A: Allocator> State<A> {
         ensures { option_copied result ≡ (if self.now.shown then Some (session_of (operations self.now.named.log))
             else None) }
     {
-        // for the proof: that what was released is what is ready
-        let (_log, _released) = (self.log.runs(), self.waiting.released());
+        // for the proof: that the log is the one of the state
+        let _ = &self.log;
         self.view.session()
     }
 }
 
 impl<A: Allocator + Clone> State<A> {
+    // The state of a log, from what stands beside it.
+    fn beside(
+        name: Replica,
+        log: Log<A>,
+        waiting: Option<HoldBack<Op<A>, A>>,
+        view: View<A>,
+    ) -> Self
+        requires noted { (f : Operation → ℕ) → sum_by f view.ops ≡ sum_by f (ready_ops (operations log)) }
+        requires held { IsHeldOf log view.held }
+        requires waits { IfSome waiting (HoldsBack log) }
+        ensures { result ≡ record
+            { named = record { name = name; log = log }; shown = is_some view.held } }
+    {
+        let clock = greatest_clock(log.runs());
+        let seq = greatest_seq(name, log.runs());
+        State {
+            name,
+            log,
+            waiting,
+            view,
+            clock,
+            seq,
+        }
+    }
+
     /// The state of a log. Refused as `Memory` (0) where a growth was refused.
     pub fn of(alloc: &A, name: Replica, log: Log<A>) -> Result<Self, EditorFault>
         ensures ok { IfOk result (λ state. state ≡ record
             { named = record { name = name; log = log }; shown = false }) }
         ensures err { IfErr result (λ fault. fault ≡ EditorFault.Memory) }
     {
-        let (waiting, items) = beside_log(alloc, &log)?;
-        let clock = greatest_clock(log.runs());
-        let seq = greatest_seq(name, log.runs());
-        Ok(State {
-            name,
-            log,
-            waiting,
-            view: View::without_session(items),
-            clock,
-            seq,
-        })
+        let items = items_beside(alloc, &log)?;
+        Ok(State::beside(name, log, None, View::without_session(items)))
     }
 
-    /// The same with its session kept. Refused as `Memory` (0) where a growth was refused.
-    pub fn show(self, alloc: &A) -> Result<Self, EditorFault>
-        ensures ok { IfOk result (λ state. state ≡ record { named = self.named; shown = true }) }
+    /// The state of a log with its session. Refused as `Memory` (0) where a growth was refused.
+    pub fn shown_of(alloc: &A, name: Replica, log: Log<A>) -> Result<Self, EditorFault>
+        ensures ok { IfOk result (λ state. state ≡ record
+            { named = record { name = name; log = log }; shown = true }) }
         ensures err { IfErr result (λ fault. fault ≡ EditorFault.Memory) }
     {
-        let State {
-            name,
-            log,
-            waiting,
-            view,
-            clock,
-            seq,
-        } = self;
+        let (waiting, items) = beside_log(alloc, &log)?;
         // for the proof: that the log's operations rise by dot
         let _ = log.runs();
-        let view = view.show(alloc, waiting.released(), waiting.held())?;
-        Ok(State {
-            name,
-            log,
-            waiting,
-            view,
-            clock,
-            seq,
-        })
+        let items = View::without_session(items);
+        let view = items.show(alloc, waiting.released(), waiting.held())?;
+        Ok(State::beside(name, log, Some(waiting), view))
     }
 
     // The stamp of the next operation.
@@ -214,19 +220,17 @@ impl<A: Allocator + Clone> State<A> {
         ensures alone { IfOk result (λ state. joins_by (Some self.named.log) op.now ≡ joins_of op.now) }
         ensures err { IfErr result (λ fault. fault ≡ EditorFault.Memory) }
     {
-        let copy = copied(op)?;
         let State {
             name,
             mut log,
-            mut waiting,
+            waiting,
             view,
             ..
         } = self;
         // for the proof: that the log's operations rise by dot, and that the log is the one of them
         let _ = log.runs();
-        let mut view = view.note(alloc, op)?;
-        let _ = taken_in(&mut log, &mut waiting, copy)?;
-        view.set_held(waiting.held());
+        let view = view.note(alloc, op)?;
+        let waiting = made_in(&mut log, waiting, op)?;
         Ok(State {
             name,
             log,
@@ -264,11 +268,12 @@ impl<A: Allocator + Clone> State<A> {
         let State {
             name,
             mut log,
-            mut waiting,
+            waiting,
             view,
             clock,
             seq,
         } = self;
+        let mut waiting = held_back(alloc, &log, waiting)?;
         let clock = greater(op.stamp().clock(), clock);
         let seq = greater(own_seq(name, &op), seq);
         let before = waiting.released().len();
@@ -277,7 +282,7 @@ impl<A: Allocator + Clone> State<A> {
         let state = State {
             name,
             log,
-            waiting,
+            waiting: Some(waiting),
             view,
             clock,
             seq,
@@ -311,8 +316,7 @@ fn taken_in<A: Allocator + Clone>(
     op: Op<A>,
 ) -> Result<Offered, EditorFault>
     requires new { map.get log.old (op_dot op) ≡ None }
-    requires whole { waiting.old.failed ≡ false }
-    requires offered { (f : Operation → ℕ) → sum_by f (all_offered waiting.old.contents) ≡ sum_by f (operations log.old) }
+    requires waits { HoldsBack log.old waiting.old }
     ensures added { OnOk result (log.new ≡ with_op log.old op) }
     ensures logged { OnOk result (AreLogged (operations (with_op log.old op))) }
     ensures kept { OnOk result (waiting.new ≡ record { contents = with_offered waiting.old.contents op; failed = false }) }
@@ -328,4 +332,31 @@ fn taken_in<A: Allocator + Clone>(
     // for the proof: the rule by which operations are held back
     let _ = waiting.released();
     Ok(offered)
+}
+
+// Adds a copy of an operation under a new dot to a log, and offers one to what holds the log's operations back, where that is there.
+fn made_in<A: Allocator + Clone>(
+    log: &mut Log<A>,
+    waiting: Option<HoldBack<Op<A>, A>>,
+    op: &Op<A>,
+) -> Result<Option<HoldBack<Op<A>, A>>, EditorFault>
+    requires new { map.get log.old (op_dot op.now) ≡ None }
+    requires waits { IfSome waiting (HoldsBack log.old) }
+    ensures added { OnOk result (log.new ≡ with_op log.old op.now) }
+    ensures logged { OnOk result (AreLogged (operations (with_op log.old op.now))) }
+    ensures waits { IfOk result (λ after. IfSome after (HoldsBack (with_op log.old op.now))) }
+    ensures err { IfErr result (λ fault. fault ≡ EditorFault.Memory) }
+{
+    match waiting {
+        Some(mut waiting) => {
+            let _ = taken_in(log, &mut waiting, copied(op)?)?;
+            Ok(Some(waiting))
+        }
+        None => {
+            add_copy(log, op)?;
+            // for the proof: that the log's operations have stamps of their own
+            let _ = log.runs();
+            Ok(None)
+        }
+    }
 }

@@ -24,12 +24,13 @@ all_taken-requires-clause-own g c =
     let is : now c.deref.result.now ≡ sort_by op_cmp (operations c.args.log.now) = ap now c.deref.ensures.value ∙ c.in_ok-sorted.ensures in
     sorted_own (now c.deref.result.now) (operations c.args.log.now) is (own_stamps (operations c.args.log.now) (every_stamp (operations c.args.log.now) c.runs.ensures.logged.rise))
 
-pub returns-clause-offered : goal.returns-clause-offered
-returns-clause-offered g c =
+pub returns-clause-waits : goal.returns-clause-waits
+returns-clause-waits g c =
     let now : List (Bor (Op g.row.A.Denot)) → List Operation = λ refs. map (λ (o : Bor (Op g.row.A.Denot)). o.now) refs in
-    sorted_offered c.in_ok-waiting.waiting (now c.deref.result.now) (operations c.args.log.now) (ap now c.deref.ensures.value ∙ c.in_ok-sorted.ensures) c.in_ok-waiting.ensures.offered
+    let offered = sorted_offered c.in_ok-waiting.waiting (now c.deref.result.now) (operations c.args.log.now) (ap now c.deref.ensures.value ∙ c.in_ok-sorted.ensures) c.in_ok-waiting.ensures.offered in
+    record { whole = offered.whole; offered = all_were_offered c.in_ok-waiting.waiting (operations c.args.log.now) offered }
 
 pub returns-clause-noted : goal.returns-clause-noted
 returns-clause-noted g c = λ f.
     c.in_ok-waiting.ensures.noted f
-    ∙ released_same c.in_ok-waiting.waiting.contents (operations c.args.log.now) c.released.ensures.exact (all_were_offered c.in_ok-waiting.waiting (operations c.args.log.now) (returns-clause-offered g c)) f
+    ∙ released_same c.in_ok-waiting.waiting.contents (operations c.args.log.now) c.released.ensures.exact (returns-clause-waits g c).offered f

@@ -1,19 +1,7 @@
 use Rattle.std.proofs.Common.{◌∙◌, ap}
-use Rattle.mt_opcodec.specs.LogValue.{operations}
-use Rattle.mt_opcodec.specs.Runs.{run_ops}
-use Rattle.mt_replica.specs.Made.{greatest_clock, greatest_seq}
-use Rattle.mt_replica.proofs.Numbers.{own_is}
-use Rattle.mt_replica.proofs.Taking.{all_were_offered}
+use Rattle.std.specs.List.{sum_by}
+use Rattle.mt_replica.specs.Viewed.{Viewed}
 use Rattle.mt_replica.proofs.state.State.of.Goals as goal
 
-pub invariant_of-result : goal.invariant_of-result
-invariant_of-result g c = rw c.without_session.ensures (
-  record {
-    whole = c.in_ok-waiting.ensures.offered.whole;
-    offered = all_were_offered c.in_ok-waiting.waiting (operations c.args.log) c.in_ok-waiting.ensures.offered;
-    noted = c.in_ok-waiting.ensures.noted;
-    clock_is = c.greatest_clock-clock.ensures ∙ ap greatest_clock c.runs.ensures.value;
-    seq_is = c.greatest_seq-seq.ensures ∙ own_is c.args.name (run_ops c.runs-2.result.now) ∙ ap (greatest_seq c.args.name) c.runs-2.ensures.value;
-  },
-  tt,
-)
+pub beside-requires-clause-noted : goal.beside-requires-clause-noted
+beside-requires-clause-noted g c = λ f. ap (λ (v : Viewed). sum_by f v.ops) c.without_session.ensures ∙ c.in_ok-items.ensures.noted f
