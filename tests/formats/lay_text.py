@@ -10,8 +10,8 @@ BAD_TEXT, ZERO_LENGTH, RATE_DIFFERS, TOO_LONG = 4, 6, 34, 35
 
 
 def check_track(word):
-    """The text of a stamp, or `$` and digits."""
-    if re.fullmatch(r"\$[0-9]+", word):
+    """The text of a stamp, or `$` and the number of a line, from 1 on and of 32 bits."""
+    if re.fullmatch(r"\$[1-9][0-9]{0,9}", word) and int(word[1:]) < 1 << 32:
         return
     try:
         read_stamp(word.encode())

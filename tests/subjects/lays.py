@@ -33,14 +33,16 @@ lays("from_a_frame_on_with_a_gap", [THREE, TENS], [line(THREE, 7, 3), line(TENS,
 lays("two_channels", [STEREO], [line(STEREO, 0, 2)])
 lays("of_another_rate", [AT_44], [line(AT_44, 0, 2)], ["--rate", "44100"])
 lays("on_what_a_line_makes", [THREE, TENS], [line(THREE, 0, 3, "$1"), line(TENS, 3, 2, "$1")], track="$1")
-lays("on_what_a_later_line_makes", [THREE], [line(THREE, 0, 3, "$4294967296")], track="$4294967296")
+lays("on_what_a_later_line_makes", [THREE], [line(THREE, 0, 3, "$20")], track="$20")
+lays("on_what_the_last_line_makes", [THREE], [line(THREE, 0, 3, "$4294967295")], track="$4294967295")
 lays("at_the_last_position", [THREE], [line(THREE, GREATEST, 3)], ["--at", str(GREATEST)])
 lays("up_to_the_last_position", [THREE, TENS], [line(THREE, GREATEST - 3, 3), line(TENS, GREATEST, 2)], ["--at", str(GREATEST - 3)])
 lays("with_the_greatest_gap", [THREE], [line(THREE, GREATEST, 3)], ["--at", str(GREATEST), "--gap", str(GREATEST)])
 
 # TRACK is looked at before any file is opened
 for name, track in (("a_title", "Voice"), ("nothing", ""), ("a_dollar", "$"), ("a_dollar_and_a_word", "$one"), ("the_head", "head"), ("a_stamp_and_a_space", STAMP + " "), ("a_stamp_in_capitals", STAMP.replace("a", "A")),
-                    ("a_replica", STAMP[4:]), ("a_stamp_of_clock_0", "0" + STAMP[1:]), ("two_words", "$1 $2"), ("a_dollar_and_a_line_in_other_digits", "$\u0661")):
+                    ("a_replica", STAMP[4:]), ("a_stamp_of_clock_0", "0" + STAMP[1:]), ("two_words", "$1 $2"), ("line_0", "$0"), ("a_line_with_a_zero_in_front", "$01"), ("a_line_with_a_sign", "$+1"), ("a_line_too_great", "$4294967296"),
+                    ("a_dollar_and_a_line_in_other_digits", "$\u0661")):
     refused("on_" + name, 4, [track, "nothing"])
 
 # the files are read from left to right, and then laid so

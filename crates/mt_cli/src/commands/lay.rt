@@ -44,17 +44,18 @@ pub(crate) const WORDS: Words = Words {
     ],
 };
 
-// Whether a text names a track in a script: the text of a stamp, or `$` and digits.
+// Whether a text names a track in a script: the text of a stamp, or `$` and the number of a line.
 fn is_track(text: &str) -> bool {
     match text.strip_prefix('$') {
-        Some(line) => is_number(line),
+        Some(line) => is_line(line),
         None => Stamp::read(text).is_ok(),
     }
 }
 
-// Whether a text is digits, and at least one.
-fn is_number(text: &str) -> bool {
-    !text.is_empty() && text.bytes().all(|byte| byte.is_ascii_digit())
+// Whether a text is the number of a line, as a script writes it: from 1 on, of 32 bits, digits alone with no zero in front.
+fn is_line(text: &str) -> bool {
+    let begins = text.starts_with(|first: char| matches!(first, '1'..='9'));
+    begins && text.parse::<u32>().is_ok()
 }
 
 pub(crate) fn run<F: Files + AllocGlobal, W: Write>(
