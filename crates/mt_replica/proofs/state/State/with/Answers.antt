@@ -1,6 +1,5 @@
-use Rattle.std.specs.Prelude.{is_some}
+use Rattle.std.specs.Prelude.{is_some, IfSome}
 use Rattle.std.proofs.Common.{◌≡◌, ◌∙◌, ap, subst}
-use Rattle.std.specs.Prelude.{IfSome}
 use Rattle.mt_opcodec.specs.LogValue.{LogMap, operations, log_of, AreLogged}
 use Rattle.mt_sessionview.specs.Session.{ready_ops}
 use Rattle.mt_stamp.proofs.SameItems.{SameItems}
@@ -33,8 +32,7 @@ invariant_of-result g c =
     let was = subst (λ (n : Named). IsState n c.self.inside.view.ops c.self.inside.clock c.self.inside.seq) named c.self.invariant.0 in
     let held = subst (λ (l : LogMap). IsHeldOf l c.self.inside.view.held) log_is c.self.invariant.1.0 in
     let waits = subst (λ (l : LogMap). IfSome c.in_ok-waiting.waiting (HoldsBack (with_op l c.args.op.now))) log_is c.in_ok-waiting.ensures.waits in
-    rw (c.in_ok-view.ensures.ok, c.in_ok-waiting.ensures.added, c.clock.ensures.value, c.stamp.ensures.value, c.seq.ensures.value, c.stamp-2.ensures.value, log_is, ap (λ (n : Named). n.name) named)
-    (
+    rw (c.in_ok-view.ensures.ok, c.in_ok-waiting.ensures.added, c.clock.ensures.value, c.stamp.ensures.value, c.seq.ensures.value, c.stamp-2.ensures.value, log_is, ap (λ (n : Named). n.name) named) (
       made_kept c.args.self.named c.args.op.now c.requires.made logged whole c.self.inside.view.ops c.self.inside.clock c.self.inside.seq was,
       (held_moves c.args.self.named.log (with_op c.args.self.named.log c.args.op.now) c.self.inside.view.held (made_held c.args.self.named c.args.op.now c.requires.made logged whole) held, waits),
     )
