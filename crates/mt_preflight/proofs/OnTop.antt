@@ -1,22 +1,19 @@
 -- A clip is on top at one of its frames just where one of the segments is of it.
 use Rattle.std.proofs.Common.{◌≡◌, ◌≢◌, ℕ, zero, suc, ◌+◌, ◌<◌, ◌≤◌, ◌||◌, inl, inr, true, false, Bool, List, [], ◌∷◌, ◌++◌, length, take, replicate, refl, sym, ◌∙◌, ap, subst, arith}
-use Rattle.std.specs.Prelude.{nat_le, nat_lt, not, ◌&&◌, ◌==◌, Some, if◌then◌else◌}
-use Rattle.std.specs.Ordering.{is_lt}
+use Rattle.std.specs.Prelude.{not, ◌&&◌, ◌==◌, if◌then◌else◌}
 use Rattle.std.specs.List.{list_any}
 use Rattle.std.proofs.Math.Bool.{or-true}
-use Rattle.std.proofs.lemmas.Bool.{cases_Bool, cases_lt, cases_eq, false≢true, eqb-true, eq-eqb, ne_eqb}
-use Rattle.std.proofs.lemmas.Bool.Decides.{nat_tests}
+use Rattle.std.proofs.lemmas.Bool.{cases_Bool, cases_eq, false≢true, eqb-true, eq-eqb, ne_eqb}
 use Rattle.std.proofs.lemmas.List.{take_more, length-replicate}
-use Rattle.mt_stamp.specs.Moment.{stamp_cmp}
 use Rattle.mt_op.proofs.Needs.{stamp_eq-true}
 use Rattle.mt_sessionview.specs.Content.{Clip}
 use Rattle.mt_sessionview.proofs.Items.{stamp_eq_same}
 use Rattle.mt_overlap.specs.declared.span.Segment.{Segment}
 use Rattle.mt_overlap.specs.declared.span.Span.{Span}
-use Rattle.mt_overlap.specs.Overlap.{span_at, segment_at, Covers, IsTop, Says, AreSegments}
-use Rattle.mt_render.specs.Mix.{sounds, sounding}
+use Rattle.mt_overlap.specs.Overlap.{span_at, segment_at, Covers, Says, AreSegments}
+use Rattle.mt_render.specs.Mix.{sounding}
 use Rattle.mt_render.specs.Lanes.{clip_at, span_of, AreSpans}
-use Rattle.mt_render.proofs.Lanes.{PlacesApart, top_sounds, segment_of}
+use Rattle.mt_render.proofs.Lanes.{PlacesApart, in_clips, says_sounds, segment_of}
 use Rattle.mt_preflight.specs.Covered.{frames_from, is_this, is_on_top, is_covered}
 use Rattle.mt_preflight.specs.Lines.{mark_at, is_named, AreTops}
 
@@ -76,28 +73,6 @@ named_found (s ∷ ss) i any =
 
 -- ---- the clip that sounds
 
--- a clip that is not muted sounds at the frames that it covers
-sounds_where : (mute : Bool) (at len f : ℕ) → at ≤ f → f < at + (if mute then 0 else len) → (not mute && (nat_le at f && nat_lt f (at + len))) ≡ true
-sounds_where true at len f from to = absurd (omega arith)
-sounds_where false at len f from to =
-    let a : nat_le at f ≡ true = grind (arith, nat_tests) in
-    let b : nat_lt f (at + len) ≡ true = grind (arith, nat_tests) in
-    rw (a, b) refl
-
-pub covers_where : (mute : Bool) (at len f : ℕ) → (not mute && (nat_le at f && nat_lt f (at + len))) ≡ true → (at ≤ f) × (f < at + (if mute then 0 else len))
-covers_where true at len f there = absurd (false≢true there)
-covers_where false at len f there =
-    elim (cases_lt f at) [
-      | inl low ↦ let a : nat_le at f ≡ false = grind (arith, nat_tests) in absurd (false≢true (rw a at there))
-      | inr from ↦ elim (cases_lt f (at + len)) [
-        | inl to ↦ (from, to)
-        | inr high ↦
-            let a : nat_le at f ≡ true = grind (arith, nat_tests) in
-            let b : nat_lt f (at + len) ≡ false = grind (arith, nat_tests) in
-            absurd (false≢true (rw (a, b) at there))
-      ]
-    ]
-
 pub covers_unmuted : (mute : Bool) (at len f : ℕ) → mute ≡ false → (at ≤ f) × (f < at + (if mute then 0 else len)) → (at ≤ f) × (f < at + len)
 covers_unmuted true at len f on covers = absurd (false≢true (sym on))
 covers_unmuted false at len f on covers = covers
@@ -107,27 +82,8 @@ unmuted_covers true at len f on from to = absurd (false≢true (sym on))
 unmuted_covers false at len f on from to = (from, to)
 
 module _ (clips : List Clip) (spans : List Span) (segs : List Segment) (apart : PlacesApart clips) (are : AreSpans clips spans) (s : AreSegments spans segs) where
-  in_clips : (i : ℕ) → i < length spans → i < length clips
-  in_clips i within = let n = are.count in omega arith
-
   in_spans : (i : ℕ) → i < length clips → i < length spans
   in_spans i within = let n = are.count in omega arith
-
-  greatest : (f i w : ℕ) → i < length clips → w < length clips → sounds (clip_at clips i) f ≡ true → IsTop spans f w → is_lt (stamp_cmp (clip_at clips w).place (clip_at clips i).place) ≡ false
-  greatest f i w below within sound top =
-      let c = clip_at clips i in
-      let covers : Covers (span_at spans i) f = subst (λ (x : Span). Covers x f) (sym (are.each i below)) (covers_where c.mute c.at c.len f sound) in
-      let g = top.greatest i (in_spans i below) covers in
-      rw (are.each w within, are.each i below) at g
-
-  -- the clip of a segment sounds at each of its frames
-  says_sounds : (f w : ℕ) → Says segs f w → sounding clips f ≡ Some (clip_at clips w)
-  says_sounds f w says =
-      let top = s.top f w says in
-      let within : w < length clips = in_clips w top.within in
-      let c = clip_at clips w in
-      let here : Covers (span_of c) f = subst (λ (x : Span). Covers x f) (are.each w within) top.covers in
-      top_sounds clips f w apart within (sounds_where c.mute c.at c.len f here.0 here.1) (λ i below sound. greatest f i w below within sound top)
 
   module _ (i : ℕ) (within : i < length clips) (on : (clip_at clips i).mute ≡ false) where
     abbrev c : Clip
@@ -145,7 +101,7 @@ module _ (clips : List Clip) (spans : List Span) (segs : List Segment) (apart : 
         let says : Says segs f i = record { index = k; within = o.within; from = omega arith; to = some; which = o.which } in
         let covers : Covers (span_of c) f = subst (λ (x : Span). Covers x f) (are.each i within) (s.top f i says).covers in
         let frame = covers_unmuted c.mute c.at c.len f on covers in
-        frames_have here c.at c.len f frame.0 frame.1 (ap (is_this c) (says_sounds f i says) ∙ stamp_eq_same c.place c.place refl)
+        frames_have here c.at c.len f frame.0 frame.1 (ap (is_this c) (says_sounds clips spans segs apart are s f i says) ∙ stamp_eq_same c.place c.place refl)
 
     from : list_any here (frames_from c.at c.len) ≡ true → is_named segs i ≡ true
     from any =
@@ -154,8 +110,8 @@ module _ (clips : List Clip) (spans : List Span) (segs : List Segment) (apart : 
         let covers : Covers (span_at spans i) f = subst (λ (x : Span). Covers x f) (sym (are.each i within)) (unmuted_covers c.mute c.at c.len f on r.low r.high) in
         let found = s.all i f (in_spans i within) covers in
         let w = found.0 in
-        let other : w < length clips = in_clips w (s.top f w found.1).within in
-        let place : c.place ≡ (clip_at clips w).place = stamp_eq-true c.place (clip_at clips w).place (sym (ap (is_this c) (says_sounds f w found.1)) ∙ r.passes) in
+        let other : w < length clips = in_clips clips spans segs apart are s f w found.1 in
+        let place : c.place ≡ (clip_at clips w).place = stamp_eq-true c.place (clip_at clips w).place (sym (ap (is_this c) (says_sounds clips spans segs apart are s f w found.1)) ∙ r.passes) in
         elim (cases_eq w i) [
           | inl same ↦ named_has segs found.1.index i found.1.within (found.1.which ∙ same)
           | inr differ ↦ absurd (apart w i other within differ (sym place))

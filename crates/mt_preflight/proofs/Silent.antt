@@ -12,9 +12,10 @@ use Rattle.mt_sessionview.specs.Content.{Clip}
 use Rattle.mt_sessionview.proofs.Items.{stamp_eq_same}
 use Rattle.mt_render.specs.Mix.{sounds, upper, sounding}
 use Rattle.mt_render.specs.Refusals.{IsAmong}
+use Rattle.mt_render.proofs.Lanes.{by_covers}
 use Rattle.mt_preflight.specs.Covered.{frames_from, is_this, is_on_top, is_covered}
 use Rattle.mt_preflight.specs.WarningLaws.{CoveredIsSilent}
-use Rattle.mt_preflight.proofs.OnTop.{covers_where, covers_unmuted, frames_have, frames_found}
+use Rattle.mt_preflight.proofs.OnTop.{covers_unmuted, frames_have, frames_found}
 
 upper_cases : (c d : Clip) (o : Option Clip) → upper c o ≡ Some d → (c ≡ d) ⊎ (o ≡ Some d)
 upper_cases c d None e = inl (same_Some c d e)
@@ -76,7 +77,7 @@ module _ (clips : List Clip) (c : Clip) (differ : DifferBy (λ (x : Clip). x.pla
   silent covered f sound =
       let on : c.mute ≡ false = not-true c.mute (and_first (not c.mute) _ covered) in
       let never : is_on_top clips c ≡ false = not-true (is_on_top clips c) (and_second (not c.mute) _ covered) in
-      let frame = covers_unmuted c.mute c.at c.len f on (covers_where c.mute c.at c.len f (sounding_is clips f c sound).sounds) in
+      let frame = covers_unmuted c.mute c.at c.len f on (by_covers c.mute c.at c.len f (sounding_is clips f c sound).sounds) in
       true≢false (sym (frames_have here c.at c.len f frame.0 frame.1 (ap (is_this c) sound ∙ stamp_eq_same c.place c.place refl)) ∙ never)
 
   never_on_top : ((f : ℕ) → sounding clips f ≢ Some c) → is_on_top clips c ≡ false

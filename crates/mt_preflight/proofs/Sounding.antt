@@ -1,7 +1,6 @@
 -- Clips that play a recording.
-use Rattle.std.proofs.Common.{◌≡◌, inl, inr, Bool, true, false, List, [], ◌∷◌, refl, sym, ap, ◌∙◌}
+use Rattle.std.proofs.Common.{◌≡◌, inl, inr, true, List, [], ◌∷◌, refl, sym, ap, ◌∙◌}
 use Rattle.std.proofs.lemmas.Bool.{cases_Bool}
-use Rattle.mt_op.specs.declared.digest.Digest.{Digest}
 use Rattle.mt_sessionview.specs.Content.{Clip}
 use Rattle.mt_render.specs.Refusals.{IsAmong}
 use Rattle.mt_preflight.specs.Files.{is_same}

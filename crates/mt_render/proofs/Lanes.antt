@@ -176,7 +176,7 @@ covers_by false at len f from to =
     let b : nat_lt f (at + len) ≡ true = grind (arith, nat_tests) in
     rw (a, b) refl
 
-by_covers : (mute : Bool) (at len f : ℕ) → (not mute && (nat_le at f && nat_lt f (at + len))) ≡ true → (at ≤ f) × (f < at + (if mute then 0 else len))
+pub by_covers : (mute : Bool) (at len f : ℕ) → (not mute && (nat_le at f && nat_lt f (at + len))) ≡ true → (at ≤ f) × (f < at + (if mute then 0 else len))
 by_covers true at len f h = absurd (false≢true h)
 by_covers false at len f h =
     elim (cases_lt f at) [
@@ -197,7 +197,7 @@ muted_by false at len f from to = refl
 covers_of : (clips : List Clip) (spans : List Span) (i f : ℕ) → AreSpans clips spans → i < length clips → Covers (span_at spans i) f → Covers (span_of (clip_at clips i)) f
 covers_of clips spans i f are within covers = subst (λ s. Covers s f) (are.each i within) covers
 
-covered : (clips : List Clip) (spans : List Span) (i f : ℕ) → AreSpans clips spans → i < length clips → sounds (clip_at clips i) f ≡ true → Covers (span_at spans i) f
+pub covered : (clips : List Clip) (spans : List Span) (i f : ℕ) → AreSpans clips spans → i < length clips → sounds (clip_at clips i) f ≡ true → Covers (span_at spans i) f
 covered clips spans i f are within there =
     let c = clip_at clips i in
     subst (λ s. Covers s f) (sym (are.each i within)) (by_covers c.mute c.at c.len f there)
@@ -265,6 +265,37 @@ segment_of clips spans segs k are s below =
     let held = rw on at (covers_of clips spans seg.which (seg.end - 1) are within last.covers).1 in
     record { within = within; on = on; begun = covers.0; ended = omega (arith, held, some) }
 
+-- ---- the clip of a segment is the one that sounds
+
+module _ (clips : List Clip) (spans : List Span) (segs : List Segment) (apart : PlacesApart clips) (are : AreSpans clips spans) (s : AreSegments spans segs) where
+  pub in_clips : (f w : ℕ) → Says segs f w → w < length clips
+  in_clips f w says = let n = are.count in let w = (s.top f w says).within in omega arith
+
+  greatest : (f i w : ℕ) → i < length clips → w < length clips → sounds (clip_at clips i) f ≡ true → IsTop spans f w → is_lt (stamp_cmp (clip_at clips w).place (clip_at clips i).place) ≡ false
+  greatest f i w below within sound top =
+      let g = top.greatest i (let n = are.count in omega arith) (covered clips spans i f are below sound) in
+      rw (are.each w within, are.each i below) at g
+
+  -- the clip of a segment sounds at each frame of it
+  pub says_sounds : (f w : ℕ) → Says segs f w → sounding clips f ≡ Some (clip_at clips w)
+  says_sounds f w says =
+      let top = s.top f w says in
+      let within : w < length clips = in_clips f w says in
+      let c = clip_at clips w in
+      let here = covers_of clips spans w f are within top.covers in
+      top_sounds clips f w apart within (covers_by c.mute c.at c.len f here.0 here.1) (λ i below sound. greatest f i w below within sound top)
+
+  -- where no segment holds a frame, no clip sounds
+  pub none_says : (f : ℕ) → ((w : ℕ) → Says segs f w → ⊥) → sounding clips f ≡ None
+  none_says f none = none_sounds clips f silent
+    where
+      silent : (i : ℕ) → i < length clips → sounds (clip_at clips i) f ≡ false
+      silent i below =
+          elim (cases_Bool (sounds (clip_at clips i) f)) [
+            | inl sound ↦ let found = s.all i f (let n = are.count in omega arith) (covered clips spans i f are below sound) in absurd (none found.0 found.1)
+            | inr quiet ↦ quiet
+          ]
+
 -- the segments of a track's clips add up to what the clip that sounds contributes
 pub lane_is : (sources : Sources) (gain : Ratio) (clips : List Clip) (spans : List Span) (segs : List Segment) (f c : ℕ) → PlacesApart clips → AreSpans clips spans → AreSegments spans segs
     → lane_sum (clip_value sources gain clips f c) segs f ≡ clip_sample sources gain f c (sounding clips f)
@@ -273,34 +304,15 @@ lane_is sources gain clips spans segs f c apart are s =
       | inl there ↦
           let w = (segment_at segs there.index).which in
           let says : Says segs f w = record { index = there.index; within = there.within; from = there.from; to = there.to; which = refl } in
-          let top = s.top f w says in
-          let within : w < length clips = let t = top.within in let n = are.count in omega arith in
-          let here = covers_of clips spans w f are within top.covers in
-          let on = clip_at clips w in
-          let sounds_on : sounds on f ≡ true = covers_by on.mute on.at on.len f here.0 here.1 in
-          let is : sounding clips f ≡ Some on = top_sounds clips f w apart within sounds_on (λ i below sound. greatest i w below within sound top) in
-          says_sum (clip_value sources gain clips f c) segs f w s.tidy says ∙ rw is refl
-      | inr out ↦
-          let none : sounding clips f ≡ None = none_sounds clips f (λ i below. silent i below out) in
-          silent_sum (clip_value sources gain clips f c) segs f out ∙ rw none refl
+          says_sum (clip_value sources gain clips f c) segs f w s.tidy says ∙ rw (says_sounds clips spans segs apart are s f w says) refl
+      | inr out ↦ silent_sum (clip_value sources gain clips f c) segs f out ∙ rw (none_says clips spans segs apart are s f (λ w says. not_in w says out)) refl
     ]
   where
-    greatest : (i w : ℕ) → i < length clips → w < length clips → sounds (clip_at clips i) f ≡ true → IsTop spans f w → is_lt (stamp_cmp (clip_at clips w).place (clip_at clips i).place) ≡ false
-    greatest i w below within sound top =
-        let g = top.greatest i (let n = are.count in omega arith) (covered clips spans i f are below sound) in
-        rw (are.each w within, are.each i below) at g
-
-    silent : (i : ℕ) → i < length clips → ((k : ℕ) → k < length segs → is_in (segment_at segs k) f ≡ false) → sounds (clip_at clips i) f ≡ false
-    silent i below out =
-        elim (cases_Bool (sounds (clip_at clips i) f)) [
-          | inr n ↦ n
-          | inl y ↦
-              let there = s.all i f (let n = are.count in omega arith) (covered clips spans i f are below y) in
-              let says = there.1 in
-              let from : nat_le (segment_at segs says.index).start f ≡ true = let a = says.from in grind (arith, nat_tests) in
-              let to : nat_lt f (segment_at segs says.index).end ≡ true = let a = says.to in grind (arith, nat_tests) in
-              absurd (false≢true (sym (out says.index says.within) ∙ rw (from, to) refl))
-        ]
+    not_in : (w : ℕ) → Says segs f w → ((k : ℕ) → k < length segs → is_in (segment_at segs k) f ≡ false) → ⊥
+    not_in w says out =
+        let from : nat_le (segment_at segs says.index).start f ≡ true = let a = says.from in grind (arith, nat_tests) in
+        let to : nat_lt f (segment_at segs says.index).end ≡ true = let a = says.to in grind (arith, nat_tests) in
+        absurd (false≢true (sym (out says.index says.within) ∙ rw (from, to) refl))
 
 -- spans of which no two have one place
 pub spans_apart : (clips : List Clip) (spans : List Span) → AreSpans clips spans → PlacesApart clips → PlacesDiffer spans

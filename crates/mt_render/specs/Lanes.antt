@@ -20,6 +20,7 @@ clip_at clips i = slice_index_or clips i (record { clip = nowhere; place = nowhe
 abbrev pub span_of : Clip → Span
 span_of c = record { place = c.place; start = c.at; len = if c.mute then 0 else c.len }
 
+-- the spans of clips: one for each clip, in their order
 pub record AreSpans (clips : List Clip) (spans : List Span) : Type 0 where
   pub count : length spans ≡ length clips
   pub each : (i : ℕ) → i < length clips → span_at spans i ≡ span_of (clip_at clips i)

@@ -33,7 +33,7 @@
 //! At each frame, on each track that is not muted, the clip that was placed last sounds alone of those that cover the frame and are not
 //! muted. Its sample at 32-bit scale, times the gains of the clip and of the track and as far as it has faded in and not out, is rounded to
 //! the nearest whole number, halves up; the sum over the tracks is rounded to the bits that are put out, and cut to their range. `specs/Mix.antt` says it in a
-//! line a step, and `laws` which clip it is.
+//! line a step, and `laws` which clip it is. `spans_of` tells what the clips of a track cover, for who has to know which of them sounds, and not its samples.
 //!
 //! What a block costs: for each track one search for the first segment that reaches into it, and for each sample of a segment a reading, a
 //! product and a sum, in loops that look at nothing else. A mix whose gains are so great that a sum may pass 64 bits is filled sample by
@@ -54,6 +54,7 @@ mod part;
 mod ramp;
 mod scale;
 mod search;
+mod spans;
 mod step;
 mod sum;
 mod track;
@@ -63,3 +64,4 @@ pub use fault::{FormatFault, MixFault, SourceFault};
 pub use format::Format;
 pub use hashed::HashedFile;
 pub use mix::Mix;
+pub use spans::spans_of;

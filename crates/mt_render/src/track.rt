@@ -2,7 +2,7 @@
 
 ghost use Rattle.std.specs.Prelude.{◌≡◌, ℕ, ◌+◌, ◌-◌, ◌*◌, ◌<◌, ◌≤◌, false, if◌then◌else◌, length, [], ◌∷◌, ◌++◌, ℤ, pos, ◌+ℤ◌, ◌*ℤ◌, OnOk, IfOk, IfErr};
 ghost use Rattle.mt_overlap.specs.Overlap.{segment_at};
-ghost use Rattle.mt_render.specs.Lanes.{clip_at, span_of, AreSpans, is_in, clip_value};
+ghost use Rattle.mt_render.specs.Lanes.{clip_at, is_in, clip_value};
 ghost use Rattle.mt_render.specs.Fading.{loudness, most};
 ghost use Rattle.mt_render.specs.Mix.{rounded, contribution, heard, sounding, clip_sample, track_sample};
 ghost use Rattle.mt_render.specs.Parts.{all_give, lanes_give};
@@ -16,19 +16,12 @@ use crate::fault::MixFault;
 use crate::lane::Lane;
 use crate::part::Part;
 use crate::scale::Scale;
+use crate::spans::{clip_at, spans_of};
 use mt_bwfread::Wave;
 use mt_op::Gain;
-use mt_overlap::{Segment, Span, segments};
+use mt_overlap::{Segment, segments};
 use mt_sessionview::{ClipView, TrackView};
 use std::alloc::Allocator;
-
-// The clip of an index.
-fn clip_at(clips: &[ClipView], index: usize) -> ClipView
-    requires { index < length clips.now }
-    ensures { result ≡ clip_at clips.now index }
-{
-    clips[index]
-}
 
 // The segment of an index.
 fn segment_at(segments: &[Segment], index: usize) -> Segment
@@ -36,30 +29,6 @@ fn segment_at(segments: &[Segment], index: usize) -> Segment
     ensures { result ≡ segment_at segments.now index }
 {
     segments[index]
-}
-
-// What a clip covers: nothing where it is muted.
-fn span_of(clip: &ClipView) -> Span
-    ensures { result ≡ span_of clip.now }
-{
-    Span {
-        place: clip.place,
-        start: clip.at,
-        len: if clip.mute { 0 } else { clip.len },
-    }
-}
-
-// What the clips of a track cover.
-fn spans_of<A: Allocator>(alloc: A, clips: &[ClipView]) -> Result<Vec<Span, A>, MixFault>
-    ensures ok { IfOk result (λ spans. AreSpans clips.now spans.items) }
-    ensures err { IfErr result (λ fault. fault ≡ MixFault.Memory) }
-{
-    let mut spans = Vec::new(alloc);
-    for index in 0..clips.len() {
-        let clip = clip_at(clips, index);
-        spans.push(span_of(&clip))?;
-    }
-    Ok(spans)
 }
 
 // The part of a clip in a segment.

@@ -1,11 +1,13 @@
--- The characters of a text, byte by byte.
-use Rattle.std.proofs.Common.{◌≡◌, ℕ, zero, suc, ◌+◌, ◌-◌, ◌<◌, ◌≤◌, max, Bool, true, false, List, [], ◌∷◌, ◌++◌, length, take, drop, get_or, refl, sym, ap, ◌∙◌, arith}
+-- The characters of a text, and labels of so many.
+use Rattle.std.proofs.Common.{◌≡◌, ℕ, zero, suc, ◌+◌, ◌-◌, ◌<◌, max, Bool, List, [], ◌∷◌, ◌++◌, length, take, get_or, replicate, refl, sym, ap, ◌∙◌, arith}
 use Rattle.std.specs.Prelude.{slice_index, ◌==◌, if◌then◌else◌}
-use Rattle.std.specs.Fmt.{is_char_start, char_count, take_chars}
-use Rattle.std.proofs.lemmas.List.{append-nil, take_more}
-use Rattle.std.proofs.lemmas.Bool.Decides.{nat_tests}
+use Rattle.std.specs.Char.{encode_utf8}
+use Rattle.std.specs.Fmt.{is_char_start, char_count, take_chars, format_spec, styled_text, padded}
+use Rattle.std.specs.List.{repeat}
+use Rattle.std.proofs.Math.Bool.{and-false}
+use Rattle.std.proofs.lemmas.List.{take_more}
 use Rattle.mt_sessionview.specs.Content.{Track}
-use Rattle.mt_timeline.specs.Timeline.{longest}
+use Rattle.mt_timeline.specs.Timeline.{longest, label_text}
 
 more : (text : List ℕ) (i : ℕ) → i < length text → char_count (take (suc i) text) ≡ char_count (take i text) + (if is_char_start (slice_index text i) then 1 else 0)
 unfolding char_count
@@ -23,55 +25,23 @@ pub count_none : char_count [] ≡ 0
 unfolding char_count
 count_none = refl
 
--- what is left of so many first characters behind some bytes
-abbrev pub Kept : ℕ → List ℕ → ℕ → ℕ → Type 0
-Kept count text i left = take_chars count text ≡ take i text ++ take_chars left (drop i text)
+-- ---- labels
 
-step_start : (text : List ℕ) (i left next : ℕ) → i < length text → is_char_start (slice_index text i) ≡ true → left ≡ suc next → take i text ++ take_chars left (drop i text) ≡ take (suc i) text ++ take_chars next (drop (suc i) text)
-unfolding take_chars
-step_start [] i left next below start is = absurd (omega arith)
-step_start (b ∷ text) zero left next below start is =
-    let some : (left == 0) ≡ false = grind (arith, nat_tests) in
-    let less : left - 1 ≡ next = omega arith in
-    rw (start, some, less) refl
-step_start (b ∷ text) (suc i) left next below start is = ap (λ (l : List ℕ). b ∷ l) (step_start text i left next (omega arith) start is)
+spaces : (n : ℕ) → repeat n (encode_utf8 32) ≡ replicate n 32
+unfolding encode_utf8
+spaces zero = refl
+spaces (suc n) = ap (λ (l : List ℕ). 32 ∷ l) (spaces n)
 
-step_other : (text : List ℕ) (i left : ℕ) → i < length text → is_char_start (slice_index text i) ≡ false → take i text ++ take_chars left (drop i text) ≡ take (suc i) text ++ take_chars left (drop (suc i) text)
-unfolding take_chars
-step_other [] i left below other = absurd (omega arith)
-step_other (b ∷ text) zero left below other = rw other refl
-step_other (b ∷ text) (suc i) left below other = ap (λ (l : List ℕ). b ∷ l) (step_other text i left (omega arith) other)
+filled : (shown : List ℕ) (n : ℕ) → shown ++ repeat (n - 0) (encode_utf8 32) ≡ shown ++ replicate n 32
+filled shown n = let same : n - 0 ≡ n = omega arith in rw (same, spaces n) refl
 
-pub kept_start : (count : ℕ) (text : List ℕ) (i left next : ℕ) → i < length text → is_char_start (slice_index text i) ≡ true → left ≡ suc next → Kept count text i left → Kept count text (i + 1) next
-kept_start count text i left next below start is kept = let e : i + 1 ≡ suc i = omega arith in rw e (kept ∙ step_start text i left next below start is)
+padded_label : (width : ℕ) (label : List ℕ) → styled_text (format_spec 32 1 0 width 20) label ≡ label_text width label
+unfolding padded
+padded_label width label = rw (and-false (width == 0)) (filled (take_chars 20 label) (width - char_count (take_chars 20 label)))
 
-pub kept_other : (count : ℕ) (text : List ℕ) (i left next : ℕ) → i < length text → is_char_start (slice_index text i) ≡ false → left ≡ next → Kept count text i left → Kept count text (i + 1) next
-kept_other count text i left next below other is kept = let e : i + 1 ≡ suc i = omega arith in rw (e, ← is) (kept ∙ step_other text i left below other)
-
-stops : (text : List ℕ) (i : ℕ) → i < length text → is_char_start (slice_index text i) ≡ true → take_chars 0 (drop i text) ≡ []
-unfolding take_chars
-stops [] i below start = absurd (omega arith)
-stops (b ∷ text) zero below start = rw start refl
-stops (b ∷ text) (suc i) below start = stops text i (omega arith) start
-
--- all are kept, and one more begins
-pub all_kept : (count : ℕ) (text : List ℕ) (i left : ℕ) → i < length text → is_char_start (slice_index text i) ≡ true → left ≡ 0 → Kept count text i left → take i text ≡ take_chars count text
-all_kept count text i left below start is kept =
-    sym (kept ∙ ap (λ (n : ℕ). take i text ++ take_chars n (drop i text)) is ∙ ap (λ (l : List ℕ). take i text ++ l) (stops text i below start) ∙ append-nil (take i text))
-
-past_end : (text : List ℕ) (i left : ℕ) → length text ≤ i → take i text ++ take_chars left (drop i text) ≡ take (length text) text
-unfolding take_chars
-past_end [] zero left past = refl
-past_end [] (suc i) left past = refl
-past_end (b ∷ text) zero left past = absurd (omega arith)
-past_end (b ∷ text) (suc i) left past = ap (λ (l : List ℕ). b ∷ l) (past_end text i left (omega arith))
-
--- the text has no more
-pub whole_kept : (count : ℕ) (text : List ℕ) (i left : ℕ) → length text ≤ i → Kept count text i left → take (length text) text ≡ take_chars count text
-whole_kept count text i left past kept = sym (kept ∙ past_end text i left past)
-
-pub kept_none : (count : ℕ) (text : List ℕ) → Kept count text 0 count
-kept_none count text = refl
+-- what std's format shows of a label is appended
+pub label_more : (width : ℕ) (label shown bytes old new : List ℕ) → shown ≡ styled_text (format_spec 32 1 0 width 20) label → bytes ≡ shown → new ≡ old ++ bytes → new ≡ old ++ label_text width label
+label_more width label shown bytes old new is here step = step ∙ ap (λ (l : List ℕ). old ++ l) (here ∙ is ∙ padded_label width label)
 
 -- ---- titles
 

@@ -51,7 +51,7 @@ pub(crate) fn append_markers_line<A: Allocator + Clone, B: Allocator, C: Allocat
     ensures { OnOk result (text.new.items ≡ text.old.items ++ markers_line label width frames markers.now) }
 {
     let cells = marker_cells(alloc, width, frames, markers)?;
-    append_label(text, label, "markers")?;
+    append_label(alloc, text, label, "markers")?;
     text.extend_from_slice(b" ")?;
     append_marker_marks(text, &cells)?;
     text.extend_from_slice(b"\n")?;
@@ -74,7 +74,7 @@ fn append_track_line<A: Allocator + Clone, B: Allocator, C: Allocator>(
     let clips = track.clips.items();
     let cells = clip_cells(alloc, width, frames, clips)?;
     let tops = tops_of(alloc, clips)?;
-    append_label(text, label, track.title.text())?;
+    append_label(alloc, text, label, track.title.text())?;
     text.extend_from_slice(b" ")?;
     append_track_marks(text, frames, track.mute, clips, &cells, &tops)?;
     append_gain(text, track.gain)?;

@@ -1,9 +1,7 @@
 //! Timelines through a latch.
 
 ghost use Rattle.std.specs.Prelude.{◌≡◌, ◌≤◌, ◌^◌, ◌++◌, true, false, IfOk, IfErr, OnOk};
-ghost use Rattle.std.specs.Io.KnownBytes.{Appends};
-ghost use Rattle.mt_latch.specs.Latch.{AppendsPrefix};
-ghost use Rattle.mt_timeline.specs.Timeline.{column, lines, timeline_text};
+ghost use Rattle.mt_timeline.specs.Timeline.{column, lines, timeline_text, IsDrawn, IsDrawnInPart};
 
 use crate::extent::span;
 use crate::label::label_width;
@@ -90,8 +88,8 @@ pub fn write_timeline<A: Allocator + Clone, B: Allocator, W: Write>(
 ) -> Result<(), SessionFault>
     requires width { 1 ≤ width }
     requires rate { 1 ≤ rate }
-    ensures whole { OnOk result (Appends (W.contents output.old.inner) (W.contents output.new.inner) (timeline_text width rate session.now)) }
-    ensures prefix { AppendsPrefix (W.contents output.old.inner) (W.contents output.new.inner) (timeline_text width rate session.now) }
+    ensures whole { OnOk result (IsDrawn W.contents width rate session.now output.old output.new) }
+    ensures prefix { IsDrawnInPart W.contents width rate session.now output.old output.new }
     ensures sound { OnOk result (output.new.failed ≡ false) }
     ensures write { IfErr result (λ fault. fault ≡ SessionFault.Write → output.new.failed ≡ true) }
     ensures stays_failed { output.old.failed ≡ true → output.new ≡ output.old }

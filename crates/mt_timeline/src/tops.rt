@@ -4,11 +4,12 @@ ghost use Rattle.std.specs.Prelude.{◌≡◌, ℕ, ◌<◌, ◌≤◌, length, 
 ghost use Rattle.mt_stamp.specs.Sorting.{DifferBy};
 ghost use Rattle.mt_sessionview.specs.Content.{Clip};
 ghost use Rattle.mt_overlap.specs.Overlap.{segment_at, Says, AreTidy};
-ghost use Rattle.mt_render.specs.Lanes.{clip_at, span_of, AreSpans};
+ghost use Rattle.mt_render.specs.Lanes.{clip_at};
 ghost use Rattle.mt_timeline.specs.Drawing.{AreTops};
 ghost use Rattle.mt_timeline.specs.Timeline.{heard};
 
-use mt_overlap::{Segment, Span, segments};
+use mt_overlap::{Segment, segments};
+use mt_render::spans_of;
 use mt_sessionview::ClipView;
 use std::alloc::{AllocError, Allocator};
 
@@ -18,29 +19,6 @@ fn clip_at(clips: &[ClipView], index: usize) -> ClipView
     ensures { result ≡ clip_at clips.now index }
 {
     clips[index]
-}
-
-// What a clip covers: nothing where it is muted.
-fn span_of(clip: &ClipView) -> Span
-    ensures { result ≡ span_of clip.now }
-{
-    Span {
-        place: clip.place,
-        start: clip.at,
-        len: if clip.mute { 0 } else { clip.len },
-    }
-}
-
-// What the clips of a track cover.
-fn spans_of<A: Allocator>(alloc: A, clips: &[ClipView]) -> Result<Vec<Span, A>, AllocError>
-    ensures { IfOk result (λ spans. AreSpans clips.now spans.items) }
-{
-    let mut spans = Vec::new(alloc);
-    for index in 0..clips.len() {
-        let clip = clip_at(clips, index);
-        spans.push(span_of(&clip))?;
-    }
-    Ok(spans)
 }
 
 /// The segments in which the clips of a track sound.

@@ -2,7 +2,7 @@
 use Rattle.std.proofs.Common.{◌≡◌, ℕ, ◌<◌, length}
 use Rattle.mt_overlap.specs.Overlap.{span_at}
 use Rattle.mt_render.specs.Lanes.{clip_at, span_of}
-use Rattle.mt_timeline.proofs.tops.spans_of.Given as goal
+use Rattle.mt_render.proofs.spans.spans_of.Given as goal
 
 abbrev pub invariant-loop-index : goal.invariant-loop-index
 invariant-loop-index g l =

@@ -1,0 +1,42 @@
+//! What the clips of a track cover.
+
+ghost use Rattle.std.specs.Prelude.{◌≡◌, ◌<◌, length, IfOk};
+ghost use Rattle.mt_render.specs.Lanes.{clip_at, span_of, AreSpans};
+
+use mt_overlap::Span;
+use mt_sessionview::ClipView;
+use std::alloc::{AllocError, Allocator};
+
+/// The clip of an index.
+pub(crate) fn clip_at(clips: &[ClipView], index: usize) -> ClipView
+    requires { index < length clips.now }
+    ensures { result ≡ clip_at clips.now index }
+{
+    clips[index]
+}
+
+// What a clip covers: nothing where it is muted.
+fn span_of(clip: &ClipView) -> Span
+    ensures { result ≡ span_of clip.now }
+{
+    Span {
+        place: clip.place,
+        start: clip.at,
+        len: if clip.mute { 0 } else { clip.len },
+    }
+}
+
+/// What the clips of a track cover, a span for each clip, in the order of the clips: the frames from its first on, as many as it is long, and
+/// none of one that is muted. Each has the place stamp of its clip, so `mt_overlap::segments` of them tells at which frames which clip sounds.
+///
+/// `AllocError` only where a growth was refused. In a time linear in the number of clips.
+pub fn spans_of<A: Allocator>(alloc: A, clips: &[ClipView]) -> Result<Vec<Span, A>, AllocError>
+    ensures ok { IfOk result (λ spans. AreSpans clips.now spans.items) }
+{
+    let mut spans = Vec::new(alloc);
+    for index in 0..clips.len() {
+        let clip = clip_at(clips, index);
+        spans.push(span_of(&clip))?;
+    }
+    Ok(spans)
+}
