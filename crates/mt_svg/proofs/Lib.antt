@@ -1,0 +1,5 @@
+pub mod Added
+pub mod Counting
+mod Drawing
+mod Ends
+mod Gathering

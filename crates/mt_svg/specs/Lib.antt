@@ -1,0 +1,4 @@
+pub mod Adding
+pub mod Placement
+pub mod Svg
+pub mod XmlText

@@ -1,0 +1,205 @@
+#!/usr/bin/env python3
+"""Looks at the pictures that `radio timeline --svg` prints: tests/checks/pictures.py PROGRAM
+
+Of some sessions, with fades, muted clips, markers that are no points and odd titles, and at several rates: that the picture is well-formed XML, that each thing is
+there as often as the session has it, with its title, and that each lies in the page and each clip in the row of its track. Where a Chromium is installed it draws
+them too, and tells where on the page each text and each shape is seen.
+"""
+import html
+import json
+import os
+import re
+import shutil
+import subprocess
+import sys
+import tempfile
+import xml.etree.ElementTree as ElementTree
+
+sys.path.insert(0, os.path.dirname(os.path.dirname(os.path.abspath(__file__))))
+from formats import logs
+from formats.logs import A
+from formats.sessions import Op, session_of
+from formats.svg_text import svg_text
+
+SVG = "{http://www.w3.org/2000/svg}"
+BROWSERS = ("chromium", "chromium-browser", "google-chrome")
+SECOND = 48000
+ODD = ["<b>&\"'", "]]>", "&amp;", "", "News", "W" * 255, "\ufffe\uffff", "新聞 أخبار", "  two  ", "<!-- -->", "\u0085\u200f\u2028"]
+LOOKED_AT = 0
+
+
+class Making:
+    """Operations, one after another."""
+
+    def __init__(self):
+        self.ops = []
+
+    def add(self, kind, **fields):
+        own = (len(self.ops) + 1, A, len(self.ops) + 1)
+        self.ops.append(Op(own, kind, **fields))
+        return own
+
+    def track(self, title, mute=0, gain=(1, 1)):
+        own = self.add("add_track", after=None, title=title)
+        self.add("set_mute", item=own, flag=mute)
+        self.add("set_gain", item=own, num=gain[0], den=gain[1])
+        return own
+
+    def clip(self, track, at, length, mute=0, gain=(1, 1), fades=(0, 0)):
+        own = self.add("add_clip", source=bytes(range(len(self.ops), len(self.ops) + 32)), track=track, at=at, offset=0, length=length)
+        self.add("set_mute", item=own, flag=mute)
+        self.add("set_gain", item=own, num=gain[0], den=gain[1])
+        self.add("set_fade", clip=own, fade_in=fades[0], fade_out=fades[1])
+
+    def marker(self, at, title, span=0):
+        self.add("set_marker_length", marker=self.add("add_marker", at=at, title=title), span=span)
+
+
+def a_programme():
+    made = Making()
+    voice = made.track("Voice")
+    for number in range(9):
+        made.clip(voice, number * 9 * SECOND, 8 * SECOND, mute=number % 3 == 2, gain=(number, 4), fades=(number * SECOND, 2 * SECOND))
+    made.clip(voice, 80 * SECOND, 1, fades=(1048576, 1048576))
+    atmosphere = made.track(ODD[0], mute=1, gain=(65535, 65535))
+    made.clip(atmosphere, 0, 60 * SECOND, fades=(SECOND, 1048576))
+    made.clip(atmosphere, 30 * SECOND, 60 * SECOND, mute=1)
+    for number, title in enumerate(ODD):
+        made.track(title, gain=(number, 2))
+        made.marker(number * 9 * SECOND, title, (number % 3) * 4 * SECOND)
+    made.marker(91 * SECOND - 1, "the last one " * 19)
+    return made.ops
+
+
+def a_long_one():
+    made = Making()
+    made.clip(made.track("Long"), 2**32 - 1, 2**32 - 1, fades=(1048576, 1048576))
+    made.marker(2**32 - 1, "far", 2**32 - 1)
+    return made.ops
+
+
+def one_marker():
+    made = Making()
+    made.marker(0, ODD[5])
+    return made.ops
+
+
+def drawn(program, folder, ops, rate):
+    name = os.path.join(folder, "log")
+    with open(name, "wb") as file:
+        file.write(logs.log([op.text() for op in ops]))
+    done = subprocess.run([program, "timeline", "--svg", "--rate", str(rate), name], capture_output=True)
+    assert done.returncode == 0 and done.stderr == b"", done
+    return done.stdout.decode()
+
+
+def shown(title):
+    return title.replace("\ufffe", "\ufffd").replace("\uffff", "\ufffd")
+
+
+def numbers(element, *names):
+    return [int(element.get(name, "0")) for name in names]
+
+
+def within(inner, outer, what):
+    """That a box of left, top, right and bottom lies in another."""
+    global LOOKED_AT
+    LOOKED_AT += 1
+    assert outer[0] <= inner[0] and outer[1] <= inner[1] and inner[2] <= outer[2] and inner[3] <= outer[3], (what, inner, outer)
+
+
+def boxes(element, x=0, y=0):
+    """Where each box below an element is, in units of the page, and its row. Every box of its own hides what is outside."""
+    move = re.fullmatch(r"translate\((\d+) (\d+)\)", element.get("transform", "translate(0 0)"))
+    x, y = x + int(move[1]), y + int(move[2])
+    for child in element:
+        if child.tag in (SVG + "svg", SVG + "rect"):
+            left, top, width, height = numbers(child, "x", "y", "width", "height")
+            yield child, (x + left, y + top, x + left + width, y + top + height)
+        elif child.tag == SVG + "path":
+            across, top, bottom = map(int, re.fullmatch(r"M(\d+) (\d+)V(\d+)", child.get("d")).groups())
+            yield child, (x + across, y + top, x + across, y + bottom)
+        elif child.tag == SVG + "g":
+            yield from boxes(child, x, y)
+
+
+def look_at(text, session):
+    """Looks at a picture by its elements."""
+    root = ElementTree.fromstring(text)
+    page = tuple(map(int, root.get("viewBox").split()))
+    assert root.tag == SVG + "svg" and page == (0, 0, *numbers(root, "width", "height")), root.attrib
+    for element, box in boxes(root):
+        within(box, page, element.attrib)
+    rows = root.findall(SVG + "g[@transform]")
+    assert len(rows) == len(session.tracks)
+    for number, (row, track) in enumerate(zip(rows, session.tracks)):
+        assert row.get("transform") == "translate(0 %d)" % (72 + 40 * number) and ("mute" in row.get("class")) == track.mute
+        label, *clips = row.findall(SVG + "svg")
+        assert label.find(SVG + "title").text == label.find(SVG + "text").text == (shown(track.title) or None), track.title
+        assert [clip.find(SVG + "title").text for clip in clips] == [logs.stamp_text(*clip.own) for clip in track.clips]
+        for element, box in boxes(row):
+            top = 72 + 40 * number
+            within(box, (0 if element is label else 200, top, 200 if element is label else 1400, top + 40), element.attrib)
+        for element, clip in zip(clips, track.clips):
+            assert ("mute" in element.get("class")) == clip.mute and len(element.findall(SVG + "path")) == sum(fade > 0 for fade in clip.fades)
+            assert element.find(SVG + "text").text.startswith(clip.source.hex()[:8])
+    markers = root.findall(SVG + "g[@class='marker']")
+    assert [marker.find(SVG + "title").text or "" for marker in markers] == [shown(marker.title) for marker in session.markers]
+    assert [len(marker.findall(SVG + "rect")) for marker in markers] == [int(marker.span > 0) for marker in session.markers]
+    times = [time.text for time in root.findall(SVG + "text[@class='time']")]
+    assert 1 <= len(times) <= 12 and times[0] == "0:00", times
+
+
+# Tells of each text and shape what is seen of it: the part of its box that is in each box that hides what is outside.
+SCRIPT = """<script><![CDATA[
+const seen = [];
+for (const element of document.querySelectorAll("text, rect, path")) {
+  let box = element.getBoundingClientRect(), part = [box.left, box.top, box.right, box.bottom];
+  for (let around = element.parentNode; around !== document.documentElement; around = around.parentNode) {
+    if (around.tagName !== "svg") continue;
+    const [x, y, width, height] = ["x", "y", "width", "height"].map(name => around[name].baseVal.value);
+    const to = around.parentNode.getScreenCTM();
+    part = [Math.max(part[0], to.e + x), Math.max(part[1], to.f + y), Math.min(part[2], to.e + x + width), Math.min(part[3], to.f + y + height)];
+  }
+  seen.push({name: element.tagName, text: element.textContent, in_clip: element.closest(".clip") !== null, drawn: box.width > 0, part: part});
+}
+document.documentElement.setAttribute("data-seen", JSON.stringify(seen));
+]]></script></svg>
+"""
+
+
+def look_by(browser, folder, text):
+    """Has a browser draw a picture, and looks where things are seen."""
+    name = os.path.join(folder, "picture.svg")
+    with open(name, "w") as file:
+        file.write(text.removesuffix("</svg>\n") + SCRIPT)
+    words = [browser, "--headless", "--no-sandbox", "--disable-gpu", "--user-data-dir=" + os.path.join(folder, "browser"), "--dump-dom", "file://" + name]
+    done = subprocess.run(words, capture_output=True, timeout=300)
+    found = re.search(r'data-seen="([^"]*)"', done.stdout.decode())
+    assert done.returncode == 0 and found, done
+    page = (0, 0, *map(int, re.search(r'viewBox="0 0 (\d+) (\d+)"', text).groups()))
+    for one in json.loads(html.unescape(found[1])):
+        left, top, right, bottom = one["part"]
+        # lines are as wide as a unit, half of it on either side; a clip can be too narrow for its text
+        within((left + 0.5, top, right - 0.5, bottom), page, one)
+        assert one["in_clip"] or not one["drawn"] or (left < right and top < bottom), ("nothing is seen", one)
+
+
+def main():
+    program = os.path.abspath(sys.argv[1])
+    browser = next((name for name in map(shutil.which, BROWSERS) if name), None)
+    folder = tempfile.mkdtemp()
+    try:
+        for ops, rates in ((a_programme(), (SECOND, 1, 384000)), (a_long_one(), (SECOND, 1)), (one_marker(), (SECOND,)), ([], (SECOND,))):
+            for rate in rates:
+                text, session = drawn(program, folder, ops, rate), session_of(ops)
+                assert text == svg_text(rate, session)
+                look_at(text, session)
+                if browser:
+                    look_by(browser, folder, text)
+    finally:
+        shutil.rmtree(folder)
+    print("7 pictures, in which %d boxes lie where they have to" % LOOKED_AT + ("" if browser else ", not drawn: no Chromium"))
+
+
+main()
