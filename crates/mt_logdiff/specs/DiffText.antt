@@ -1,13 +1,17 @@
 -- How two logs are written beside each other (profile): a line for each operation that one of them alone has, and for both operations of a dot that
--- names another one in each, by rising stamp; and one for how many there are.
-use Rattle.std.specs.Prelude.{ℕ, List, [], ◌∷◌, ◌++◌, length, codes, if◌then◌else◌}
-use Rattle.std.specs.Fmt.{decimal}
+-- names another one in each, by rising stamp; where it is asked for, one for each field that both write; and one for how many operations there are.
+use Rattle.std.specs.Prelude.{ℕ, List, [], ◌∷◌, ◌++◌, Option, codes, if◌then◌else◌}
+use Rattle.std.specs.Io.KnownBytes.{Appends}
 use Rattle.std.specs.List.{flat_map}
+use Rattle.mt_latch.specs.Latch.{Latched, AppendsPrefix}
 use Rattle.mt_stamp.specs.Texts.{stamp_text}
 use Rattle.mt_opcodec.specs.LogValue.{LogMap}
 use Rattle.mt_sessionview.specs.SessionText.{newline}
 use Rattle.mt_logtext.specs.LogText.{word, act_text}
-use Rattle.mt_logdiff.specs.Beside.{Told, told, alone, shared, clashing}
+use Rattle.mt_logdiff.specs.declared.both.BothWrote.{BothWrote}
+use Rattle.mt_logdiff.specs.Beside.{Told, told, alone}
+use Rattle.mt_logdiff.specs.Counts.{last_line}
+use Rattle.mt_logdiff.specs.Fields.{field_word, both_wrote}
 
 -- what stands before an operation that only the left log has, that only the right log has, and that is one of two of a dot
 abbrev pub mark : Told → List ℕ
@@ -17,19 +21,25 @@ mark t = if t.clashes then codes "! " else if t.right then codes "+ " else codes
 abbrev pub told_line : Told → List ℕ
 told_line t = mark t ++ (stamp_text t.op.stamp ++ (word (act_text t.op.act) ++ newline ∷ []))
 
--- a word and a number behind it, `WORD N`
-abbrev pub counted : List ℕ → ℕ → List ℕ
-counted name number = name ++ decimal number
-
--- `left N right N both N clashes N`
-abbrev pub counts_line : (left right both clashes : ℕ) → List ℕ
-counts_line left right both clashes =
-    counted (codes "left ") left ++ (counted (codes " right ") right ++ (counted (codes " both ") both ++ (counted (codes " clashes ") clashes ++ newline ∷ [])))
-
--- the last line of two logs: a dot that names two operations is counted once, and neither of these in another number
-abbrev pub last_line : LogMap → LogMap → List ℕ
-last_line left right =
-    counts_line (length (alone left right)) (length (alone right left)) (length (shared left right)) (length (clashing left right))
+-- `both ITEM FIELD STAMP STAMP`: the left log's stamp first
+abbrev pub both_line : BothWrote → List ℕ
+both_line b = codes "both" ++ (word (stamp_text b.item) ++ (word (field_word b.field) ++ (word (stamp_text b.left) ++ (word (stamp_text b.right) ++ newline ∷ []))))
 
 abbrev pub diff_text : LogMap → LogMap → List ℕ
 diff_text left right = flat_map told_line (told left right) ++ last_line left right
+
+-- the same, with the fields that operations of the left log alone and operations of the right log alone both write
+abbrev pub diff_text_with_fields : LogMap → LogMap → List ℕ
+diff_text_with_fields left right =
+    flat_map told_line (told left right) ++ (flat_map both_line (both_wrote (alone left right) (alone right left)) ++ last_line left right)
+
+-- ---- what is written
+
+module _ {W : Type 0} (contents : W → Option (List ℕ)) where
+  -- an output has all of a text behind what it held
+  abbrev pub IsTold : Latched W → Latched W → List ℕ → Type 0
+  IsTold old new text = Appends (contents old.inner) (contents new.inner) text
+
+  -- it has the text up to some place
+  abbrev pub IsToldInPart : Latched W → Latched W → List ℕ → Type 0
+  IsToldInPart old new text = AppendsPrefix (contents old.inner) (contents new.inner) text

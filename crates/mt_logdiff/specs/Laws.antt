@@ -1,9 +1,19 @@
 -- What holds of two logs beside each other.
-use Rattle.std.specs.Prelude.{◌≡◌, [], ◌+◌, not, length, map}
-use Rattle.std.specs.List.{Contains}
+use Rattle.std.specs.Prelude.{◌≡◌, ◌≢◌, List, [], ◌+◌, not, length, map}
+use Rattle.std.specs.List.{Contains, flat_map}
+use Rattle.std.specs.Ordering.{nat_cmp, ordering_then}
+use Rattle.std.specs.declared.cmp.Ordering.{Ordering}
+use Rattle.std.specs.declared.cmp.Ordering.TheVariants.{Less}
+use Rattle.mt_stamp.specs.Moment.{Moment, stamp_cmp}
+use Rattle.mt_stamp.specs.Sorting.{RisesStrictly}
 use Rattle.mt_op.specs.Dots.{op_dot}
+use Rattle.mt_op.specs.Operation.{Operation}
 use Rattle.mt_opcodec.specs.LogValue.{LogMap, operations, log_of, AreLogged}
+use Rattle.mt_logdiff.specs.declared.field.Field.{Field}
+use Rattle.mt_logdiff.specs.declared.writes.FieldWrite.{FieldWrite}
+use Rattle.mt_logdiff.specs.declared.both.BothWrote.{BothWrote}
 use Rattle.mt_logdiff.specs.Beside.{alone, shared, clashing, Told, told}
+use Rattle.mt_logdiff.specs.Fields.{rank, field_write, writes_in, both_wrote}
 
 -- a log in memory: operations that it can have, and nothing beside these
 abbrev pub IsLog : LogMap → Type 0
@@ -26,3 +36,18 @@ pub record ExchangeTurns : Type 0 where
   pub tells : (left right : LogMap) (t : Told) → Contains (told left right) t → Contains (told right left) (turned t)
   pub shares : (left right : LogMap) → IsLog left → IsLog right → shared left right ≡ shared right left
   pub clashes : (left right : LogMap) → IsLog left → IsLog right → map op_dot (clashing left right) ≡ map op_dot (clashing right left)
+
+-- one of these operations writes the field of the item under this stamp, and none of them does so under a greater one
+pub record IsLastWrite (ops : List Operation) (item : Moment) (which : Field) (by : Moment) : Type 0 where
+  pub written : Contains (flat_map writes_in ops) (field_write item by which)
+  pub last : (v : FieldWrite) → Contains (flat_map writes_in ops) v → v.item ≡ item → v.field ≡ which → stamp_cmp by v.by ≢ Less
+
+-- by item and then by field
+abbrev pub both_cmp : BothWrote → BothWrote → Ordering
+both_cmp a b = ordering_then (stamp_cmp a.item b.item) (nat_cmp (rank a.field) (rank b.field))
+
+-- Of two lists of operations each field that both write is told once, by item and then by field, with the last stamp of either; and no other is told.
+pub record BothAreLast : Type 0 where
+  pub rise : (lefts rights : List Operation) → RisesStrictly both_cmp (both_wrote lefts rights)
+  pub each : (lefts rights : List Operation) (b : BothWrote) → Contains (both_wrote lefts rights) b → IsLastWrite lefts b.item b.field b.left × IsLastWrite rights b.item b.field b.right
+  pub all : (lefts rights : List Operation) (b : BothWrote) → IsLastWrite lefts b.item b.field b.left → IsLastWrite rights b.item b.field b.right → Contains (both_wrote lefts rights) b

@@ -1,6 +1,6 @@
 //! What holds of two logs beside each other: each law is the contract of a function that does nothing.
 
-ghost use Rattle.mt_logdiff.specs.Laws.{SameTellsNothing, EachIsCounted, ExchangeTurns};
+ghost use Rattle.mt_logdiff.specs.Laws.{SameTellsNothing, EachIsCounted, ExchangeTurns, BothAreLast};
 
 /// Of a log beside itself nothing is told, and all its operations are shared.
 pub fn same_logs()
@@ -16,4 +16,10 @@ pub fn counts()
 /// same dots name two operations.
 pub fn exchanged_logs()
     ensures { ExchangeTurns }
+{}
+
+/// Of two lists of operations each field of an item that both write is told once, by item and then by field, with the greatest stamps under which operations of the one and
+/// of the other write it; and no other field is told.
+pub fn fields_of_both()
+    ensures { BothAreLast }
 {}

@@ -1,15 +1,27 @@
-//! Two logs beside each other as text: the operations that one of them alone has, a line each.
+//! Two logs beside each other as text: the operations that one of them alone has, the fields that both write, or what changes in the session.
 //!
 //! ```rust
-//! use mt_logdiff::write_diff;
+//! use mt_logdiff::{write_diff, write_diff_with_fields, write_view_diff};
 //! use mt_op::{Body, Op, Title};
 //! use mt_opcodec::{Latch, Log};
 //! use mt_stamp::{Replica, Stamp};
 //! use std::test::Fail;
 //!
-//! const TEXT: &[u8] = b"\
+//! const OPERATIONS: &[u8] = b"\
 //! - 2.1.00000000-0000-0000-0000-00000000000b move-marker 1.1.00000000-0000-0000-0000-00000000000a 960
 //! + 2.1.00000000-0000-0000-0000-00000000000c move-marker 1.1.00000000-0000-0000-0000-00000000000a 720
+//! left 1 right 1 both 1 clashes 0
+//! ";
+//! // a merge takes the position that the greater stamp wrote, 720
+//! const FIELDS: &[u8] = b"\
+//! - 2.1.00000000-0000-0000-0000-00000000000b move-marker 1.1.00000000-0000-0000-0000-00000000000a 960
+//! + 2.1.00000000-0000-0000-0000-00000000000c move-marker 1.1.00000000-0000-0000-0000-00000000000a 720
+//! both 1.1.00000000-0000-0000-0000-00000000000a position 2.1.00000000-0000-0000-0000-00000000000b 2.1.00000000-0000-0000-0000-00000000000c
+//! left 1 right 1 both 1 clashes 0
+//! ";
+//! const SESSIONS: &[u8] = b"\
+//! - marker 1.1.00000000-0000-0000-0000-00000000000a at 960 title News
+//! + marker 1.1.00000000-0000-0000-0000-00000000000a at 720 title News
 //! left 1 right 1 both 1 clashes 0
 //! ";
 //!
@@ -23,20 +35,34 @@
 //!     let _new = home.add(Op::new(Stamp::new(2, Replica(12), 1)?, Body::MoveMarker { marker, at: 720 })?)?;
 //!     let mut output = Latch::new(Vec::new(rt.alloc()));
 //!     write_diff(rt.alloc(), &desk, &home, &mut output)?;
-//!     assert!(rt; output.into_inner().as_slice() == TEXT);
+//!     assert!(rt; output.into_inner().as_slice() == OPERATIONS);
+//!     let mut output = Latch::new(Vec::new(rt.alloc()));
+//!     write_diff_with_fields(rt.alloc(), &desk, &home, &mut output)?;
+//!     assert!(rt; output.into_inner().as_slice() == FIELDS);
+//!     let mut output = Latch::new(Vec::new(rt.alloc()));
+//!     write_view_diff(rt.alloc(), &desk, &home, &mut output)?;
+//!     assert!(rt; output.into_inner().as_slice() == SESSIONS);
 //!     Ok(())
 //! }
 //! ```
 //!
 //! Lines stand by rising stamp, and tell what an operation does in the words of a log's text. Where both logs have an operation of one dot,
 //! and these are not the same, both stand there, that of the left log first where their stamps are one. The last line counts. `specs/DiffText.antt` is the
-//! text.
+//! text, with the fields that both write where it is asked for (`specs/Fields.antt`). `specs/ViewDiff.antt` is the text of what changes in the session.
 #![tactic(auto)]
 
+mod both;
+mod counts;
+mod field;
 pub mod laws;
 mod lines;
 mod parts;
+mod put;
 mod text;
 mod told;
+mod view;
+mod view_lines;
+mod writes;
 
-pub use text::write_diff;
+pub use text::{write_diff, write_diff_with_fields};
+pub use view::write_view_diff;

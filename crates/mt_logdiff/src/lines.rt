@@ -1,13 +1,18 @@
-//! The lines of what is told.
+//! The lines of operations and of fields.
 
 ghost use Rattle.std.specs.Prelude.{◌≡◌, ◌++◌, OnOk};
 ghost use Rattle.std.specs.List.{flat_map};
 ghost use Rattle.std.specs.String.{string_bytes};
-ghost use Rattle.mt_logdiff.specs.DiffText.{mark, told_line, counted, counts_line};
+ghost use Rattle.mt_stamp.specs.Texts.{stamp_text};
+ghost use Rattle.mt_logtext.specs.LogText.{word};
+ghost use Rattle.mt_logdiff.specs.Fields.{field_word};
+ghost use Rattle.mt_logdiff.specs.DiffText.{mark, told_line, both_line};
 
+use crate::both::BothWrote;
+use crate::field::Field;
 use crate::told::Told;
-use itoa::Buffer;
 use mt_logtext::append_act;
+use mt_stamp::Stamp;
 use std::alloc::{AllocError, Allocator};
 
 // What stands before an operation.
@@ -55,32 +60,43 @@ pub(crate) fn append_lines<A: Allocator, B: Allocator, C: Allocator>(
     Ok(())
 }
 
-// Writes a word and a number.
-fn append_counted<A: Allocator>(
-    text: &mut String<A>,
-    name: &str,
-    number: usize,
-) -> Result<(), AllocError>
-    ensures { OnOk result (string_bytes text.new ≡ string_bytes text.old ++ counted name.now number) }
+// Writes a space and a stamp.
+fn append_stamp<A: Allocator>(text: &mut String<A>, stamp: Stamp) -> Result<(), AllocError>
+    ensures { OnOk result (string_bytes text.new ≡ string_bytes text.old ++ word (stamp_text stamp)) }
 {
-    let mut digits = Buffer::new();
-    text.push_str(name)?;
-    text.push_str(digits.format(number))
+    text.push_str(" ")?;
+    stamp.append_text(text)
 }
 
-/// Writes how many operations there are.
-pub(crate) fn append_counts<A: Allocator>(
-    text: &mut String<A>,
-    left: usize,
-    right: usize,
-    both: usize,
-    clashes: usize,
-) -> Result<(), AllocError>
-    ensures { OnOk result (string_bytes text.new ≡ string_bytes text.old ++ counts_line left right both clashes) }
+// Writes a space and the name of a field.
+fn append_field<A: Allocator>(text: &mut String<A>, field: Field) -> Result<(), AllocError>
+    ensures { OnOk result (string_bytes text.new ≡ string_bytes text.old ++ word (field_word field)) }
 {
-    append_counted(text, "left ", left)?;
-    append_counted(text, " right ", right)?;
-    append_counted(text, " both ", both)?;
-    append_counted(text, " clashes ", clashes)?;
+    text.push_str(" ")?;
+    text.push_str(field.word())
+}
+
+// Writes the line of a field that both logs write.
+fn append_both<A: Allocator>(text: &mut String<A>, both: &BothWrote) -> Result<(), AllocError>
+    ensures { OnOk result (string_bytes text.new ≡ string_bytes text.old ++ both_line both.now) }
+{
+    text.push_str("both")?;
+    append_stamp(text, both.item)?;
+    append_field(text, both.field)?;
+    append_stamp(text, both.left)?;
+    append_stamp(text, both.right)?;
     text.push_str("\n")
+}
+
+/// Writes the lines of fields that both logs write, in their order.
+pub(crate) fn append_both_lines<A: Allocator>(
+    text: &mut String<A>,
+    all: &[BothWrote],
+) -> Result<(), AllocError>
+    ensures { OnOk result (string_bytes text.new ≡ string_bytes text.old ++ flat_map both_line all.now) }
+{
+    for both in all {
+        append_both(text, both)?;
+    }
+    Ok(())
 }

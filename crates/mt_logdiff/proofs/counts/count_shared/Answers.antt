@@ -1,7 +1,7 @@
 use Rattle.std.proofs.Common.{refl, ◌∙◌, arith, Bor}
 use Rattle.mt_op.specs.declared.op.Op.{Op}
 use Rattle.mt_logdiff.proofs.Counting.{counted_parts}
-use Rattle.mt_logdiff.proofs.text.count_shared.Goals as goal
+use Rattle.mt_logdiff.proofs.counts.count_shared.Goals as goal
 
 pub overflow_sub-result : goal.overflow_sub-result
 overflow_sub-result g c =

@@ -1,0 +1,71 @@
+//! The line that counts the operations of two logs.
+
+ghost use Rattle.std.specs.Prelude.{◌≡◌, ◌++◌, length, OnOk};
+ghost use Rattle.std.specs.String.{string_bytes};
+ghost use Rattle.mt_logdiff.specs.Beside.{shared};
+ghost use Rattle.mt_logdiff.specs.Counts.{counted, counts_line, last_line};
+ghost use Rattle.mt_logdiff.specs.Parts.{parts_beside};
+
+use crate::parts::Parts;
+use itoa::Buffer;
+use mt_opcodec::Log;
+use std::alloc::{AllocError, Allocator};
+
+// Writes a word and a number.
+fn append_counted<A: Allocator>(
+    text: &mut String<A>,
+    name: &str,
+    number: usize,
+) -> Result<(), AllocError>
+    ensures { OnOk result (string_bytes text.new ≡ string_bytes text.old ++ counted name.now number) }
+{
+    let mut digits = Buffer::new();
+    text.push_str(name)?;
+    text.push_str(digits.format(number))
+}
+
+// Writes how many operations there are.
+fn append_counts<A: Allocator>(
+    text: &mut String<A>,
+    left: usize,
+    right: usize,
+    both: usize,
+    clashes: usize,
+) -> Result<(), AllocError>
+    ensures { OnOk result (string_bytes text.new ≡ string_bytes text.old ++ counts_line left right both clashes) }
+{
+    append_counted(text, "left ", left)?;
+    append_counted(text, " right ", right)?;
+    append_counted(text, " both ", both)?;
+    append_counted(text, " clashes ", clashes)?;
+    text.push_str("\n")
+}
+
+// How many operations of a log another one has too.
+fn count_shared<A: Allocator>(log: &Log<A>, other: &Log<A>, parts: &Parts<'_, A>) -> usize
+    requires { parts.now ≡ parts_beside log.now other.now }
+    ensures { result ≡ length (shared log.now other.now) }
+{
+    log.len() - parts.alone.len() - parts.clashing.len()
+}
+
+/// Writes how many operations of two logs there are. The parts are those of the logs.
+pub(crate) fn append_last_line<A: Allocator, B: Allocator>(
+    text: &mut String<B>,
+    left: &Log<A>,
+    right: &Log<A>,
+    of_left: &Parts<'_, A>,
+    of_right: &Parts<'_, A>,
+) -> Result<(), AllocError>
+    requires left { of_left.now ≡ parts_beside left.now right.now }
+    requires right { of_right.now ≡ parts_beside right.now left.now }
+    ensures { OnOk result (string_bytes text.new ≡ string_bytes text.old ++ last_line left.now right.now) }
+{
+    append_counts(
+        text,
+        of_left.alone.len(),
+        of_right.alone.len(),
+        count_shared(left, right, of_left),
+        of_left.clashing.len(),
+    )
+}
