@@ -1,78 +1,180 @@
 //! Two logs beside each other.
 
-ghost use Rattle.std.specs.Prelude.{◌≡◌, true, false, OnOk, IfErr};
-ghost use Rattle.mt_cli.specs.Comparing.{Comparing, ComparingLogs};
-ghost use Rattle.mt_cli.specs.OneLog.{lent_two, TwoWritten, TwoFail, MadeWritten, MadeFails};
+ghost use Rattle.std.specs.Prelude.{◌≡◌, ℕ, true, false, Some, Ok, OnOk, IfOk, IfErr};
+ghost use Rattle.mt_sync.specs.Conversation.{hears};
+ghost use Rattle.mt_sync.specs.Conversing.{TakesAll};
+ghost use Rattle.mt_logdiff.specs.DiffText.{IsTold, IsToldInPart};
+ghost use Rattle.mt_cli.specs.Comparing.{diff_by, begins_as_frame, without_operations, IsLogOf, IsNoLogAs, IsNoLogOf};
+ghost use Rattle.mt_cli.specs.Comparing.{GaveLogOf, GaveNoLog, TextFails, DiffWritten, DiffFails};
+ghost use Rattle.mt_cli.specs.OneLog.{lent_two, HasWritten};
 ghost use Rattle.mt_cli.specs.Reading.{IsRead};
 
-use crate::both::read_both;
 use crate::fault::CliFault;
-use crate::read::refused;
-use mt_logdiff::write_diff;
+use crate::read::{read_all, refused};
+use crate::take::refused_sync;
+use mt_logdiff::{write_diff, write_diff_with_fields, write_view_diff};
 use mt_opcodec::{Latch, Log};
 use mt_sessionview::SessionFault;
-use std::alloc::Allocator;
+use mt_sync::{GrowingLog, take_ops};
+use std::alloc::{Allocator, Global};
 use std::io::{Read, Write};
 
-// Writes two logs beside each other.
+/// What is told of two logs beside each other.
+#[derive(Clone, Copy, Debug, PartialEq, Eq)]
+pub enum DiffForm {
+    /// The operations that one of them alone has: the text of `write_diff`.
+    Operations,
+    /// The same, and the fields that both alone write: the text of `write_diff_with_fields`.
+    Fields,
+    /// The lines of the session that go and those that come: the text of `write_view_diff`.
+    View,
+}
+
+// Writes what is asked for of two logs.
+fn write_by<A: Allocator + Clone, W: Write>(
+    alloc: A,
+    form: DiffForm,
+    left: &Log<A>,
+    right: &Log<A>,
+    output: &mut Latch<W>,
+) -> Result<(), SessionFault>
+    ensures whole { OnOk result (IsTold W.contents output.old output.new (diff_by form left.now right.now)) }
+    ensures prefix { IsToldInPart W.contents output.old output.new (diff_by form left.now right.now) }
+    ensures sound { OnOk result (output.new.failed ≡ false) }
+    ensures write { IfErr result (λ fault. fault ≡ SessionFault.Write → output.new.failed ≡ true) }
+    ensures stays_failed { output.old.failed ≡ true → output.new ≡ output.old }
+    ensures memory { IfErr result (λ fault. fault ≡ SessionFault.Memory → output.new ≡ output.old) }
+{
+    match form {
+        DiffForm::Operations => write_diff(alloc, left, right, output),
+        DiffForm::Fields => write_diff_with_fields(alloc, left, right, output),
+        DiffForm::View => write_view_diff(alloc, left, right, output),
+    }
+}
+
+// The same, refused as commands are.
 fn put_diff<A: Allocator + Clone, W: Write>(
     alloc: A,
+    form: DiffForm,
     left: &Log<A>,
     right: &Log<A>,
     output: &mut Latch<W>,
 ) -> Result<(), CliFault>
-    ensures ok { OnOk result (MadeWritten W.contents (ComparingLogs left.now right.now) output.old output.new) }
-    ensures err { IfErr result (MadeFails W.contents (ComparingLogs left.now right.now) output.old output.new) }
+    ensures ok { OnOk result (HasWritten W.contents (diff_by form left.now right.now) output.old output.new) }
+    ensures err { IfErr result (TextFails W.contents (diff_by form left.now right.now) output.old output.new) }
     ensures stays_failed { output.old.failed ≡ true → output.new ≡ output.old }
 {
-    match write_diff(alloc, left, right, output) {
+    match write_by(alloc, form, left, right, output) {
         Ok(()) => Ok(()),
         Err(SessionFault::Memory) => Err(CliFault::Memory),
         Err(SessionFault::Write) => Err(CliFault::Write),
     }
 }
 
-// Writes a log and the log of these bytes beside each other.
-fn put_beside<A: Allocator + Clone, W: Write>(
-    alloc: A,
-    left: &Log<A>,
-    right: &[u8],
-    output: &mut Latch<W>,
-) -> Result<(), CliFault>
-    ensures ok { OnOk result (MadeWritten W.contents (Comparing left.now right.now) output.old output.new) }
-    ensures err { IfErr result (MadeFails W.contents (Comparing left.now right.now) output.old output.new) }
-    ensures stays_failed { output.old.failed ≡ true → output.new ≡ output.old }
+// Whether bytes begin with the length of a frame.
+fn begins_as_frame(bytes: &[u8]) -> bool
+    ensures { result ≡ begins_as_frame bytes.now }
 {
-    match Log::read(alloc.clone()?, right) {
-        Ok(right) => put_diff(alloc, left, &right, output),
-        Err(fault) => Err(refused(1, fault)),
+    match bytes.first() {
+        Some(first) => *first == 0,
+        None => false,
     }
 }
 
-/// Writes the logs of two inputs beside each other, and nothing else: the operations that one of them alone has, and both operations of a dot that names another
-/// one in each, a line each by rising stamp, and how many there are; the text of `mt_logdiff`.
+// The log of the operations that `lack` wrote.
+fn log_of_ops<A: Allocator + Clone>(
+    alloc: A,
+    frames: Global,
+    ops: &[u8],
+) -> Result<Log<A>, CliFault>
+    ensures ok { IfOk result (λ log. TakesAll (hears without_operations ops.now) (Ok tt) (Some log)) }
+    ensures err { (index : ℕ) → IfErr result (IsNoLogAs true index ops.now) }
+{
+    let mut growing = GrowingLog::new(alloc.clone()?, Log::new(alloc.clone()?))?;
+    match take_ops(alloc, frames, &mut growing, ops) {
+        Ok(()) => match growing.into_log() {
+            Ok(log) => Ok(log),
+            Err(_) => Err(CliFault::Memory),
+        },
+        Err(fault) => Err(refused_sync(fault)),
+    }
+}
+
+// The log of the bytes of the input of this index.
+fn log_of<A: Allocator + Clone>(
+    alloc: A,
+    frames: Global,
+    index: usize,
+    bytes: &[u8],
+) -> Result<Log<A>, CliFault>
+    ensures ok { IfOk result (IsLogOf bytes.now) }
+    ensures err { IfErr result (IsNoLogOf index bytes.now) }
+{
+    if begins_as_frame(bytes) {
+        return log_of_ops(alloc, frames, bytes);
+    }
+    match Log::read(alloc, bytes) {
+        Ok(log) => Ok(log),
+        Err(fault) => Err(refused(index, fault)),
+    }
+}
+
+// Reads the log of the input of this index.
+fn read_log_of<A: Allocator + Clone, R: Read>(
+    alloc: A,
+    frames: Global,
+    index: usize,
+    input: &mut Latch<R>,
+) -> Result<Log<A>, CliFault>
+    ensures read { OnOk result (IsRead R.remaining input.new) }
+    ensures ok { IfOk result (GaveLogOf R.remaining input.old) }
+    ensures err { IfErr result (GaveNoLog R.remaining index input.old input.new) }
+{
+    match read_all(alloc.clone()?, index, input) {
+        Ok(bytes) => log_of(alloc, frames, index, &bytes),
+        Err(fault) => Err(fault),
+    }
+}
+
+/// Writes the logs of two inputs beside each other, and nothing else, in the form that is asked for: the operations that one of them alone has, and both
+/// operations of a dot that names another one in each, a line each by rising stamp, and how many there are; the same with the fields that both alone write;
+/// or the lines of the session that go and come. They are texts of `mt_logdiff`.
 ///
-/// Refused, in this order: `Read` with index 0 where the left input's latch has failed, or `Log` with index 0 where its bytes are no log's text, and the right input was not
-/// asked then; the same of the right input with index 1; `Write` where the output's latch has failed, which then holds a prefix of
-/// the text. `Memory` where a growth was refused. But for `Write` nothing was written, and the output was not asked. An output that had failed stays as it
-/// was.
+/// An input whose first byte is 0 is read as what `lack` wrote, frames of operations up to Bye, as `take_ops` takes them: its log is that of these
+/// operations alone, and most of them may wait for others. Every other one is read as the text of a log, which begins with another byte. `frames` is where
+/// the bytes of a frame that is not whole are kept.
+///
+/// Refused, in this order: `Read` with index 0 where the left input's latch has failed, `Log` with index 0 where its bytes are no log's text, or
+/// `Sync` where they begin with 0 and are not taken (40, 38, 39, 17 or 49), and the right input was not asked then; the same of the right input with index
+/// 1; `Write` where the output's latch has failed, which then holds a prefix of the text. `Memory` where a growth was refused. But for `Write` nothing was
+/// written, and the output was not asked. An output that had failed stays as it was.
+///
+/// For n operations it takes a time of n log n, and both logs are in memory at once.
 pub fn diff_logs<A: Allocator + Clone, R: Read, W: Write>(
     alloc: A,
+    frames: Global,
+    form: DiffForm,
     left: &mut Latch<R>,
     right: &mut Latch<R>,
     output: &mut Latch<W>,
 ) -> Result<(), CliFault>
-    ensures ok { OnOk result (TwoWritten R.remaining W.contents Comparing
+    ensures ok { OnOk result (DiffWritten R.remaining W.contents (diff_by form)
         (lent_two left.old right.old output.old) (lent_two left.new right.new output.new)) }
     ensures read_left { OnOk result (IsRead R.remaining left.new) }
     ensures read_right { OnOk result (IsRead R.remaining right.new) }
-    ensures err { IfErr result (TwoFail R.remaining W.contents Comparing
+    ensures err { IfErr result (DiffFails R.remaining W.contents (diff_by form)
         (lent_two left.old right.old output.old) (lent_two left.new right.new output.new)) }
     ensures sound { OnOk result (output.new.failed ≡ false) }
     ensures stays_failed { output.old.failed ≡ true → output.new ≡ output.old }
 {
-    match read_both(alloc.clone()?, left, right) {
-        Ok(both) => put_beside(alloc, &both.log, &both.bytes, output),
-        Err(fault) => Err(fault),
-    }
+    let other = alloc.clone()?;
+    let left_log = match read_log_of(alloc.clone()?, frames, 0, left) {
+        Ok(log) => log,
+        Err(fault) => return Err(fault),
+    };
+    let right_log = match read_log_of(other, frames, 1, right) {
+        Ok(log) => log,
+        Err(fault) => return Err(fault),
+    };
+    put_diff(alloc, form, &left_log, &right_log, output)
 }

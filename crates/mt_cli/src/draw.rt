@@ -4,31 +4,67 @@ ghost use Rattle.std.specs.Prelude.{◌≡◌, ◌≤◌, false, true, IfErr, On
 ghost use Rattle.std.specs.Io.KnownBytes.{Appends};
 ghost use Rattle.mt_opcodec.specs.LogValue.{LogMap};
 ghost use Rattle.mt_opcodec.specs.Union.{AllAgree};
-ghost use Rattle.mt_cli.specs.Drawing.{log_timeline, drawn_text};
+ghost use Rattle.mt_latch.specs.Latch.{AppendsPrefix};
+ghost use Rattle.mt_cli.specs.Drawing.{columns_of, drawing_text, log_drawing, drawn_text};
 ghost use Rattle.mt_cli.specs.Reading.{GaveLog, GaveLogs, IsRead, AreRead};
 ghost use Rattle.mt_cli.specs.Writing.{WriteFails, InputsFail, InputFails};
 
 use crate::fault::CliFault;
 use crate::tell::{Telling, tell_log, tell_logs};
 use mt_opcodec::{Latch, Log};
-use mt_sessionview::{SessionFault, of_log};
+use mt_sessionview::{Session, SessionFault, of_log};
+use mt_svg::write_svg;
 use mt_timeline::write_timeline;
 use std::alloc::Allocator;
 use std::io::{Read, Write};
 
-// The timeline of a log's session: in so many columns, its times at a rate.
-#[derive(Drop)]
-struct Timelines {
-    width: u16,
+/// How a session is drawn.
+#[derive(Clone, Copy)]
+pub enum Drawing {
+    /// As text, in so many columns, 1 and more.
+    Text { width: u16 },
+    /// As a picture: the text of an SVG file.
+    Svg,
+}
+
+// Draws a session.
+fn put_drawing<A: Allocator + Clone, B: Allocator, W: Write>(
+    alloc: A,
+    drawing: Drawing,
     rate: u32,
-    ghost width_from: { 1 ≤ width },
+    session: &Session<B>,
+    output: &mut Latch<W>,
+) -> Result<(), SessionFault>
+    requires columns { 1 ≤ columns_of drawing }
+    requires rate { 1 ≤ rate }
+    ensures whole { OnOk result (Appends (W.contents output.old.inner) (W.contents output.new.inner)
+        (drawing_text drawing rate session.now)) }
+    ensures prefix { AppendsPrefix (W.contents output.old.inner) (W.contents output.new.inner)
+        (drawing_text drawing rate session.now) }
+    ensures sound { OnOk result (output.new.failed ≡ false) }
+    ensures write { IfErr result (λ fault. fault ≡ SessionFault.Write → output.new.failed ≡ true) }
+    ensures stays_failed { output.old.failed ≡ true → output.new ≡ output.old }
+    ensures memory { IfErr result (λ fault. fault ≡ SessionFault.Memory → output.new ≡ output.old) }
+{
+    match drawing {
+        Drawing::Text { width } => write_timeline(alloc, width, rate, session, output),
+        Drawing::Svg => write_svg(alloc, rate, session, output),
+    }
+}
+
+// The drawing of a log's session, its times at a rate.
+#[derive(Drop)]
+struct Drawn {
+    drawing: Drawing,
+    rate: u32,
+    ghost columns_from: { 1 ≤ columns_of drawing },
     ghost rate_from: { 1 ≤ rate },
 }
 
-impl Telling for Timelines {
-    ghost use Rattle.mt_cli.specs.Drawing.{log_timeline};
+impl Telling for Drawn {
+    ghost use Rattle.mt_cli.specs.Drawing.{log_drawing};
 
-    ghost told = { λ t. log_timeline t.width t.rate };
+    ghost told = { λ d. log_drawing d.drawing d.rate };
 
     fn tell<A: Allocator + Clone, W: Write>(
         &self,
@@ -39,7 +75,7 @@ impl Telling for Timelines {
         let Ok(session) = of_log(alloc.clone()?, log) else {
             return Err(CliFault::Memory);
         };
-        match write_timeline(alloc, self.width, self.rate, &session, output) {
+        match put_drawing(alloc, self.drawing, self.rate, &session, output) {
             Ok(()) => Ok(()),
             Err(SessionFault::Memory) => Err(CliFault::Memory),
             Err(SessionFault::Write) => Err(CliFault::Write),
@@ -47,8 +83,8 @@ impl Telling for Timelines {
     }
 }
 
-/// Writes the timeline of the session of the union of the inputs' logs, in `width` columns, 1 and more, its times at `rate` frames a second, 1 and more, and nothing else:
-/// the text of `mt_timeline`.
+/// Draws the session of the union of the inputs' logs, its times at `rate` frames a second, 1 and more, and writes nothing else: the text of `mt_timeline`, in a number of columns, or
+/// the one of `mt_svg`.
 ///
 /// Refused, in this order: `Read` with the index of an input whose latch has failed, or `Log` with the index of
 /// one whose bytes are no log's text, from left to right; `Merge` where a log has another operation under a dot than
@@ -57,41 +93,41 @@ impl Telling for Timelines {
 /// nothing was written then. Each input is read to its end, but for those behind one at fault, which are not asked.
 pub fn draw_logs<A: Allocator + Clone, R: Read, W: Write>(
     alloc: A,
-    width: u16,
+    drawing: Drawing,
     rate: u32,
     inputs: &mut [Latch<R>],
     output: &mut Latch<W>,
 ) -> Result<(), CliFault>
-    requires width { 1 ≤ width }
+    requires columns { 1 ≤ columns_of drawing }
     requires rate { 1 ≤ rate }
     ensures ok { OnOk result ((logs : List LogMap)
         × (GaveLogs R.remaining inputs.old logs × AllAgree logs × Appends (W.contents output.old.inner)
-        (W.contents output.new.inner) (drawn_text width rate logs))) }
+        (W.contents output.new.inner) (drawn_text drawing rate logs))) }
     ensures read { OnOk result (AreRead R.remaining inputs.new) }
-    ensures err { IfErr result (InputsFail (log_timeline width rate) W.contents R.remaining inputs.old inputs.new output.old
+    ensures err { IfErr result (InputsFail (log_drawing drawing rate) W.contents R.remaining inputs.old inputs.new output.old
         output.new) }
     ensures sound { OnOk result (output.new.failed ≡ false) }
     ensures stays_failed { output.old.failed ≡ true → output.new ≡ output.old }
 {
-    tell_logs(&Timelines { width, rate }, alloc, inputs, output)
+    tell_logs(&Drawn { drawing, rate }, alloc, inputs, output)
 }
 
 /// The same for one input.
 pub fn draw_log<A: Allocator + Clone, R: Read, W: Write>(
     alloc: A,
-    width: u16,
+    drawing: Drawing,
     rate: u32,
     input: &mut Latch<R>,
     output: &mut Latch<W>,
 ) -> Result<(), CliFault>
-    requires width { 1 ≤ width }
+    requires columns { 1 ≤ columns_of drawing }
     requires rate { 1 ≤ rate }
     ensures ok { OnOk result ((log : LogMap) × (GaveLog R.remaining input.old log
-        × Appends (W.contents output.old.inner) (W.contents output.new.inner) (log_timeline width rate log))) }
+        × Appends (W.contents output.old.inner) (W.contents output.new.inner) (log_drawing drawing rate log))) }
     ensures read { OnOk result (IsRead R.remaining input.new) }
-    ensures err { IfErr result (InputFails (log_timeline width rate) W.contents R.remaining input.old input.new output.old output.new) }
+    ensures err { IfErr result (InputFails (log_drawing drawing rate) W.contents R.remaining input.old input.new output.old output.new) }
     ensures sound { OnOk result (output.new.failed ≡ false) }
     ensures stays_failed { output.old.failed ≡ true → output.new ≡ output.old }
 {
-    tell_log(&Timelines { width, rate }, alloc, input, output)
+    tell_log(&Drawn { drawing, rate }, alloc, input, output)
 }

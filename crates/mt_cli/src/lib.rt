@@ -81,8 +81,8 @@ mod words;
 
 pub use both::read_growing;
 pub use check::check_log;
-pub use diff::diff_logs;
-pub use draw::{draw_log, draw_logs};
+pub use diff::{DiffForm, diff_logs};
+pub use draw::{Drawing, draw_log, draw_logs};
 pub use edit::edit_log;
 pub use fault::{CliFault, LayFault, PartFault};
 pub use find::{Wanted, find_items};

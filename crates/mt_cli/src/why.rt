@@ -354,14 +354,22 @@ fn messages_cause(alloc: Global, call: &Call<'_, '_>) -> Option<String> {
         "have" => told(alloc, "log ", call.word("LOG")),
         "lack" => told(alloc, "messages ", call.word("HAVE")),
         "take" => told(alloc, "messages ", call.word("OPS")),
+        "diff" => either_cause(alloc, call.word("LEFT"), call.word("RIGHT")),
         _ => told(alloc, "peer ", call.word("ADDR")),
     }
 }
 
-// Why operations are not taken: one of them has another's name in the log, or the messages.
+// Messages of one of two files.
+fn either_cause(alloc: Global, left: &str, right: &str) -> Option<String> {
+    format!(in alloc; "messages {left} or {right}").ok()
+}
+
+// Why operations are not taken: one of them has another's name in the log, or the messages, as where no log is named.
 fn sync_cause(alloc: Global, call: &Call<'_, '_>, fault: SyncFault) -> Option<String> {
     match fault {
-        SyncFault::Talk(TalkFault::Conflict(dot)) => operation_cause(alloc, call.word("LOG"), dot),
+        SyncFault::Talk(TalkFault::Conflict(dot)) if call.name != "diff" => {
+            operation_cause(alloc, call.word("LOG"), dot)
+        }
         _ => messages_cause(alloc, call),
     }
 }

@@ -1,6 +1,6 @@
 //! `radio diff`.
 
-use crate::diff::diff_logs;
+use crate::diff::{DiffForm, diff_logs};
 use crate::fault::CliFault;
 use crate::files::open;
 use crate::words::{Word, Words};
@@ -16,21 +16,44 @@ pub(crate) const WORDS: Words = Words {
     words: &[
         Word::Needed {
             name: "LEFT",
-            help: "A log",
+            help: "A log, or operations, as `radio lack` wrote them",
         },
         Word::Needed {
             name: "RIGHT",
-            help: "The log that is compared with it",
+            help: "The log, or the operations, to compare with it",
+        },
+        Word::Choice {
+            name: "fields",
+            other: "view",
+            help: "Print too, before the counts, `both ITEM FIELD STAMP STAMP` for each field that both alone write, with the last stamp of LEFT and of RIGHT",
+        },
+        Word::Choice {
+            name: "view",
+            other: "fields",
+            help: "Print instead the lines of the session that go, behind `- `, and those that come, behind `+ `",
         },
     ],
 };
+
+// What these words ask for.
+fn asked_for(words: &ArgMatches<'_>) -> DiffForm {
+    if words.get_flag("fields") {
+        return DiffForm::Fields;
+    }
+    if words.get_flag("view") {
+        return DiffForm::View;
+    }
+    DiffForm::Operations
+}
 
 pub(crate) fn run<F: Files + AllocGlobal, W: Write>(
     rt: &F,
     words: &ArgMatches<'_>,
     output: &mut Latch<W>,
 ) -> Result<(), CliFault> {
+    let alloc = rt.alloc();
+    let form = asked_for(words);
     let mut left = open(rt, 0, words.get_str("LEFT").unwrap_or(""))?;
     let mut right = open(rt, 1, words.get_str("RIGHT").unwrap_or(""))?;
-    diff_logs(rt.alloc(), &mut left, &mut right, output)
+    diff_logs(alloc, alloc, form, &mut left, &mut right, output)
 }

@@ -1,13 +1,14 @@
 //! The commands over a few texts, one of each, whatever the memory, the readers and the writer are.
 use super::texts::{
-    ANSWER, BOTH, COMPARED, DRAWN, DRAWN_VOICE, EDITED, EMPTY, FILE, FOUND_CLIP, FOUND_MARKER,
-    HAS_NEWS, HAS_NOTHING, LABELLED, LAID, LATE, LISTED, NEWS, PLAYED, PULLED, SCRIPT, SENT, SHOWN,
-    TOLD, VOICE,
+    ANSWER, BOTH, COMPARED, COMPARED_FIELDS, COMPARED_VIEWS, DRAWN_VOICE, EDITED, EMPTY, FILE,
+    FOUND_CLIP, FOUND_MARKER, HAS_NEWS, HAS_NOTHING, LABELLED, LAID, LATE, LISTED, NEWS, PICTURE,
+    PLAYED, PULLED, SCRIPT, SENT, SHOWN, TOLD, VOICE,
 };
 use mt_cli::{
-    CliFault, Laying, Wanted, bounce_logs, check_log, diff_logs, draw_log, draw_logs, edit_log,
-    find_items, have_log, lack_log, lay_files, list_log, list_logs, list_sources, merge_logs,
-    pull_logs, read_growing, swap_log, take_log, view_log, view_logs, write_info,
+    CliFault, DiffForm, Drawing, Laying, Wanted, bounce_logs, check_log, diff_logs, draw_log,
+    draw_logs, edit_log, find_items, have_log, lack_log, lay_files, list_log, list_logs,
+    list_sources, merge_logs, pull_logs, read_growing, swap_log, take_log, view_log, view_logs,
+    write_info,
 };
 use mt_cuewrite::Head;
 use mt_op::Digest;
@@ -39,6 +40,8 @@ pub(crate) enum Call {
     FindMarker,
     FindClip,
     Diff,
+    DiffFields,
+    DiffView,
     Lay,
     Check,
     Bounce,
@@ -46,7 +49,7 @@ pub(crate) enum Call {
 }
 
 /// All of them.
-pub(crate) const CALLS: [Call; 23] = [
+pub(crate) const CALLS: [Call; 25] = [
     Call::ViewLog,
     Call::ViewLogs,
     Call::ListLog,
@@ -66,6 +69,8 @@ pub(crate) const CALLS: [Call; 23] = [
     Call::FindMarker,
     Call::FindClip,
     Call::Diff,
+    Call::DiffFields,
+    Call::DiffView,
     Call::Lay,
     Call::Check,
     Call::Bounce,
@@ -84,7 +89,9 @@ pub(crate) fn inputs_of(call: Call) -> (&'static [u8], &'static [u8]) {
         | Call::DrawLogs
         | Call::Merge
         | Call::Pull { .. }
-        | Call::Diff => (NEWS, LATE),
+        | Call::Diff
+        | Call::DiffFields => (NEWS, LATE),
+        Call::DiffView => (SENT, LATE),
         Call::Have => (NEWS, NOTHING),
         Call::Lack => (NEWS, HAS_NOTHING),
         Call::Take => (EMPTY, SENT),
@@ -102,7 +109,7 @@ fn output_of(call: Call) -> &'static [u8] {
         Call::ViewLog | Call::ViewLogs => SHOWN,
         Call::ListLog | Call::ListLogs => LISTED,
         Call::DrawLog => DRAWN_VOICE,
-        Call::DrawLogs => DRAWN,
+        Call::DrawLogs => PICTURE,
         Call::Merge | Call::Pull { told: false } => BOTH,
         Call::Pull { told: true } => PULLED,
         Call::Have => HAS_NEWS,
@@ -113,6 +120,8 @@ fn output_of(call: Call) -> &'static [u8] {
         Call::FindMarker => FOUND_MARKER,
         Call::FindClip => FOUND_CLIP,
         Call::Diff => COMPARED,
+        Call::DiffFields => COMPARED_FIELDS,
+        Call::DiffView => COMPARED_VIEWS,
         Call::Lay => LAID,
         Call::Check => b"warnings 0\n",
         Call::Bounce => NOTHING,
@@ -175,7 +184,7 @@ fn run_on_logs<M: Allocator + Clone, R: Read + Drop, W: Write>(
     Some(match call {
         Call::ViewLogs => view_logs(memory, &mut inputs, output),
         Call::ListLogs => list_logs(memory, &mut inputs, output),
-        Call::DrawLogs => draw_logs(memory, 3, 48_000, &mut inputs, output),
+        Call::DrawLogs => draw_logs(memory, Drawing::Svg, 48_000, &mut inputs, output),
         _ => merge_logs(memory, &mut inputs, output),
     })
 }
@@ -191,7 +200,13 @@ fn run_on_log<M: Allocator + Clone, R: Read + Drop, W: Write>(
     match call {
         Call::ViewLog => view_log(memory, &mut input, output),
         Call::ListLog => list_log(memory, &mut input, output),
-        Call::DrawLog => draw_log(memory, 3, 48_000, &mut input, output),
+        Call::DrawLog => draw_log(
+            memory,
+            Drawing::Text { width: 3 },
+            48_000,
+            &mut input,
+            output,
+        ),
         Call::FindMarker => {
             find_items(memory, true, &Wanted::Marker("Late"), &mut input, output)
         }
@@ -214,7 +229,23 @@ fn run_by_hand<M: Allocator + Clone, R: Read + Drop, W: Write>(
     let (mut log, mut other) = (Latch::new(log), Latch::new(other));
     match call {
         Call::Lack => lack_log(memory, &mut log, &mut other, output),
-        Call::Diff => diff_logs(memory, &mut log, &mut other, output),
+        Call::Diff => diff_logs(
+            memory,
+            alloc,
+            DiffForm::Operations,
+            &mut log,
+            &mut other,
+            output,
+        ),
+        Call::DiffFields => diff_logs(
+            memory,
+            alloc,
+            DiffForm::Fields,
+            &mut log,
+            &mut other,
+            output,
+        ),
+        Call::DiffView => diff_logs(memory, alloc, DiffForm::View, &mut log, &mut other, output),
         _ => take_log(memory, alloc, &mut log, &mut other, output),
     }
 }
@@ -379,7 +410,7 @@ pub(crate) fn run<M: Allocator + Copy, R: Read + Drop, W: Write>(
         | Call::FindMarker
         | Call::FindClip
         | Call::Have => Some(run_on_log(memory, call, inputs, output)),
-        Call::Lack | Call::Take | Call::Diff => {
+        Call::Lack | Call::Take | Call::Diff | Call::DiffFields | Call::DiffView => {
             Some(run_by_hand(memory, alloc, call, inputs, output))
         }
         Call::Edit { told } => edit(memory, alloc, told, inputs, output),

@@ -27,8 +27,19 @@ pub(crate) const LISTED: &[u8] = b"\
 operations 2
 ";
 
-/// The timeline of both, in three columns.
-pub(crate) const DRAWN: &[u8] = b"markers ..^\nspan 481 0:00:00.010 column 161 0:00:00.003\n";
+/// The picture of both.
+pub(crate) const PICTURE: &[u8] = b"\
+<svg xmlns=\"http://www.w3.org/2000/svg\" width=\"1560\" height=\"80\" viewBox=\"0 0 1560 80\" font-family=\"sans-serif\" font-size=\"13\">
+<style>text{fill:#222}.time{font-size:11px;text-anchor:middle;fill:#666}.tick{stroke:#ccc}
+.row{fill:#000;fill-opacity:.05}.sound,.clip text{font-size:11px}.sound{fill:#666}
+.clip rect{fill:#8bd;fill-opacity:.8;stroke:#246;stroke-width:2}.fade{fill:#fff;fill-opacity:.6;stroke:#246}
+.mute .clip rect,.clip.mute rect{fill:#ccc;stroke:#888}.mute .fade{stroke:#888}.mute text{fill:#888}
+.marker path{stroke:#c22}.marker rect{fill:#c22;fill-opacity:.15}.marker text{fill:#c22;font-size:11px}</style>
+<rect width=\"1560\" height=\"80\" fill=\"#fff\"/>
+<path class=\"tick\" d=\"M200 18V72\"/><text class=\"time\" x=\"200\" y=\"14\">0:00</text>
+<g class=\"marker\"><title>Late</title><path class=\"start\" d=\"M1397 20V72\"/><svg x=\"1397\" y=\"20\" width=\"160\" height=\"16\"><text x=\"4\" y=\"12\">Late</text></svg></g>
+</svg>
+";
 
 /// What is told of the second, which was brought to the first.
 pub(crate) const PULLED: &[u8] = b"from home.log new 1 shared 0\nops 2\n";
@@ -73,6 +84,22 @@ pub(crate) const FOUND_CLIP: &[u8] = b"2.2.00000000-0000-0000-0000-00000000000a\
 pub(crate) const COMPARED: &[u8] = b"\
 - 1.1.00000000-0000-0000-0000-00000000000a add-marker 480 News
 + 2.1.00000000-0000-0000-0000-00000000000b retitle 1.1.00000000-0000-0000-0000-00000000000a Late
+left 1 right 1 both 0 clashes 0
+";
+
+/// The same, with the field that both write.
+pub(crate) const COMPARED_FIELDS: &[u8] = b"\
+- 1.1.00000000-0000-0000-0000-00000000000a add-marker 480 News
++ 2.1.00000000-0000-0000-0000-00000000000b retitle 1.1.00000000-0000-0000-0000-00000000000a Late
+both 1.1.00000000-0000-0000-0000-00000000000a title 1.1.00000000-0000-0000-0000-00000000000a 2.1.00000000-0000-0000-0000-00000000000b
+left 1 right 1 both 0 clashes 0
+";
+
+/// The sessions of what is sent to the one of none, and of the second, beside each other.
+pub(crate) const COMPARED_VIEWS: &[u8] = b"\
+- marker 1.1.00000000-0000-0000-0000-00000000000a at 480 title News
+- held 0
++ held 1
 left 1 right 1 both 0 clashes 0
 ";
 
