@@ -18,9 +18,10 @@ if command -v python3 >/dev/null 2>&1; then
   python3 tests/checks/faults.py "$PWD/crates/radio/out/radio"
   python3 tests/checks/chain.py "$PWD/crates/radio/out/radio"
   python3 tests/checks/completions.py "$PWD/crates/radio/out/radio"
+  python3 tests/checks/pictures.py "$PWD/crates/radio/out/radio"
   python3 tests/checks/examples.py
   python3 tests/checks/calls.py
   python3 tests/wrong_bodies.py --changed
 else
-  echo "skipped the comparisons with the model, of worlds, of damaged files and broken conversations, with other programs' wave files and with the README and docs/calls.md, failing system calls and memory, completions and the page of the manual, the examples of the libraries, and the wrong bodies in rounds: no python3"
+  echo "skipped the comparisons with the model, of worlds, of damaged files and broken conversations, with other programs' wave files and with the README and docs/calls.md, failing system calls and memory, completions and the page of the manual, pictures, the examples of the libraries, and the wrong bodies in rounds: no python3"
 fi

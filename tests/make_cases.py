@@ -22,6 +22,7 @@ import subjects.sources
 import subjects.finds
 import subjects.diffs
 import subjects.timelines
+import subjects.pictures
 import subjects.lays
 import subjects.warnings
 import subjects.command_lines

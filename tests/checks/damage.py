@@ -24,6 +24,7 @@ from formats.mutations import damaged, damaged_frames, damaged_log, damaged_reco
 
 CASES = os.path.join(os.path.dirname(os.path.dirname(os.path.abspath(__file__))), "cases")
 PATIENCE = 60
+FORMS = [[], ["--fields"], ["--view"]]
 EDITORS = ["00000000-0000-0000-0000-%012x" % name for name in (0, 1, 10, 11)] + ["ffffffff-ffff-ffff-ffff-ffffffffffff"]
 
 
@@ -80,8 +81,8 @@ def read_log(draw, cases):
     if draw.random() < 0.4:
         files["b"] = logs.log([op.text() for op in ops if draw.random() < 0.6])
     names = draw.sample(sorted(files), len(files))
-    return [(["view", *names], files), (["log", *names], files), (["timeline", *draw.choice([[], ["--width", "7"]]), *names], files), (["merge", draw.choice(["out", "a"]), *names], files), (["pull", *names, names[0]], files),
-            (["diff", names[0], draw.choice(names)], files)]
+    return [(["view", *names], files), (["log", *names], files), (["timeline", *draw.choice([[], ["--width", "7"], ["--svg"]]), *names], files), (["merge", draw.choice(["out", "a"]), *names], files), (["pull", *names, names[0]], files),
+            (["diff", *draw.choice(FORMS), names[0], draw.choice(names)], files)]
 
 
 def read_script(draw, cases):
@@ -105,7 +106,7 @@ def read_message(draw, cases):
     cuts = [sent for sent in (texts(more)[:3], texts(more)[3:]) if sent]
     bodies = [exchange.ops_body(damaged_ops(draw, sent)) for sent in cuts] + [b"\3"]
     files["ops"] = damaged_frames(draw, bodies) if draw.random() < 0.6 else b"".join(exchange.frame(body) for body in bodies)
-    return [(["take", "log", "ops", draw.choice(["out", "log"])], files)]
+    return [(["take", "log", "ops", draw.choice(["out", "log"])], files), (["diff", *draw.choice(FORMS), *draw.choice([("log", "ops"), ("ops", "log"), ("ops", "ops")])], files)]
 
 
 def damaged_ops(draw, sent):
@@ -139,8 +140,8 @@ def read_session(draw, cases):
 
 
 def drawing(draw, files):
-    """The session in some columns, its times at some rate."""
-    return (["timeline", "--width", str(draw.choice([1, 5, 60, 1000])), "--rate", str(draw.choice([1, 8000, 48000, 384000])), "log"], files)
+    """The session in some columns or as a picture, its times at some rate."""
+    return (["timeline", *draw.choice([["--width", str(draw.choice([1, 5, 60, 1000]))], ["--svg"]]), "--rate", str(draw.choice([1, 8000, 48000, 384000])), "log"], files)
 
 
 def finding(draw, waves, files):

@@ -1,5 +1,5 @@
 #!/usr/bin/env python3
-"""Compares `radio view`, `radio log`, `radio timeline` and `radio merge` with a model of the session in Python: tests/checks/model.py PROGRAM [--sets N] [--seed N]
+"""Compares `radio view`, `radio log`, `radio timeline`, its pictures and `radio merge` with a model of the session in Python: tests/checks/model.py PROGRAM [--sets N] [--seed N]
 
 The model (tests/formats/sessions.py) is written from docs/formats.md alone. The sets are drawn at random: a few replicas whose numbers may have gaps,
 names of operations that are there, that are not, that have another clock or do not fit the role. Each set is handed to the
@@ -17,6 +17,7 @@ sys.path.insert(0, os.path.dirname(os.path.dirname(os.path.abspath(__file__))))
 from formats import logs
 from formats.log_text import log_text
 from formats.sessions import ADDS, FITS, NAMED, Op, ready_of, session_of, session_text
+from formats.svg_text import svg_text
 from formats.timeline_text import timeline_text
 
 TITLES = ["", "News", "  two  ", "held 9", "Wetter für morgen", "新聞", "t" * 255]
@@ -34,6 +35,10 @@ def operations_text(ops):
 
 def drawn_text(ops):
     return timeline_text(session_of(ops))
+
+
+def picture_text(ops):
+    return svg_text(48000, session_of(ops))
 
 
 KINDS = sorted(ADDS) + ["add_track", "add_clip", "move_track", "remove"] + sorted(NAMED.keys() - {"add_clip", "move_track"})
@@ -161,8 +166,8 @@ def main():
             draw = random.Random(seed)
             ops = drawn(draw)
             files = files_of(draw, ops, folder)
-            for command, text in (("log", operations_text), ("timeline", drawn_text), ("view", session_text)):
-                told = subprocess.run([program, command] + files, capture_output=True)
+            for command, text in (("log", operations_text), ("timeline", drawn_text), ("timeline --svg", picture_text), ("view", session_text)):
+                told = subprocess.run([program, *command.split()] + files, capture_output=True)
                 wanted = text(ops)
                 if told.stdout.decode() != wanted or told.stderr or told.returncode != 0:
                     print("seed %d: %s says\n%s%s\nand the model\n%s" % (seed, command, told.stdout.decode(), told.stderr.decode(), wanted))

@@ -4,7 +4,7 @@
 Types the commands of the page in its order, in a folder that has `examples` and the program where a build puts it, and compares what
 they print with what the README says that they print. Only those that try it, build it for another processor and test it are not typed, and in place of `rt run`
 the program runs. The scripts that it shows have to be those of `examples/`. Then makes the logs of `examples/` anew from their scripts, which
-have to be the same bytes, and looks at the sessions of the picture.
+have to be the same bytes, and looks at the sessions of the first picture, and whether the commands draw the second one.
 """
 import filecmp
 import os
@@ -17,6 +17,7 @@ import xml.etree.ElementTree as ElementTree
 TOP = os.path.dirname(os.path.dirname(os.path.dirname(os.path.abspath(__file__))))
 EXAMPLES = os.path.join(TOP, "examples")
 PICTURE = os.path.join(TOP, "docs", "two_editors.svg")
+DRAWN = os.path.join(TOP, "docs", "news.svg")
 
 
 def blocks(text):
@@ -117,6 +118,7 @@ def main():
         os.symlink(program, os.path.join(built, "radio"))
         os.symlink(EXAMPLES, os.path.join(clone, "examples"))
         steps = follow(readme, clone)
+        assert filecmp.cmp(DRAWN, os.path.join(clone, "out", "news.svg"), shallow=False), "docs/news.svg is not what the README's commands draw"
         scripts = check_scripts(readme)
         subprocess.run(["sh", os.path.join(EXAMPLES, "make.sh"), program], check=True, cwd=folder, stdout=subprocess.DEVNULL)
         made = sorted(os.listdir(folder))

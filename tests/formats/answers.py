@@ -1,9 +1,9 @@
 """What `radio` answers to words and files, by the second reading in this folder: status, standard output, the refusal's number, and the files that it makes.
 The order of the refusals is that of docs/refusals.md and of the README: a command checks its words, opens its files from left to right, and reads and checks
 each in turn (`sources` and `lay` open each where they read it); `merge` and `render` make OUT.part once their files are open, the others once all is known."""
-from formats.diff_text import diff_text
 import hashlib
 
+from formats.diff_text import diff_by, side
 from formats.find_text import find_text, source_of
 from formats.lay_text import check_track, lay_text
 from formats.log_text import log_text
@@ -15,6 +15,7 @@ from formats.refused import Refused, refuse_unless
 from formats.scripts import read_replica, run
 from formats.sessions import ready_of, session_of, session_text
 from formats.sources_text import sources_text
+from formats.svg_text import svg_text
 from formats.timeline_text import timeline_text
 from formats.warnings_text import warnings_text
 
@@ -78,8 +79,9 @@ def list_ops(folder, *names):
 
 
 def timeline(folder, *words):
-    names, options = parted(words, {"width": "60", "rate": "48000"})
-    return Answer(output=timeline_text(session_of(folder.logs(names)), int(options["width"]), int(options["rate"])).encode())
+    names, options = parted([word for word in words if word != "--svg"], {"width": "60", "rate": "48000"})
+    session, rate = session_of(folder.logs(names)), int(options["rate"])
+    return Answer(output=(svg_text(rate, session) if "--svg" in words else timeline_text(session, int(options["width"]), rate)).encode())
 
 
 def merge(folder, out, *names):
@@ -151,9 +153,10 @@ def find(folder, *words):
     return Answer(output=find_text(session_of(read_log(*folder.open(log))), kind, what, "--one" in words).encode())
 
 
-def diff(folder, *names):
-    left, right = [[op.text() for op in read_log(data)] for data in folder.open(*names)]
-    return Answer(output=diff_text(left, right).encode())
+def diff(folder, *words):
+    names = [word for word in words if not word.startswith("--")]
+    left, right = [side(data) for data in folder.open(*names)]
+    return Answer(output=diff_by(words, left, right).encode())
 
 
 def lay(folder, *words):

@@ -96,6 +96,7 @@ case("why_help_to_a_full_disk", ["--why", "--help"], status=1, stderr="radio: fa
 caused("no_summary", 38, "messages have", ["lack", "log", "have", "out"], {"log": ONE, "have": b""})
 caused("operations_cut", 49, "messages ops", ["take", "log", "ops", "out"], {"log": ONE, "ops": b""})
 caused("summary_for_operations", 39, "messages ops", ["take", "log", "ops", "out"], {"log": ONE, "ops": have([])})
+caused("summary_to_compare", 39, "messages log or have", ["diff", "log", "have"], {"log": ONE, "have": have([])})
 
 # scripts
 caused("bad_line", 41, "script script line 2", ["edit", EDITOR, "log", "script", "out"], {"log": ONE, "script": b"add-marker 0 x\nfrob\n"})

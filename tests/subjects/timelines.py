@@ -133,10 +133,12 @@ Arguments:
 Options:
       --width <N>  How many columns, 1 to 1000 (60)
       --rate <N>   Frames a second, for the times that are told, 1 to 384000 (48000)
+      --svg        Draw a picture: the text of an SVG file, for a browser
       --why        Behind a refusal tell in one more line what it is about
   -h, --help       Print help
 
-Example: radio timeline --width 100 desk.log home.log
+Examples: radio timeline --width 100 desk.log home.log
+          radio timeline --svg desk.log > desk.svg
 
 Markers: * several begin in the column, ^ one, ~ one lies there. Clips: [ one begins, = sounds, / fades in, \\ fades out, - muted.
 
