@@ -137,10 +137,10 @@ Options:
       --why        Behind a refusal tell in one more line what it is about
   -h, --help       Print help
 
-Examples: radio timeline --width 100 desk.log home.log
-          radio timeline --svg desk.log > desk.svg
+Example: radio timeline --width 100 desk.log home.log
 
 Markers: * several begin in the column, ^ one, ~ one lies there. Clips: [ one begins, = sounds, / fades in, \\ fades out, - muted.
+`radio timeline --svg desk.log > desk.svg` makes a picture for a browser.
 
 Exit status: 0 done, 1 refused (the line `radio: fault N`; `radio explain N` tells why), 2 the command line does not parse.
 """

@@ -15,7 +15,7 @@ use std::rt::Files;
 pub(crate) const WORDS: Words = Words {
     name: "timeline",
     about: "Draws the session of the union of the logs: its markers and tracks, a line each",
-    after: "Examples: radio timeline --width 100 desk.log home.log\n          radio timeline --svg desk.log > desk.svg\n\nMarkers: * several begin in the column, ^ one, ~ one lies there. Clips: [ one begins, = sounds, / fades in, \\ fades out, - muted.\n\nExit status: 0 done, 1 refused (the line `radio: fault N`; `radio explain N` tells why), 2 the command line does not parse.",
+    after: "Example: radio timeline --width 100 desk.log home.log\n\nMarkers: * several begin in the column, ^ one, ~ one lies there. Clips: [ one begins, = sounds, / fades in, \\ fades out, - muted.\n`radio timeline --svg desk.log > desk.svg` makes a picture for a browser.\n\nExit status: 0 done, 1 refused (the line `radio: fault N`; `radio explain N` tells why), 2 the command line does not parse.",
     words: &[
         Word::Any {
             name: "LOG",
