@@ -10,6 +10,7 @@ pub mod Sources
 pub mod LogAndFiles
 pub mod SourcesListing
 pub mod Finding
+pub mod Reverting
 pub mod Comparing
 pub mod Laying
 pub mod Bouncing

@@ -32,6 +32,7 @@ pub(crate) mod meet;
 pub(crate) mod merge;
 pub(crate) mod pull;
 pub(crate) mod render;
+pub(crate) mod revert;
 pub(crate) mod serve;
 pub(crate) mod sources;
 pub(crate) mod take;

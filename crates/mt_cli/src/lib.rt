@@ -1,6 +1,6 @@
 //! The commands of `radio`.
 //!
-//! `view_logs`, `list_logs`, `draw_logs`, `merge_logs`, `pull_logs`, `list_sources`, `find_items`, `diff_logs`, `lay_files`, `check_log`, `bounce_logs`, `write_info`, `edit_log`, `have_log`, `lack_log`, `take_log` and
+//! `view_logs`, `list_logs`, `draw_logs`, `merge_logs`, `pull_logs`, `list_sources`, `find_items`, `diff_logs`, `lay_files`, `revert_log`, `check_log`, `bounce_logs`, `write_info`, `edit_log`, `have_log`, `lack_log`, `take_log` and
 //! `swap_log` do the work of commands over any readers and writers, of which each is in a latch:
 //!
 //! ```rust
@@ -68,6 +68,7 @@ mod read;
 mod refusal_lines;
 mod refusals;
 mod render;
+mod revert;
 mod source_list;
 mod sources;
 mod stop;
@@ -96,6 +97,7 @@ pub use program::command;
 pub use pull::pull_logs;
 pub use refusals::{Refusal, find_refusal};
 pub use render::bounce_logs;
+pub use revert::revert_log;
 pub use source_list::list_sources;
 pub use swap::swap_log;
 pub use take::take_log;

@@ -6,7 +6,7 @@ ghost use Rattle.mt_cli.specs.Mistakes.{IsMistake};
 
 use crate::commands::{
     check, completions, diff, edit, explain, find, have, id, info, lack, lay, log, man, meet,
-    merge, pull, render, serve, sources, take, timeline, view,
+    merge, pull, render, revert, serve, sources, take, timeline, view,
 };
 use crate::fault::CliFault;
 use crate::refusal_lines::{asks_why, put_cause, put_refusal, put_text};
@@ -174,6 +174,7 @@ fn print<
         "check" => stopped_by(check::run(rt, words, output)),
         "info" => stopped_by(info::run(rt, words, output)),
         "lay" => stopped_by(lay::run(rt, words, output)),
+        "revert" => stopped_by(revert::run(rt, words, output)),
         "explain" => explain::run(rt.alloc(), words, output),
         "id" => stopped_by(id::run(rt, output)),
         "completions" => stopped_by(completions::run(&lists(), words, output)),
@@ -245,13 +246,14 @@ fn of_logs() -> &'static [Words] {
     &OF_LOGS
 }
 
-const OF_LOGS: [Words; 6] = [
+const OF_LOGS: [Words; 7] = [
     view::WORDS,
     log::WORDS,
     timeline::WORDS,
     pull::WORDS,
     merge::WORDS,
     edit::WORDS,
+    revert::WORDS,
 ];
 
 // The commands that look into logs, and make sound of them.

@@ -158,8 +158,8 @@ const OF_EDITS: [Refusal; 5] = [
     Refusal {
         number: 21,
         name: "NoSuchItem",
-        meaning: "a change names a stamp that no ready operation gives to such an item, or not exactly one item has what `find --one` looks for",
-        advice: "Look the item up with `radio view`: its stamp stands after `track`, `clip` or `marker`. A marker has no gain, and a clip no title. Of `find --one` tells `--why` how many items there are, and `radio find` without it prints them.",
+        meaning: "a change names a stamp that no ready operation gives to such an item, not exactly one item has what `find --one` looks for, or no operation has a stamp that `revert` names",
+        advice: "Look the item up with `radio view`: its stamp stands after `track`, `clip` or `marker`. A marker has no gain, and a clip no title. Of `find --one` tells `--why` how many items there are, and `radio find` without it prints them. `radio log` prints the stamps of all operations.",
     },
     Refusal {
         number: 22,

@@ -12,7 +12,7 @@ use mt_op::Digest;
 use mt_opcodec::{Latch, Log, LogFault};
 use mt_render::MixFault;
 use mt_script::ScriptFault;
-use mt_stamp::Dot;
+use mt_stamp::{Dot, Stamp};
 use mt_sync::{SyncFault, TalkFault};
 use std::alloc::Global;
 use std::fs;
@@ -110,8 +110,19 @@ impl<'w> Call<'_, 'w> {
     fn named(&self) -> &'w str {
         match self.name {
             "lay" => self.word("TRACK"),
+            "revert" => self.no_stamp(),
             _ => self.word("REPLICA"),
         }
+    }
+
+    // The first of the words that name operations that is no text of a stamp.
+    fn no_stamp(&self) -> &'w str {
+        for word in self.words.get_strs("STAMP").unwrap_or(&[]) {
+            if Stamp::read(word).is_err() {
+                return word;
+            }
+        }
+        ""
     }
 
     // The name of the input of this index, of those that these words name.

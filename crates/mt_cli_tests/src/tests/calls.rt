@@ -2,21 +2,22 @@
 use super::texts::{
     ANSWER, BOTH, COMPARED, COMPARED_FIELDS, COMPARED_VIEWS, DRAWN_VOICE, EDITED, EMPTY, FILE,
     FOUND_CLIP, FOUND_MARKER, HAS_NEWS, HAS_NOTHING, LABELLED, LAID, LATE, LISTED, NEWS, PICTURE,
-    PLAYED, PULLED, SCRIPT, SENT, SHOWN, TOLD, VOICE,
+    PLAYED, PULLED, REVERTED, SCRIPT, SENT, SHOWN, TOLD, VOICE,
 };
 use mt_cli::{
     CliFault, DiffForm, Drawing, Laying, Wanted, bounce_logs, check_log, diff_logs, draw_log,
     draw_logs, edit_log, find_items, have_log, lack_log, lay_files, list_log, list_logs,
-    list_sources, merge_logs, pull_logs, read_growing, swap_log, take_log, view_log, view_logs,
-    write_info,
+    list_sources, merge_logs, pull_logs, read_growing, revert_log, swap_log, take_log, view_log,
+    view_logs, write_info,
 };
 use mt_cuewrite::Head;
 use mt_op::Digest;
 use mt_opcodec::Latch;
 use mt_preflight::Listing;
 use mt_render::Format;
+use mt_stamp::Stamp;
 use mt_sync::{GrowingLog, Holder, Side};
-use mt_testkit::{A, RECORDING};
+use mt_testkit::{A, B, RECORDING};
 use std::alloc::{Allocator, Global};
 use std::io::{Read, Write};
 
@@ -42,6 +43,7 @@ pub(crate) enum Call {
     Diff,
     DiffFields,
     DiffView,
+    Revert,
     Lay,
     Check,
     Bounce,
@@ -49,7 +51,7 @@ pub(crate) enum Call {
 }
 
 /// All of them.
-pub(crate) const CALLS: [Call; 25] = [
+pub(crate) const CALLS: [Call; 26] = [
     Call::ViewLog,
     Call::ViewLogs,
     Call::ListLog,
@@ -71,6 +73,7 @@ pub(crate) const CALLS: [Call; 25] = [
     Call::Diff,
     Call::DiffFields,
     Call::DiffView,
+    Call::Revert,
     Call::Lay,
     Call::Check,
     Call::Bounce,
@@ -82,7 +85,7 @@ const NOTHING: &[u8] = b"";
 /// What it reads.
 pub(crate) fn inputs_of(call: Call) -> (&'static [u8], &'static [u8]) {
     match call {
-        Call::ViewLog | Call::ListLog | Call::FindMarker => (BOTH, NOTHING),
+        Call::ViewLog | Call::ListLog | Call::FindMarker | Call::Revert => (BOTH, NOTHING),
         Call::FindClip | Call::DrawLog => (VOICE, NOTHING),
         Call::ViewLogs
         | Call::ListLogs
@@ -122,6 +125,7 @@ fn output_of(call: Call) -> &'static [u8] {
         Call::Diff => COMPARED,
         Call::DiffFields => COMPARED_FIELDS,
         Call::DiffView => COMPARED_VIEWS,
+        Call::Revert => REVERTED,
         Call::Lay => LAID,
         Call::Check => b"warnings 0\n",
         Call::Bounce => NOTHING,
@@ -213,6 +217,12 @@ fn run_on_log<M: Allocator + Clone, R: Read + Drop, W: Write>(
         Call::FindClip => {
             let source = Digest::of(RECORDING);
             find_items(memory, true, &Wanted::Clip(source), &mut input, output)
+        }
+        Call::Revert => {
+            let Ok(renamed) = Stamp::new(2, B, 1) else {
+                return Err(CliFault::Net);
+            };
+            revert_log(memory, &[renamed], &mut input, output)
         }
         _ => have_log(memory, &mut input, output),
     }
@@ -409,6 +419,7 @@ pub(crate) fn run<M: Allocator + Copy, R: Read + Drop, W: Write>(
         | Call::DrawLog
         | Call::FindMarker
         | Call::FindClip
+        | Call::Revert
         | Call::Have => Some(run_on_log(memory, call, inputs, output)),
         Call::Lack | Call::Take | Call::Diff | Call::DiffFields | Call::DiffView => {
             Some(run_by_hand(memory, alloc, call, inputs, output))

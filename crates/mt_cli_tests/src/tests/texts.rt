@@ -103,6 +103,9 @@ pub(crate) const COMPARED_VIEWS: &[u8] = b"\
 left 1 right 1 both 0 clashes 0
 ";
 
+/// The script that takes the second back.
+pub(crate) const REVERTED: &[u8] = b"retitle 1.1.00000000-0000-0000-0000-00000000000a News\n";
+
 /// The lines that lay that recording twice, from frame 5 on and with two frames between.
 pub(crate) const LAID: &[u8] = b"\
 add-clip cc0a0e0651f6e9e304442665437ab61ac3b5302b51bb4a161b144bf9985dfb79 $1 5 0 3

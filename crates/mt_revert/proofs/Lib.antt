@@ -1,0 +1,5 @@
+mod Searching
+mod Last
+mod Words
+mod Before
+mod Same
