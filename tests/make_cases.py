@@ -24,6 +24,7 @@ import subjects.diffs
 import subjects.timelines
 import subjects.pictures
 import subjects.lays
+import subjects.reverts
 import subjects.warnings
 import subjects.command_lines
 import subjects.edits

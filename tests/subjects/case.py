@@ -7,7 +7,7 @@ from formats.logs import A, B, C, add_marker, head, log, marker_line, retitle, s
 from formats.waves import info
 
 CASES = os.path.join(os.path.dirname(os.path.dirname(os.path.abspath(__file__))), "cases")
-COMMANDS = ("view", "log", "timeline", "merge", "pull", "edit", "sources", "find", "diff", "check", "render", "have", "lack", "take", "serve", "meet", "info", "lay", "explain", "completions", "man")
+COMMANDS = ("view", "log", "timeline", "merge", "pull", "edit", "revert", "sources", "find", "diff", "check", "render", "have", "lack", "take", "serve", "meet", "info", "lay", "explain", "completions", "man")
 NEWS = add_marker((1, A, 1), 480, "News")
 LATE = retitle((2, B, 1), (1, A, 1), "Late")
 ONE = log([NEWS])

@@ -35,6 +35,8 @@ caused("damaged_log_of_sources", 13, "log bad", ["sources", "bad", "wave"], {"ba
 caused("missing_log_to_draw", 45, "input nothing", ["timeline", "nothing"])
 caused("damaged_log_to_draw", 13, "log bad", ["timeline", "log", "bad"], {"log": ONE, "bad": ONE[:-1]})
 caused("none_found", 21, "log log items 0", ["find", "--one", "log", "track", "News"], {"log": ONE})
+caused("none_to_take_back", 21, "log log items 0", ["revert", "log", "1.2.00000000-0000-0000-0000-00000000000a"], {"log": ONE})
+caused("no_stamp_to_take_back", 4, "word stamp", ["revert", "log", "1.1.00000000-0000-0000-0000-00000000000a", "stamp", "other"], {"log": ONE})
 caused("two_found", 21, "log log items 2", ["find", "--one", "log", "marker", "News"], {"log": log([NEWS, add_marker((2, A, 2), 9, "News")])})
 caused("no_digest_to_find", 50, "word voice.wav", ["find", "log", "clip", "voice.wav"], {"log": ONE})
 caused("missing_file_to_find", 45, "input voice.wav", ["find", "--wave", "log", "clip", "voice.wav"], {"log": ONE})

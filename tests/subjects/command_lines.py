@@ -15,7 +15,7 @@ both_refuse("output_to_a_closed_pipe", 37, ["log"], files={"log": ONE}, output="
 # command lines
 STATUS = "\nExit status: 0 done, 1 refused (the line `radio: fault N`; `radio explain N` tells why), 2 the command line does not parse.\n"
 USAGE = "Usage: radio [OPTIONS] <COMMAND>\n\nFor more information, try '--help'.\n"
-case("no_argument", [], status=2, stderr="error: 'radio' requires a subcommand but one was not provided\n  [subcommands: view, log, timeline, pull, merge, edit, sources, find, diff, check, render, have, lack, take, serve, meet, info, lay, id, explain, completions, man, help]\n\n" + USAGE)
+case("no_argument", [], status=2, stderr="error: 'radio' requires a subcommand but one was not provided\n  [subcommands: view, log, timeline, pull, merge, edit, revert, sources, find, diff, check, render, have, lack, take, serve, meet, info, lay, id, explain, completions, man, help]\n\n" + USAGE)
 case("frob", ["frob"], status=2, stderr="error: unrecognized subcommand 'frob'\n\n" + USAGE)
 for command in ("view", "log", "timeline"):
     case(command + "_unknown_option", [command, "--frob"], status=2, stderr="error: unexpected argument '--frob' found\n\n  tip: to pass '--frob' as a value, use '-- --frob'\n\nUsage: radio %s [OPTIONS] [LOG]...\n\nFor more information, try '--help'.\n" % command)
@@ -33,6 +33,7 @@ Commands:
   pull         Adds the operations of other logs to a log, and tells how many were new
   merge        Writes the union of the logs as one log
   edit         Makes the changes of a script, all or none, and writes the new log
+  revert       Prints the script that takes operations of a log back
   sources      Tells which recordings a session plays, and which of the files these are
   find         Prints the stamps of the items that have a title, or of the clips that play a recording
   diff         Prints the operations that one of two logs alone has
