@@ -137,7 +137,7 @@ class Terminal:
 def type_in(terminal, names, commands):
     """Types some lines, and looks what they are completed by."""
     same(names, terminal.completed("radio "), "radio ")
-    same(["render"], terminal.completed("radio re"), "radio re")
+    same(["render"], terminal.completed("radio ren"), "radio ren")
     render = next(command for command in commands if command.name == "render")
     same(render.options, terminal.completed("radio render --"), "radio render --")
     same(["--rate"], terminal.completed("radio render --ra"), "radio render --ra")

@@ -3,7 +3,7 @@
 
 Logs, scripts, messages and wave files are drawn at random, damaged (formats/mutations.py: bits, bytes, numbers, counts and sizes changed, parts cut, put in,
 doubled, and spliced with others; the digest of a log, the frames of messages and the digests that a session names are mended, mostly, so that what is behind them
-is reached) and put through each command that reads them: view, log, merge, timeline and diff; edit; have, lack and take; info, render, check, sources, find and lay. So are the files of the stored cases. The second reading, of docs/formats.md
+is reached) and put through each command that reads them: view, log, merge, timeline, diff and revert; edit; have, lack and take; info, render, check, sources, find and lay. So are the files of the stored cases. The second reading, of docs/formats.md
 alone, is formats/answers.py. Status, standard output, the refusal's line and every file of the folder have to be the same, byte for byte. First the reading itself is
 compared with the stored cases of these commands. Stops at the first that differs, and prints what repeats it."""
 import argparse
@@ -82,7 +82,13 @@ def read_log(draw, cases):
         files["b"] = logs.log([op.text() for op in ops if draw.random() < 0.6])
     names = draw.sample(sorted(files), len(files))
     return [(["view", *names], files), (["log", *names], files), (["timeline", *draw.choice([[], ["--width", "7"], ["--svg"]]), *names], files), (["merge", draw.choice(["out", "a"]), *names], files), (["pull", *names, names[0]], files),
-            (["diff", *draw.choice(FORMS), names[0], draw.choice(names)], files)]
+            (["diff", *draw.choice(FORMS), names[0], draw.choice(names)], files), (["revert", names[0], *named(draw, ops)], files)]
+
+
+def named(draw, ops):
+    """The stamps of some operations, now and then with another number."""
+    some = [op.own for op in draw.sample(ops, min(len(ops), draw.randint(1, 4)))] or [(1, 0, 1)]
+    return [logs.stamp_text(clock, replica, seq + (draw.random() < 0.02)) for clock, replica, seq in some]
 
 
 def read_script(draw, cases):

@@ -5,14 +5,15 @@ import hashlib
 
 from formats.diff_text import diff_by, side
 from formats.find_text import find_text, source_of
-from formats.lay_text import check_track, lay_text
+from formats.lay_text import BAD_TEXT, check_track, lay_text
 from formats.log_text import log_text
 from formats.mixes import Mix, check_format, check_head
 from formats.read_logs import dot, read_log, union, write_log
 from formats.read_messages import have_bytes, lack_bytes, take_ops
 from formats.read_waves import Wave
 from formats.refused import Refused, refuse_unless
-from formats.scripts import read_replica, run
+from formats.revert_text import revert_text
+from formats.scripts import read_replica, read_stamp, run
 from formats.sessions import ready_of, session_of, session_text
 from formats.sources_text import sources_text
 from formats.svg_text import svg_text
@@ -159,6 +160,19 @@ def diff(folder, *words):
     return Answer(output=diff_by(words, left, right).encode())
 
 
+def stamps_of(words):
+    """The stamps whose texts these words are, all of them."""
+    try:
+        return [read_stamp(word.encode()) for word in words]
+    except Refused as refused:
+        raise Refused(BAD_TEXT) from refused
+
+
+def revert(folder, name, *words):
+    stamps = stamps_of(words)
+    return Answer(output=revert_text(read_log(*folder.open(name)), stamps).encode())
+
+
 def lay(folder, *words):
     (track, *names), options = parted(words, {"at": "0", "gap": "0", "rate": "48000"})
     check_track(track)
@@ -214,7 +228,7 @@ def parted(words, defaults=OPTIONS):
     return names, options
 
 
-COMMANDS = {"view": view, "log": list_ops, "timeline": timeline, "merge": merge, "pull": pull, "edit": edit, "have": have, "lack": lack, "take": take, "info": info, "sources": sources, "find": find, "diff": diff, "lay": lay, "check": check, "render": render}
+COMMANDS = {"view": view, "log": list_ops, "timeline": timeline, "merge": merge, "pull": pull, "edit": edit, "have": have, "lack": lack, "take": take, "info": info, "sources": sources, "find": find, "diff": diff, "revert": revert, "lay": lay, "check": check, "render": render}
 
 
 def answer(words, files, stdin=b""):
