@@ -9,7 +9,7 @@ use std::alloc::Global;
 // More growths than a command asks for.
 const GROWTHS: u64 = 400;
 
-// Whether a command writes all, or is refused with nothing written where a growth is.
+// Whether a command writes all, or is refused with nothing written where a growth is: what can do without that growth may go on.
 fn is_right(
     answer: Option<Result<(), CliFault>>,
     call: Call,
@@ -20,11 +20,10 @@ fn is_right(
         return false;
     }
     let written = output.into_inner();
-    if refused {
-        answer == Some(Err(CliFault::Memory)) && written.is_empty()
-    } else {
-        answer == Some(Ok(())) && is_front(call, &written, length_of(call))
+    if refused && answer == Some(Err(CliFault::Memory)) {
+        return written.is_empty();
     }
+    answer == Some(Ok(())) && is_front(call, &written, length_of(call))
 }
 
 // Whether it does so where this growth is refused, and whether one was.
