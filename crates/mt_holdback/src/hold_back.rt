@@ -45,7 +45,8 @@ impl<T: Waits, A: Allocator> Model for HoldBack<T, A> {
     ghost view = { λ h. record { contents = record { released = h.released.items; waiting = items_in (λ q. items_of q.items.entries) h.waiting }; failed = h.failed } };
 
     ghost invariant = { λ h. IsHoldBack T.key_of T.needs_of T.fits_role (record { released = h.released.items; waiting = items_in (λ q. items_of q.items.entries) h.waiting })
-        × MatchOption h.waiting (h.released.items ≡ []) (λ q. IsQueueOf T.key_of T.needs_of T.fits_role h.released.items q) };
+        × MatchOption h.waiting (h.released.items ≡ [])
+        (λ q. IsQueueOf T.key_of T.needs_of T.fits_role h.released.items q) };
 }
 
 impl<T: Waits + Drop, A: Allocator> HoldBack<T, A> {

@@ -32,8 +32,10 @@ fn take_next<A: Allocator + Clone>(
     requires unknown { is_offered waiting.old.contents op.now.stamp ≡ false }
     requires above { AllByRecursion (λ u. op_cmp u op.now ≡ Less) waiting.old.contents.waiting }
     requires same { (f : Operation → ℕ) → sum_by f items ≡ sum_by f waiting.old.contents.released }
-    ensures kept { OnOk result (waiting.new ≡ record { contents = with_offered waiting.old.contents op.now; failed = false }) }
-    ensures same { IfOk result (λ after. (f : Operation → ℕ) → sum_by f after ≡ sum_by f waiting.new.contents.released) }
+    ensures kept { OnOk result (waiting.new
+        ≡ record { contents = with_offered waiting.old.contents op.now; failed = false }) }
+    ensures same { IfOk result (λ after. (f : Operation → ℕ)
+        → sum_by f after ≡ sum_by f waiting.new.contents.released) }
     ensures err { IfErr result (λ fault. fault ≡ EditorFault.Memory) }
 {
     // for the proof: that what was released is what is ready, and that the operation names older ones

@@ -31,7 +31,8 @@ pub(crate) fn offer_new<A: Allocator + Clone>(
     requires whole { waiting.old.failed ≡ false }
     requires unknown { is_offered waiting.old.contents op.stamp ≡ false }
     ensures answered { IfOk result (λ offered. offered ≡ offer_gives waiting.old.contents op) }
-    ensures kept { OnOk result (waiting.new ≡ record { contents = with_offered waiting.old.contents op; failed = false }) }
+    ensures kept { OnOk result (waiting.new
+        ≡ record { contents = with_offered waiting.old.contents op; failed = false }) }
     ensures rising { OnOk result (StampsRise (newly_released waiting.old.contents op)) }
     ensures err { IfErr result (λ fault. fault ≡ EditorFault.Memory) }
 {
@@ -50,7 +51,8 @@ pub(crate) fn offer_met<A: Allocator + Clone>(
     requires whole { waiting.old.failed ≡ false }
     requires unknown { is_offered waiting.old.contents op.stamp ≡ false }
     requires met { is_met_by op_key op_needs fits waiting.old.contents.released op ≡ true }
-    ensures kept { OnOk result (waiting.new ≡ record { contents = with_offered waiting.old.contents op; failed = false }) }
+    ensures kept { OnOk result (waiting.new
+        ≡ record { contents = with_offered waiting.old.contents op; failed = false }) }
     ensures err { IfErr result (λ fault. fault ≡ EditorFault.Memory) }
 {
     match waiting.offer_met(op) {

@@ -87,7 +87,8 @@ pub(crate) fn outcome_of<A: Allocator + Clone>(
           held = option_map
               (λ h. length waiting.now.contents.waiting) view.held;
         }) }
-    ensures taken { IfOk result (λ outcome. TakenGives offered (drop first waiting.now.contents.released) outcome.taken) }
+    ensures taken { IfOk result (λ outcome.
+        TakenGives offered (drop first waiting.now.contents.released) outcome.taken) }
     ensures joins { IfOk result (λ outcome. outcome.joins
         ≡ u64_saturate (sum_by joins_of (drop first waiting.now.contents.released))) }
     ensures err { IfErr result (λ fault. fault ≡ EditorFault.Memory) }

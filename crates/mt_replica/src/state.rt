@@ -319,7 +319,8 @@ fn taken_in<A: Allocator + Clone>(
     requires waits { HoldsBack log.old waiting.old }
     ensures added { OnOk result (log.new ≡ with_op log.old op) }
     ensures logged { OnOk result (AreLogged (operations (with_op log.old op))) }
-    ensures kept { OnOk result (waiting.new ≡ record { contents = with_offered waiting.old.contents op; failed = false }) }
+    ensures kept { OnOk result (waiting.new
+        ≡ record { contents = with_offered waiting.old.contents op; failed = false }) }
     ensures answered { IfOk result (λ offered. offered ≡ offer_gives waiting.old.contents op) }
     ensures rising { OnOk result (StampsRise (newly_released waiting.old.contents op)) }
     ensures exact { OnOk result (IsHoldBack op_key op_needs fits waiting.new.contents) }

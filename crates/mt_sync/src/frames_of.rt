@@ -72,7 +72,8 @@ pub fn take_ops<A: Allocator + Clone, H: Holder<A>>(
     holder: &mut H,
     bytes: &[u8],
 ) -> Result<(), SyncFault>
-    ensures takes { TakesAll (hears (end_at (awaits_ops None) [] (H.held holder.old)) bytes.now) result (H.held holder.new) }
+    ensures takes { TakesAll (hears (end_at (awaits_ops None) [] (H.held holder.old)) bytes.now) result
+        (H.held holder.new) }
     ensures left { IfErr result (λ fault. fault ≡ SyncFault.Talk TalkFault.Memory
         → IsLeft (end_at (awaits_ops None) [] (H.held holder.old)) bytes.now (H.held holder.new)) }
     ensures name { H.named holder.new ≡ H.named holder.old }
