@@ -1,0 +1,3 @@
+mod Capping
+mod Cuts
+mod Numbers
