@@ -1,3 +1,6 @@
+mod Amplitudes
 mod Capping
 mod Cuts
 mod Numbers
+mod Rounding
+mod Searching

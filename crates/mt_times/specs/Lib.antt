@@ -2,3 +2,5 @@ pub mod Printing
 pub mod Words
 pub mod Times
 pub mod Steps
+pub mod Decibels
+pub mod Nearest

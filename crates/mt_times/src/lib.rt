@@ -23,9 +23,13 @@
 //! `specs/Times.antt` says what a word tells.
 #![tactic(auto)]
 
+mod amplitude;
+mod fraction;
+mod level;
 mod print;
 mod time;
 mod word;
 
+pub use fraction::{Fraction, fraction_of};
 pub use print::{append_decimal, append_time};
 pub use time::frames_of;
