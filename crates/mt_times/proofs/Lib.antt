@@ -2,5 +2,7 @@ mod Amplitudes
 mod Capping
 mod Cuts
 mod Numbers
+mod ReadBack
+mod Roots
 mod Rounding
 mod Searching

@@ -3,6 +3,7 @@ use Rattle.std.proofs.Common.{◌≡◌, ℕ, ◌-◌, ◌*◌, ◌<◌, ◌≤�
 use Rattle.std.proofs.Math.Nat.{mul-le-mul_right, mul-lt-mul_of_pos_right, lt_of_mul-lt-mul_right, le_of_mul-le-mul_right}
 use Rattle.std.proofs.lemmas.Bool.{cases_lt}
 use Rattle.mt_times.specs.Nearest.{off, IsNearest}
+use Rattle.mt_times.specs.Laws.{NearestIsOne}
 use Rattle.mt_times.specs.declared.fraction.Fraction.{Fraction}
 
 -- p/s under q/t, and q/t at most r/u
@@ -86,3 +87,33 @@ module _ (amp den : ℕ) (other : Fraction) (with_it : other.den ≡ den) (num_t
 
   pub kept : (best : Fraction) → 1 ≤ den → IsNearest (den - 1) amp best → off amp best.num best.den * den ≤ off amp other.num den * best.den → IsNearest den amp best
   kept best some is more = kept_num amp den other.num best some is are_nearest more
+
+-- ---- there is one
+
+equal : (m n : ℕ) → (m < n → ⊥) → (n < m → ⊥) → m ≡ n
+equal m n below above = elim (cases_lt m n) [
+  | inl less ↦ absurd (below less)
+  | inr most ↦ elim (cases_lt n m) [ inl less ↦ absurd (above less) | inr more ↦ omega arith ]
+]
+
+-- with a smaller divisor it would be nearer
+not_smaller : (most amp : ℕ) (f g : Fraction) → IsNearest most amp f → IsNearest most amp g → f.den < g.den → ⊥
+not_smaller most amp f g is other below =
+    let nearer : off amp g.num g.den * f.den < off amp f.num f.den * g.den = other.smallest f.num f.den is.num_to is.den_from below in
+    let near : off amp f.num f.den * g.den ≤ off amp g.num g.den * f.den = is.nearest g.num g.den other.num_to other.den_from other.den_to in
+    omega arith
+
+-- with a greater number too
+not_greater : (most amp : ℕ) (f g : Fraction) → IsNearest most amp f → IsNearest most amp g → g.den ≡ f.den → f.num < g.num → ⊥
+not_greater most amp f g is other same above =
+    let nearer : off amp f.num f.den < off amp g.num f.den = is.greatest g.num other.num_to above in
+    let near : off amp g.num g.den * f.den ≤ off amp f.num f.den * g.den = other.nearest f.num f.den is.num_to is.den_from is.den_to in
+    let here : off amp g.num f.den * f.den ≤ off amp f.num f.den * f.den = subst (λ (d : ℕ). off amp g.num d * f.den ≤ off amp f.num f.den * d) same near in
+    let more : off amp f.num f.den * f.den < off amp g.num f.den * f.den = mul-lt-mul_of_pos_right nearer is.den_from in
+    omega arith
+
+pub nearest_is_one : NearestIsOne
+nearest_is_one most amp f g is other =
+    let den : f.den ≡ g.den = equal f.den g.den (not_smaller most amp f g is other) (not_smaller most amp g f other is) in
+    let num : f.num ≡ g.num = equal f.num g.num (not_greater most amp f g is other (sym den)) (not_greater most amp g f other is den) in
+    λ i. record { num = num i; den = den i }

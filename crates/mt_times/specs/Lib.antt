@@ -4,3 +4,4 @@ pub mod Times
 pub mod Steps
 pub mod Decibels
 pub mod Nearest
+pub mod Laws

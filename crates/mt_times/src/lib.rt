@@ -25,6 +25,7 @@
 
 mod amplitude;
 mod fraction;
+pub mod laws;
 mod level;
 mod print;
 mod time;

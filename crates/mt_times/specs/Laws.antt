@@ -1,0 +1,41 @@
+-- What holds of times and levels.
+use Rattle.std.specs.Prelude.{◌≡◌, ◌<◌, ◌≤◌, ◌+◌, ◌*◌, ◌^◌, ℕ, Option, Some, slice_index}
+use Rattle.mt_times.specs.declared.time.Time.{Time}
+use Rattle.mt_times.specs.declared.level.Level.{Level}
+use Rattle.mt_times.specs.declared.fraction.Fraction.{Fraction}
+use Rattle.mt_times.specs.Printing.{clock_text, milliseconds, time_text}
+use Rattle.mt_times.specs.Times.{time, nearest_frame, frame, read_time}
+use Rattle.mt_times.specs.Decibels.{unit, whole_amplitudes, tenth_amplitudes, rest_amplitude, amplitude}
+use Rattle.mt_times.specs.Nearest.{IsNearest}
+
+-- so many milliseconds
+abbrev pub millis : ℕ → Time
+millis ms = record { count = ms; per_second = 1000 }
+
+-- A time that is printed is read: as its milliseconds.
+abbrev pub PrintedIsRead : Type 0
+PrintedIsRead = (ms : ℕ) → ms < 2 ^ 64 → time (clock_text ms) ≡ Some (millis ms)
+
+-- So it comes to the frame nearest to the printed milliseconds.
+abbrev pub PrintedFrameIsRead : Type 0
+PrintedFrameIsRead = (rate frames : ℕ) → 1 ≤ rate → milliseconds rate frames < 2 ^ 64
+    → read_time rate (time_text rate frames) ≡ frame rate (millis (milliseconds rate frames))
+
+-- Where a millisecond is so many whole frames, that frame is printed as the same text again; and a frame at a whole millisecond comes back as itself.
+pub record WholeMillisecondsStay : Type 0 where
+  pub same_text : (each frames : ℕ) → 1 ≤ each
+      → time_text (1000 * each) (nearest_frame (1000 * each) (millis (milliseconds (1000 * each) frames))) ≡ time_text (1000 * each) frames
+  pub same_frame : (each ms : ℕ) → 1 ≤ each → nearest_frame (1000 * each) (millis (milliseconds (1000 * each) (ms * each))) ≡ ms * each
+
+-- d is a root of n, rounded down
+abbrev pub IsRoot : ℕ → ℕ → ℕ → Type 0
+IsRoot degree n d = (d ^ degree ≤ n) × (n < (d + 1) ^ degree)
+
+-- The tables hold 10^15 times 10^(i/20) and 10^(j/200), rounded down.
+pub record AmplitudesAreRoots : Type 0 where
+  pub wholes : (i : ℕ) → i < 20 → IsRoot 20 (10 ^ (15 * 20 + i)) (slice_index whole_amplitudes i)
+  pub tenths : (j : ℕ) → j < 10 → IsRoot 200 (10 ^ (15 * 200 + j)) (slice_index tenth_amplitudes j)
+
+-- Of two fractions that are the nearest each is the other.
+abbrev pub NearestIsOne : Type 0
+NearestIsOne = (most amp : ℕ) (f g : Fraction) → IsNearest most amp f → IsNearest most amp g → f ≡ g

@@ -1,0 +1,38 @@
+//! What holds of times and levels: each law is the contract of a function that does nothing.
+
+ghost use Rattle.std.specs.Prelude.{◌≡◌, ◌↔◌, IsTrue};
+ghost use Rattle.mt_times.specs.Laws.{PrintedIsRead, PrintedFrameIsRead, WholeMillisecondsStay, AmplitudesAreRoots, NearestIsOne};
+
+use crate::fraction::Fraction;
+
+/// A time that is printed is read, as its milliseconds.
+pub fn printed_times()
+    ensures { PrintedIsRead }
+{}
+
+/// What is printed of frames comes to the frame nearest to the printed milliseconds.
+pub fn printed_frames()
+    ensures { PrintedFrameIsRead }
+{}
+
+/// Where 1000 divides the rate, that frame is printed as the same text again, and a frame at a whole millisecond comes back as itself.
+pub fn whole_milliseconds()
+    ensures { WholeMillisecondsStay }
+{}
+
+/// The amplitudes of 0 to 19 decibels and of 0 to 9 tenths are 10^15 times the roots that they stand for, rounded down.
+pub fn amplitudes()
+    ensures { AmplitudesAreRoots }
+{}
+
+/// There is one nearest fraction.
+pub fn one_nearest()
+    ensures { NearestIsOne }
+{}
+
+/// Fractions are equal where their numbers and their divisors are: 1/2 is not 2/4.
+pub fn equal_fractions(fraction: &Fraction, other: &Fraction) -> bool
+    ensures { IsTrue result ↔ (fraction.now ≡ other.now) }
+{
+    fraction == other
+}
