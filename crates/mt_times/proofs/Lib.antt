@@ -2,6 +2,7 @@ mod Amplitudes
 mod Capping
 mod Cuts
 mod Numbers
+mod Ranges
 mod ReadBack
 mod Roots
 mod Rounding

@@ -1,8 +1,8 @@
 -- The amplitudes of the tables.
-use Rattle.std.proofs.Common.{◌≡◌, ℕ, zero, suc, ◌+◌, ◌*◌, ◌<◌, ◌≤◌, ◌^◌, Bool, true, ◌&&◌, nat_le, nat_lt, List, [], ◌∷◌, length, slice_index, refl, sym, subst, arith}
-use Rattle.std.proofs.lemmas.Bool.{and_parts}
-use Rattle.mt_times.specs.Decibels.{whole_amplitudes, tenth_amplitudes}
-use Rattle.mt_times.specs.Laws.{IsRoot, AmplitudesAreRoots}
+use Rattle.std.proofs.Common.{◌≡◌, ℕ, zero, suc, ◌+◌, ◌*◌, ◌<◌, ◌≤◌, ◌^◌, ◌⊎◌, inl, inr, Bool, true, ◌&&◌, nat_le, nat_lt, List, [], ◌∷◌, length, slice_index, refl, sym, subst, arith}
+use Rattle.std.proofs.lemmas.Bool.{and_parts, cases_lt}
+use Rattle.mt_times.specs.Decibels.{whole_amplitudes, tenth_amplitudes, rest_amplitude}
+use Rattle.mt_times.specs.Laws.{IsRoot, AmplitudesAreRoots, RestsAreNear}
 
 -- each of these is a root of the next power of ten, from this one on
 roots_from : ℕ → ℕ → List ℕ → Bool
@@ -35,3 +35,33 @@ amplitudes_are_roots = record {
   wholes = root_at 20 300 whole_amplitudes wholes;
   tenths = root_at 200 3000 tenth_amplitudes tenths;
 }
+
+-- ---- of tenths of a decibel
+
+-- a test of each number up to one
+unfoldable pub each_below : (test : ℕ → Bool) → ℕ → Bool
+each_below test zero = true
+each_below test (suc n) = test n && each_below test n
+
+pub below_at : (test : ℕ → Bool) (n : ℕ) → each_below test n ≡ true → (r : ℕ) → r < n → test r ≡ true
+unfolding each_below
+below_at test zero all r less = absurd (omega arith)
+below_at test (suc n) all r less =
+    let parts = and_parts (test n) (each_below test n) all in
+    elim (cases_lt r n) [
+      | inl under ↦ below_at test n parts.1 r under
+      | inr over ↦ (let same : r ≡ n = omega arith in subst (λ (m : ℕ). test m ≡ true) (sym same) parts.0)
+    ]
+
+is_near : ℕ → Bool
+is_near r = nat_le (rest_amplitude r ^ 200) (10 ^ (3000 + r)) && nat_lt (10 ^ (3000 + r)) ((rest_amplitude r + 9) ^ 200)
+
+all_near : each_below is_near 200 ≡ true
+unfolding each_below is_near rest_amplitude
+all_near = refl
+
+pub rests_are_near : RestsAreNear
+unfolding is_near
+rests_are_near r less =
+    let parts = and_parts (nat_le (rest_amplitude r ^ 200) (10 ^ (3000 + r))) (nat_lt (10 ^ (3000 + r)) ((rest_amplitude r + 9) ^ 200)) (below_at is_near 200 all_near r less) in
+    (grind (arith, parts.0), grind (arith, parts.1))

@@ -1,5 +1,5 @@
 -- What holds of times and levels.
-use Rattle.std.specs.Prelude.{◌≡◌, ◌<◌, ◌≤◌, ◌+◌, ◌*◌, ◌^◌, ℕ, Option, Some, slice_index}
+use Rattle.std.specs.Prelude.{◌≡◌, ◌<◌, ◌≤◌, ◌↔◌, ◌⊎◌, ◌+◌, ◌*◌, ◌^◌, ℕ, true, Option, Some, slice_index}
 use Rattle.mt_times.specs.declared.time.Time.{Time}
 use Rattle.mt_times.specs.declared.level.Level.{Level}
 use Rattle.mt_times.specs.declared.fraction.Fraction.{Fraction}
@@ -35,6 +35,16 @@ IsRoot degree n d = (d ^ degree ≤ n) × (n < (d + 1) ^ degree)
 pub record AmplitudesAreRoots : Type 0 where
   pub wholes : (i : ℕ) → i < 20 → IsRoot 20 (10 ^ (15 * 20 + i)) (slice_index whole_amplitudes i)
   pub tenths : (j : ℕ) → j < 10 → IsRoot 200 (10 ^ (15 * 200 + j)) (slice_index tenth_amplitudes j)
+
+-- The amplitude of so many tenths of a decibel under 200 is at most 10^15 times 10^(r/200), and falls short of it by less than 9.
+abbrev pub RestsAreNear : Type 0
+RestsAreNear = (r : ℕ) → r < 200 → (rest_amplitude r ^ 200 ≤ 10 ^ (15 * 200 + r)) × (10 ^ (15 * 200 + r) < (rest_amplitude r + 9) ^ 200)
+
+-- A level is told up to +96.3 decibels; from -66.1 decibels down the nearest fraction is 0/1, and above it is not.
+pub record LevelsInRange : Type 0 where
+  pub told : (l : Level) → (amplitude l ≤ 65535 * unit) ↔ ((l.below ≡ true) ⊎ (l.tenths ≤ 963))
+  pub silent : (l : Level) → l.below ≡ true → 661 ≤ l.tenths → IsNearest 1000 (amplitude l) (record { num = 0; den = 1 })
+  pub heard : (l : Level) (f : Fraction) → (l.below ≡ true → l.tenths ≤ 660) → IsNearest 1000 (amplitude l) f → 1 ≤ f.num
 
 -- Of two fractions that are the nearest each is the other.
 abbrev pub NearestIsOne : Type 0

@@ -5,3 +5,4 @@ pub mod Steps
 pub mod Decibels
 pub mod Nearest
 pub mod Laws
+pub mod Examples

@@ -8,10 +8,13 @@ two_digits n = (48 + n / 10) ∷ (48 + n % 10) ∷ []
 abbrev pub three_digits : ℕ → List ℕ
 three_digits n = (48 + n / 100) ∷ two_digits (n % 100)
 
+-- `:MM:SS.mmm`, of milliseconds
+abbrev pub below_hours : ℕ → List ℕ
+below_hours ms = codes ":" ++ (two_digits (ms / 60000 % 60) ++ (codes ":" ++ (two_digits (ms / 1000 % 60) ++ (codes "." ++ three_digits (ms % 1000)))))
+
 -- `H:MM:SS.mmm`, of milliseconds
 abbrev pub clock_text : ℕ → List ℕ
-clock_text ms =
-    decimal (ms / 3600000) ++ (codes ":" ++ (two_digits (ms / 60000 % 60) ++ (codes ":" ++ (two_digits (ms / 1000 % 60) ++ (codes "." ++ three_digits (ms % 1000))))))
+clock_text ms = decimal (ms / 3600000) ++ below_hours ms
 
 -- how long so many frames last at a rate, in milliseconds, rounded down
 abbrev pub milliseconds : ℕ → ℕ → ℕ

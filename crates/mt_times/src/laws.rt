@@ -1,7 +1,7 @@
 //! What holds of times and levels: each law is the contract of a function that does nothing.
 
 ghost use Rattle.std.specs.Prelude.{◌≡◌, ◌↔◌, IsTrue};
-ghost use Rattle.mt_times.specs.Laws.{PrintedIsRead, PrintedFrameIsRead, WholeMillisecondsStay, AmplitudesAreRoots, NearestIsOne};
+ghost use Rattle.mt_times.specs.Laws.{PrintedIsRead, PrintedFrameIsRead, WholeMillisecondsStay, AmplitudesAreRoots, RestsAreNear, LevelsInRange, NearestIsOne};
 
 use crate::fraction::Fraction;
 
@@ -23,6 +23,16 @@ pub fn whole_milliseconds()
 /// The amplitudes of 0 to 19 decibels and of 0 to 9 tenths are 10^15 times the roots that they stand for, rounded down.
 pub fn amplitudes()
     ensures { AmplitudesAreRoots }
+{}
+
+/// The amplitude of a level from 0 to 19.9 decibels is 10^15 times 10 to the power of a twentieth of it, or less than 9 under that.
+pub fn rests()
+    ensures { RestsAreNear }
+{}
+
+/// A level is told up to +96.3 decibels; from -66.1 decibels down it is 0/1, and above it is not.
+pub fn ranges()
+    ensures { LevelsInRange }
 {}
 
 /// There is one nearest fraction.

@@ -1,52 +1,65 @@
 //! Times, printed.
 
-ghost use Rattle.std.specs.Prelude.{◌≡◌, ◌<◌, ◌≤◌, ◌^◌, ◌++◌, OnOk};
+ghost use Rattle.std.specs.Prelude.{◌≡◌, ◌<◌, ◌≤◌, ◌+◌, ◌^◌, ◌++◌, OnOk, OnErr};
 ghost use Rattle.std.specs.Fmt.{decimal};
-ghost use Rattle.mt_times.specs.Printing.{two_digits, three_digits, clock_text, time_text};
+ghost use Rattle.mt_times.specs.Printing.{below_hours, clock_text, time_text};
 
 use itoa::Buffer;
 use std::alloc::{AllocError, Allocator};
 
-/// Writes a number, in decimal. Where memory is refused, `text` may hold a part of it.
+/// Writes a number, in decimal. Where memory is refused, `text` is as it was.
 pub fn append_decimal<A: Allocator>(text: &mut Vec<u8, A>, number: u64) -> Result<(), AllocError>
-    ensures { OnOk result (text.new.items ≡ text.old.items ++ decimal number) }
+    ensures ok { OnOk result (text.new.items ≡ text.old.items ++ decimal number) }
+    ensures err { OnErr result (text.new.items ≡ text.old.items) }
 {
     let mut digits = Buffer::new();
     text.extend_from_slice(digits.format(number).as_bytes())
 }
 
-// Writes two digits.
-fn append_two_digits<A: Allocator>(text: &mut Vec<u8, A>, number: u64) -> Result<(), AllocError>
-    requires { number < 100 }
-    ensures { OnOk result (text.new.items ≡ text.old.items ++ two_digits number) }
+// The digit of a number under ten.
+fn digit(number: u64) -> u8
+    requires { number < 10 }
+    ensures { result ≡ 48 + number }
 {
-    text.extend_from_slice(&[b'0' + (number / 10) as u8, b'0' + (number % 10) as u8])
+    b'0' + number as u8
 }
 
-// Writes three digits.
-fn append_three_digits<A: Allocator>(text: &mut Vec<u8, A>, number: u64) -> Result<(), AllocError>
-    requires { number < 1000 }
-    ensures { OnOk result (text.new.items ≡ text.old.items ++ three_digits number) }
+// `:MM:SS.mmm`, of milliseconds.
+fn below_hours(ms: u64) -> [u8; 10]
+    ensures { result ≡ below_hours ms }
 {
-    text.push(b'0' + (number / 100) as u8)?;
-    append_two_digits(text, number % 100)
+    let minutes = ms / 60_000 % 60;
+    let seconds = ms / 1000 % 60;
+    [
+        b':',
+        digit(minutes / 10),
+        digit(minutes % 10),
+        b':',
+        digit(seconds / 10),
+        digit(seconds % 10),
+        b'.',
+        digit(ms % 1000 / 100),
+        digit(ms % 1000 % 100 / 10),
+        digit(ms % 1000 % 100 % 10),
+    ]
 }
 
-// Writes milliseconds as `H:MM:SS.mmm`.
+// Writes milliseconds as `H:MM:SS.mmm`. Where memory is refused, `text` is as it was.
 fn append_clock<A: Allocator>(text: &mut Vec<u8, A>, ms: u64) -> Result<(), AllocError>
-    ensures { OnOk result (text.new.items ≡ text.old.items ++ clock_text ms) }
+    ensures ok { OnOk result (text.new.items ≡ text.old.items ++ clock_text ms) }
+    ensures err { OnErr result (text.new.items ≡ text.old.items) }
 {
+    let before = text.len();
     append_decimal(text, ms / 3_600_000)?;
-    text.extend_from_slice(b":")?;
-    append_two_digits(text, ms / 60_000 % 60)?;
-    text.extend_from_slice(b":")?;
-    append_two_digits(text, ms / 1000 % 60)?;
-    text.extend_from_slice(b".")?;
-    append_three_digits(text, ms % 1000)
+    let added = text.extend_from_slice(&below_hours(ms));
+    if added.is_err() {
+        text.truncate(before);
+    }
+    added
 }
 
 /// Writes how long so many frames last at a rate, as `H:MM:SS.mmm`: milliseconds, rounded down. Where memory is refused,
-/// `text` may hold a part of it.
+/// `text` is as it was.
 pub fn append_time<A: Allocator>(
     text: &mut Vec<u8, A>,
     rate: u32,
@@ -54,7 +67,8 @@ pub fn append_time<A: Allocator>(
 ) -> Result<(), AllocError>
     requires rate { 1 ≤ rate }
     requires frames { frames ≤ 2 ^ 50 }
-    ensures { OnOk result (text.new.items ≡ text.old.items ++ time_text rate frames) }
+    ensures ok { OnOk result (text.new.items ≡ text.old.items ++ time_text rate frames) }
+    ensures err { OnErr result (text.new.items ≡ text.old.items) }
 {
     append_clock(text, frames * 1000 / u64::from(rate))
 }
