@@ -1,6 +1,7 @@
 mod Amplitudes
 mod Capping
 mod Cuts
+mod NearestRows
 mod Numbers
 mod Ranges
 mod ReadBack
