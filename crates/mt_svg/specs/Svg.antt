@@ -7,9 +7,11 @@ use Rattle.hex.specs.Hex.{encode_lower}
 use Rattle.mt_latch.specs.Latch.{Latched, AppendsPrefix}
 use Rattle.mt_op.specs.Gain.{Ratio}
 use Rattle.mt_op.specs.declared.digest.Digest.{Digest}
+use Rattle.mt_render.specs.Sources.{Sources, found}
 use Rattle.mt_sessionview.specs.Content.{Clip, Track, Marker, Content}
 use Rattle.mt_stamp.specs.Moment.{Moment}
 use Rattle.mt_stamp.specs.Texts.{stamp_text}
+use Rattle.mt_svg.specs.Peaks.{clip_peaks}
 use Rattle.mt_svg.specs.Placement.{span, units, x_at, width, band_width, row_top, name_top, step}
 use Rattle.mt_svg.specs.XmlText.{escaped, numbered, title_text}
 
@@ -86,10 +88,11 @@ clip_body span width stamp frames_in frames_out =
 abbrev pub clip_label : Digest → Ratio → List ℕ
 clip_label source gain = codes "<text x=\"4\" y=\"14\">" ++ (encode_lower (take 4 source.0) ++ (gain_text gain ++ codes "</text>"))
 
-abbrev pub clip_text : ℕ → Clip → List ℕ
-clip_text span c =
+abbrev pub clip_text : Sources → ℕ → Clip → List ℕ
+clip_text sources span c =
     clip_head (x_at span c.at) (width span c.at c.len) c.mute
-    ++ (clip_body span (width span c.at c.len) c.clip c.fade_in c.fade_out ++ (clip_label c.source c.gain ++ codes "</svg>\n"))
+    ++ (clip_body span (width span c.at c.len) c.clip c.fade_in c.fade_out
+    ++ (clip_peaks (found sources c.source) span c ++ (clip_label c.source c.gain ++ codes "</svg>\n")))
 
 -- ---- tracks
 
@@ -103,10 +106,10 @@ track_label title gain mute =
     codes "<svg width=\"192\" height=\"40\">" ++ (title_text title ++ (codes "<text x=\"8\" y=\"17\">" ++ (escaped title
     ++ (codes "</text><text class=\"sound\" x=\"8\" y=\"33\">" ++ (gain_text gain ++ (mute_text mute ++ codes "</text></svg>\n"))))))
 
-abbrev pub track_text : (span index : ℕ) → Track → List ℕ
-track_text span index t =
+abbrev pub track_text : Sources → (span index : ℕ) → Track → List ℕ
+track_text sources span index t =
     track_head index t.mute ++ (track_label t.title t.gain t.mute
-    ++ (codes "<rect class=\"row\" x=\"200\" y=\"2\" width=\"1200\" height=\"36\"/>\n" ++ (flat_map (clip_text span) t.clips ++ codes "</g>\n")))
+    ++ (codes "<rect class=\"row\" x=\"200\" y=\"2\" width=\"1200\" height=\"36\"/>\n" ++ (flat_map (clip_text sources span) t.clips ++ codes "</g>\n")))
 
 -- ---- markers
 
@@ -151,21 +154,22 @@ abbrev pub ground : ℕ → List ℕ
 ground height = numbered (codes "<rect width=\"1560\" height=\"") height ++ codes "\" fill=\"#fff\"/>\n"
 
 -- of so many frames, with rows to so many units from the top
-abbrev pub picture : (rate span bottom : ℕ) → Content → List ℕ
-picture rate span bottom c =
+abbrev pub picture : (rate span bottom : ℕ) → Sources → Content → List ℕ
+picture rate span bottom sources c =
     head (bottom + 8) ++ (style ++ (ground (bottom + 8) ++ (ticks rate span bottom
-    ++ (each (track_text span) 0 c.tracks ++ (each (marker_text span bottom) 0 c.markers ++ codes "</svg>\n")))))
+    ++ (each (track_text sources span) 0 c.tracks ++ (each (marker_text span bottom) 0 c.markers ++ codes "</svg>\n")))))
 
-abbrev pub svg_text : ℕ → Content → List ℕ
-svg_text rate c = picture rate (span c.tracks c.markers) (row_top (length c.tracks)) c
+-- at so many frames a second, with the recordings that are at hand
+abbrev pub svg_text : ℕ → Sources → Content → List ℕ
+svg_text rate sources c = picture rate (span c.tracks c.markers) (row_top (length c.tracks)) sources c
 
 -- ---- what is written
 
 module _ {W : Type 0} (contents : W → Option (List ℕ)) where
   -- an output holds the picture of a session behind what it held before
-  abbrev pub IsDrawn : ℕ → Content → Latched W → Latched W → Type 0
-  IsDrawn rate c old new = Appends (contents old.inner) (contents new.inner) (svg_text rate c)
+  abbrev pub IsDrawn : ℕ → Sources → Content → Latched W → Latched W → Type 0
+  IsDrawn rate sources c old new = Appends (contents old.inner) (contents new.inner) (svg_text rate sources c)
 
   -- the same of a prefix of it
-  abbrev pub IsDrawnInPart : ℕ → Content → Latched W → Latched W → Type 0
-  IsDrawnInPart rate c old new = AppendsPrefix (contents old.inner) (contents new.inner) (svg_text rate c)
+  abbrev pub IsDrawnInPart : ℕ → Sources → Content → Latched W → Latched W → Type 0
+  IsDrawnInPart rate sources c old new = AppendsPrefix (contents old.inner) (contents new.inner) (svg_text rate sources c)

@@ -1,16 +1,18 @@
 //! Clips.
 
-ghost use Rattle.std.specs.Prelude.{◌≤◌, take, OnOk};
+ghost use Rattle.std.specs.Prelude.{◌≤◌, ◌^◌, take, OnOk};
 ghost use Rattle.std.specs.List.{flat_map};
 ghost use Rattle.hex.specs.Hex.{encode_lower};
 ghost use Rattle.mt_stamp.specs.Texts.{stamp_text};
 ghost use Rattle.mt_svg.specs.Adding.{Adds};
 ghost use Rattle.mt_svg.specs.Svg.{rising, falling, fade_in, fade_out, clip_head, clip_body, clip_label, clip_text};
 
+use crate::peaks::append_peaks;
 use crate::pieces::{append_area, append_gain, append_mute, append_rect};
 use crate::placement::{start, units, width};
 use crate::xml::{append, append_numbered};
 use mt_op::{Digest, Gain};
+use mt_render::Catalogue;
 use mt_sessionview::ClipView;
 use mt_stamp::Stamp;
 use std::alloc::{AllocError, Allocator};
@@ -142,35 +144,40 @@ fn append_clip_label<A: Allocator, B: Allocator + Clone>(
 }
 
 // Writes a clip.
-fn append_clip<A: Allocator, B: Allocator + Clone>(
+fn append_clip<A: Allocator, B: Allocator + Clone, C: Allocator>(
     alloc: &B,
     text: &mut String<A>,
+    catalogue: &Catalogue<'_, C>,
     span: u64,
     clip: &ClipView,
 ) -> Result<(), AllocError>
-    requires { 1 ≤ span }
-    ensures { OnOk result (Adds text.old text.new (clip_text span clip.now)) }
+    requires some { 1 ≤ span }
+    requires span { span ≤ 2 ^ 33 }
+    ensures { OnOk result (Adds text.old text.new (clip_text catalogue.now span clip.now)) }
 {
     let width = width(span, clip.at, clip.len);
     append_clip_head(text, start(span, clip.at), width, clip.mute)?;
     append_clip_body(text, span, width, clip.clip, clip.fade_in, clip.fade_out)?;
+    append_peaks(alloc, text, catalogue, span, clip)?;
     append_clip_label(alloc, text, clip.source, clip.gain)?;
     append(text, "</svg>\n")
 }
 
 /// Writes clips, in order.
 #[tactic(auto, using(crate::proofs::Added::adds_none))]
-pub(crate) fn append_clips<A: Allocator, B: Allocator + Clone>(
+pub(crate) fn append_clips<A: Allocator, B: Allocator + Clone, C: Allocator>(
     alloc: &B,
     text: &mut String<A>,
+    catalogue: &Catalogue<'_, C>,
     span: u64,
     clips: &[ClipView],
 ) -> Result<(), AllocError>
-    requires { 1 ≤ span }
-    ensures { OnOk result (Adds text.old text.new (flat_map (clip_text span) clips.now)) }
+    requires some { 1 ≤ span }
+    requires span { span ≤ 2 ^ 33 }
+    ensures { OnOk result (Adds text.old text.new (flat_map (clip_text catalogue.now span) clips.now)) }
 {
     for clip in clips {
-        append_clip(alloc, text, span, clip)?;
+        append_clip(alloc, text, catalogue, span, clip)?;
     }
     Ok(())
 }

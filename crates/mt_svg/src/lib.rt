@@ -34,7 +34,10 @@
 #![tactic(auto)]
 
 mod clip;
+mod column;
 mod marker;
+mod peak;
+mod peaks;
 mod pieces;
 mod placement;
 mod span;

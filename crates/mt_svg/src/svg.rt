@@ -13,6 +13,7 @@ use crate::tick::append_ticks;
 use crate::track::append_tracks;
 use crate::xml::{append, append_numbered};
 use mt_opcodec::Latch;
+use mt_render::Catalogue;
 use mt_sessionview::{Session, SessionFault, TrackView};
 use std::alloc::{AllocError, Allocator};
 use std::io::Write;
@@ -68,12 +69,13 @@ fn rows_end<A: Allocator>(tracks: &[TrackView<A>]) -> Result<u64, AllocError>
 }
 
 // Writes the whole picture.
-fn append_picture<A: Allocator, B: Allocator + Clone, C: Allocator>(
+fn append_picture<A: Allocator, B: Allocator + Clone, C: Allocator, D: Allocator>(
     alloc: &B,
     text: &mut String<A>,
     rate: u32,
     span: u64,
     bottom: u64,
+    catalogue: &Catalogue<'_, D>,
     session: &Session<C>,
 ) -> Result<(), AllocError>
     requires rate { 1 ≤ rate }
@@ -82,30 +84,31 @@ fn append_picture<A: Allocator, B: Allocator + Clone, C: Allocator>(
     requires bottom { 72 ≤ bottom }
     requires small { bottom < 2 ^ 38 }
     requires few { length session.now.tracks < 2 ^ 32 }
-    ensures { OnOk result (Adds text.old text.new (picture rate span bottom session.now)) }
+    ensures { OnOk result (Adds text.old text.new (picture rate span bottom catalogue.now session.now)) }
 {
     append_head(text, bottom + 8)?;
     append_style(text)?;
     append_ground(text, bottom + 8)?;
     append_ticks(text, rate, span, bottom)?;
-    append_tracks(alloc, text, span, session.tracks.items())?;
+    append_tracks(alloc, text, catalogue, span, session.tracks.items())?;
     append_markers(text, span, bottom, session.markers.items())?;
     append(text, "</svg>\n")
 }
 
 // The whole text.
-fn text_of<A: Allocator + Clone, B: Allocator>(
+fn text_of<A: Allocator + Clone, B: Allocator, C: Allocator>(
     alloc: &A,
     rate: u32,
+    catalogue: &Catalogue<'_, C>,
     session: &Session<B>,
 ) -> Result<String<A>, AllocError>
     requires rate { 1 ≤ rate }
-    ensures { IfOk result (λ text. string_bytes text ≡ svg_text rate session.now) }
+    ensures { IfOk result (λ text. string_bytes text ≡ svg_text rate catalogue.now session.now) }
 {
     let span = span(session.tracks.items(), session.markers.items());
     let bottom = rows_end(session.tracks.items())?;
     let mut text = String::new(alloc.clone()?);
-    append_picture(alloc, &mut text, rate, span, bottom, session)?;
+    append_picture(alloc, &mut text, rate, span, bottom, catalogue, session)?;
     Ok(text)
 }
 
@@ -128,21 +131,22 @@ fn text_of<A: Allocator + Clone, B: Allocator>(
 ///
 /// `Write` (37) where the output's latch has failed, before or in this call; the output then holds a prefix of the text, and is as
 /// it was where the latch had failed before. `Memory` (0) where a growth was refused, or the tracks are 2^32 or more; the output is then as it was.
-pub fn write_svg<A: Allocator + Clone, B: Allocator, W: Write>(
+pub fn write_svg<A: Allocator + Clone, B: Allocator, C: Allocator, W: Write>(
     alloc: A,
     rate: u32,
-    session: &Session<B>,
+    catalogue: &Catalogue<'_, B>,
+    session: &Session<C>,
     output: &mut Latch<W>,
 ) -> Result<(), SessionFault>
     requires rate { 1 ≤ rate }
-    ensures whole { OnOk result (IsDrawn W.contents rate session.now output.old output.new) }
-    ensures prefix { IsDrawnInPart W.contents rate session.now output.old output.new }
+    ensures whole { OnOk result (IsDrawn W.contents rate catalogue.now session.now output.old output.new) }
+    ensures prefix { IsDrawnInPart W.contents rate catalogue.now session.now output.old output.new }
     ensures sound { OnOk result (output.new.failed ≡ false) }
     ensures write { IfErr result (λ fault. fault ≡ SessionFault.Write → output.new.failed ≡ true) }
     ensures stays_failed { output.old.failed ≡ true → output.new ≡ output.old }
     ensures memory { IfErr result (λ fault. fault ≡ SessionFault.Memory → output.new ≡ output.old) }
 {
-    let text = text_of(&alloc, rate, session)?;
+    let text = text_of(&alloc, rate, catalogue, session)?;
     match output.put(text.as_bytes()) {
         Ok(()) => Ok(()),
         Err(_) => Err(SessionFault::Write),

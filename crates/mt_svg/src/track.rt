@@ -9,6 +9,7 @@ use crate::pieces::{append_gain, append_mute};
 use crate::placement::row_top;
 use crate::xml::{append, append_escaped, append_numbered, append_title};
 use mt_op::Gain;
+use mt_render::Catalogue;
 use mt_sessionview::TrackView;
 use std::alloc::{AllocError, Allocator};
 
@@ -46,15 +47,17 @@ fn append_track_label<A: Allocator>(
 }
 
 // Writes the row of a track.
-fn append_track<A: Allocator, B: Allocator + Clone, C: Allocator>(
+fn append_track<A: Allocator, B: Allocator + Clone, C: Allocator, D: Allocator>(
     alloc: &B,
     text: &mut String<A>,
+    catalogue: &Catalogue<'_, D>,
     span: u64,
     index: u32,
     track: &TrackView<C>,
 ) -> Result<(), AllocError>
-    requires { 1 ≤ span }
-    ensures { OnOk result (Adds text.old text.new (track_text span index track.now)) }
+    requires some { 1 ≤ span }
+    requires span { span ≤ 2 ^ 33 }
+    ensures { OnOk result (Adds text.old text.new (track_text catalogue.now span index track.now)) }
 {
     append_track_head(text, index, track.mute)?;
     append_track_label(text, track.title.text(), track.gain, track.mute)?;
@@ -62,24 +65,26 @@ fn append_track<A: Allocator, B: Allocator + Clone, C: Allocator>(
         text,
         "<rect class=\"row\" x=\"200\" y=\"2\" width=\"1200\" height=\"36\"/>\n",
     )?;
-    append_clips(alloc, text, span, track.clips.items())?;
+    append_clips(alloc, text, catalogue, span, track.clips.items())?;
     append(text, "</g>\n")
 }
 
 /// Writes the rows of tracks, in order.
 #[tactic(auto, using(crate::proofs::Added::adds_none))]
-pub(crate) fn append_tracks<A: Allocator, B: Allocator + Clone, C: Allocator>(
+pub(crate) fn append_tracks<A: Allocator, B: Allocator + Clone, C: Allocator, D: Allocator>(
     alloc: &B,
     text: &mut String<A>,
+    catalogue: &Catalogue<'_, D>,
     span: u64,
     tracks: &[TrackView<C>],
 ) -> Result<(), AllocError>
-    requires span { 1 ≤ span }
+    requires some { 1 ≤ span }
+    requires span { span ≤ 2 ^ 33 }
     requires few { length tracks.now < 2 ^ 32 }
-    ensures { OnOk result (Adds text.old text.new (each (track_text span) 0 tracks.now)) }
+    ensures { OnOk result (Adds text.old text.new (each (track_text catalogue.now span) 0 tracks.now)) }
 {
     for index in 0..tracks.len() {
-        append_track(alloc, text, span, index as u32, &tracks[index])?;
+        append_track(alloc, text, catalogue, span, index as u32, &tracks[index])?;
     }
     Ok(())
 }

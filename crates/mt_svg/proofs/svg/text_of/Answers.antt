@@ -6,7 +6,7 @@ use Rattle.mt_svg.proofs.svg.text_of.Goals as goal
 
 pub returns : goal.returns
 returns g c =
-    whole_picture c.args.session.now c.args.rate c.span-span.result c.in_ok-bottom.bottom c.new-text.ensures.bytes
+    whole_picture c.args.catalogue.now c.args.session.now c.args.rate c.span-span.result c.in_ok-bottom.bottom c.new-text.ensures.bytes
     (c.span-span.ensures.value ∙ (λ i. span (c.items.ensures i) (c.items-2.ensures i)) ∙ ap (λ (s : Content). span s.tracks s.markers) c.session.view_is)
     (c.in_ok-bottom.ensures.value ∙ (λ i. row_top (length (c.items-3.ensures i))) ∙ ap (λ (s : Content). row_top (length s.tracks)) c.session.view_is)
     c.in_ok-append_picture.ensures

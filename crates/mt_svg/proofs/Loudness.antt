@@ -1,0 +1,60 @@
+-- The greatest of what numbers have, and of channels in frames.
+use Rattle.std.proofs.Common.{◌≡◌, ℕ, zero, suc, ◌+◌, ◌-◌, ◌<◌, ◌≤◌, min, max, false, List, unsigned_abs, pos, ℤ, refl, sym, ap, ◌∙◌, arith, add-one, if◌then◌else◌}
+use Rattle.std.specs.Prelude.{nat_lt}
+use Rattle.std.proofs.lemmas.Bool.Decides.{nat_tests}
+use Rattle.mt_bwfread.specs.Wave.{frames_of}
+use Rattle.mt_svg.specs.Peaks.{greatest, magnitude, channel_peak}
+
+-- of one number more
+pub greatest_more : (f : ℕ → ℕ) (n : ℕ) → greatest f (n + 1) ≡ max (greatest f n) (f n)
+greatest_more f n = rw add-one refl
+
+-- of two that agree
+pub greatest_alike : (f g : ℕ → ℕ) (n : ℕ) → ((k : ℕ) → k < n → f k ≡ g k) → greatest f n ≡ greatest g n
+greatest_alike f g zero same = refl
+greatest_alike f g (suc n) same =
+    let rest : greatest f n ≡ greatest g n = greatest_alike f g n (λ k h. same k (omega arith)) in
+    let last : f n ≡ g n = same n (omega arith) in
+    omega (arith, rest, last)
+
+-- of nothing
+greatest_none : (f : ℕ → ℕ) (n : ℕ) → ((k : ℕ) → k < n → f k ≡ 0) → greatest f n ≡ 0
+greatest_none f zero none = refl
+greatest_none f (suc n) none =
+    let rest : greatest f n ≡ 0 = greatest_none f n (λ k h. none k (omega arith)) in
+    let last : f n ≡ 0 = none n (omega arith) in
+    omega (arith, rest, last)
+
+-- of so many numbers, and of those behind them
+greatest_split : (f : ℕ → ℕ) (m n : ℕ) → greatest f (m + n) ≡ max (greatest f m) (greatest (λ k. f (m + k)) n)
+greatest_split f m zero = let same : m + 0 ≡ m = omega arith in let whole : greatest f (m + 0) ≡ greatest f m = ap (greatest f) same in omega (arith, whole)
+greatest_split f m (suc n) =
+    let next : m + suc n ≡ m + n + 1 = omega arith in
+    let more : greatest f (m + suc n) ≡ max (greatest f (m + n)) (f (m + n)) = ap (greatest f) next ∙ greatest_more f (m + n) in
+    let rest : greatest f (m + n) ≡ max (greatest f m) (greatest (λ (k : ℕ). f (m + k)) n) = greatest_split f m n in
+    omega (arith, more, rest)
+
+-- of a channel in so many frames, and in those behind them
+pub channel_more : (recording : List ℕ) (channel first m n : ℕ)
+    → channel_peak recording channel first (m + n) ≡ max (channel_peak recording channel first m) (channel_peak recording channel (first + m) n)
+channel_more recording channel first m n =
+    let split = greatest_split (λ (k : ℕ). magnitude recording channel (first + k)) m n in
+    let alike : greatest (λ (k : ℕ). magnitude recording channel (first + (m + k))) n ≡ channel_peak recording channel (first + m) n =
+    greatest_alike (λ (k : ℕ). magnitude recording channel (first + (m + k))) (λ (k : ℕ). magnitude recording channel (first + m + k)) n
+    (λ k h. let same : first + (m + k) ≡ first + m + k = omega arith in ap (magnitude recording channel) same) in
+    split ∙ ap (max (channel_peak recording channel first m)) alike
+
+silent : (recording : List ℕ) (channel frame : ℕ) → frames_of recording ≤ frame → magnitude recording channel frame ≡ 0
+silent recording channel frame past =
+    let behind : nat_lt frame (frames_of recording) ≡ false = grind (arith, nat_tests) in
+    rw behind refl
+
+-- in those before the last frame alone
+pub channel_heard : (recording : List ℕ) (channel first count heard : ℕ) → heard ≡ min count (frames_of recording - first) → channel_peak recording channel first heard ≡ channel_peak recording channel first count
+channel_heard recording channel first count heard is =
+    let all : count ≡ heard + (count - heard) = omega arith in
+    let more = channel_more recording channel first heard (count - heard) in
+    let none : channel_peak recording channel (first + heard) (count - heard) ≡ 0 =
+    greatest_none (λ (k : ℕ). magnitude recording channel (first + heard + k)) (count - heard) (λ k h. silent recording channel (first + heard + k) (omega arith)) in
+    let whole : channel_peak recording channel first count ≡ channel_peak recording channel first (heard + (count - heard)) = ap (channel_peak recording channel first) all in
+    omega (arith, more, none, whole)
