@@ -1,3 +1,4 @@
+mod Absent
 pub mod Added
 pub mod Columns
 pub mod Counting

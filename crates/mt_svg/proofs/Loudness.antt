@@ -1,9 +1,10 @@
 -- The greatest of what numbers have, and of channels in frames.
-use Rattle.std.proofs.Common.{◌≡◌, ℕ, zero, suc, ◌+◌, ◌-◌, ◌<◌, ◌≤◌, min, max, false, List, unsigned_abs, pos, ℤ, refl, sym, ap, ◌∙◌, arith, add-one, if◌then◌else◌}
+use Rattle.std.proofs.Common.{◌≡◌, ℕ, zero, suc, ◌+◌, ◌-◌, ◌<◌, ◌≤◌, min, max, false, List, unsigned_abs, pos, ℤ, refl, sym, ap, ◌∙◌, arith, inl, inr, add-one, if◌then◌else◌}
 use Rattle.std.specs.Prelude.{nat_lt}
+use Rattle.std.proofs.lemmas.Bool.{cases_lt}
 use Rattle.std.proofs.lemmas.Bool.Decides.{nat_tests}
-use Rattle.mt_bwfread.specs.Wave.{frames_of}
-use Rattle.mt_svg.specs.Peaks.{greatest, magnitude, channel_peak}
+use Rattle.mt_bwfread.specs.Wave.{frames_of, channels_of}
+use Rattle.mt_svg.specs.Peaks.{greatest, magnitude, channel_peak, peak, IsHeard}
 
 -- of one number more
 pub greatest_more : (f : ℕ → ℕ) (n : ℕ) → greatest f (n + 1) ≡ max (greatest f n) (f n)
@@ -58,3 +59,47 @@ channel_heard recording channel first count heard is =
     greatest_none (λ (k : ℕ). magnitude recording channel (first + heard + k)) (count - heard) (λ k h. silent recording channel (first + heard + k) (omega arith)) in
     let whole : channel_peak recording channel first count ≡ channel_peak recording channel first (heard + (count - heard)) = ap (channel_peak recording channel first) all in
     omega (arith, more, none, whole)
+
+-- none is greater
+greatest_most : (f : ℕ → ℕ) (n k : ℕ) → k < n → f k ≤ greatest f n
+greatest_most f zero k below = absurd (omega arith)
+greatest_most f (suc n) k below =
+    elim (cases_lt k n) [
+      | inl low ↦ let rest : f k ≤ greatest f n = greatest_most f n k low in omega (arith, rest)
+      | inr from ↦ let last : k ≡ n = omega arith in let same : f k ≡ f n = ap f last in omega (arith, same)
+    ]
+
+-- and one is as great
+greatest_reached : (f : ℕ → ℕ) (n : ℕ) → 0 < greatest f n → (k : ℕ) × ((k < n) × (f k ≡ greatest f n))
+greatest_reached f zero some = absurd (omega arith)
+greatest_reached f (suc n) some =
+    elim (cases_lt (greatest f n) (f n)) [
+      | inl more ↦ (n, (omega arith, omega arith))
+      | inr less ↦
+          let rest = greatest_reached f n (omega arith) in
+          let within : rest.0 < n = rest.1.0 in
+          let same : f rest.0 ≡ greatest f n = rest.1.1 in
+          (rest.0, (omega arith, omega arith))
+    ]
+
+pub peak_most : (recording : List ℕ) (first count channel frame : ℕ) → IsHeard recording first count channel frame → magnitude recording channel frame ≤ peak recording first count
+peak_most recording first count channel frame heard =
+    let from = heard.from in
+    let before = heard.before in
+    let at : first + (frame - first) ≡ frame = omega arith in
+    let here : magnitude recording channel (first + (frame - first)) ≤ channel_peak recording channel first count =
+    greatest_most (λ (k : ℕ). magnitude recording channel (first + k)) count (frame - first) (omega arith) in
+    let same : magnitude recording channel (first + (frame - first)) ≡ magnitude recording channel frame = ap (magnitude recording channel) at in
+    let all : channel_peak recording channel first count ≤ peak recording first count =
+    greatest_most (λ (c : ℕ). channel_peak recording c first count) (channels_of recording) channel heard.is_channel in
+    omega (arith, here, same, all)
+
+pub peak_reached : (recording : List ℕ) (first count : ℕ) → 0 < peak recording first count
+    → (channel : ℕ) × ((frame : ℕ) × (IsHeard recording first count channel frame × (magnitude recording channel frame ≡ peak recording first count)))
+peak_reached recording first count some =
+    let loudest = greatest_reached (λ (c : ℕ). channel_peak recording c first count) (channels_of recording) some in
+    let of_all : channel_peak recording loudest.0 first count ≡ peak recording first count = loudest.1.1 in
+    let its : 0 < channel_peak recording loudest.0 first count = omega (arith, some, of_all) in
+    let one = greatest_reached (λ (k : ℕ). magnitude recording loudest.0 (first + k)) count its in
+    let within : one.0 < count = one.1.0 in
+    (loudest.0, (first + one.0, (record { is_channel = loudest.1.0; from = omega arith; before = omega arith }, one.1.1 ∙ of_all)))

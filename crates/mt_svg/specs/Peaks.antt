@@ -1,5 +1,5 @@
 -- The peaks of recordings in the boxes of clips (profile): in each unit of a box a line up and down from its middle, as long as what is drawn there is loud.
-use Rattle.std.specs.Prelude.{ℕ, zero, suc, ◌+◌, ◌*◌, ◌-◌, ◌/◌, ◌^◌, ◌==◌, min, max, unsigned_abs, List, [], ◌++◌, length, codes, Option, Some, None, if◌then◌else◌}
+use Rattle.std.specs.Prelude.{ℕ, zero, suc, ◌+◌, ◌*◌, ◌-◌, ◌/◌, ◌^◌, ◌==◌, ◌≡◌, ◌<◌, ◌≤◌, min, max, unsigned_abs, List, [], ◌++◌, length, codes, Option, Some, None, if◌then◌else◌}
 use Rattle.std.specs.Int.{div_ceil}
 use Rattle.std.specs.List.{flat_map, range_with_len}
 use Rattle.mt_bwfread.specs.Fill.{sample_or_silence}
@@ -40,6 +40,25 @@ column_start span at k = max at (unit_start span (units span at + k))
 -- how many are; none may be, where units are more than frames
 abbrev pub column_count : (span at len k : ℕ) → ℕ
 column_count span at len k = min (at + len) (unit_start span (units span at + k + 1)) - column_start span at k
+
+-- ---- what `laws` says of these
+
+-- a channel of a recording, and one of so many frames from one on
+pub record IsHeard (recording : List ℕ) (first count channel frame : ℕ) : Type 0 where
+  pub is_channel : channel < channels_of recording
+  pub from : first ≤ frame
+  pub before : frame < first + count
+
+-- a frame of the session is one of a column
+pub record IsInColumn (span at len k frame : ℕ) : Type 0 where
+  pub from : column_start span at k ≤ frame
+  pub before : frame < column_start span at k + column_count span at len k
+
+-- a frame of the session is one of a clip, and drawn in this unit of its box
+pub record IsDrawnAt (span at len k frame : ℕ) : Type 0 where
+  pub from : at ≤ frame
+  pub before : frame < at + len
+  pub unit : units span frame ≡ units span at + k
 
 -- ---- lines
 

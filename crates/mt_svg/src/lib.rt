@@ -35,6 +35,7 @@
 
 mod clip;
 mod column;
+pub mod laws;
 mod marker;
 mod peak;
 mod peaks;
