@@ -2,9 +2,11 @@
 """Looks at the pictures that `radio timeline --svg` prints: tests/checks/pictures.py PROGRAM
 
 Of some sessions, with fades, muted clips, markers that are no points and odd titles, and at several rates: that the picture is well-formed XML, that each thing is
-there as often as the session has it, with its title, and that each lies in the page and each clip in the row of its track. Where a Chromium is installed it draws
-them too, and tells where on the page each text and each shape is seen.
+there as often as the session has it, with its title, and that each lies in the page and each clip in the row of its track. One has recordings, of which each width,
+one and several channels, clips past their ends, silence and one that is not at hand: the line of each column is that of a second reading. Where a Chromium is
+installed it draws them too, and tells where on the page each text and each shape is seen.
 """
+import hashlib
 import html
 import json
 import os
@@ -18,8 +20,10 @@ import xml.etree.ElementTree as ElementTree
 sys.path.insert(0, os.path.dirname(os.path.dirname(os.path.abspath(__file__))))
 from formats import logs
 from formats.logs import A
+from formats.read_waves import Wave
 from formats.sessions import Op, session_of
 from formats.svg_text import svg_text
+from formats.waves import data, fmt, riff
 
 SVG = "{http://www.w3.org/2000/svg}"
 BROWSERS = ("chromium", "chromium-browser", "google-chrome")
@@ -45,8 +49,9 @@ class Making:
         self.add("set_gain", item=own, num=gain[0], den=gain[1])
         return own
 
-    def clip(self, track, at, length, mute=0, gain=(1, 1), fades=(0, 0)):
-        own = self.add("add_clip", source=bytes(range(len(self.ops), len(self.ops) + 32)), track=track, at=at, offset=0, length=length)
+    def clip(self, track, at, length, mute=0, gain=(1, 1), fades=(0, 0), offset=0, recording=None):
+        source = hashlib.sha256(recording).digest() if recording else bytes(range(len(self.ops), len(self.ops) + 32))
+        own = self.add("add_clip", source=source, track=track, at=at, offset=offset, length=length)
         self.add("set_mute", item=own, flag=mute)
         self.add("set_gain", item=own, num=gain[0], den=gain[1])
         self.add("set_fade", clip=own, fade_in=fades[0], fade_out=fades[1])
@@ -84,11 +89,50 @@ def one_marker():
     return made.ops
 
 
-def drawn(program, folder, ops, rate):
-    name = os.path.join(folder, "log")
+def sound(bits, channels, frames, loud):
+    """A wave file in which the channel C of the frame F is as loud as `loud(F, C)` says, from -1 to 1."""
+    most = 2 ** (bits - 1)
+    samples = [max(-most, min(most - 1, round(loud(frame, channel) * most))) for frame in range(frames) for channel in range(channels)]
+    # 8 bits have their zero at 128
+    spelled = [bytes([sample + 128]) if bits == 8 else sample.to_bytes(bits // 8, "little", signed=True) for sample in samples]
+    return riff(fmt(channels, SECOND, bits), data(b"".join(spelled)))
+
+
+def recordings():
+    """Swells on both channels in turn, a peak on the last channel alone, few frames of which each is wide, the least sample, silence, and one that is not given."""
+    return [
+        sound(16, 2, 3000, lambda frame, channel: (frame % 1000) / 1000 * (-1) ** frame * (channel == frame // 1000 % 2)),
+        sound(24, 3, 2000, lambda frame, channel: -0.9 if (frame, channel) == (1500, 2) else 0.1 * channel),
+        sound(8, 1, 7, lambda frame, channel: frame / 7),
+        sound(32, 1, 1, lambda frame, channel: -1),
+        sound(16, 1, 500, lambda frame, channel: 0),
+    ], sound(16, 1, 500, lambda frame, channel: 1)
+
+
+def with_recordings(frames):
+    """Clips in so many frames, 7 or more, from offsets on, past the ends of their recordings, muted, narrow, and over one another."""
+    made, (files, absent) = Making(), recordings()
+    voice, other = made.track("Voice"), made.track("Other", mute=1)
+    for number, file in enumerate(files):
+        made.clip(voice, number * frames // 7, frames // 7, recording=file, offset=number * 3, fades=(frames // 20, frames // 10))
+        made.clip(other, number * frames // 8, frames // 3, recording=file, mute=number % 2, gain=(number, 2))
+    made.clip(other, frames - 7, 7, recording=files[2])
+    made.clip(other, frames - 1, 1, recording=files[3])
+    made.clip(voice, frames // 2, frames // 2, recording=files[0], offset=2900)
+    made.clip(voice, frames // 2, frames // 3, recording=files[0], offset=3000)
+    made.clip(voice, frames // 2, frames // 3, recording=absent)
+    return made.ops, [*files, sound(8, 1, 1, lambda frame, channel: 1)]
+
+
+def drawn(program, folder, ops, rate, files=()):
+    name, words = os.path.join(folder, "log"), []
     with open(name, "wb") as file:
         file.write(logs.log([op.text() for op in ops]))
-    done = subprocess.run([program, "timeline", "--svg", "--rate", str(rate), name], capture_output=True)
+    for number, recording in enumerate(files):
+        words += ["--source", os.path.join(folder, "recording%d.wav" % number)]
+        with open(words[-1], "wb") as file:
+            file.write(recording)
+    done = subprocess.run([program, "timeline", "--svg", "--rate", str(rate), *words, name], capture_output=True)
     assert done.returncode == 0 and done.stderr == b"", done
     return done.stdout.decode()
 
@@ -123,8 +167,23 @@ def boxes(element, x=0, y=0):
             yield from boxes(child, x, y)
 
 
-def look_at(text, session):
-    """Looks at a picture by its elements."""
+def look_at_peaks(element, clip, found):
+    """That the peaks of a clip stand behind its ramps and before its label, each in a unit of the box and around its middle, and that those without a recording have none."""
+    width, kinds = int(element.get("width")), [child.get("class") or child.tag for child in element]
+    paths = element.findall(SVG + "path[@class='peaks']")
+    assert len(paths) <= int(clip.source in found) and ("peaks" not in kinds or kinds.index("peaks") == len(kinds) - 2), kinds
+    for path in paths:
+        assert re.fullmatch(r"(M\d+ \d+v\d+)+", path.get("d")), path.get("d")
+        lines = [tuple(map(int, line)) for line in re.findall(r"M(\d+) (\d+)v(\d+)", path.get("d"))]
+        assert [unit for unit, _, _ in lines] == sorted({unit for unit, _, _ in lines}), lines
+        for unit, top, high in lines:
+            assert unit < width and 1 <= top <= 15 and top + high // 2 == 16 and high % 2 == 0, (unit, top, high)
+    return len(paths)
+
+
+def look_at(text, session, files=()):
+    """Looks at a picture by its elements, and tells how many boxes have peaks."""
+    found, peaks = {hashlib.sha256(file).digest() for file in files}, 0
     root = ElementTree.fromstring(text)
     page = tuple(map(int, root.get("viewBox").split()))
     assert root.tag == SVG + "svg" and page == (0, 0, *numbers(root, "width", "height")), root.attrib
@@ -141,13 +200,15 @@ def look_at(text, session):
             top = 72 + 40 * number
             within(box, (0 if element is label else 200, top, 200 if element is label else 1400, top + 40), element.attrib)
         for element, clip in zip(clips, track.clips):
-            assert ("mute" in element.get("class")) == clip.mute and len(element.findall(SVG + "path")) == sum(fade > 0 for fade in clip.fades)
+            assert ("mute" in element.get("class")) == clip.mute and len(element.findall(SVG + "path[@class='fade']")) == sum(fade > 0 for fade in clip.fades)
+            peaks += look_at_peaks(element, clip, found)
             assert element.find(SVG + "text").text.startswith(clip.source.hex()[:8])
     markers = root.findall(SVG + "g[@class='marker']")
     assert [marker.find(SVG + "title").text or "" for marker in markers] == [shown(marker.title) for marker in session.markers]
     assert [len(marker.findall(SVG + "rect")) for marker in markers] == [int(marker.span > 0) for marker in session.markers]
     times = [time.text for time in root.findall(SVG + "text[@class='time']")]
     assert 1 <= len(times) <= 12 and times[0] == "0:00", times
+    return peaks
 
 
 # Tells of each text and shape what is seen of it: the part of its box that is in each box that hides what is outside.
@@ -189,17 +250,21 @@ def main():
     program = os.path.abspath(sys.argv[1])
     browser = next((name for name in map(shutil.which, BROWSERS) if name), None)
     folder = tempfile.mkdtemp()
+    sessions = [(a_programme(), (), (SECOND, 1, 384000)), (a_long_one(), (), (SECOND, 1)), (one_marker(), (), (SECOND,)), ([], (), (SECOND,))]
+    sessions += [(*with_recordings(frames), (SECOND,)) for frames in (7, 900, 1200, 1201, 5000, 40000)]
+    pictures, peaks = 0, 0
     try:
-        for ops, rates in ((a_programme(), (SECOND, 1, 384000)), (a_long_one(), (SECOND, 1)), (one_marker(), (SECOND,)), ([], (SECOND,))):
+        for ops, files, rates in sessions:
             for rate in rates:
-                text, session = drawn(program, folder, ops, rate), session_of(ops)
-                assert text == svg_text(rate, session)
-                look_at(text, session)
+                text, session = drawn(program, folder, ops, rate, files), session_of(ops)
+                assert text == svg_text(rate, session, [Wave(file) for file in files])
+                pictures, peaks = pictures + 1, peaks + look_at(text, session, files)
                 if browser:
                     look_by(browser, folder, text)
     finally:
         shutil.rmtree(folder)
-    print("7 pictures, in which %d boxes lie where they have to" % LOOKED_AT + ("" if browser else ", not drawn: no Chromium"))
+    told = "%d pictures, in which %d boxes lie where they have to, and %d have the peaks of their recordings" % (pictures, LOOKED_AT, peaks)
+    print(told + ("" if browser else ", not drawn: no Chromium"))
 
 
 main()

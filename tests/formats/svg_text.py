@@ -1,10 +1,13 @@
 """The text of `radio timeline --svg`, by docs/formats.md alone and not by the program under test: a tree of elements that is written out at the end."""
 
+import hashlib
+
 from formats import logs
 
 LEFT, AXIS, NAME = 200, 1200, 160
 WIDTH = LEFT + AXIS + NAME
 ROW, ROWS_AT, BELOW = 40, 72, 8
+MIDDLE, REACH, LOUDEST = 16, 15, 2**31
 STEPS = (1, 2, 5, 10, 15, 30, 60, 120, 300, 600, 900, 1800)
 STYLE = """text{fill:#222}.time{font-size:11px;text-anchor:middle;fill:#666}.tick{stroke:#ccc}
 .row{fill:#000;fill-opacity:.05}.sound,.clip text{font-size:11px}.sound{fill:#666}
@@ -49,8 +52,12 @@ def titled(name, text, *inside, **attributes):
 
 
 class Picture:
-    def __init__(self, rate, session):
-        self.rate, self.session = rate, session
+    """A picture: `waves` are the recordings that are at hand, in the order in which they are named."""
+
+    def __init__(self, rate, session, waves=()):
+        self.rate, self.session, self.found = rate, session, {}
+        for wave in waves:
+            self.found.setdefault(hashlib.sha256(wave.file).digest(), wave)
         ends = [clip.at + clip.length for track in session.tracks for clip in track.clips] + [marker.at + max(1, marker.span) for marker in session.markers]
         self.span = max(ends, default=1)
         self.bottom = ROWS_AT + ROW * len(session.tracks)
@@ -80,9 +87,25 @@ class Picture:
         if clip.fades[1]:
             yield Element("path", class_="fade", d="M%d 32l-%d -32h%dz" % (width, out, out))
 
+    def peaks(self, clip, width):
+        """Of each unit of a clip's box the greatest magnitude of what is drawn in it, frame by frame."""
+        peaks, wave = [0] * width, self.found[clip.source]
+        for since in range(max(0, min(clip.length, wave.frames - clip.offset))):
+            unit = self.units(clip.at + since) - self.units(clip.at)
+            if unit < width:
+                peaks[unit] = max(peaks[unit], *(abs(wave.sample(clip.offset + since, channel)) for channel in range(wave.channels)))
+        return peaks
+
+    def lines(self, clip, width):
+        reaches = [peak * REACH // LOUDEST for peak in self.peaks(clip, width)] if clip.source in self.found else []
+        lines = ["M%d %dv%d" % (unit, MIDDLE - reach, 2 * reach) for unit, reach in enumerate(reaches) if reach]
+        if lines:
+            yield Element("path", class_="peaks", stroke="#246", stroke_opacity=".5", d="".join(lines))
+
     def clip(self, clip):
         x, width = self.wide(clip.at, clip.length)
-        inside = [Element("rect", x=0, y=0, width=width, height=32), *self.fades(clip, width), Element("text", clip.source.hex()[:8] + sound_text(clip), x=4, y=14)]
+        label = Element("text", clip.source.hex()[:8] + sound_text(clip), x=4, y=14)
+        inside = [Element("rect", x=0, y=0, width=width, height=32), *self.fades(clip, width), *self.lines(clip, width), label]
         return titled("svg", logs.stamp_text(*clip.own), *inside, class_="clip mute" if clip.mute else "clip", x=x, y=4, width=width, height=32)
 
     def track(self, number, track):
@@ -111,5 +134,5 @@ class Picture:
             xmlns="http://www.w3.org/2000/svg", width=WIDTH, height=height, viewBox="0 0 %d %d" % (WIDTH, height), font_family="sans-serif", font_size=13)
 
 
-def svg_text(rate, session):
-    return Picture(rate, session).whole().text() + "\n"
+def svg_text(rate, session, waves=()):
+    return Picture(rate, session, waves).whole().text() + "\n"
