@@ -1,11 +1,11 @@
 -- Pictures of sessions whose recordings are not at hand.
-use Rattle.std.proofs.Common.{◌≡◌, ℕ, List, [], None, refl, ap, length}
+use Rattle.std.proofs.Common.{◌≡◌, ℕ, List, [], None, refl, ap}
 use Rattle.std.specs.List.{flat_map}
 use Rattle.mt_op.specs.declared.digest.Digest.{Digest}
 use Rattle.mt_render.specs.Sources.{Sources, found}
 use Rattle.mt_sessionview.specs.Content.{Clip, Track, Content}
-use Rattle.mt_svg.specs.Placement.{span, row_top}
-use Rattle.mt_svg.specs.Svg.{clip_text, track_text, each, picture, svg_text}
+use Rattle.mt_svg.specs.Placement.{span}
+use Rattle.mt_svg.specs.Svg.{clip_text, track_text, each, svg_text}
 
 clip_absent : (sources : Sources) (frames : ℕ) (c : Clip) → ((d : Digest) → found sources d ≡ None) → clip_text sources frames c ≡ clip_text [] frames c
 clip_absent sources frames c none = rw (none c.source) refl
@@ -21,4 +21,4 @@ all_absent rate sources c none =
     let frames : ℕ = span c.tracks c.markers in
     let rows : each (track_text sources frames) 0 c.tracks ≡ each (track_text [] frames) 0 c.tracks =
     ap (λ (f : ℕ → Track → List ℕ). each f 0 c.tracks) (λ i index t. track_absent sources frames index t none i) in
-    rw rows refl
+    rw rows (refl {a = svg_text rate [] c})

@@ -1,10 +1,10 @@
 -- The units of a box lie within what is drawn.
-use Rattle.std.proofs.Common.{◌≡◌, ℕ, ◌+◌, ◌-◌, ◌*◌, ◌/◌, ◌<◌, ◌≤◌, ◌^◌, ◌↔◌, min, max, inl, inr, arith}
+use Rattle.std.proofs.Common.{◌≡◌, ℕ, ◌+◌, ◌*◌, ◌<◌, ◌≤◌, ◌^◌, ◌↔◌, inl, inr, arith}
 use Rattle.std.proofs.Math.Nat.{mul-le-mul_right, div-mul-le_self}
 use Rattle.std.proofs.lemmas.Bool.{cases_lt}
 use Rattle.std.proofs.lemmas.Grind.{div_ceil_times}
 use Rattle.std.proofs.lemmas.Nat.{le-div}
-use Rattle.mt_svg.specs.Peaks.{unit_start, column_start, column_count, IsInColumn, IsDrawnAt}
+use Rattle.mt_svg.specs.Peaks.{unit_start, IsInColumn, IsDrawnAt}
 use Rattle.mt_svg.specs.Placement.{units, width}
 
 -- what is behind a unit of a box

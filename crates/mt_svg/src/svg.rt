@@ -112,7 +112,7 @@ fn text_of<A: Allocator + Clone, B: Allocator, C: Allocator>(
     Ok(text)
 }
 
-/// Writes a session as a picture, and nothing else: one element `svg` of SVG 1.1, well-formed XML in UTF-8 that ends with a line feed.
+/// Writes a session and the peaks of recordings as a picture, and nothing else: one element `svg` of SVG 1.1, well-formed XML in UTF-8 that ends with a line feed.
 ///
 /// The picture is 1560 units wide and 80 and 40 for each track high. From its left edge on, 200 units are for the tracks' titles, 1200 for the session, and 160 for
 /// the titles of the last markers. The session's span is to the end of its last clip or marker, and at least one frame; a marker that is a point has one
@@ -124,10 +124,13 @@ fn text_of<A: Allocator + Clone, B: Allocator, C: Allocator>(
 /// - A track is a row, in the session's order: its title, its gain where that is not 1/1, `mute` where it is muted, and a box for each of its clips. In that stand the
 ///   first eight digits of the recording's digest and the clip's gain where that is not 1/1; its fades are ramps, each as long as the fade is; muted ones, and
 ///   those of muted tracks, are grey. What is outside of a box is not shown. Its stamp is the box's `title`.
+/// - Where the catalogue has a clip's recording, its box shows the peaks: in each unit of its width a line up and down from the middle, as far as the greatest
+///   magnitude of the samples of all channels in the clip's frames that are drawn there, of 2^31 in 15 units, rounded down. Past the recording's end there is silence,
+///   and silence has no line. Neither gains nor fades count.
 /// - A marker is a line over all rows, with its title at the top, of which 160 units are shown, on three lines in turn; one that is no point is a band too.
 ///
 /// In titles `&`, `<`, `>`, `"` and `'` stand as entities. U+FFFE and U+FFFF, which XML 1.0 does not allow, stand as U+FFFD; titles hold no other character that it
-/// does not allow. In a time linear in the session's clips, markers and titles.
+/// does not allow. In a time linear in the session's clips, markers and titles, and in the samples of those frames of the clips that their recordings have.
 ///
 /// `Write` (37) where the output's latch has failed, before or in this call; the output then holds a prefix of the text, and is as
 /// it was where the latch had failed before. `Memory` (0) where a growth was refused, or the tracks are 2^32 or more; the output is then as it was.
