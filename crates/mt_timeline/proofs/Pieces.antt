@@ -5,6 +5,7 @@ use Rattle.std.proofs.lemmas.List.{take_more, flat_map_more}
 use Rattle.std.proofs.lemmas.List.FromFn.{map-range_with_len_more}
 use Rattle.mt_sessionview.specs.Content.{Clip, Content}
 use Rattle.mt_timeline.specs.declared.cell.Cell.{Cell}
+use Rattle.mt_timeline.specs.declared.length.Lengths.{Lengths}
 use Rattle.mt_timeline.specs.Drawing.{AreCells, cell_at}
 use Rattle.mt_timeline.specs.Timeline.{clip_extents, heard, cell_mark, track_mark, marks, span, column, lines, timeline_text}
 
@@ -26,9 +27,10 @@ pub four_pieces : (old t1 t2 t3 new a b c d : List ℕ) → t1 ≡ old ++ a → 
 four_pieces old t1 t2 t3 new a b c d e1 e2 e3 e = rw (e, e3, e2, e1) (simp append_assoc)
 
 -- the whole text, from nothing
-pub whole_text : (c : Content) (width rate all frames : ℕ) (start new : List ℕ) → start ≡ [] → all ≡ span c.tracks c.markers → frames ≡ column width all → new ≡ start ++ lines width rate all frames c → new ≡ timeline_text width rate c
-whole_text c width rate all frames start new none is_span is_column step =
-    step ∙ (λ i. none i ++ lines width rate (is_span i) ((is_column ∙ ap (column width) is_span) i) c)
+pub whole_text : (c : Content) (lengths : Lengths) (width rate all frames : ℕ) (start new : List ℕ) → start ≡ [] → all ≡ span c.tracks c.markers → frames ≡ column width all → new ≡ start ++ lines width lengths rate all frames c
+    → new ≡ timeline_text width lengths rate c
+whole_text c lengths width rate all frames start new none is_span is_column step =
+    step ∙ (λ i. none i ++ lines width lengths rate (is_span i) ((is_column ∙ ap (column width) is_span) i) c)
 
 -- the marks of as many columns as there are
 pub all_marks : (f : ℕ → ℕ) (i n : ℕ) (old new : List ℕ) → i ≡ n → new ≡ old ++ marks f i → new ≡ old ++ marks f n

@@ -11,7 +11,10 @@ use Rattle.mt_sessionview.specs.SessionText.{newline}
 use Rattle.mt_render.specs.Mix.{sounding}
 use Rattle.mt_timeline.specs.declared.cell.Cell.{Cell}
 use Rattle.mt_timeline.specs.declared.cell.Cell.TheVariants.{Several, One, Lies, Free}
+use Rattle.mt_times.specs.Printing.{time_text}
 use Rattle.mt_timeline.specs.declared.extent.Extent.{Extent}
+use Rattle.mt_timeline.specs.declared.length.Lengths.{Lengths}
+use Rattle.mt_timeline.specs.declared.length.Lengths.TheVariants.{FramesAndTimes, Times}
 
 -- ---- where clips and markers lie
 
@@ -131,44 +134,34 @@ track_line label width frames t =
 
 -- ---- times
 
-abbrev pub two_digits : ℕ → List ℕ
-two_digits n = (48 + n / 10) ∷ (48 + n % 10) ∷ []
+-- So many frames, and how long they last at a rate, rounded down; or that alone.
+abbrev pub length_text : Lengths → ℕ → ℕ → List ℕ
+length_text FramesAndTimes rate frames = decimal frames ++ (codes " " ++ time_text rate frames)
+length_text Times rate frames = time_text rate frames
 
-abbrev pub three_digits : ℕ → List ℕ
-three_digits n = (48 + n / 100) ∷ two_digits (n % 100)
-
--- `H:MM:SS.mmm`, of milliseconds
-abbrev pub clock_text : ℕ → List ℕ
-clock_text ms =
-    decimal (ms / 3600000) ++ (codes ":" ++ (two_digits (ms / 60000 % 60) ++ (codes ":" ++ (two_digits (ms / 1000 % 60) ++ (codes "." ++ three_digits (ms % 1000))))))
-
--- so many frames, and how long they last at a rate, rounded down
-abbrev pub length_text : ℕ → ℕ → List ℕ
-length_text rate frames = decimal frames ++ (codes " " ++ clock_text (frames * 1000 / rate))
-
--- `span FRAMES TIME column FRAMES TIME`
-abbrev pub span_line : ℕ → ℕ → ℕ → List ℕ
-span_line rate all frames = codes "span " ++ (length_text rate all ++ (codes " column " ++ (length_text rate frames ++ newline ∷ [])))
+-- `span FRAMES TIME column FRAMES TIME`, or `span TIME column TIME`
+abbrev pub span_line : Lengths → ℕ → ℕ → ℕ → List ℕ
+span_line lengths rate all frames = codes "span " ++ (length_text lengths rate all ++ (codes " column " ++ (length_text lengths rate frames ++ newline ∷ [])))
 
 -- ---- the text
 
 -- all lines, in columns of so many frames
-abbrev pub lines : ℕ → ℕ → ℕ → ℕ → Content → List ℕ
-lines width rate all frames c =
+abbrev pub lines : ℕ → Lengths → ℕ → ℕ → ℕ → Content → List ℕ
+lines width lengths rate all frames c =
     markers_line (label_width c.tracks) width frames c.markers
-    ++ (flat_map (track_line (label_width c.tracks) width frames) c.tracks ++ span_line rate all frames)
+    ++ (flat_map (track_line (label_width c.tracks) width frames) c.tracks ++ span_line lengths rate all frames)
 
 -- The timeline of a session. Of one with no clip and no marker it has columns of one frame with no mark, and a span of 0.
-abbrev pub timeline_text : ℕ → ℕ → Content → List ℕ
-timeline_text width rate c = lines width rate (span c.tracks c.markers) (column width (span c.tracks c.markers)) c
+abbrev pub timeline_text : ℕ → Lengths → ℕ → Content → List ℕ
+timeline_text width lengths rate c = lines width lengths rate (span c.tracks c.markers) (column width (span c.tracks c.markers)) c
 
 -- ---- what is written
 
 module _ {W : Type 0} (contents : W → Option (List ℕ)) where
   -- an output holds the timeline of a session behind what it held before
-  abbrev pub IsDrawn : ℕ → ℕ → Content → Latched W → Latched W → Type 0
-  IsDrawn width rate c old new = Appends (contents old.inner) (contents new.inner) (timeline_text width rate c)
+  abbrev pub IsDrawn : ℕ → Lengths → ℕ → Content → Latched W → Latched W → Type 0
+  IsDrawn width lengths rate c old new = Appends (contents old.inner) (contents new.inner) (timeline_text width lengths rate c)
 
   -- the same of a prefix of it
-  abbrev pub IsDrawnInPart : ℕ → ℕ → Content → Latched W → Latched W → Type 0
-  IsDrawnInPart width rate c old new = AppendsPrefix (contents old.inner) (contents new.inner) (timeline_text width rate c)
+  abbrev pub IsDrawnInPart : ℕ → Lengths → ℕ → Content → Latched W → Latched W → Type 0
+  IsDrawnInPart width lengths rate c old new = AppendsPrefix (contents old.inner) (contents new.inner) (timeline_text width lengths rate c)

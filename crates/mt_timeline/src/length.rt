@@ -1,64 +1,37 @@
 //! Lengths in frames and as times.
 
-ghost use Rattle.std.specs.Prelude.{◌≡◌, ◌<◌, ◌≤◌, ◌^◌, ◌++◌, codes, OnOk};
-ghost use Rattle.std.specs.Fmt.{decimal};
-ghost use Rattle.mt_timeline.specs.Timeline.{two_digits, three_digits, clock_text, length_text};
+ghost use Rattle.std.specs.Prelude.{◌≡◌, ◌≤◌, ◌^◌, ◌++◌, OnOk};
+ghost use Rattle.mt_timeline.specs.Timeline.{length_text};
 
-use itoa::Buffer;
+use mt_times::{append_decimal, append_time};
 use std::alloc::{AllocError, Allocator};
 
-/// Writes a number, in decimal.
-pub(crate) fn append_decimal<A: Allocator>(
-    text: &mut Vec<u8, A>,
-    number: u64,
-) -> Result<(), AllocError>
-    ensures { OnOk result (text.new.items ≡ text.old.items ++ decimal number) }
-{
-    let mut digits = Buffer::new();
-    text.extend_from_slice(digits.format(number).as_bytes())
+/// In which ways the last line says how long a session and a column are.
+#[derive(Clone, Copy)]
+pub enum Lengths {
+    /// In frames, and behind them as a time.
+    FramesAndTimes,
+    /// As a time alone.
+    Times,
 }
 
-// Writes two digits.
-fn append_two_digits<A: Allocator>(text: &mut Vec<u8, A>, number: u64) -> Result<(), AllocError>
-    requires { number < 100 }
-    ensures { OnOk result (text.new.items ≡ text.old.items ++ two_digits number) }
-{
-    text.extend_from_slice(&[b'0' + (number / 10) as u8, b'0' + (number % 10) as u8])
-}
-
-// Writes three digits.
-fn append_three_digits<A: Allocator>(text: &mut Vec<u8, A>, number: u64) -> Result<(), AllocError>
-    requires { number < 1000 }
-    ensures { OnOk result (text.new.items ≡ text.old.items ++ three_digits number) }
-{
-    text.push(b'0' + (number / 100) as u8)?;
-    append_two_digits(text, number % 100)
-}
-
-// Writes milliseconds as `H:MM:SS.mmm`.
-fn append_clock<A: Allocator>(text: &mut Vec<u8, A>, ms: u64) -> Result<(), AllocError>
-    ensures { OnOk result (text.new.items ≡ text.old.items ++ clock_text ms) }
-{
-    append_decimal(text, ms / 3_600_000)?;
-    text.extend_from_slice(b":")?;
-    append_two_digits(text, ms / 60_000 % 60)?;
-    text.extend_from_slice(b":")?;
-    append_two_digits(text, ms / 1000 % 60)?;
-    text.extend_from_slice(b".")?;
-    append_three_digits(text, ms % 1000)
-}
-
-/// Writes so many frames, and how long they last at a rate.
+/// Writes so many frames, and how long they last at a rate, or that alone.
 pub(crate) fn append_length<A: Allocator>(
     text: &mut Vec<u8, A>,
+    lengths: Lengths,
     rate: u32,
     frames: u64,
 ) -> Result<(), AllocError>
     requires rate { 1 ≤ rate }
     requires frames { frames ≤ 2 ^ 33 }
-    ensures { OnOk result (text.new.items ≡ text.old.items ++ length_text rate frames) }
+    ensures { OnOk result (text.new.items ≡ text.old.items ++ length_text lengths rate frames) }
 {
-    append_decimal(text, frames)?;
-    text.extend_from_slice(b" ")?;
-    append_clock(text, frames * 1000 / u64::from(rate))
+    match lengths {
+        Lengths::Times => append_time(text, rate, frames),
+        Lengths::FramesAndTimes => {
+            append_decimal(text, frames)?;
+            text.extend_from_slice(b" ")?;
+            append_time(text, rate, frames)
+        }
+    }
 }

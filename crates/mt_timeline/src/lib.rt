@@ -5,7 +5,7 @@
 //! use mt_opcodec::{Latch, Log};
 //! use mt_sessionview::from_scratch;
 //! use mt_stamp::{Replica, Stamp};
-//! use mt_timeline::write_timeline;
+//! use mt_timeline::{Lengths, write_timeline};
 //! use std::test::Fail;
 //!
 //! const TEXT: &[u8] = b"\
@@ -22,7 +22,7 @@
 //!     let session = from_scratch(rt.alloc(), &log)?;
 //!     let mut output = Latch::new(Vec::new(rt.alloc()));
 //!     // ten columns, at 1000 frames a second
-//!     write_timeline(rt.alloc(), 10, 1000, &session, &mut output)?;
+//!     write_timeline(rt.alloc(), 10, Lengths::FramesAndTimes, 1000, &session, &mut output)?;
 //!     assert!(rt; output.into_inner().as_slice() == TEXT);
 //!     Ok(())
 //! }
@@ -42,4 +42,5 @@ mod mark;
 mod timeline;
 mod tops;
 
+pub use length::Lengths;
 pub use timeline::write_timeline;

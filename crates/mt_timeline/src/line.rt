@@ -6,11 +6,12 @@ ghost use Rattle.mt_timeline.specs.Timeline.{gain_text, mute_text, markers_line,
 
 use crate::column::{clip_cells, marker_cells};
 use crate::label::append_label;
-use crate::length::{append_decimal, append_length};
+use crate::length::{Lengths, append_length};
 use crate::mark::{append_marker_marks, append_track_marks};
 use crate::tops::tops_of;
 use mt_op::Gain;
 use mt_sessionview::{MarkerView, TrackView};
+use mt_times::append_decimal;
 use std::alloc::{AllocError, Allocator};
 
 // Writes ` gain NUM/DEN`, where it is not 1/1.
@@ -101,9 +102,10 @@ pub(crate) fn append_track_lines<A: Allocator + Clone, B: Allocator, C: Allocato
     Ok(())
 }
 
-/// Writes `span FRAMES TIME column FRAMES TIME` and a line feed.
+/// Writes `span FRAMES TIME column FRAMES TIME`, or times alone, and a line feed.
 pub(crate) fn append_span_line<A: Allocator>(
     text: &mut Vec<u8, A>,
+    lengths: Lengths,
     rate: u32,
     span: u64,
     frames: u64,
@@ -111,11 +113,11 @@ pub(crate) fn append_span_line<A: Allocator>(
     requires rate { 1 ≤ rate }
     requires span { span ≤ 2 ^ 33 }
     requires frames { frames ≤ 2 ^ 33 }
-    ensures { OnOk result (text.new.items ≡ text.old.items ++ span_line rate span frames) }
+    ensures { OnOk result (text.new.items ≡ text.old.items ++ span_line lengths rate span frames) }
 {
     text.extend_from_slice(b"span ")?;
-    append_length(text, rate, span)?;
+    append_length(text, lengths, rate, span)?;
     text.extend_from_slice(b" column ")?;
-    append_length(text, rate, frames)?;
+    append_length(text, lengths, rate, frames)?;
     text.extend_from_slice(b"\n")
 }
