@@ -1,26 +1,32 @@
-//! Times as people write them: how long frames last, printed, and the frame that a time comes to, read.
+//! Times and decibels, as people write frames and gains.
 //!
 //! ```rust
-//! use mt_times::{append_time, frames_of};
+//! use mt_times::{Fraction, append_time, fraction_of, frames_of};
 //! use std::test::Fail;
 //!
-//! fn writes_times(rt: HostRuntime) -> Result<(), Fail> {
+//! const TEXT: &[u8] = b"1:01:01.500";
+//!
+//! fn writes_times_and_levels(rt: HostRuntime) -> Result<(), Fail> {
 //!     // an hour, a minute, a second and a half, at 48000 frames a second
 //!     let frames = frames_of(48000, b"1:01:01.5");
-//!     assert!(rt; frames == Some(175_752_000 + 24_000));
+//!     assert!(rt; frames == Some(175_752_000));
+//!     let mut text = Vec::new(rt.alloc());
+//!     append_time(&mut text, 48000, 175_752_000)?;
+//!     assert!(rt; text.as_slice() == TEXT);
 //!     // the nearest frame, in the other form
 //!     assert!(rt; frames_of(44100, b"0.00001s") == Some(0));
 //!     assert!(rt; frames_of(44100, b"0.00002s") == Some(1));
-//!     // no time: sixty seconds
+//!     // a minute has no sixty seconds
 //!     assert!(rt; frames_of(48000, b"0:00:60").is_none());
-//!     let mut text = Vec::new(rt.alloc());
-//!     append_time(&mut text, 48000, 175_776_000)?;
-//!     assert!(rt; text.as_slice() == b"1:01:02.000");
+//!     // six decibels less are about a half
+//!     assert!(rt; fraction_of(b"-6dB") == Some(Fraction { num: 211, den: 421 }));
+//!     assert!(rt; fraction_of(b"+20dB") == Some(Fraction { num: 10, den: 1 }));
 //!     Ok(())
 //! }
 //! ```
 //!
-//! `specs/Times.antt` says what a word tells.
+//! `specs/Printing.antt` says how times are printed, `specs/Times.antt` what a word tells of one; `specs/Decibels.antt` has the amplitude
+//! that a word tells, and `specs/Nearest.antt` the fraction nearest to it.
 #![tactic(auto)]
 
 mod amplitude;

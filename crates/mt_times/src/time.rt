@@ -3,7 +3,7 @@
 ghost use Rattle.std.specs.Prelude.{◌≡◌, ◌≤◌, ◌<◌, ◌^◌, ◌*◌, IfSome};
 ghost use Rattle.std.specs.Option.{option_map};
 ghost use Rattle.mt_times.specs.Times.{later, sixty, parts_of_second, seconds, clock, before_s, form, frame, read_time};
-ghost use Rattle.mt_times.specs.Steps.{small_number};
+ghost use Rattle.mt_times.specs.Steps.{small_number, IsUnder};
 
 use crate::word::{cut, short_number_of, small_number_of};
 
@@ -29,7 +29,7 @@ fn sixty_of(text: &[u8]) -> Option<u32>
 // What stands behind a point.
 fn parts_of_second_of(text: &[u8]) -> Option<Time>
     ensures result { result ≡ parts_of_second text.now }
-    ensures small { IfSome result (λ t. (t.count < t.per_second) × (t.per_second ≤ 10 ^ 9)) }
+    ensures under { IfSome result (IsUnder 1) }
 {
     if text.len() > 9 {
         return None;
@@ -44,8 +44,7 @@ fn parts_of_second_of(text: &[u8]) -> Option<Time>
 // So many seconds later.
 fn later(seconds: u64, time: Time) -> Time
     requires seconds { seconds < 2 ^ 45 }
-    requires count { time.count < 2 ^ 33 * time.per_second }
-    requires parts { time.per_second ≤ 10 ^ 9 }
+    requires under { IsUnder (2 ^ 33) time }
     ensures { result ≡ later seconds time }
 {
     Time {
@@ -58,8 +57,7 @@ fn later(seconds: u64, time: Time) -> Time
 #[tactic(auto, unfolding(crate::specs::Times::seconds))]
 fn seconds_of(text: &[u8]) -> Option<Time>
     ensures result { result ≡ seconds small_number text.now }
-    ensures parts { IfSome result (λ t. (1 ≤ t.per_second) × (t.per_second ≤ 10 ^ 9)) }
-    ensures small { IfSome result (λ t. t.count < 2 ^ 32 * t.per_second) }
+    ensures under { IfSome result (IsUnder (2 ^ 32)) }
 {
     match cut(b'.', text) {
         Some((whole, parts)) => {
@@ -81,8 +79,7 @@ fn seconds_of(text: &[u8]) -> Option<Time>
 #[tactic(auto, unfolding(crate::specs::Times::seconds))]
 fn clock_seconds_of(text: &[u8]) -> Option<Time>
     ensures result { result ≡ seconds sixty text.now }
-    ensures parts { IfSome result (λ t. (1 ≤ t.per_second) × (t.per_second ≤ 10 ^ 9)) }
-    ensures small { IfSome result (λ t. t.count < 60 * t.per_second) }
+    ensures under { IfSome result (IsUnder 60) }
 {
     match cut(b'.', text) {
         Some((whole, parts)) => {
@@ -104,8 +101,7 @@ fn clock_seconds_of(text: &[u8]) -> Option<Time>
 #[tactic(auto, unfolding(crate::specs::Times::clock))]
 fn clock_of(text: &[u8]) -> Option<Time>
     ensures result { result ≡ clock small_number text.now }
-    ensures parts { IfSome result (λ t. (1 ≤ t.per_second) × (t.per_second ≤ 10 ^ 9)) }
-    ensures small { IfSome result (λ t. t.count < 2 ^ 45 * t.per_second) }
+    ensures under { IfSome result (IsUnder (2 ^ 45)) }
 {
     let (hours, rest) = cut(b':', text)?;
     let (minutes, rest) = cut(b':', rest)?;
@@ -127,8 +123,7 @@ fn before_s(text: &[u8]) -> Option<&[u8]>
 #[tactic(auto, unfolding(crate::specs::Times::form))]
 fn time_of(word: &[u8]) -> Option<Time>
     ensures result { result ≡ form small_number word.now }
-    ensures parts { IfSome result (λ t. (1 ≤ t.per_second) × (t.per_second ≤ 10 ^ 9)) }
-    ensures small { IfSome result (λ t. t.count < 2 ^ 45 * t.per_second) }
+    ensures under { IfSome result (IsUnder (2 ^ 45)) }
 {
     match before_s(word) {
         Some(front) => seconds_of(front),
@@ -138,9 +133,7 @@ fn time_of(word: &[u8]) -> Option<Time>
 
 // The frame nearest to a time, the later one of two as near, where it is under 2^32.
 fn frame_of(rate: u32, time: Time) -> Option<u32>
-    requires some { 1 ≤ time.per_second }
-    requires parts { time.per_second ≤ 10 ^ 9 }
-    requires count { time.count < 2 ^ 45 * time.per_second }
+    requires { IsUnder (2 ^ 45) time }
     ensures { result ≡ frame rate time }
 {
     let parts = u128::from(time.per_second);
