@@ -6,5 +6,5 @@ mod Numbers
 mod Ranges
 mod ReadBack
 mod Roots
-mod Rounding
-mod Searching
+pub mod Rounding
+pub mod Searching

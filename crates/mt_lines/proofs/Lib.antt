@@ -1,0 +1,8 @@
+mod Cuts
+mod Numbers
+mod Steps
+mod Telling
+mod Fractions
+mod Spaced
+mod Kept
+mod Examples

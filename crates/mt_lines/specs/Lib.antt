@@ -1,0 +1,10 @@
+pub mod Cutting
+pub mod Table
+pub mod Left
+pub mod Line
+pub mod Seen
+pub mod Json
+pub mod Saying
+pub mod Writing
+pub mod Faults
+pub mod Laws

@@ -1,0 +1,33 @@
+//! What holds of lines, of what is said of them, and of refusals, as the contracts of functions.
+
+ghost use Rattle.std.specs.Prelude.{◌≡◌, ◌↔◌, IsTrue};
+ghost use Rattle.mt_lines.specs.Laws.{LinesAreKept, TextsStay, NumbersAreSpelled, LevelsAreNearest};
+
+use crate::fault::LinesFault;
+
+/// Nothing of a line is lost: the words of its parts, with one space between each two, are the line.
+pub fn lines_kept()
+    ensures { LinesAreKept }
+{}
+
+/// A text of which each word is said as it is stays as it is, line feeds and all.
+pub fn texts_stay()
+    ensures { TextsStay }
+{}
+
+/// A number is read from its decimal spelling, with no sign and no leading zero, and from no other word.
+pub fn numbers()
+    ensures { NumbersAreSpelled }
+{}
+
+/// A level is said as the fraction nearest to its amplitude, and no other word is.
+pub fn levels()
+    ensures { LevelsAreNearest }
+{}
+
+/// Refusals are equal where they are of one case.
+pub fn equal_lines_faults(fault: &LinesFault, other: &LinesFault) -> bool
+    ensures { IsTrue result ↔ (fault.now ≡ other.now) }
+{
+    fault == other
+}
