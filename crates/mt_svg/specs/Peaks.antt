@@ -41,6 +41,41 @@ column_start span at k = max at (unit_start span (units span at + k))
 abbrev pub column_count : (span at len k : ℕ) → ℕ
 column_count span at len k = min (at + len) (unit_start span (units span at + k + 1)) - column_start span at k
 
+-- the greatest magnitude of the recording of a clip in the frames of a column
+abbrev pub column_peak : List ℕ → (span : ℕ) → Clip → ℕ → ℕ
+column_peak recording span c k = peak recording (c.offset + (column_start span c.at k - c.at)) (column_count span c.at c.len k)
+
+-- ---- lines
+
+-- how far a line goes up, and down: 15 units at most
+abbrev pub reach : ℕ → ℕ
+reach peak = peak * 15 / 2 ^ 31
+
+-- a line of a column, where it goes anywhere
+abbrev pub line : (k reach : ℕ) → List ℕ
+line k reach = if reach == 0 then [] else numbered (codes "M") k ++ (numbered (codes " ") (16 - reach) ++ numbered (codes "v") (2 * reach))
+
+-- the lines of so many columns
+abbrev pub lines : List ℕ → (span : ℕ) → Clip → (count : ℕ) → List ℕ
+lines recording span c count = flat_map (λ k. line k (reach (column_peak recording span c k))) (range_with_len 0 count)
+
+-- those of all columns of a clip
+abbrev pub all_lines : List ℕ → (span : ℕ) → Clip → List ℕ
+all_lines recording span c = lines recording span c (width span c.at c.len)
+
+-- lines as one element
+abbrev pub path : List ℕ → List ℕ
+path drawn = codes "<path class=\"peaks\" stroke=\"#246\" stroke-opacity=\".5\" d=\"" ++ (drawn ++ codes "\"/>")
+
+-- where there are any
+abbrev pub path_of_any : List ℕ → List ℕ
+path_of_any drawn = if length drawn == 0 then [] else path drawn
+
+-- the peaks of a clip, where its recording is at hand
+abbrev pub clip_peaks : Option (List ℕ) → (span : ℕ) → Clip → List ℕ
+clip_peaks None span c = []
+clip_peaks (Some recording) span c = path_of_any (all_lines recording span c)
+
 -- ---- what `laws` says of these
 
 -- a channel of a recording, and one of so many frames from one on
@@ -59,34 +94,3 @@ pub record IsDrawnAt (span at len k frame : ℕ) : Type 0 where
   pub from : at ≤ frame
   pub before : frame < at + len
   pub unit : units span frame ≡ units span at + k
-
--- ---- lines
-
--- how far a line goes up, and down: 15 units at most
-abbrev pub reach : ℕ → ℕ
-reach peak = peak * 15 / 2 ^ 31
-
--- a line of a column, where it goes anywhere
-abbrev pub line : (k reach : ℕ) → List ℕ
-line k reach = if reach == 0 then [] else numbered (codes "M") k ++ (numbered (codes " ") (16 - reach) ++ numbered (codes "v") (2 * reach))
-
--- the greatest magnitude of the recording of a clip in the frames of a column
-abbrev pub column_peak : List ℕ → (span : ℕ) → Clip → ℕ → ℕ
-column_peak recording span c k = peak recording (c.offset + (column_start span c.at k - c.at)) (column_count span c.at c.len k)
-
--- the lines of so many columns
-abbrev pub lines : List ℕ → (span : ℕ) → Clip → (count : ℕ) → List ℕ
-lines recording span c count = flat_map (λ k. line k (reach (column_peak recording span c k))) (range_with_len 0 count)
-
--- lines as one element
-abbrev pub path : List ℕ → List ℕ
-path drawn = codes "<path class=\"peaks\" stroke=\"#246\" stroke-opacity=\".5\" d=\"" ++ (drawn ++ codes "\"/>")
-
--- where there are any
-abbrev pub path_of_any : List ℕ → List ℕ
-path_of_any drawn = if length drawn == 0 then [] else path drawn
-
--- the peaks of a clip, where its recording is at hand
-abbrev pub clip_peaks : Option (List ℕ) → (span : ℕ) → Clip → List ℕ
-clip_peaks None span c = []
-clip_peaks (Some recording) span c = path_of_any (lines recording span c (width span c.at c.len))

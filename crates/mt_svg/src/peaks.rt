@@ -3,7 +3,7 @@
 ghost use Rattle.std.specs.Prelude.{◌≡◌, ◌<◌, ◌≤◌, ◌^◌, length, OnOk};
 ghost use Rattle.mt_render.specs.Sources.{found};
 ghost use Rattle.mt_svg.specs.Adding.{Adds};
-ghost use Rattle.mt_svg.specs.Peaks.{reach, line, column_peak, lines, path, path_of_any, clip_peaks};
+ghost use Rattle.mt_svg.specs.Peaks.{reach, line, column_peak, all_lines, path, path_of_any, clip_peaks};
 ghost use Rattle.mt_svg.specs.Placement.{width};
 
 use crate::column::Column;
@@ -65,7 +65,7 @@ fn append_lines<A: Allocator>(
 ) -> Result<(), AllocError>
     requires some { 1 ≤ span }
     requires span { span ≤ 2 ^ 33 }
-    ensures { OnOk result (Adds text.old text.new (lines wave.now span clip.now (width span clip.now.at clip.now.len))) }
+    ensures { OnOk result (Adds text.old text.new (all_lines wave.now span clip.now)) }
 {
     let mut samples = [0; SAMPLES];
     for unit in 0..width(span, clip.at, clip.len) {
@@ -108,7 +108,7 @@ fn append_peaks_of<A: Allocator, B: Allocator + Clone>(
 ) -> Result<(), AllocError>
     requires some { 1 ≤ span }
     requires span { span ≤ 2 ^ 33 }
-    ensures { OnOk result (Adds text.old text.new (path_of_any (lines wave.now span clip.now (width span clip.now.at clip.now.len)))) }
+    ensures { OnOk result (Adds text.old text.new (path_of_any (all_lines wave.now span clip.now))) }
 {
     let mut drawn = String::new(alloc.clone()?);
     append_lines(&mut drawn, wave, span, clip)?;
