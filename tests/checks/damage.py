@@ -11,6 +11,7 @@ import collections
 import hashlib
 import os
 import random
+import re
 import subprocess
 import sys
 import tempfile
@@ -25,6 +26,8 @@ from formats.mutations import damaged, damaged_frames, damaged_log, damaged_reco
 CASES = os.path.join(os.path.dirname(os.path.dirname(os.path.abspath(__file__))), "cases")
 PATIENCE = 60
 FORMS = [[], ["--fields"], ["--view"]]
+# forms of lines
+LINES = [[], [], ["--json"], ["--time"], ["--time", "--rate", "44100", "--json"]]
 EDITORS = ["00000000-0000-0000-0000-%012x" % name for name in (0, 1, 10, 11)] + ["ffffffff-ffff-ffff-ffff-ffffffffffff"]
 
 
@@ -81,8 +84,8 @@ def read_log(draw, cases):
     if draw.random() < 0.4:
         files["b"] = logs.log([op.text() for op in ops if draw.random() < 0.6])
     names = draw.sample(sorted(files), len(files))
-    return [(["view", *names], files), (["log", *names], files), (["timeline", *draw.choice([[], ["--width", "7"], ["--svg"]]), *names], files), (["merge", draw.choice(["out", "a"]), *names], files), (["pull", *names, names[0]], files),
-            (["diff", *draw.choice(FORMS), names[0], draw.choice(names)], files), (["revert", names[0], *named(draw, ops)], files)]
+    return [(["view", *draw.choice(LINES), *names], files), (["log", *draw.choice(LINES), *names], files), (["timeline", *draw.choice([[], ["--width", "7"], ["--svg"], ["--time"]]), *names], files), (["merge", draw.choice(["out", "a"]), *names], files), (["pull", *names, names[0]], files),
+            (["diff", *draw.choice(FORMS), *draw.choice(LINES), names[0], draw.choice(names)], files), (["revert", names[0], *named(draw, ops)], files)]
 
 
 def named(draw, ops):
@@ -97,7 +100,22 @@ def read_script(draw, cases):
     how = draw.random()
     script = lines.text() if how < 0.3 else drawings.damaged_script(draw, lines) if how < 0.7 else damaged(draw, lines.text())
     log = log_of(draw, ops) if draw.random() < 0.05 else logs.log([op.text() for op in ops])
-    return [(["edit", draw.choice(EDITORS), "log", "script", draw.choice(["out", "log"])], {"log": log, "script": script})]
+    times = draw.choice([[], ["--time"], ["--time", "--rate", "44100"]])
+    script = timed(draw, script) if times else script
+    return [(["edit", *times, draw.choice(EDITORS), "log", "script", draw.choice(["out", "log"])], {"log": log, "script": script})]
+
+
+def timed(draw, script):
+    """A script in which times and decibels, some of them damaged, stand for some numbers and fractions."""
+
+    def word(found):
+        if draw.random() < 0.6:
+            return found[0]
+        told = draw.choice([b"%ds" % draw.randint(0, 9), b"%d.%ds" % (draw.randint(0, 99), draw.randint(0, 99999)), b"%d:%02d:%02d" % (draw.randint(0, 24), draw.randint(0, 60), draw.randint(0, 60)),
+                            b"0:00:%02d.%d" % (draw.randint(0, 60), draw.randint(0, 9999999)), b"%s%d.%ddB" % (draw.choice([b"", b"-", b"+"]), draw.randint(0, 110), draw.randint(0, 11)), b"-%ddB" % draw.randint(0, 80)])
+        return b" " + (told if draw.random() < 0.9 else damaged(draw, told))
+
+    return re.sub(rb" [0-9]+(/[0-9]+)?(?=[ \n]|$)", word, script)
 
 
 def read_message(draw, cases):
@@ -125,7 +143,7 @@ def damaged_ops(draw, sent):
 def read_wave(draw, cases):
     whole = drawings.wave(draw)
     file = whole if draw.random() < 0.04 else damaged_wave(draw, whole, drawings.wave(draw))
-    return [(["info", "wave"], {"wave": file}), laying(draw, {"wave": file}, 48000)]
+    return [(["info", *draw.choice([[], ["--json"], ["--time"], ["--json", "--time"]]), "wave"], {"wave": file}), laying(draw, {"wave": file}, 48000)]
 
 
 def read_session(draw, cases):
@@ -140,14 +158,15 @@ def read_session(draw, cases):
     if draw.random() < 0.2:
         log = damaged_log(draw, log, [text for _, text in sorted(ops, key=lambda op: op[0][1:])], log)
     files = {"log": log, **waves}
-    listing = ["sources", *draw.choice([[], [], ["--missing"], ["--files"]]), "log", *draw.sample(list(waves), draw.randint(0, len(waves)))]
+    listing = ["sources", *draw.choice([[], ["--json"], ["--missing"], ["--files"]]), "log", *draw.sample(list(waves), draw.randint(0, len(waves)))]
     options = drawings.options(draw, rate)
-    return [(["render", "out", "log", *waves, *options], files), (["check", "log", *waves, *options], files), (listing, files), finding(draw, waves, files), drawing(draw, files), laying(draw, waves, rate)]
+    return [(["render", "out", "log", *waves, *options], files), (["check", *draw.choice([[], ["--times"]]), "log", *waves, *options], files), (listing, files), finding(draw, waves, files), drawing(draw, files), laying(draw, waves, rate)]
 
 
 def drawing(draw, files):
-    """The session in some columns or as a picture, its times at some rate."""
-    return (["timeline", *draw.choice([["--width", str(draw.choice([1, 5, 60, 1000]))], ["--svg"]]), "--rate", str(draw.choice([1, 8000, 48000, 384000])), "log"], files)
+    """The session in some columns or as a picture, with recordings or with none, its times at some rate."""
+    sources = [word for name in files if name != "log" and draw.random() < 0.5 for word in ("--source", name)]
+    return (["timeline", *draw.choice([["--width", str(draw.choice([1, 5, 60, 1000]))], ["--svg"], ["--svg", *sources], ["--svg", *sources]]), "--rate", str(draw.choice([1, 8000, 48000, 384000])), "log"], files)
 
 
 def finding(draw, waves, files):

@@ -1,10 +1,10 @@
 -- Hours and seconds of 2^32 or more come to no frame under it.
-use Rattle.std.proofs.Common.{◌≡◌, ℕ, ◌+◌, ◌*◌, ◌/◌, ◌<◌, ◌≤◌, ◌^◌, nat_le, nat_lt, if◌then◌else◌, Bool, true, false, List, length, Option, Some, None, IfSome, refl, sym, subst, arith}
+use Rattle.std.proofs.Common.{◌≡◌, ℕ, ◌+◌, ◌*◌, ◌/◌, ◌≤◌, ◌^◌, nat_le, nat_lt, if◌then◌else◌, Bool, true, false, List, length, Option, Some, None, IfSome, refl, sym, subst, arith}
 use Rattle.std.proofs.Math.Nat.{mul-le-mul_left, mul-le-mul_right, one-le-pow}
 use Rattle.std.proofs.lemmas.Nat.{le-div}
 use Rattle.mt_times.specs.declared.time.Time.{Time}
 use Rattle.mt_times.specs.Words.{◌>>=◌, cut, colon, point, number, passing}
-use Rattle.mt_times.specs.Times.{whole_time, later, sixty, parts_of_second, seconds, seconds_at, clock, form, form_at, before_s, nearest_frame, frame, read_time}
+use Rattle.mt_times.specs.Times.{whole_time, later, sixty, parts_of_second, seconds, seconds_at, clock, form, form_at, before_s, frame, read_time}
 use Rattle.mt_times.specs.Steps.{small_number}
 
 abbrev IsParted : Time → Type 0

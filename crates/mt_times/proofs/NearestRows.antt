@@ -1,9 +1,6 @@
 -- Worked rows of nearest fractions: what is tested against the nearest fraction of each divisor is the nearest of all.
-use Rattle.std.proofs.Common.{◌≡◌, ℕ, suc, ◌+◌, ◌-◌, ◌*◌, ◌/◌, ◌<◌, ◌≤◌, Bool, true, false, ◌&&◌, ◌==◌, nat_le, nat_lt, if◌then◌else◌, min, refl, sym, subst, arith}
-use Rattle.std.specs.Prelude.{codes, Some}
+use Rattle.std.proofs.Common.{◌≡◌, ℕ, suc, ◌+◌, ◌-◌, ◌*◌, ◌/◌, ◌<◌, ◌≤◌, Bool, true, false, nat_le, nat_lt, if◌then◌else◌, min, refl, sym, subst, arith}
 use Rattle.std.proofs.Math.Nat.{mul-le-mul_right}
-use Rattle.std.proofs.lemmas.Bool.{and_parts}
-use Rattle.mt_times.specs.declared.fraction.Fraction.{Fraction}
 use Rattle.mt_times.specs.Decibels.{unit}
 use Rattle.mt_times.specs.Nearest.{off, IsNearest}
 use Rattle.mt_times.proofs.Roots.{each_below, below_at}

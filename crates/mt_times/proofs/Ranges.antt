@@ -1,9 +1,8 @@
 -- Which levels are told, and which are silent.
-use Rattle.std.proofs.Common.{◌≡◌, ℕ, zero, suc, ◌+◌, ◌-◌, ◌*◌, ◌/◌, ◌%◌, ◌<◌, ◌≤◌, ◌^◌, ◌⊎◌, inl, inr, ◌↔◌, Bool, true, false, true≢false, ◌&&◌, nat_le, nat_lt, if◌then◌else◌, refl, sym, subst, arith}
-use Rattle.std.proofs.Math.Nat.{mul-le-mul_left, mul-le-mul_right, mul-lt-mul_of_pos_right, pow-le-pow_right, one-le-pow}
+use Rattle.std.proofs.Common.{◌≡◌, ℕ, zero, suc, ◌+◌, ◌-◌, ◌*◌, ◌/◌, ◌%◌, ◌<◌, ◌≤◌, ◌^◌, ◌⊎◌, inl, inr, ◌↔◌, Bool, true, false, true≢false, ◌&&◌, nat_le, nat_lt, refl, sym, subst, arith}
+use Rattle.std.proofs.Math.Nat.{mul-le-mul_left, mul-lt-mul_of_pos_right, pow-le-pow_right, one-le-pow}
 use Rattle.std.proofs.lemmas.Bool.{and_parts, cases_lt}
 use Rattle.std.proofs.lemmas.Nat.{mul-le, div_below, le-div}
-use Rattle.mt_times.specs.declared.level.Level.{Level}
 use Rattle.mt_times.specs.declared.fraction.Fraction.{Fraction}
 use Rattle.mt_times.specs.Decibels.{unit, rest_amplitude, amplitude}
 use Rattle.mt_times.specs.Nearest.{off, IsNearest}

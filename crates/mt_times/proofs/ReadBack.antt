@@ -1,8 +1,7 @@
 -- What is printed is read back.
-use Rattle.std.proofs.Common.{◌≡◌, ◌≢◌, ◌⊎◌, inl, inr, ℕ, zero, suc, ◌+◌, ◌*◌, ◌/◌, ◌%◌, ◌<◌, ◌≤◌, ◌^◌, ◌==◌, nat_le, nat_lt, Bool, true, false, ◌&&◌, List, [], ◌∷◌, ◌++◌, length, get_or, Option, Some, None, refl, sym, ap, ◌∙◌, arith}
+use Rattle.std.proofs.Common.{◌≡◌, ◌≢◌, ◌⊎◌, inl, inr, ℕ, zero, suc, ◌+◌, ◌*◌, ◌/◌, ◌%◌, ◌<◌, ◌≤◌, ◌^◌, ◌==◌, nat_lt, true, false, List, [], ◌∷◌, ◌++◌, length, get_or, Some, None, refl, ap, ◌∙◌, arith}
 use Rattle.std.specs.Char.{digit_value, is_ascii_digit}
 use Rattle.std.specs.Fmt.{decimal}
-use Rattle.std.specs.Int.{IsInRange}
 use Rattle.std.specs.List.{list_all}
 use Rattle.std.specs.Str.Parse.{digits_value}
 use Rattle.std.proofs.Math.Nat.{mul-div_cancel}
@@ -10,9 +9,9 @@ use Rattle.std.proofs.lemmas.Bool.Decides.{nat_tests}
 use Rattle.std.proofs.lemmas.Fmt.{decimal_is_IsNumeral}
 use Rattle.std.proofs.lemmas.Str.{digit_value_digit}
 use Rattle.std.proofs.lemmas.Str.Parse.{digit_at}
-use Rattle.mt_times.specs.Printing.{two_digits, three_digits, clock_text, milliseconds, time_text}
-use Rattle.mt_times.specs.Words.{◌>>=◌, cut, are_digits, number, passing}
-use Rattle.mt_times.specs.Times.{sixty, parts_of_second, seconds, clock, form, time, nearest_frame, frame, read_time}
+use Rattle.mt_times.specs.Printing.{two_digits, three_digits, clock_text, milliseconds}
+use Rattle.mt_times.specs.Words.{cut, number}
+use Rattle.mt_times.specs.Times.{sixty, parts_of_second, seconds, clock, form, time, nearest_frame}
 use Rattle.mt_times.specs.Laws.{millis, PrintedIsRead, PrintedFrameIsRead, WholeMillisecondsStay}
 use Rattle.mt_times.proofs.Cuts.{cut_there}
 use Rattle.mt_times.proofs.Numbers.{own, digits_so}

@@ -1,5 +1,5 @@
 -- The amplitudes of the tables.
-use Rattle.std.proofs.Common.{◌≡◌, ℕ, zero, suc, ◌+◌, ◌*◌, ◌<◌, ◌≤◌, ◌^◌, ◌⊎◌, inl, inr, Bool, true, ◌&&◌, nat_le, nat_lt, List, [], ◌∷◌, length, slice_index, refl, sym, subst, arith}
+use Rattle.std.proofs.Common.{◌≡◌, ℕ, zero, suc, ◌+◌, ◌<◌, ◌^◌, inl, inr, Bool, true, ◌&&◌, nat_le, nat_lt, List, [], ◌∷◌, length, slice_index, refl, sym, subst, arith}
 use Rattle.std.proofs.lemmas.Bool.{and_parts, cases_lt}
 use Rattle.mt_times.specs.Decibels.{whole_amplitudes, tenth_amplitudes, rest_amplitude}
 use Rattle.mt_times.specs.Laws.{IsRoot, AmplitudesAreRoots, RestsAreNear}

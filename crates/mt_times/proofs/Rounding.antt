@@ -1,6 +1,5 @@
 -- A quotient rounded to the nearest number.
-use Rattle.std.proofs.Common.{◌≡◌, ℕ, ◌+◌, ◌-◌, ◌*◌, ◌/◌, ◌<◌, ◌≤◌, ◌^◌, min, arith}
-use Rattle.std.specs.Int.{abs_diff}
+use Rattle.std.proofs.Common.{ℕ, ◌+◌, ◌*◌, ◌/◌, ◌<◌, ◌≤◌, min, arith}
 use Rattle.mt_times.specs.Decibels.{unit}
 use Rattle.mt_times.specs.Nearest.{off}
 

@@ -1,5 +1,5 @@
 -- What holds of times and levels.
-use Rattle.std.specs.Prelude.{◌≡◌, ◌<◌, ◌≤◌, ◌↔◌, ◌⊎◌, ◌+◌, ◌*◌, ◌^◌, ℕ, true, Option, Some, slice_index}
+use Rattle.std.specs.Prelude.{◌≡◌, ◌<◌, ◌≤◌, ◌↔◌, ◌⊎◌, ◌+◌, ◌*◌, ◌^◌, ℕ, true, Some, slice_index}
 use Rattle.mt_times.specs.declared.time.Time.{Time}
 use Rattle.mt_times.specs.declared.level.Level.{Level}
 use Rattle.mt_times.specs.declared.fraction.Fraction.{Fraction}
