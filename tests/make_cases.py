@@ -28,6 +28,7 @@ import subjects.reverts
 import subjects.warnings
 import subjects.command_lines
 import subjects.edits
+import subjects.forms
 import subjects.exchanges
 import subjects.parts
 import subjects.names

@@ -1,11 +1,12 @@
 #!/usr/bin/env python3
-"""Compares `radio view`, `radio log`, `radio timeline`, its pictures and `radio merge` with a model of the session in Python: tests/checks/model.py PROGRAM [--sets N] [--seed N]
+"""Compares `radio view`, `radio log`, both also as JSON, `radio timeline`, its pictures and `radio merge` with a model of the session in Python: tests/checks/model.py PROGRAM [--sets N] [--seed N]
 
 The model (tests/formats/sessions.py) is written from docs/formats.md alone. The sets are drawn at random: a few replicas whose numbers may have gaps,
 names of operations that are there, that are not, that have another clock or do not fit the role. Each set is handed to the
 program as one log, or as several that share operations, and merging these has to give the one log of the set. Stops at the
 first set of which the two tell different texts, of the session or of the operations."""
 import argparse
+import json
 import os
 import random
 import subprocess
@@ -15,6 +16,7 @@ import tempfile
 sys.dont_write_bytecode = True
 sys.path.insert(0, os.path.dirname(os.path.dirname(os.path.abspath(__file__))))
 from formats import logs
+from formats.line_forms import json_text, times_text
 from formats.log_text import log_text
 from formats.sessions import ADDS, FITS, NAMED, Op, ready_of, session_of, session_text
 from formats.svg_text import svg_text
@@ -39,6 +41,37 @@ def drawn_text(ops):
 
 def picture_text(ops):
     return svg_text(48000, session_of(ops))
+
+
+def objects_of(text):
+    """The lines of a text as JSON, which python's own reader takes for what the lines say."""
+    told = json_text(text)
+    for line, taken in zip(text.split("\n"), told.split("\n")[:-1], strict=False):
+        assert says(json.loads(taken), line), (line, taken)
+    return told
+
+
+def says(members, line):
+    """Whether these members say what the line says, word by word: each name that is a word of the text stands in it before its value."""
+    values = [" ".join(map(str, value)) if isinstance(value, list) else {True: "on", False: "off"}.get(value, value) if isinstance(value, bool) else str(value) for value in members.values()]
+    rest = line
+    for value in values:
+        before, found, rest = rest.partition(value)
+        if not found:
+            return False
+    return rest == ""
+
+
+def objects_text(ops):
+    return objects_of(session_text(ops))
+
+
+def objects_of_operations(ops):
+    return objects_of(operations_text(ops))
+
+
+def timed_text(ops):
+    return times_text(48000, session_text(ops))
 
 
 KINDS = sorted(ADDS) + ["add_track", "add_clip", "move_track", "remove"] + sorted(NAMED.keys() - {"add_clip", "move_track"})
@@ -166,7 +199,7 @@ def main():
             draw = random.Random(seed)
             ops = drawn(draw)
             files = files_of(draw, ops, folder)
-            for command, text in (("log", operations_text), ("timeline", drawn_text), ("timeline --svg", picture_text), ("view", session_text)):
+            for command, text in (("log", operations_text), ("log --json", objects_of_operations), ("timeline", drawn_text), ("timeline --svg", picture_text), ("view --time", timed_text), ("view --json", objects_text), ("view", session_text)):
                 told = subprocess.run([program, *command.split()] + files, capture_output=True)
                 wanted = text(ops)
                 if told.stdout.decode() != wanted or told.stderr or told.returncode != 0:

@@ -6,6 +6,7 @@ import hashlib
 from formats.diff_text import diff_by, side
 from formats.find_text import find_text, source_of
 from formats.lay_text import BAD_TEXT, check_track, lay_text
+from formats.line_forms import json_text, plain_script, times_text
 from formats.log_text import log_text
 from formats.mixes import Mix, check_format, check_head
 from formats.read_logs import dot, read_log, union, write_log
@@ -69,20 +70,35 @@ class Folder:
         refuse_unless("/" not in out and out + ".part" not in self.files and not (self.is_new and out in self.files), WRITE)
 
 
-def view(folder, *names):
-    return Answer(output=session_text(folder.logs(names)).encode())
+def formed(words, rate=None):
+    """The words beside those that ask for another form of lines, and what makes a text one of that form, at this rate or at the one that is asked for."""
+    flags = {"--time", "--json"} & set(words)
+    others, options = parted([word for word in words if word not in flags], {"rate": "48000"}, {"--fields", "--view"})
+
+    def form(text):
+        text = times_text(rate or int(options["rate"]), text) if "--time" in flags else text
+        return (json_text(text) if "--json" in flags else text).encode()
+
+    return others, form
 
 
-def list_ops(folder, *names):
+def view(folder, *words):
+    names, form = formed(words)
+    return Answer(output=form(session_text(folder.logs(names))))
+
+
+def list_ops(folder, *words):
+    names, form = formed(words)
     ops = folder.logs(names)
     held = {op.own for op in ops} - {op.own for op in ready_of(ops)}
-    return Answer(output=log_text([op.text() for op in ops], held).encode())
+    return Answer(output=form(log_text([op.text() for op in ops], held)))
 
 
 def timeline(folder, *words):
-    names, options = parted([word for word in words if word != "--svg"], {"width": "60", "rate": "48000"})
+    names, options = parted([word for word in words if word not in ("--svg", "--time")], {"width": "60", "rate": "48000"}, several=("source",))
+    recordings = [Wave(data) for data in folder.open(*names, *options["source"])[len(names):]]
     session, rate = session_of(folder.logs(names)), int(options["rate"])
-    return Answer(output=(svg_text(rate, session) if "--svg" in words else timeline_text(session, int(options["width"]), rate)).encode())
+    return Answer(output=(svg_text(rate, session, recordings) if "--svg" in words else timeline_text(session, int(options["width"]), rate, "--time" in words)).encode())
 
 
 def merge(folder, out, *names):
@@ -108,11 +124,12 @@ def pull(folder, *words):
     return Answer(output=lines + b"ops %d\n" % len(together), made={} if is_dry else {log: write_log(together)})
 
 
-def edit(folder, replica, log, script, out):
+def edit(folder, *words):
+    (replica, log, script, out), options = parted([word for word in words if word != "--time"], {"rate": "48000"})
     name = read_replica(replica)
     before, lines = folder.open(log, script)
     ops = read_log(before)
-    made = run(ops, name, lines)
+    made = run(ops, name, plain_script(int(options["rate"]), lines) if "--time" in words else lines)
     folder.part(out)
     return Answer(output=b"ops %d\n" % len(made), made={out: write_log(ops + made)})
 
@@ -137,14 +154,15 @@ def take(folder, log, ops, out):
     return Answer(made={out: after})
 
 
-def info(folder, name):
-    return Answer(output=Wave(*folder.open(name)).info().encode())
+def info(folder, *words):
+    wave = Wave(*folder.open(*[word for word in words if word not in ("--time", "--json")]))
+    return Answer(output=formed(words, wave.rate)[1](wave.info()))
 
 
 def sources(folder, *words):
-    log, *names = [word for word in words if word not in ("--missing", "--files")]
+    (log, *names), form = formed([word for word in words if word not in ("--missing", "--files")])
     session = session_of(read_log(*folder.open(log)))
-    return Answer(output=sources_text(session, [(name, *folder.open(name)) for name in names], words).encode())
+    return Answer(output=form(sources_text(session, [(name, *folder.open(name)) for name in names], words)))
 
 
 def find(folder, *words):
@@ -155,9 +173,9 @@ def find(folder, *words):
 
 
 def diff(folder, *words):
-    names = [word for word in words if not word.startswith("--")]
+    names, form = formed(words)
     left, right = [side(data) for data in folder.open(*names)]
-    return Answer(output=diff_by(words, left, right).encode())
+    return Answer(output=form(diff_by(words, left, right)))
 
 
 def stamps_of(words):
@@ -205,26 +223,32 @@ def render(folder, *words):
 
 
 def check(folder, *words):
-    (log, *recordings), _, layout = parted_well(words)
+    (log, *recordings), _, layout = parted_well([word for word in words if word != "--times"])
     inputs = folder.open(log, *recordings)
     ops = read_log(inputs[0])
     session = session_of(ops)
     mix = Mix(session, [Wave(data) for data in inputs[1:]], *layout)
     if mix.size > BYTES_THAT_FIT:
         raise TooMuch
-    return Answer(output=warnings_text(ops, session, mix).encode())
+    text = warnings_text(ops, session, mix)
+    return Answer(output=(times_text(layout[0], text) if "--times" in words else text).encode())
 
 
-def parted(words, defaults=OPTIONS):
-    """The names among the words of `render`, or of another command whose options these are, and its options."""
-    names, options, left = [], dict(defaults), list(words)
+def parted(words, defaults=OPTIONS, flags=(), several=()):
+    """The names among the words of `render`, or of another command whose options these are, and its options; flags are passed over, and of `several` each
+    value counts."""
+    names, options, left = [], dict(defaults, **{name: [] for name in several}), [word for word in words if word not in flags]
     while left:
         word = left.pop(0)
         if not word.startswith("--"):
             names.append(word)
             continue
         name, is_given, value = word[2:].partition("=")
-        options[name] = value if is_given else left.pop(0)
+        value = value if is_given else left.pop(0)
+        if name in several:
+            options[name].append(value)
+        else:
+            options[name] = value
     return names, options
 
 

@@ -47,7 +47,7 @@ def sound_text(track):
     return gain + (" mute" if track.mute else "")
 
 
-def timeline_text(session, width=60, rate=48000):
+def timeline_text(session, width=60, rate=48000, times_alone=False):
     span, size = columns_of(session, width)
     columns = [range(number * size, (number + 1) * size) for number in range(width)]
     labels = ["markers"] + [track.title[:SHOWN] for track in session.tracks]
@@ -55,4 +55,5 @@ def timeline_text(session, width=60, rate=48000):
     rows = ["".join(marker_mark(session.markers, frames) for frames in columns)]
     rows += ["".join(track_mark(track, frames) for frames in columns) + sound_text(track) for track in session.tracks]
     text = "".join("%s %s\n" % (label.ljust(wide), row) for label, row in zip(labels, rows))
-    return text + "span %d %s column %d %s\n" % (span, time_text(span, rate), size, time_text(size, rate))
+    span, size = (("" if times_alone else "%d " % frames) + time_text(frames, rate) for frames in (span, size))
+    return text + "span %s column %s\n" % (span, size)

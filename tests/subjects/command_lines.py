@@ -64,6 +64,13 @@ Exit status: 0 done, 1 refused (the line `radio: fault N`; `radio explain N` tel
 case("help", ["--help"], stdout=HELP)
 case("help_in_short", ["-h"], stdout=HELP)
 case("help_command", ["help"], stdout=HELP)
+# the options of each command that tells lines in forms
+FORMS = """      --time      Tell positions and lengths as H:MM:SS.mmm, at --rate frames a second
+      --rate <N>  Frames a second, for --time, 1 to 384000 (48000)
+      --json      Tell each line as a JSON object
+      --why       Behind a refusal tell in one more line what it is about
+  -h, --help      Print help
+"""
 VIEW = """Prints the session of the union of the logs
 
 Usage: radio view [OPTIONS] [LOG]...
@@ -72,9 +79,7 @@ Arguments:
   [LOG]...  Logs, in any order; with none, one log from standard input
 
 Options:
-      --why   Behind a refusal tell in one more line what it is about
-  -h, --help  Print help
-
+""" + FORMS + """
 Example: radio view desk.log home.log
 """ + STATUS
 case("help_of_view", ["view", "--help"], stdout=VIEW)
@@ -110,6 +115,8 @@ Arguments:
   <WAVE>  A wave file
 
 Options:
+      --time  Tell positions and lengths as H:MM:SS.mmm, at the file's own rate
+      --json  Tell each line as a JSON object
       --why   Behind a refusal tell in one more line what it is about
   -h, --help  Print help
 

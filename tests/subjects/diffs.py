@@ -187,10 +187,13 @@ Arguments:
   <RIGHT>  The log, or the operations, to compare with it
 
 Options:
-      --fields  Print too, before the counts, `both ITEM FIELD STAMP STAMP` for each field that both alone write, with the last stamp of LEFT and of RIGHT
-      --view    Print instead the lines of the session that go, behind `- `, and those that come, behind `+ `
-      --why     Behind a refusal tell in one more line what it is about
-  -h, --help    Print help
+      --fields    Print too, before the counts, `both ITEM FIELD STAMP STAMP` for each field that both alone write, with the last stamp of LEFT and of RIGHT
+      --view      Print instead the lines of the session that go, behind `- `, and those that come, behind `+ `
+      --time      Tell positions and lengths as H:MM:SS.mmm, at --rate frames a second
+      --rate <N>  Frames a second, for --time, 1 to 384000 (48000)
+      --json      Tell each line as a JSON object
+      --why       Behind a refusal tell in one more line what it is about
+  -h, --help      Print help
 
 Example: radio diff desk.log home.log
 

@@ -140,10 +140,12 @@ Arguments:
   <OUT>      The log to write, which may be LOG; one that is there is replaced, also where it is SCRIPT
 
 Options:
-      --new      Be refused (37) where OUT is there
-      --no-sync  Do not wait until OUT is on the disk: faster, and lost where the machine stops
-      --why      Behind a refusal tell in one more line what it is about
-  -h, --help     Print help
+      --time      Take times (0:01:30.5, 1.5s) and decibels (-6dB) too, at --rate frames a second
+      --rate <N>  Frames a second, for --time, 1 to 384000 (48000)
+      --new       Be refused (37) where OUT is there
+      --no-sync   Do not wait until OUT is on the disk: faster, and lost where the machine stops
+      --why       Behind a refusal tell in one more line what it is about
+  -h, --help      Print help
 
 Example: radio edit 00000000-0000-0000-0000-00000000000a desk.log changes.txt desk.log
 
@@ -152,7 +154,7 @@ A line of SCRIPT is one of these, with one space between words (docs/formats.md,
   move-track ITEM AFTER, move-clip CLIP TRACK AT, move-marker ITEM AT, trim-clip ITEM OFFSET LEN,
   gain ITEM NUM/DEN, mute ITEM on, mute ITEM off, fade ITEM IN OUT, marker-length ITEM LEN, remove ITEM, restore ITEM
 An ITEM, a TRACK or a CLIP is a stamp that `radio view` prints, or $k for what line k adds; AFTER is a track, or `head` for the top;
-AT, OFFSET, LEN, IN and OUT are frames; DIGEST is what `radio info` prints. Two lines:
+AT, OFFSET, LEN, IN and OUT are frames, with --time also times; NUM/DEN is with --time also decibels; DIGEST is what `radio info` prints. Two lines:
   add-marker 480 Headlines
   move-marker 1.1.00000000-0000-0000-0000-00000000000a 96000
 """

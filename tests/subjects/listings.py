@@ -105,8 +105,11 @@ Arguments:
   [LOG]...  Logs, in any order; with none, one log from standard input
 
 Options:
-      --why   Behind a refusal tell in one more line what it is about
-  -h, --help  Print help
+      --time      Tell positions and lengths as H:MM:SS.mmm, at --rate frames a second
+      --rate <N>  Frames a second, for --time, 1 to 384000 (48000)
+      --json      Tell each line as a JSON object
+      --why       Behind a refusal tell in one more line what it is about
+  -h, --help      Print help
 
 Example: radio log desk.log home.log
 

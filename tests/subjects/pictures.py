@@ -1,8 +1,9 @@
 """Cases of `radio timeline --svg`: the session as a picture. The elements are written by hand, and what a second reading takes for the text has to be the same."""
 from subjects.case import LATE, NEWS, ONE, case, fault
-from subjects.renders import CLIP, OTHER, THREE, TRACK, named
+from subjects.renders import CLIP, LOW_RATE, OTHER, THREE, TRACK, named, wave
 from formats.logs import A, B, add_clip, add_marker, add_track, log, retitle, set_fade, set_gain, set_marker_length, set_mute, stamp_text
 from formats.read_logs import read_log
+from formats.read_waves import Wave
 from formats.sessions import session_of
 from formats.svg_text import svg_text
 
@@ -100,6 +101,52 @@ OF_ONE = HEAD % (80, 80) + STYLE + GROUND % 80 + ticks(START, 72) + marker("News
 case("picture_of_standard_input", ["timeline", "--svg"], stdin=ONE, stdout=OF_ONE)
 case("picture_of_two_logs", ["timeline", "--svg", "a", "b"], files={"a": ONE, "b": ONE}, stdout=OF_ONE)
 case("picture_whatever_its_width", ["timeline", "--svg", "--width", "1", "log"], files={"log": ONE}, stdout=OF_ONE)
+
+
+# the peaks of recordings: a line for each unit in which a frame is drawn
+LOUD = wave([0, 16384, -32768, 8192], bits=16)
+
+
+def peaked(name, ops, files, lines, digits, width=1200, x=200, sounds="clip", others=()):
+    """A picture with these recordings, in whose first box these lines stand, each a unit, how far it goes up and how far down."""
+    path = '<path class="peaks" stroke="#246" stroke-opacity=".5" d="%s"/>' % "".join("M%d %dv%d" % (unit, 16 - reach, 2 * reach) for unit, reach in lines) if lines else ""
+    text = HEAD % (120, 120) + STYLE + GROUND % 120 + ticks(START, 112) + track(0, "Voice", [*others, box(CLIP, x, width, path, sounds=sounds).replace(DIGITS, digits)]) + "</svg>\n"
+    assert text == svg_text(48000, session_of(read_log(log(ops))), [Wave(data) for _, data in files]), name
+    words = [word for name, _ in files for word in ("--source", name)]
+    case("picture_with_" + name, ["timeline", "--svg", *words, "log"], files=dict(files, log=log(ops)), stdout=text)
+
+
+def of(recording, length, offset=0):
+    return [VOICE, add_clip(CLIP, named(recording), TRACK, 0, offset, length)]
+
+
+LOUDS, STEREO = named(LOUD).hex()[:8], wave([1, -32768, 16384, 2], bits=16, channels=2)
+peaked("peaks", of(LOUD, 4), [("loud.wav", LOUD)], [(300, 7), (600, 15), (900, 3)], LOUDS)
+peaked("peaks_from_an_offset_on", of(LOUD, 2, 1), [("loud.wav", LOUD)], [(0, 7), (600, 15)], LOUDS)
+peaked("peaks_past_the_end", of(LOUD, 4, 2), [("loud.wav", LOUD)], [(0, 15), (300, 3)], LOUDS)
+peaked("peaks_of_all_channels", of(STEREO, 2), [("stereo.wav", STEREO)], [(0, 15), (600, 7)], named(STEREO).hex()[:8])
+peaked("peaks_of_a_muted_clip", of(LOUD, 4) + [set_mute((3, A, 3), CLIP, 1)], [("loud.wav", LOUD)], [(300, 7), (600, 15), (900, 3)], LOUDS, sounds="clip mute")
+peaked("peaks_of_two_recordings", of(LOUD, 4), [("three.wav", THREE), ("loud.wav", LOUD), ("again.wav", LOUD)], [(300, 7), (600, 15), (900, 3)], LOUDS)
+peaked("no_peaks_of_another_recording", of(LOUD, 4), [("three.wav", THREE)], [], LOUDS)
+SILENT = wave([0, 0], bits=16)
+peaked("no_peaks_of_silence", of(SILENT, 2), [("silent.wav", SILENT)], [], named(SILENT).hex()[:8])
+case("picture_with_peaks_of_standard_input", ["timeline", "--svg", "--source", "loud.wav"], files={"loud.wav": LOUD}, stdin=log(of(LOUD, 4)), stdout=svg_text(48000, session_of(read_log(log(of(LOUD, 4)))), [Wave(LOUD)]))
+case("picture_with_a_recording_alone", ["timeline", "--source", "loud.wav", "log"], files={"log": ONE}, status=2,
+     stderr="error: the following required arguments were not provided:\n  --svg\n\nUsage: radio timeline --svg --source <WAVE> [LOG]...\n\nFor more information, try '--help'.\n")
+
+
+def refused_source(name, number, words, files, why, **more):
+    fault("picture_with_" + name, number, ["timeline", "--svg", *words], files=files, **more)
+    case("why_picture_with_" + name, ["timeline", "--svg", "--why", *words], status=1, files=files, stderr="radio: fault %d\nradio: why: %s\n" % (number, why), **more)
+
+
+refused_source("no_such_recording", 45, ["--source", "none.wav", "log"], {"log": ONE}, "input none.wav")
+refused_source("a_recording_that_is_none", 26, ["--source", "log", "log"], {"log": ONE}, "recording log")
+refused_source("a_second_recording_that_is_none", 28, ["--source", "three.wav", "--source", "cut.wav", "log"], {"log": ONE, "three.wav": THREE, "cut.wav": THREE[:-2]}, "recording cut.wav")
+refused_source("a_recording_that_is_none_before_a_damaged_log", 26, ["--source", "log", "log"], {"log": ONE[:-1]}, "recording log")
+refused_source("a_recording_and_a_damaged_log", 13, ["--source", "three.wav", "log"], {"log": ONE[:-1], "three.wav": THREE}, "log log")
+refused_source("no_such_recording_beside_standard_input", 45, ["--source", "none.wav"], {}, "input none.wav", stdin=ONE)
+refused_source("a_recording_beside_no_log", 45, ["--source", "three.wav", "none"], {"three.wav": THREE}, "input none")
 
 
 def refused(name, number, words, files, **more):

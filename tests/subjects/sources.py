@@ -102,6 +102,7 @@ Arguments:
 Options:
       --missing  Print the digests of the recordings that are missing, a line each, and nothing else
       --files    Print the names of the files that are played, the first of each recording, a line each, and nothing else
+      --json     Tell each line as a JSON object
       --why      Behind a refusal tell in one more line what it is about
   -h, --help     Print help
 

@@ -111,6 +111,8 @@ refused("told_nowhere", 37, ["log"], {"log": ONE}, output="closed")
 refused("told_to_a_full_disk", 37, ["log"], {"log": ONE}, output="full")
 refused("told_to_a_closed_pipe", 37, ["log"], {"log": ONE}, output="pipe")
 
+case("timeline_in_times", ["timeline", "--time", "--width", "4", "log"], files={"log": log([add_marker((1, A, 1), 47999, "News")])}, stdout="markers ...^\nspan 0:00:01.000 column 0:00:00.250\n")
+case("timeline_in_times_of_another_rate", ["timeline", "--rate", "8000", "--time", "--width", "1", "log"], files={"log": log([add_marker((1, A, 1), 7999, "News")])}, stdout="markers ^\nspan 0:00:01.000 column 0:00:01.000\n")
 USAGE = "\nFor more information, try '--help'.\n"
 
 
@@ -131,11 +133,13 @@ Arguments:
   [LOG]...  Logs, in any order; with none, one log from standard input
 
 Options:
-      --width <N>  How many columns, 1 to 1000 (60)
-      --rate <N>   Frames a second, for the times that are told, 1 to 384000 (48000)
-      --svg        Draw a picture: the text of an SVG file, for a browser
-      --why        Behind a refusal tell in one more line what it is about
-  -h, --help       Print help
+      --width <N>      How many columns, 1 to 1000 (60)
+      --rate <N>       Frames a second, for the times that are told, 1 to 384000 (48000)
+      --time           Tell in the last line times alone, and no frames
+      --svg            Draw a picture: the text of an SVG file, for a browser
+      --source <WAVE>  A recording, whose peaks the boxes of its clips show; as often as there are recordings
+      --why            Behind a refusal tell in one more line what it is about
+  -h, --help           Print help
 
 Example: radio timeline --width 100 desk.log home.log
 

@@ -132,6 +132,7 @@ Options:
       --date <TEXT>         The date, as dddd-dd-dd [default: 2000-01-01]
       --time <TEXT>         The time, as dd:dd:dd [default: 00:00:00]
       --time-reference <N>  Frames from midnight to the first [default: 0]
+      --times               Tell positions and lengths as H:MM:SS.mmm, at --rate frames a second
       --why                 Behind a refusal tell in one more line what it is about
   -h, --help                Print help
 

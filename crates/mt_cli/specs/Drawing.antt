@@ -2,6 +2,7 @@
 use Rattle.std.specs.Prelude.{ℕ, List}
 use Rattle.mt_opcodec.specs.LogValue.{LogMap, operations}
 use Rattle.mt_opcodec.specs.Union.{union_all}
+use Rattle.mt_render.specs.Sources.{Sources}
 use Rattle.mt_sessionview.specs.Content.{Content}
 use Rattle.mt_sessionview.specs.Session.{session_of}
 use Rattle.mt_svg.specs.Svg.{svg_text}
@@ -11,18 +12,18 @@ use Rattle.mt_cli.specs.declared.draw.Drawing.TheVariants.{Text, Svg}
 
 -- how many columns a text has; a picture is one
 abbrev pub columns_of : Drawing → ℕ
-columns_of (Text width) = width
+columns_of (Text width lengths) = width
 columns_of Svg = 1
 
--- a session as text, in so many columns, or as a picture, its times at a rate
-abbrev pub drawing_text : Drawing → ℕ → Content → List ℕ
-drawing_text (Text width) rate session = timeline_text width rate session
-drawing_text Svg rate session = svg_text rate session
+-- a session as text, in so many columns, or as a picture with the peaks of recordings, its times at a rate
+abbrev pub drawing_text : Drawing → ℕ → Sources → Content → List ℕ
+drawing_text (Text width lengths) rate sources session = timeline_text width lengths rate session
+drawing_text Svg rate sources session = svg_text rate sources session
 
 -- a log's session so
-abbrev pub log_drawing : Drawing → ℕ → LogMap → List ℕ
-log_drawing drawing rate log = drawing_text drawing rate (session_of (operations log))
+abbrev pub log_drawing : Drawing → ℕ → Sources → LogMap → List ℕ
+log_drawing drawing rate sources log = drawing_text drawing rate sources (session_of (operations log))
 
 -- the same of the session of the union of the logs' sets
-abbrev pub drawn_text : Drawing → ℕ → List LogMap → List ℕ
-drawn_text drawing rate logs = log_drawing drawing rate (union_all logs)
+abbrev pub drawn_text : Drawing → ℕ → Sources → List LogMap → List ℕ
+drawn_text drawing rate sources logs = log_drawing drawing rate sources (union_all logs)

@@ -1,10 +1,11 @@
 -- What `edit` writes and tells of a log and a script, and why it is refused.
-use Rattle.std.specs.Prelude.{◌≡◌, ◌≢◌, ℕ, List, [], ◌∷◌, ◌++◌, length, codes, Option, Ok, Err, ◌⊎◌}
+use Rattle.std.specs.Prelude.{◌≡◌, ◌≢◌, ℕ, max, List, [], ◌∷◌, ◌++◌, length, codes, Option, Some, None, Ok, Err, ◌⊎◌}
 use Rattle.std.specs.Fmt.{decimal}
 use Rattle.mt_latch.specs.Latch.{Latched}
 use Rattle.mt_stamp.specs.declared.name.Replica.{Replica}
 use Rattle.mt_op.specs.Operation.{Operation}
 use Rattle.mt_opcodec.specs.LogValue.{LogMap}
+use Rattle.mt_lines.specs.Saying.{plain_script}
 use Rattle.mt_sessionview.specs.SessionText.{newline}
 use Rattle.mt_script.specs.declared.fault.ScriptFault.TheVariants as script
 use Rattle.mt_script.specs.Script.{scripted, with_ops}
@@ -27,6 +28,11 @@ lent_edit log script output told = record { log = log; script = script; output =
 abbrev pub number_line : List ℕ → ℕ → List ℕ
 number_line front number = front ++ (decimal number ++ newline ∷ [])
 
+-- The script that a text asks for: where it may say times and decibels, what these come to stands in their places, at so many frames a second, of which 0 counts as 1.
+abbrev pub asked : Option ℕ → List ℕ → List ℕ
+asked None text = text
+asked (Some rate) text = plain_script (max rate 1) text
+
 -- how many changes were made
 abbrev pub ops_line : ℕ → List ℕ
 ops_line count = number_line (codes "ops ") count
@@ -46,13 +52,13 @@ module _ {W T : Type 0} (contents : W → Option (List ℕ)) (prints : T → Opt
       (ops : List Operation) × ((scripted log name text ≡ Ok ops) × (HasWritten contents (text_of (with_ops log ops)) output output' × HasFailed prints (ops_line (length ops)) told told'))
   EditNotMade _ = ⊥
 
-module _ {R W T : Type 0} (remaining : R → Option (List ℕ)) (contents : W → Option (List ℕ)) (prints : T → Option (List ℕ)) (name : Replica) (before after : EditLent R W T) where
-  -- the inputs gave a log and a script, and what these make was written and told
+module _ {R W T : Type 0} (remaining : R → Option (List ℕ)) (contents : W → Option (List ℕ)) (prints : T → Option (List ℕ)) (name : Replica) (rate : Option ℕ) (before after : EditLent R W T) where
+  -- the inputs gave a log and the text of a script, and what these make was written and told
   abbrev pub EditWritten : Type 0
   EditWritten =
       (log : LogMap)
       × ((text : List ℕ)
-      × ((Gave remaining before.log (text_of log) × Gave remaining before.script text) × MadeEdit contents prints name log text before.output after.output before.told after.told))
+      × ((Gave remaining before.log (text_of log) × Gave remaining before.script text) × MadeEdit contents prints name log (asked rate text) before.output after.output before.told after.told))
 
   -- They were not read, with both outputs as they were; or they were, and what they make was not written or not told.
   abbrev pub EditFails : CliFault → Type 0
@@ -61,4 +67,4 @@ module _ {R W T : Type 0} (remaining : R → Option (List ℕ)) (contents : W �
       ⊎ ((log : LogMap)
       × ((text : List ℕ)
       × ((Gave remaining before.log (text_of log) × Gave remaining before.script text)
-      × ((IsRead remaining after.log × IsRead remaining after.script) × EditNotMade contents prints name log text before.output after.output before.told after.told fault))))
+      × ((IsRead remaining after.log × IsRead remaining after.script) × EditNotMade contents prints name log (asked rate text) before.output after.output before.told after.told fault))))

@@ -1,6 +1,7 @@
 pub mod Faults
 pub mod Reading
 pub mod Joining
+pub mod Form
 pub mod Viewing
 pub mod Listing
 pub mod Drawing

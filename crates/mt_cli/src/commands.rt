@@ -4,11 +4,13 @@ use crate::base::Base;
 use crate::both::read_growing;
 use crate::fault::CliFault;
 use crate::files::{OpenLog, open_log};
+use crate::form::LineForm;
 use crate::part::{Naming, Part};
 use crate::swap::swap_log;
 use clap::ArgMatches;
 use mt_opcodec::Latch;
 use mt_sync::{GrowingLog, Holder, Side};
+use std::alloc::Global;
 use std::fs::File;
 use std::io::{Read, Write};
 use std::net::OpenStream;
@@ -38,6 +40,30 @@ pub(crate) mod sources;
 pub(crate) mod take;
 pub(crate) mod timeline;
 pub(crate) mod view;
+
+// At how many frames a second times are told or read, where these words ask for times.
+fn rate_of_times(words: &ArgMatches<'_>) -> Option<u32> {
+    if !words.get_flag("time") {
+        return None;
+    }
+    Some(words.get_one::<u32>("rate").unwrap_or(48_000))
+}
+
+// The memory in which objects are made, where these words ask for them.
+fn memory_of_objects(alloc: Global, words: &ArgMatches<'_>) -> Option<Global> {
+    if !words.get_flag("json") {
+        return None;
+    }
+    Some(alloc)
+}
+
+// The form of lines that these words ask for.
+fn form_of(alloc: Global, words: &ArgMatches<'_>) -> LineForm {
+    LineForm {
+        rate: rate_of_times(words),
+        json: memory_of_objects(alloc, words),
+    }
+}
 
 // The log in a file, which is to grow, and the file where it is OUT.
 #[derive(Drop)]

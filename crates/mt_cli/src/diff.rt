@@ -6,10 +6,12 @@ ghost use Rattle.mt_sync.specs.Conversing.{TakesAll};
 ghost use Rattle.mt_logdiff.specs.DiffText.{IsTold, IsToldInPart};
 ghost use Rattle.mt_cli.specs.Comparing.{diff_by, begins_as_frame, without_operations, IsLogOf, IsNoLogAs, IsNoLogOf};
 ghost use Rattle.mt_cli.specs.Comparing.{GaveLogOf, GaveNoLog, TextFails, DiffWritten, DiffFails};
+ghost use Rattle.mt_cli.specs.Form.{in_form};
 ghost use Rattle.mt_cli.specs.OneLog.{lent_two, HasWritten};
 ghost use Rattle.mt_cli.specs.Reading.{IsRead};
 
 use crate::fault::CliFault;
+use crate::form::{LineForm, put_in_form};
 use crate::read::{read_all, refused};
 use crate::take::refused_sync;
 use mt_logdiff::{write_diff, write_diff_with_fields, write_view_diff};
@@ -68,6 +70,29 @@ fn put_diff<A: Allocator + Clone, W: Write>(
         Ok(()) => Ok(()),
         Err(SessionFault::Memory) => Err(CliFault::Memory),
         Err(SessionFault::Write) => Err(CliFault::Write),
+    }
+}
+
+// The same in a form of lines.
+fn put_lines<A: Allocator + Clone, W: Write>(
+    alloc: A,
+    form: DiffForm,
+    lines: LineForm,
+    left: &Log<A>,
+    right: &Log<A>,
+    output: &mut Latch<W>,
+) -> Result<(), CliFault>
+    ensures ok { OnOk result (HasWritten W.contents (in_form lines (diff_by form left.now right.now)) output.old output.new) }
+    ensures err { IfErr result (TextFails W.contents (in_form lines (diff_by form left.now right.now)) output.old output.new) }
+    ensures stays_failed { output.old.failed ≡ true → output.new ≡ output.old }
+{
+    if lines.is_plain() {
+        return put_diff(alloc, form, left, right, output);
+    }
+    let mut made = Latch::new(Vec::new(alloc.clone()?));
+    match put_diff(alloc.clone()?, form, left, right, &mut made) {
+        Ok(()) => put_in_form(alloc, lines, &made.into_inner(), output),
+        Err(_) => Err(CliFault::Memory),
     }
 }
 
@@ -138,7 +163,7 @@ fn read_log_of<A: Allocator + Clone, R: Read>(
 
 /// Writes the logs of two inputs beside each other, and nothing else, in the form that is asked for: the operations that one of them alone has, and both
 /// operations of a dot that names another one in each, a line each by rising stamp, and how many there are; the same with the fields that both alone write;
-/// or the lines of the session that go and come. They are texts of `mt_logdiff`.
+/// or the lines of the session that go and come. They are texts of `mt_logdiff`, told in a form of lines.
 ///
 /// An input whose first byte is 0 is read as what `lack` wrote, frames of operations up to Bye, as `take_ops` takes them: its log is that of these
 /// operations alone, and most of them may wait for others. Every other one is read as the text of a log, which begins with another byte. `frames` is where
@@ -154,15 +179,16 @@ pub fn diff_logs<A: Allocator + Clone, R: Read, W: Write>(
     alloc: A,
     frames: Global,
     form: DiffForm,
+    lines: LineForm,
     left: &mut Latch<R>,
     right: &mut Latch<R>,
     output: &mut Latch<W>,
 ) -> Result<(), CliFault>
-    ensures ok { OnOk result (DiffWritten R.remaining W.contents (diff_by form)
+    ensures ok { OnOk result (DiffWritten R.remaining W.contents (λ l r. in_form lines (diff_by form l r))
         (lent_two left.old right.old output.old) (lent_two left.new right.new output.new)) }
     ensures read_left { OnOk result (IsRead R.remaining left.new) }
     ensures read_right { OnOk result (IsRead R.remaining right.new) }
-    ensures err { IfErr result (DiffFails R.remaining W.contents (diff_by form)
+    ensures err { IfErr result (DiffFails R.remaining W.contents (λ l r. in_form lines (diff_by form l r))
         (lent_two left.old right.old output.old) (lent_two left.new right.new output.new)) }
     ensures sound { OnOk result (output.new.failed ≡ false) }
     ensures stays_failed { output.old.failed ≡ true → output.new ≡ output.old }
@@ -176,5 +202,5 @@ pub fn diff_logs<A: Allocator + Clone, R: Read, W: Write>(
         Ok(log) => log,
         Err(fault) => return Err(fault),
     };
-    put_diff(alloc, form, &left_log, &right_log, output)
+    put_lines(alloc, form, lines, &left_log, &right_log, output)
 }

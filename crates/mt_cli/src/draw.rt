@@ -12,59 +12,64 @@ ghost use Rattle.mt_cli.specs.Writing.{WriteFails, InputsFail, InputFails};
 use crate::fault::CliFault;
 use crate::tell::{Telling, tell_log, tell_logs};
 use mt_opcodec::{Latch, Log};
+use mt_render::Catalogue;
 use mt_sessionview::{Session, SessionFault, of_log};
 use mt_svg::write_svg;
-use mt_timeline::write_timeline;
+use mt_timeline::{Lengths, write_timeline};
 use std::alloc::Allocator;
 use std::io::{Read, Write};
 
 /// How a session is drawn.
 #[derive(Clone, Copy)]
 pub enum Drawing {
-    /// As text, in so many columns, 1 and more.
-    Text { width: u16 },
-    /// As a picture: the text of an SVG file.
+    /// As text, in so many columns, 1 and more, whose last line says in which ways how long it is.
+    Text { width: u16, lengths: Lengths },
+    /// As a picture, with the peaks of the recordings that are at hand: the text of an SVG file.
     Svg,
 }
 
 // Draws a session.
-fn put_drawing<A: Allocator + Clone, B: Allocator, W: Write>(
+fn put_drawing<A: Allocator + Clone, B: Allocator, C: Allocator, W: Write>(
     alloc: A,
     drawing: Drawing,
     rate: u32,
+    recordings: &Catalogue<'_, C>,
     session: &Session<B>,
     output: &mut Latch<W>,
 ) -> Result<(), SessionFault>
     requires columns { 1 ≤ columns_of drawing }
     requires rate { 1 ≤ rate }
     ensures whole { OnOk result (Appends (W.contents output.old.inner) (W.contents output.new.inner)
-        (drawing_text drawing rate session.now)) }
+        (drawing_text drawing rate recordings.now session.now)) }
     ensures prefix { AppendsPrefix (W.contents output.old.inner) (W.contents output.new.inner)
-        (drawing_text drawing rate session.now) }
+        (drawing_text drawing rate recordings.now session.now) }
     ensures sound { OnOk result (output.new.failed ≡ false) }
     ensures write { IfErr result (λ fault. fault ≡ SessionFault.Write → output.new.failed ≡ true) }
     ensures stays_failed { output.old.failed ≡ true → output.new ≡ output.old }
     ensures memory { IfErr result (λ fault. fault ≡ SessionFault.Memory → output.new ≡ output.old) }
 {
     match drawing {
-        Drawing::Text { width } => write_timeline(alloc, width, rate, session, output),
-        Drawing::Svg => write_svg(alloc, rate, session, output),
+        Drawing::Text { width, lengths } => {
+            write_timeline(alloc, width, lengths, rate, session, output)
+        }
+        Drawing::Svg => write_svg(alloc, rate, recordings, session, output),
     }
 }
 
-// The drawing of a log's session, its times at a rate.
+// The drawing of a log's session, its times at a rate, with these recordings at hand.
 #[derive(Drop)]
-struct Drawn {
+struct Drawn<'c, 'a, C: Allocator> {
     drawing: Drawing,
     rate: u32,
+    recordings: &'c Catalogue<'a, C>,
     ghost columns_from: { 1 ≤ columns_of drawing },
     ghost rate_from: { 1 ≤ rate },
 }
 
-impl Telling for Drawn {
+impl<C: Allocator> Telling for Drawn<'_, '_, C> {
     ghost use Rattle.mt_cli.specs.Drawing.{log_drawing};
 
-    ghost told = { λ d. log_drawing d.drawing d.rate };
+    ghost told = { λ d. log_drawing d.drawing d.rate d.recordings.now };
 
     fn tell<A: Allocator + Clone, W: Write>(
         &self,
@@ -75,7 +80,14 @@ impl Telling for Drawn {
         let Ok(session) = of_log(alloc.clone()?, log) else {
             return Err(CliFault::Memory);
         };
-        match put_drawing(alloc, self.drawing, self.rate, &session, output) {
+        match put_drawing(
+            alloc,
+            self.drawing,
+            self.rate,
+            self.recordings,
+            &session,
+            output,
+        ) {
             Ok(()) => Ok(()),
             Err(SessionFault::Memory) => Err(CliFault::Memory),
             Err(SessionFault::Write) => Err(CliFault::Write),
@@ -84,17 +96,18 @@ impl Telling for Drawn {
 }
 
 /// Draws the session of the union of the inputs' logs, its times at `rate` frames a second, 1 and more, and writes nothing else: the text of `mt_timeline`, in a number of columns, or
-/// the one of `mt_svg`.
+/// the one of `mt_svg`, with the peaks of these recordings.
 ///
 /// Refused, in this order: `Read` with the index of an input whose latch has failed, or `Log` with the index of
 /// one whose bytes are no log's text, from left to right; `Merge` where a log has another operation under a dot than
 /// the logs before it, with the least such dot of the first such log; `Write` where the output's latch has failed, which then holds a prefix of the
 /// text. Nothing is written before every log has been read and accepted. `Memory` where a growth was refused, and
 /// nothing was written then. Each input is read to its end, but for those behind one at fault, which are not asked.
-pub fn draw_logs<A: Allocator + Clone, R: Read, W: Write>(
+pub fn draw_logs<A: Allocator + Clone, C: Allocator, R: Read, W: Write>(
     alloc: A,
     drawing: Drawing,
     rate: u32,
+    recordings: &Catalogue<'_, C>,
     inputs: &mut [Latch<R>],
     output: &mut Latch<W>,
 ) -> Result<(), CliFault>
@@ -102,32 +115,43 @@ pub fn draw_logs<A: Allocator + Clone, R: Read, W: Write>(
     requires rate { 1 ≤ rate }
     ensures ok { OnOk result ((logs : List LogMap)
         × (GaveLogs R.remaining inputs.old logs × AllAgree logs × Appends (W.contents output.old.inner)
-        (W.contents output.new.inner) (drawn_text drawing rate logs))) }
+        (W.contents output.new.inner) (drawn_text drawing rate recordings.now logs))) }
     ensures read { OnOk result (AreRead R.remaining inputs.new) }
-    ensures err { IfErr result (InputsFail (log_drawing drawing rate) W.contents R.remaining inputs.old inputs.new output.old
+    ensures err { IfErr result (InputsFail (log_drawing drawing rate recordings.now) W.contents R.remaining inputs.old inputs.new output.old
         output.new) }
     ensures sound { OnOk result (output.new.failed ≡ false) }
     ensures stays_failed { output.old.failed ≡ true → output.new ≡ output.old }
 {
-    tell_logs(&Drawn { drawing, rate }, alloc, inputs, output)
+    let drawn = Drawn {
+        drawing,
+        rate,
+        recordings,
+    };
+    tell_logs(&drawn, alloc, inputs, output)
 }
 
 /// The same for one input.
-pub fn draw_log<A: Allocator + Clone, R: Read, W: Write>(
+pub fn draw_log<A: Allocator + Clone, C: Allocator, R: Read, W: Write>(
     alloc: A,
     drawing: Drawing,
     rate: u32,
+    recordings: &Catalogue<'_, C>,
     input: &mut Latch<R>,
     output: &mut Latch<W>,
 ) -> Result<(), CliFault>
     requires columns { 1 ≤ columns_of drawing }
     requires rate { 1 ≤ rate }
     ensures ok { OnOk result ((log : LogMap) × (GaveLog R.remaining input.old log
-        × Appends (W.contents output.old.inner) (W.contents output.new.inner) (log_drawing drawing rate log))) }
+        × Appends (W.contents output.old.inner) (W.contents output.new.inner) (log_drawing drawing rate recordings.now log))) }
     ensures read { OnOk result (IsRead R.remaining input.new) }
-    ensures err { IfErr result (InputFails (log_drawing drawing rate) W.contents R.remaining input.old input.new output.old output.new) }
+    ensures err { IfErr result (InputFails (log_drawing drawing rate recordings.now) W.contents R.remaining input.old input.new output.old output.new) }
     ensures sound { OnOk result (output.new.failed ≡ false) }
     ensures stays_failed { output.old.failed ≡ true → output.new ≡ output.old }
 {
-    tell_log(&Drawn { drawing, rate }, alloc, input, output)
+    let drawn = Drawn {
+        drawing,
+        rate,
+        recordings,
+    };
+    tell_log(&drawn, alloc, input, output)
 }

@@ -4,7 +4,7 @@
 //! `swap_log` do the work of commands over any readers and writers, of which each is in a latch:
 //!
 //! ```rust
-//! use mt_cli::{merge_logs, view_logs};
+//! use mt_cli::{LineForm, merge_logs, view_logs};
 //! use mt_op::{Body, Op, Title};
 //! use mt_opcodec::{Latch, Log};
 //! use mt_stamp::{Replica, Stamp};
@@ -33,7 +33,7 @@
 //!     merge_logs(rt.alloc(), &mut inputs, &mut merged)?;
 //!     let both = merged.into_inner();
 //!     let mut text = Latch::new(Vec::new(rt.alloc()));
-//!     view_logs(rt.alloc(), &mut [Latch::new(both.as_slice())], &mut text)?;
+//!     view_logs(rt.alloc(), LineForm::PLAIN, &mut [Latch::new(both.as_slice())], &mut text)?;
 //!     assert!(rt; text.into_inner().as_slice() == TEXT);
 //!     Ok(())
 //! }
@@ -52,6 +52,7 @@ mod escape;
 mod fault;
 mod files;
 mod find;
+mod form;
 mod have;
 mod info;
 mod lack;
@@ -87,6 +88,7 @@ pub use draw::{Drawing, draw_log, draw_logs};
 pub use edit::edit_log;
 pub use fault::{CliFault, LayFault, PartFault};
 pub use find::{Wanted, find_items};
+pub use form::LineForm;
 pub use have::have_log;
 pub use info::write_info;
 pub use lack::lack_log;

@@ -7,7 +7,7 @@ ghost use Rattle.mt_op.specs.declared.digest.Digest.{Digest as DigestOf};
 ghost use Rattle.mt_preflight.specs.Using.{plays};
 ghost use Rattle.mt_render.specs.Sources.{found, sources_of};
 ghost use Rattle.mt_cli.specs.Reading.{Gave, IsRead, IsRest, AreRead};
-ghost use Rattle.mt_cli.specs.Sources.{IsSourceCause, HasSourceCause, HoldWanted, GaveKept, bytes_in};
+ghost use Rattle.mt_cli.specs.Sources.{IsSourceCause, HasSourceCause, HoldWanted, GaveKept, GaveWaves, bytes_in};
 
 use crate::fault::CliFault;
 use mt_bwfread::Wave;
@@ -157,6 +157,26 @@ pub(crate) fn read_audible<A: Allocator + Clone, R: Read>(
         keep_whole(&alloc, audible, &mut group, &mut kept)?;
     }
     keep_group(&alloc, audible, &mut group, &mut kept)?;
+    Ok(kept)
+}
+
+/// Reads the wave file of each recording, from left to right, and keeps all of them, each with its digest. They stand behind so many other inputs.
+pub(crate) fn read_all_sources<A: Allocator + Clone, R: Read>(
+    alloc: A,
+    others: usize,
+    inputs: &mut [Latch<R>],
+) -> Result<Vec<HashedFile<A>, A>, CliFault>
+    requires few { others + length inputs.old < 2 ^ 64 }
+    ensures read { OnOk result (AreRead R.remaining inputs.new) }
+    ensures ok { IfOk result (λ kept. GaveWaves R.remaining inputs.old kept.items) }
+    ensures err { IfErr result (HasSourceCause R.remaining others 0 inputs.old inputs.new) }
+{
+    let mut kept = Vec::new(alloc.clone()?);
+    for place in 0..inputs.len() {
+        let input = &mut inputs[place];
+        let text = read_source(alloc.clone()?, others, place, input)?;
+        kept.push(HashedFile::new(Digest::of(&text), text))?;
+    }
     Ok(kept)
 }
 

@@ -4,10 +4,12 @@ ghost use Rattle.std.specs.Prelude.{◌≡◌, ℕ, false, true, IfErr, OnOk, Li
 ghost use Rattle.std.specs.Io.KnownBytes.{Appends};
 ghost use Rattle.mt_opcodec.specs.LogValue.{LogMap};
 ghost use Rattle.mt_opcodec.specs.Union.{AllAgree, union_all};
+ghost use Rattle.mt_cli.specs.Form.{in_form};
 ghost use Rattle.mt_cli.specs.Reading.{GaveLog, GaveLogs, IsRead, AreRead};
 ghost use Rattle.mt_cli.specs.Writing.{WriteFails, InputsFail, InputFails};
 
 use crate::fault::CliFault;
+use crate::form::{LineForm, put_in_form};
 use crate::read::read_log;
 use crate::union::union_of;
 use mt_opcodec::{Latch, Log};
@@ -29,6 +31,35 @@ pub(crate) trait Telling {
         ensures err { IfErr result (WriteFails (told self.now) W.contents log output.old output.new) }
         ensures sound { OnOk result (output.new.failed ≡ false) }
         ensures stays_failed { output.old.failed ≡ true → output.new ≡ output.old };
+}
+
+/// A text of a log in a form.
+#[derive(Drop)]
+pub(crate) struct InForm<'t, T> {
+    pub(crate) text: &'t T,
+    pub(crate) form: LineForm,
+}
+
+impl<T: Telling> Telling for InForm<'_, T> {
+    ghost use Rattle.mt_cli.specs.Form.{in_form};
+
+    ghost told = { λ f log. in_form f.form (T.told f.text.now log) };
+
+    fn tell<A: Allocator + Clone, W: Write>(
+        &self,
+        alloc: A,
+        log: Log<A>,
+        output: &mut Latch<W>,
+    ) -> Result<(), CliFault> {
+        if self.form.is_plain() {
+            return self.text.tell(alloc, log, output);
+        }
+        let mut made = Latch::new(Vec::new(alloc.clone()?));
+        match self.text.tell(alloc.clone()?, log, &mut made) {
+            Ok(()) => put_in_form(alloc, self.form, &made.into_inner(), output),
+            Err(_) => Err(CliFault::Memory),
+        }
+    }
 }
 
 /// Writes the text of the union of the inputs' logs.

@@ -4,12 +4,14 @@ ghost use Rattle.std.specs.Prelude.{◌≡◌, false, true, IfErr, OnOk, List};
 ghost use Rattle.std.specs.Io.KnownBytes.{Appends};
 ghost use Rattle.mt_opcodec.specs.LogValue.{LogMap};
 ghost use Rattle.mt_opcodec.specs.Union.{AllAgree};
+ghost use Rattle.mt_cli.specs.Form.{in_form};
 ghost use Rattle.mt_cli.specs.Reading.{GaveLog, GaveLogs, IsRead, AreRead};
 ghost use Rattle.mt_cli.specs.Viewing.{log_view, view_text};
 ghost use Rattle.mt_cli.specs.Writing.{WriteFails, InputsFail, InputFails};
 
 use crate::fault::CliFault;
-use crate::tell::{Telling, tell_log, tell_logs};
+use crate::form::LineForm;
+use crate::tell::{InForm, Telling, tell_log, tell_logs};
 use mt_opcodec::{Latch, Log};
 use mt_sessionview::{of_log, write_text};
 use std::alloc::Allocator;
@@ -49,33 +51,43 @@ impl Telling for Sessions {
 /// nothing was written then. Each input is read to its end, but for those behind one at fault, which are not asked.
 pub fn view_logs<A: Allocator + Clone, R: Read, W: Write>(
     alloc: A,
+    form: LineForm,
     inputs: &mut [Latch<R>],
     output: &mut Latch<W>,
 ) -> Result<(), CliFault>
     ensures ok { OnOk result ((logs : List LogMap)
         × (GaveLogs R.remaining inputs.old logs × AllAgree logs × Appends (W.contents output.old.inner)
-        (W.contents output.new.inner) (view_text logs))) }
+        (W.contents output.new.inner) (in_form form (view_text logs)))) }
     ensures read { OnOk result (AreRead R.remaining inputs.new) }
-    ensures err { IfErr result (InputsFail log_view W.contents R.remaining inputs.old inputs.new output.old
+    ensures err { IfErr result (InputsFail (λ log. in_form form (log_view log)) W.contents R.remaining inputs.old inputs.new output.old
         output.new) }
     ensures sound { OnOk result (output.new.failed ≡ false) }
     ensures stays_failed { output.old.failed ≡ true → output.new ≡ output.old }
 {
-    tell_logs(&Sessions, alloc, inputs, output)
+    let lines = InForm {
+        text: &Sessions,
+        form,
+    };
+    tell_logs(&lines, alloc, inputs, output)
 }
 
 /// The same for one input.
 pub fn view_log<A: Allocator + Clone, R: Read, W: Write>(
     alloc: A,
+    form: LineForm,
     input: &mut Latch<R>,
     output: &mut Latch<W>,
 ) -> Result<(), CliFault>
     ensures ok { OnOk result ((log : LogMap) × (GaveLog R.remaining input.old log
-        × Appends (W.contents output.old.inner) (W.contents output.new.inner) (log_view log))) }
+        × Appends (W.contents output.old.inner) (W.contents output.new.inner) (in_form form (log_view log)))) }
     ensures read { OnOk result (IsRead R.remaining input.new) }
-    ensures err { IfErr result (InputFails log_view W.contents R.remaining input.old input.new output.old output.new) }
+    ensures err { IfErr result (InputFails (λ log. in_form form (log_view log)) W.contents R.remaining input.old input.new output.old output.new) }
     ensures sound { OnOk result (output.new.failed ≡ false) }
     ensures stays_failed { output.old.failed ≡ true → output.new ≡ output.old }
 {
-    tell_log(&Sessions, alloc, input, output)
+    let lines = InForm {
+        text: &Sessions,
+        form,
+    };
+    tell_log(&lines, alloc, input, output)
 }

@@ -102,6 +102,7 @@ impl<'w> Call<'_, 'w> {
             "sources" => &["LOG", "WAVE"],
             "info" | "lay" => &["WAVE"],
             "find" => &["LOG", "WHAT"],
+            "timeline" => &["LOG", "source"],
             _ => &["LOG"],
         }
     }
@@ -142,6 +143,25 @@ impl<'w> Call<'_, 'w> {
         }
     }
 
+    // The name of the input of this index, which where no LOG is named is standard input first.
+    fn read_input(&self, index: usize) -> &'w str {
+        if self.name != "timeline" || !self.words.get_strs("LOG").unwrap_or(&[]).is_empty() {
+            return self.input(self.inputs(), index);
+        }
+        match index {
+            0 => "standard input",
+            _ => self.input(&["source"], index - 1),
+        }
+    }
+
+    // The name of the recording of this index.
+    fn recording(&self, index: usize) -> &'w str {
+        match self.name {
+            "timeline" => self.input(&["source"], index),
+            _ => self.input(&["SOURCE", "WAVE"], index),
+        }
+    }
+
     // The first option of a format that is not one that is written.
     fn format_option(&self) -> &'static str {
         if !(1..=384_000).contains(&self.words.get_one::<u32>("rate").unwrap_or(0)) {
@@ -174,12 +194,10 @@ fn cause_of<F: Files + AllocGlobal>(
     let alloc = rt.alloc();
     match fault {
         CliFault::Memory => told(alloc, "memory", ""),
-        CliFault::Read(index) => told(alloc, "input ", call.input(call.inputs(), index)),
+        CliFault::Read(index) => told(alloc, "input ", call.read_input(index)),
         CliFault::Log(index, fault) => log_cause(alloc, call.input(call.inputs(), index), fault),
         CliFault::Merge(dot) => clash_cause(rt, call, dot),
-        CliFault::Source(index, _) => {
-            told(alloc, "recording ", call.input(&["SOURCE", "WAVE"], index))
-        }
+        CliFault::Source(index, _) => { told(alloc, "recording ", call.recording(index)) }
         CliFault::Mix(fault) => mix_cause(rt, call, fault),
         CliFault::Lay(index, fault) => lay_cause(rt, call.input(call.inputs(), index), fault),
         CliFault::Write => output_cause(alloc, call.output(), "cannot be written"),

@@ -72,15 +72,21 @@ pub(crate) enum Word {
         greatest: u64,
         help: &'static str,
     },
+    /// An option with the name of a file, as often as one likes, beside another option that has to be there then.
+    Files {
+        name: &'static str,
+        needs: &'static str,
+        help: &'static str,
+    },
     /// An option that is there or not.
     Flag {
         name: &'static str,
         help: &'static str,
     },
-    /// An option that is there or not, and not beside another.
+    /// An option that is there or not, and not beside some others.
     Choice {
         name: &'static str,
-        other: &'static str,
+        others: &'static [&'static str],
         help: &'static str,
     },
 }
@@ -114,6 +120,7 @@ impl Word {
             Word::Text { name, .. } => name,
             Word::Count { name, .. } => name,
             Word::Limit { name, .. } => name,
+            Word::Files { name, .. } => name,
             Word::Flag { name, .. } => name,
             Word::Choice { name, .. } => name,
         }
@@ -130,6 +137,7 @@ impl Word {
             Word::Text { help, .. } => help,
             Word::Count { help, .. } => help,
             Word::Limit { help, .. } => help,
+            Word::Files { help, .. } => help,
             Word::Flag { help, .. } => help,
             Word::Choice { help, .. } => help,
         }
@@ -146,6 +154,7 @@ impl Word {
             Word::Text { .. } => Shape::Valued,
             Word::Count { .. } => Shape::Valued,
             Word::Limit { .. } => Shape::Valued,
+            Word::Files { .. } => Shape::Valued,
             Word::Flag { .. } => Shape::Flag,
             Word::Choice { .. } => Shape::Flag,
         }
@@ -162,6 +171,7 @@ impl Word {
             Word::Text { .. } => "TEXT",
             Word::Count { .. } => "N",
             Word::Limit { .. } => "N",
+            Word::Files { .. } => "WAVE",
             _ => "",
         }
     }
@@ -222,6 +232,26 @@ pub(crate) const HELP_COMMAND: Words = Words {
         name: "COMMAND",
         help: "The command",
     }],
+};
+
+/// Positions and lengths are told as times.
+pub(crate) const AS_TIMES: Word = Word::Flag {
+    name: "time",
+    help: "Tell positions and lengths as H:MM:SS.mmm, at --rate frames a second",
+};
+
+/// At how many frames a second times are told or read.
+pub(crate) const TIMES_RATE: Word = Word::Limit {
+    name: "rate",
+    least: 1,
+    greatest: 384_000,
+    help: "Frames a second, for --time, 1 to 384000 (48000)",
+};
+
+/// Lines are told as JSON.
+pub(crate) const AS_JSON: Word = Word::Flag {
+    name: "json",
+    help: "Tell each line as a JSON object",
 };
 
 /// How long is waited for the other end.
@@ -285,7 +315,8 @@ fn with_one<'a>(
 
 fn word_of<'a>(alloc: Global, word: &Word) -> Result<Arg<'a>, AllocError> {
     match word {
-        Word::Choice { name, other, help } => flag(alloc, name, help).conflicts_with(other),
+        Word::Choice { name, others, help } => flag(alloc, name, help).conflicts_with_all(others),
+        Word::Files { name, needs, help } => files(alloc, name, help).requires_arg(needs),
         other => Ok(free_word_of(alloc, other)),
     }
 }
@@ -319,6 +350,7 @@ fn free_word_of<'a>(alloc: Global, word: &Word) -> Arg<'a> {
             greatest,
             help,
         } => limit(alloc, name, *least, *greatest, help),
+        Word::Files { name, help, .. } => files(alloc, name, help),
         Word::Flag { name, help } => flag(alloc, name, help),
         Word::Choice { name, help, .. } => flag(alloc, name, help),
     }
@@ -388,6 +420,14 @@ fn limit<'a>(alloc: Global, name: &'a str, least: u64, greatest: u64, help: &'a 
         .help(help)
         .value_name("N")
         .value_parser(ValueParser::Unsigned(least, greatest))
+}
+
+fn files<'a>(alloc: Global, name: &'a str, help: &'a str) -> Arg<'a> {
+    Arg::new(alloc, name)
+        .long(name)
+        .action(ArgAction::Append)
+        .value_name("WAVE")
+        .help(help)
 }
 
 /// The option of all commands.

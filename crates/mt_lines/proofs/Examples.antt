@@ -3,11 +3,13 @@ use Rattle.std.proofs.Common.{◌≡◌, [], ◌∷◌, ◌++◌, Some, None, re
 use Rattle.std.specs.Fmt.{digits}
 use Rattle.std.specs.Str.{is_utf8, chars}
 use Rattle.serde_json.proofs.OnLiterals.{serde_json_on_literals}
+use Rattle.mt_times.specs.Times.{seconds, clock, form}
 use Rattle.mt_lines.specs.declared.slot.Kind.TheVariants.{Plain, Number, Frames}
 use Rattle.mt_lines.specs.Cutting.{newline}
 use Rattle.mt_lines.specs.Table.{key_form, act_slots}
 use Rattle.mt_lines.specs.Line.{alone, one, pair, rest, parts, script_parts}
 use Rattle.mt_lines.specs.Json.{number_of, json_line, json_text}
+use Rattle.mt_lines.specs.Saying.{timed_text, plain_script}
 
 -- ---- the parts of lines
 
@@ -125,3 +127,15 @@ needed = refl
 pub escaped : json_line (codes "history \"mono\" \\x0d") ≡ codes "{\"history\":\"\\\"mono\\\" \\\\x0d\"}" ++ newline ∷ []
 unfolding is_utf8 chars serde_json_on_literals number_of key_form act_slots digits
 escaped = refl
+
+-- ---- times
+
+-- at 48000 frames a second; the title stays, and the number that no frames are
+pub timed : timed_text 48000 (codes "marker 1.1.0-a at 72000 title at 480\nheld 0\n") ≡ codes "marker 1.1.0-a at 0:00:01.500 title at 480\nheld 0\n"
+unfolding number_of key_form act_slots digits
+timed = refl
+
+-- a remark, an act that has a time, and one that has none
+pub plain : plain_script 48000 (codes "# at 1s\nadd-marker 1.5s 2s\nmove-marker $2 noon") ≡ codes "# at 1s\nadd-marker 72000 2s\nmove-marker $2 noon"
+unfolding number_of key_form act_slots digits seconds clock form
+plain = refl

@@ -5,4 +5,5 @@ mod Telling
 mod Fractions
 mod Spaced
 mod Kept
+mod ReadBack
 mod Examples

@@ -2,12 +2,11 @@
 use Rattle.std.proofs.Common.{◌≡◌, ℕ, Bool, true, false, List, [], ◌∷◌, ◌++◌, Option, Some, None, is_some, refl, sym, ap, ◌∙◌, append_assoc}
 use Rattle.std.specs.Str.{is_utf8, IsUtf8}
 use Rattle.std.proofs.lemmas.Str.{is_utf8-from_IsUtf8, IsUtf8-from_is_utf8}
-use Rattle.serde_json.specs.Data.{null, string, array, object}
-use Rattle.serde_json.specs.Written.{compact_text, comma_if, items_text, members_text}
-use Rattle.mt_lines.specs.declared.slot.Kind.{Kind}
+use Rattle.serde_json.specs.Data.{null, string}
+use Rattle.serde_json.specs.Written.{compact_text, comma_if, members_text}
 use Rattle.mt_lines.specs.Line.{Part}
-use Rattle.mt_lines.specs.Json.{number_of, text_data, counted_data, word_data, items_data, called, members, value_data}
-use Rattle.mt_lines.specs.Writing.{item_text, member_text}
+use Rattle.mt_lines.specs.Json.{number_of, text_data, counted_data, called, members, value_data}
+use Rattle.mt_lines.specs.Writing.{member_text}
 use Rattle.mt_lines.proofs.Numbers.{read_so}
 
 failed : (b : Bool) → (b ≡ true → ⊥) → b ≡ false
@@ -43,25 +42,6 @@ text_is None w none = refl
 pub no_number : (w : List ℕ) → is_some (number_of w) ≡ false → counted_data (number_of w) w ≡ text_data w
 no_number w none = text_is (number_of w) w none
 
--- ---- arrays
-
--- one item more
-pub item_written : (kind : Kind) (later : Bool) (w before now all : List ℕ) (ws others : List (List ℕ)) → ws ≡ w ∷ others → before ++ items_text later (items_data kind ws) ≡ all
-    → now ≡ before ++ item_text later (word_data kind w) → now ++ items_text true (items_data kind others) ≡ all
-item_written kind later w before now all ws others cut had step =
-    let more = items_text true (items_data kind others) in
-    ap (λ (l : List ℕ). l ++ more) step ∙ append_assoc before (item_text later (word_data kind w)) more
-    ∙ ap (λ (l : List ℕ). before ++ l) (append_assoc (comma_if later) (compact_text (word_data kind w)) more)
-    ∙ ap (λ (l : List (List ℕ)). before ++ items_text later (items_data kind l)) (sym cut) ∙ had
-
--- the whole array
-pub array_written : (kind : Kind) (old opened now new : List ℕ) (ws : List (List ℕ)) → opened ≡ old ++ 91 ∷ [] → now ++ 93 ∷ [] ≡ opened ++ items_text false (items_data kind ws) → new ≡ now ++ 93 ∷ []
-    → new ≡ old ++ compact_text (array (items_data kind ws))
-array_written kind old opened now new ws begun had step =
-    step ∙ had ∙ ap (λ (l : List ℕ). l ++ items_text false (items_data kind ws)) begun ∙ append_assoc old (91 ∷ []) (items_text false (items_data kind ws))
-
--- ---- objects
-
 -- one member more
 pub member_written : (later : Bool) (p : Part) (before now all : List ℕ) (ps others : List Part) → ps ≡ p ∷ others → before ++ members_text later (members ps) ≡ all
     → now ≡ before ++ member_text later p → now ++ members_text true (members others) ≡ all
@@ -72,9 +52,3 @@ member_written later p before now all ps others first had step =
     ap (λ (l : List ℕ). l ++ more) step ∙ append_assoc before (member_text later p) more
     ∙ ap (λ (l : List ℕ). before ++ l) (append_assoc (comma_if later) (name ++ 58 ∷ value) more ∙ ap (λ (l : List ℕ). comma_if later ++ l) (append_assoc name (58 ∷ value) more))
     ∙ ap (λ (l : List Part). before ++ members_text later (members l)) (sym first) ∙ had
-
--- the whole object
-pub object_written : (old opened now new : List ℕ) (ps : List Part) → opened ≡ old ++ 123 ∷ [] → now ++ 125 ∷ [] ≡ opened ++ members_text false (members ps) → new ≡ now ++ 125 ∷ []
-    → new ≡ old ++ compact_text (object (members ps))
-object_written old opened now new ps begun had step =
-    step ∙ had ∙ ap (λ (l : List ℕ). l ++ members_text false (members ps)) begun ∙ append_assoc old (123 ∷ []) (members_text false (members ps))

@@ -6,7 +6,10 @@ use Rattle.mt_times.specs.Decibels.{amplitude_of}
 use Rattle.mt_times.specs.Nearest.{IsNearest}
 use Rattle.mt_lines.specs.declared.slot.Kind.{Kind}
 use Rattle.mt_lines.specs.Line.{parts, script_parts, line_of}
-use Rattle.mt_lines.specs.Json.{number_of}
+use Rattle.serde_json.specs.Data.{object, Members, no_members, member, put}
+use Rattle.serde_json.specs.Read.{read}
+use Rattle.serde_json.specs.Written.{compact_text}
+use Rattle.mt_lines.specs.Json.{number_of, members, line_data}
 use Rattle.mt_lines.specs.Saying.{said_text, fraction}
 
 -- Nothing of a line is lost: the words of its parts, with one space between each two, are the line.
@@ -26,3 +29,12 @@ NumbersAreSpelled = (n : ℕ) (word : List ℕ) → (number_of word ≡ Some n) 
 -- A level is said as the fraction nearest to its amplitude, of those with a divisor from 1 to 1000 and a number up to 65,535, and no other word is.
 abbrev pub LevelsAreNearest : Type 0
 LevelsAreNearest = (word : List ℕ) → MatchOption (amplitude_of word) (fraction word ≡ None) (λ amp. (f : Fraction) × (fraction word ≡ Some f) × IsNearest 1000 amp f)
+
+-- the object that these members make, one after another: the last of one name stays, and they are read in the order of their names
+abbrev pub put_all : Members → Members → Members
+put_all no_members found = found
+put_all (member k d ms) found = put_all ms (put k d found)
+
+-- The JSON of a line is read, as the object that its members make.
+abbrev pub ObjectsAreRead : Type 0
+ObjectsAreRead = (line : List ℕ) → read (compact_text (line_data line)) ≡ Some (object (put_all (members (parts line)) no_members))

@@ -1,7 +1,7 @@
 //! What holds of lines, of what is said of them, and of refusals, as the contracts of functions.
 
 ghost use Rattle.std.specs.Prelude.{◌≡◌, ◌↔◌, IsTrue};
-ghost use Rattle.mt_lines.specs.Laws.{LinesAreKept, TextsStay, NumbersAreSpelled, LevelsAreNearest};
+ghost use Rattle.mt_lines.specs.Laws.{LinesAreKept, TextsStay, NumbersAreSpelled, LevelsAreNearest, ObjectsAreRead};
 
 use crate::fault::LinesFault;
 
@@ -23,6 +23,11 @@ pub fn numbers()
 /// A level is said as the fraction nearest to its amplitude, and no other word is.
 pub fn levels()
     ensures { LevelsAreNearest }
+{}
+
+/// The JSON of a line is read, as the object that its members make: the last of one name stays.
+pub fn objects_read()
+    ensures { ObjectsAreRead }
 {}
 
 /// Refusals are equal where they are of one case.

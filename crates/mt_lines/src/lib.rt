@@ -1,8 +1,9 @@
-//! The lines that `radio` prints, word by word: the same lines as JSON.
+//! The lines that `radio` prints and those of its scripts, word by word: printed lines as JSON, or with times in the place of frames; and scripts that tell times,
+//! with frames in their place.
 //!
 //! ```rust
 //! use mt_latch::Latch;
-//! use mt_lines::write_json;
+//! use mt_lines::{with_frames, write_json, write_times};
 //! use std::test::Fail;
 //!
 //! const VIEW: &[u8] = b"\
@@ -15,24 +16,39 @@
 //! {\"held\":0}
 //! ";
 //!
+//! const TIMED: &[u8] = b"\
+//! marker 1.1.00000000-0000-0000-0000-00000000000a at 0:00:00.010 title News at 9
+//! held 0
+//! ";
+//!
 //! fn tells_a_view(rt: HostRuntime) -> Result<(), Fail> {
 //!     let mut output = Latch::new(Vec::new(rt.alloc()));
 //!     write_json(rt.alloc(), VIEW, &mut output)?;
 //!     assert!(rt; output.into_inner().as_slice() == JSON);
+//!     // at 48000 frames a second
+//!     let mut output = Latch::new(Vec::new(rt.alloc()));
+//!     write_times(rt.alloc(), 48000, VIEW, &mut output)?;
+//!     assert!(rt; output.into_inner().as_slice() == TIMED);
+//!     Ok(())
+//! }
+//!
+//! fn reads_times(rt: HostRuntime) -> Result<(), Fail> {
+//!     let script = with_frames(rt.alloc(), 48000, b"add-marker 1.5s News\ngain $1 0dB\n")?;
+//!     assert!(rt; script.as_slice() == b"add-marker 72000 News\ngain $1 1/1\n".as_slice());
 //!     Ok(())
 //! }
 //! ```
 //!
 //! A line is cut at single spaces into words. From the left a *key* is a word that says what follows it, and what follows are *slots*, which take a word, two, or all that is left; the word that
 //! begins a line, or follows a stamp, may be an act, which has slots of its own. `specs/Table.antt` lists the keys, the acts and their slots, `specs/Line.antt` says how a line is read by
-//! them, and `specs/Json.antt` what JSON it is; `proofs/Examples.antt` has a line of each kind.
+//! them, `specs/Json.antt` what JSON it is, and `specs/Saying.antt` how it is said with times and with frames; `proofs/Examples.antt` has a line of each kind.
 #![tactic(auto)]
 
 mod cut;
 mod fault;
-mod json;
 pub mod laws;
 mod number;
+mod object;
 mod part;
 mod rewrite;
 mod say;
@@ -40,5 +56,5 @@ mod slot;
 mod table;
 
 pub use fault::LinesFault;
-pub use json::write_json;
+pub use object::write_json;
 pub use rewrite::{with_frames, write_times};

@@ -78,7 +78,9 @@ fn take<'a>(form: Form, cut: Cut<'a>) -> (Value<'a>, Option<&'a [u8]>)
 
 // Reads what a slot takes.
 fn read_slot<'a>(slot: Slot, pending: Pending, cut: Cut<'a>) -> Step<'a>
-    ensures read { IsRead (slot_reading slot (pending_of pending) cut.entry.word.now (words_left cut.entry.left)) (words_left cut.entry.left) result }
+    ensures read { IsRead
+        (slot_reading slot (pending_of pending) cut.entry.word.now (words_left cut.entry.left))
+        (words_left cut.entry.left) result }
     ensures shorter { length_left result.left ≤ length cut.entry.text.now }
 {
     let (value, left) = take(slot.form, cut);
@@ -96,7 +98,9 @@ fn read_slot<'a>(slot: Slot, pending: Pending, cut: Cut<'a>) -> Step<'a>
 
 // Reads a word that stands alone.
 fn read_alone<'a>(pending: Pending, cut: Cut<'a>) -> Step<'a>
-    ensures read { IsRead (alone_reading cut.entry.word.now (pending_of pending)) (words_left cut.entry.left) result }
+    ensures read { IsRead
+        (alone_reading cut.entry.word.now (pending_of pending))
+        (words_left cut.entry.left) result }
     ensures shorter { length_left result.left ≤ length cut.entry.text.now }
 {
     let part = Part {
@@ -113,7 +117,9 @@ fn read_alone<'a>(pending: Pending, cut: Cut<'a>) -> Step<'a>
 
 // Reads a key and what follows it.
 fn read_key<'a>(name: &'a [u8], form: Form, pending: Pending, cut: Cut<'a>) -> Step<'a>
-    ensures read { IsRead (key_reading name.now form (pending_of pending) cut.entry.word.now (words_left cut.entry.left)) (words_left cut.entry.left) result }
+    ensures read { IsRead
+        (key_reading name.now form (pending_of pending) cut.entry.word.now (words_left cut.entry.left))
+        (words_left cut.entry.left) result }
     ensures shorter { length_left result.left ≤ length cut.entry.text.now }
 {
     let Some(text) = cut.left else {
@@ -134,7 +140,9 @@ fn read_key<'a>(name: &'a [u8], form: Form, pending: Pending, cut: Cut<'a>) -> S
 
 // Reads a word where no slot is left.
 fn read_free<'a>(cut: Cut<'a>) -> Step<'a>
-    ensures read { IsRead (free_reading cut.entry.word.now (words_left cut.entry.left)) (words_left cut.entry.left) result }
+    ensures read { IsRead
+        (free_reading cut.entry.word.now (words_left cut.entry.left))
+        (words_left cut.entry.left) result }
     ensures shorter { length_left result.left ≤ length cut.entry.text.now }
 {
     match key_form(cut.word) {
@@ -155,7 +163,9 @@ fn plain(name: Name) -> Slot
 
 // Reads the word of an act.
 fn read_act<'a>(cut: Cut<'a>) -> Step<'a>
-    ensures read { IsRead (act_reading cut.entry.word.now (words_left cut.entry.left)) (words_left cut.entry.left) result }
+    ensures read { IsRead
+        (act_reading cut.entry.word.now (words_left cut.entry.left))
+        (words_left cut.entry.left) result }
     ensures shorter { length_left result.left ≤ length cut.entry.text.now }
 {
     let slots: &'static [Slot] = match act_slots(cut.word) {
@@ -167,7 +177,9 @@ fn read_act<'a>(cut: Cut<'a>) -> Step<'a>
 
 // Reads the word that a line begins with, or that follows its sign.
 fn read_first<'a>(cut: Cut<'a>) -> Step<'a>
-    ensures read { IsRead (first_reading cut.entry.word.now (words_left cut.entry.left)) (words_left cut.entry.left) result }
+    ensures read { IsRead
+        (first_reading cut.entry.word.now (words_left cut.entry.left))
+        (words_left cut.entry.left) result }
     ensures shorter { length_left result.left ≤ length cut.entry.text.now }
 {
     if cut.word == b"both".as_slice() {
@@ -186,7 +198,9 @@ fn read_first<'a>(cut: Cut<'a>) -> Step<'a>
 
 /// Reads the part that a word begins.
 pub(crate) fn read_word<'a>(pending: Pending, cut: Cut<'a>) -> Step<'a>
-    ensures read { IsRead (reading (pending_of pending) cut.entry.word.now (words_left cut.entry.left)) (words_left cut.entry.left) result }
+    ensures read { IsRead
+        (reading (pending_of pending) cut.entry.word.now (words_left cut.entry.left))
+        (words_left cut.entry.left) result }
     ensures shorter { length_left result.left ≤ length cut.entry.text.now }
 {
     match pending {

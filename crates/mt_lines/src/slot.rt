@@ -2,7 +2,7 @@
 
 /// What a word is.
 #[derive(Clone, Copy, Debug, PartialEq, Eq)]
-pub enum Kind {
+pub(crate) enum Kind {
     /// A word that is told as it is.
     Plain,
     /// A number.
@@ -17,7 +17,7 @@ pub enum Kind {
 
 /// How much of a line a slot takes.
 #[derive(Clone, Copy, Debug, PartialEq, Eq)]
-pub enum Form {
+pub(crate) enum Form {
     /// One word.
     One(Kind),
     /// Two words, or the one that is left.
@@ -30,7 +30,7 @@ pub enum Form {
 
 /// What a slot is called.
 #[derive(Clone, Copy, Debug, PartialEq, Eq)]
-pub enum Name {
+pub(crate) enum Name {
     Act,
     After,
     At,
@@ -56,7 +56,7 @@ pub enum Name {
 
 /// A place for words in a line.
 #[derive(Clone, Copy, Debug, PartialEq, Eq)]
-pub struct Slot {
-    pub name: Name,
-    pub form: Form,
+pub(crate) struct Slot {
+    pub(crate) name: Name,
+    pub(crate) form: Form,
 }

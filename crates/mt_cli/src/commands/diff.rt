@@ -1,9 +1,10 @@
 //! `radio diff`.
 
+use super::form_of;
 use crate::diff::{DiffForm, diff_logs};
 use crate::fault::CliFault;
 use crate::files::open;
-use crate::words::{Word, Words};
+use crate::words::{AS_JSON, AS_TIMES, TIMES_RATE, Word, Words};
 use clap::ArgMatches;
 use mt_opcodec::Latch;
 use std::io::Write;
@@ -24,14 +25,17 @@ pub(crate) const WORDS: Words = Words {
         },
         Word::Choice {
             name: "fields",
-            other: "view",
+            others: &["view"],
             help: "Print too, before the counts, `both ITEM FIELD STAMP STAMP` for each field that both alone write, with the last stamp of LEFT and of RIGHT",
         },
         Word::Choice {
             name: "view",
-            other: "fields",
+            others: &["fields"],
             help: "Print instead the lines of the session that go, behind `- `, and those that come, behind `+ `",
         },
+        AS_TIMES,
+        TIMES_RATE,
+        AS_JSON,
     ],
 };
 
@@ -52,8 +56,8 @@ pub(crate) fn run<F: Files + AllocGlobal, W: Write>(
     output: &mut Latch<W>,
 ) -> Result<(), CliFault> {
     let alloc = rt.alloc();
-    let form = asked_for(words);
+    let (form, lines) = (asked_for(words), form_of(alloc, words));
     let mut left = open(rt, 0, words.get_str("LEFT").unwrap_or(""))?;
     let mut right = open(rt, 1, words.get_str("RIGHT").unwrap_or(""))?;
-    diff_logs(alloc, alloc, form, &mut left, &mut right, output)
+    diff_logs(alloc, alloc, form, lines, &mut left, &mut right, output)
 }

@@ -1,10 +1,11 @@
 //! `radio edit`.
 
+use super::rate_of_times;
 use crate::edit::edit_log;
 use crate::fault::CliFault;
 use crate::files::{OpenLog, open, open_log};
 use crate::part::{Naming, Part};
-use crate::words::{NEW, NO_SYNC, Word, Words};
+use crate::words::{NEW, NO_SYNC, TIMES_RATE, Word, Words};
 use clap::ArgMatches;
 use mt_opcodec::Latch;
 use mt_stamp::Replica;
@@ -15,7 +16,7 @@ use std::rt::Files;
 pub(crate) const WORDS: Words = Words {
     name: "edit",
     about: "Makes the changes of a script, all or none, and writes the new log",
-    after: "Example: radio edit 00000000-0000-0000-0000-00000000000a desk.log changes.txt desk.log\n\nA line of SCRIPT is one of these, with one space between words (docs/formats.md, Scripts, says all of them):\n  add-track AFTER TITLE, add-clip DIGEST TRACK AT OFFSET LEN, add-marker AT TITLE, retitle ITEM TITLE,\n  move-track ITEM AFTER, move-clip CLIP TRACK AT, move-marker ITEM AT, trim-clip ITEM OFFSET LEN,\n  gain ITEM NUM/DEN, mute ITEM on, mute ITEM off, fade ITEM IN OUT, marker-length ITEM LEN, remove ITEM, restore ITEM\nAn ITEM, a TRACK or a CLIP is a stamp that `radio view` prints, or $k for what line k adds; AFTER is a track, or `head` for the top;\nAT, OFFSET, LEN, IN and OUT are frames; DIGEST is what `radio info` prints. Two lines:\n  add-marker 480 Headlines\n  move-marker 1.1.00000000-0000-0000-0000-00000000000a 96000\n\nExit status: 0 done, 1 refused (the line `radio: fault N`; `radio explain N` tells why), 2 the command line does not parse.",
+    after: "Example: radio edit 00000000-0000-0000-0000-00000000000a desk.log changes.txt desk.log\n\nA line of SCRIPT is one of these, with one space between words (docs/formats.md, Scripts, says all of them):\n  add-track AFTER TITLE, add-clip DIGEST TRACK AT OFFSET LEN, add-marker AT TITLE, retitle ITEM TITLE,\n  move-track ITEM AFTER, move-clip CLIP TRACK AT, move-marker ITEM AT, trim-clip ITEM OFFSET LEN,\n  gain ITEM NUM/DEN, mute ITEM on, mute ITEM off, fade ITEM IN OUT, marker-length ITEM LEN, remove ITEM, restore ITEM\nAn ITEM, a TRACK or a CLIP is a stamp that `radio view` prints, or $k for what line k adds; AFTER is a track, or `head` for the top;\nAT, OFFSET, LEN, IN and OUT are frames, with --time also times; NUM/DEN is with --time also decibels; DIGEST is what `radio info` prints. Two lines:\n  add-marker 480 Headlines\n  move-marker 1.1.00000000-0000-0000-0000-00000000000a 96000\n\nExit status: 0 done, 1 refused (the line `radio: fault N`; `radio explain N` tells why), 2 the command line does not parse.",
     words: &[
         Word::Needed {
             name: "REPLICA",
@@ -33,6 +34,11 @@ pub(crate) const WORDS: Words = Words {
             name: "OUT",
             help: "The log to write, which may be LOG; one that is there is replaced, also where it is SCRIPT",
         },
+        Word::Flag {
+            name: "time",
+            help: "Take times (0:01:30.5, 1.5s) and decibels (-6dB) too, at --rate frames a second",
+        },
+        TIMES_RATE,
         NEW,
         NO_SYNC,
     ],
@@ -52,6 +58,14 @@ pub(crate) fn run<F: Files<File = File> + AllocGlobal, W: Write>(
     let OpenLog { mut log, base } = open_log(rt, 0, words.get_str("LOG").unwrap_or(""), out)?;
     let mut script = open(rt, 1, words.get_str("SCRIPT").unwrap_or(""))?;
     let mut part = Part::later(alloc, rt, out, Naming::of(words))?;
-    let written = edit_log(alloc, name, &mut log, &mut script, part.output(), output);
+    let written = edit_log(
+        alloc,
+        name,
+        rate_of_times(words),
+        &mut log,
+        &mut script,
+        part.output(),
+        output,
+    );
     part.finish(base, written)
 }

@@ -1,11 +1,14 @@
 //! `radio info`.
 
+use super::memory_of_objects;
 use crate::fault::CliFault;
 use crate::files::open;
+use crate::form::{LineForm, made_in_memory, put_in_form};
 use crate::info::write_info;
 use crate::read::read_all;
-use crate::words::{Word, Words};
+use crate::words::{AS_JSON, Word, Words};
 use clap::ArgMatches;
+use mt_bwfread::Wave;
 use mt_opcodec::Latch;
 use std::io::Write;
 use std::rt::Files;
@@ -14,11 +17,29 @@ pub(crate) const WORDS: Words = Words {
     name: "info",
     about: "Prints what a wave file says of itself",
     after: "Example: radio info jingle.wav\n\nExit status: 0 done, 1 refused (the line `radio: fault N`; `radio explain N` tells why), 2 the command line does not parse.",
-    words: &[Word::Needed {
-        name: "WAVE",
-        help: "A wave file",
-    }],
+    words: &[
+        Word::Needed {
+            name: "WAVE",
+            help: "A wave file",
+        },
+        Word::Flag {
+            name: "time",
+            help: "Tell positions and lengths as H:MM:SS.mmm, at the file's own rate",
+        },
+        AS_JSON,
+    ],
 };
+
+// At how many frames a second times are told, where these words ask for times: those of the file.
+fn own_rate(words: &ArgMatches<'_>, bytes: &[u8]) -> Option<u32> {
+    if !words.get_flag("time") {
+        return None;
+    }
+    match Wave::read(bytes) {
+        Ok(wave) => Some(wave.rate()),
+        Err(_) => None,
+    }
+}
 
 pub(crate) fn run<F: Files + AllocGlobal, W: Write>(
     rt: &F,
@@ -27,5 +48,14 @@ pub(crate) fn run<F: Files + AllocGlobal, W: Write>(
 ) -> Result<(), CliFault> {
     let mut file = open(rt, 0, words.get_str("WAVE").unwrap_or(""))?;
     let bytes = read_all(rt.alloc(), 0, &mut file)?;
-    write_info(rt.alloc(), &bytes, output)
+    let form = LineForm {
+        rate: own_rate(words, &bytes),
+        json: memory_of_objects(rt.alloc(), words),
+    };
+    if form.is_plain() {
+        return write_info(rt.alloc(), &bytes, output);
+    }
+    let mut made = Latch::new(Vec::new(rt.alloc()));
+    made_in_memory(write_info(rt.alloc(), &bytes, &mut made))?;
+    put_in_form(rt.alloc(), form, &made.into_inner(), output)
 }

@@ -1,9 +1,10 @@
 //! `radio log`.
 
+use super::form_of;
 use crate::fault::CliFault;
 use crate::files::open_all;
 use crate::list::{list_log, list_logs};
-use crate::words::{Word, Words};
+use crate::words::{AS_JSON, AS_TIMES, TIMES_RATE, Word, Words};
 use clap::ArgMatches;
 use mt_opcodec::Latch;
 use std::io::{Read, Write};
@@ -13,10 +14,15 @@ pub(crate) const WORDS: Words = Words {
     name: "log",
     about: "Prints the operations of the union of the logs, a line each by rising stamp",
     after: "Example: radio log desk.log home.log\n\nExit status: 0 done, 1 refused (the line `radio: fault N`; `radio explain N` tells why), 2 the command line does not parse.",
-    words: &[Word::Any {
-        name: "LOG",
-        help: "Logs, in any order; with none, one log from standard input",
-    }],
+    words: &[
+        Word::Any {
+            name: "LOG",
+            help: "Logs, in any order; with none, one log from standard input",
+        },
+        AS_TIMES,
+        TIMES_RATE,
+        AS_JSON,
+    ],
 };
 
 pub(crate) fn run<F: Files + AllocGlobal, R: Read, W: Write>(
@@ -25,11 +31,12 @@ pub(crate) fn run<F: Files + AllocGlobal, R: Read, W: Write>(
     input: &mut Latch<R>,
     output: &mut Latch<W>,
 ) -> Result<(), CliFault> {
+    let form = form_of(rt.alloc(), words);
     match words.get_strs("LOG") {
         Some(names) if !names.is_empty() => {
             let mut files = open_all(rt, 0, names)?;
-            list_logs(rt.alloc(), &mut files, output)
+            list_logs(rt.alloc(), form, &mut files, output)
         }
-        _ => list_log(rt.alloc(), input, output),
+        _ => list_log(rt.alloc(), form, input, output),
     }
 }

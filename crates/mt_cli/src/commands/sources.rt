@@ -1,7 +1,9 @@
 //! `radio sources`.
 
+use super::memory_of_objects;
 use crate::fault::CliFault;
 use crate::files::{LateFile, late_files};
+use crate::form::{LineForm, made_in_memory, put_in_form};
 use crate::source_list::list_sources;
 use crate::words::{Word, Words};
 use clap::ArgMatches;
@@ -25,13 +27,18 @@ pub(crate) const WORDS: Words = Words {
         },
         Word::Choice {
             name: "missing",
-            other: "files",
+            others: &["files"],
             help: "Print the digests of the recordings that are missing, a line each, and nothing else",
         },
         Word::Choice {
             name: "files",
-            other: "missing",
+            others: &["missing"],
             help: "Print the names of the files that are played, the first of each recording, a line each, and nothing else",
+        },
+        Word::Choice {
+            name: "json",
+            others: &["missing", "files"],
+            help: "Tell each line as a JSON object",
         },
     ],
 };
@@ -47,7 +54,8 @@ fn asked_for(words: &ArgMatches<'_>) -> Listing {
     Listing::All
 }
 
-pub(crate) fn run<F: Files + AllocGlobal, W: Write>(
+// Writes the text that these words ask for.
+fn list<F: Files + AllocGlobal, W: Write>(
     rt: &F,
     words: &ArgMatches<'_>,
     output: &mut Latch<W>,
@@ -63,4 +71,21 @@ pub(crate) fn run<F: Files + AllocGlobal, W: Write>(
         &mut files,
         output,
     )
+}
+
+pub(crate) fn run<F: Files + AllocGlobal, W: Write>(
+    rt: &F,
+    words: &ArgMatches<'_>,
+    output: &mut Latch<W>,
+) -> Result<(), CliFault> {
+    let form = LineForm {
+        rate: None,
+        json: memory_of_objects(rt.alloc(), words),
+    };
+    if form.is_plain() {
+        return list(rt, words, output);
+    }
+    let mut made = Latch::new(Vec::new(rt.alloc()));
+    made_in_memory(list(rt, words, &mut made))?;
+    put_in_form(rt.alloc(), form, &made.into_inner(), output)
 }

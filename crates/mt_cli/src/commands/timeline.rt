@@ -6,9 +6,12 @@ ghost use Rattle.mt_cli.specs.Drawing.{columns_of};
 use crate::draw::{Drawing, draw_log, draw_logs};
 use crate::fault::CliFault;
 use crate::files::open_all;
+use crate::sources::{catalogue_of, read_all_sources};
 use crate::words::{Word, Words};
 use clap::ArgMatches;
 use mt_opcodec::Latch;
+use mt_render::HashedFile;
+use mt_timeline::Lengths;
 use std::io::{Read, Write};
 use std::rt::Files;
 
@@ -34,8 +37,17 @@ pub(crate) const WORDS: Words = Words {
             help: "Frames a second, for the times that are told, 1 to 384000 (48000)",
         },
         Word::Flag {
+            name: "time",
+            help: "Tell in the last line times alone, and no frames",
+        },
+        Word::Flag {
             name: "svg",
             help: "Draw a picture: the text of an SVG file, for a browser",
+        },
+        Word::Files {
+            name: "source",
+            needs: "svg",
+            help: "A recording, whose peaks the boxes of its clips show; as often as there are recordings",
         },
     ],
 };
@@ -56,7 +68,17 @@ fn drawing_of(words: &ArgMatches<'_>) -> Drawing
     } else {
         Drawing::Text {
             width: width_of(words),
+            lengths: lengths_of(words),
         }
+    }
+}
+
+// In which ways the last line says how long the session is.
+fn lengths_of(words: &ArgMatches<'_>) -> Lengths {
+    if words.get_flag("time") {
+        Lengths::Times
+    } else {
+        Lengths::FramesAndTimes
     }
 }
 
@@ -67,18 +89,45 @@ fn rate_of(words: &ArgMatches<'_>) -> u32
     words.get_one::<u32>("rate").unwrap_or(48_000).max(1)
 }
 
-pub(crate) fn run<F: Files + AllocGlobal, R: Read, W: Write>(
+// Reads the recordings that these words name, behind so many other inputs.
+fn recordings_of<F: Files + AllocGlobal>(
+    rt: &F,
+    others: usize,
+    words: &ArgMatches<'_>,
+) -> Result<Vec<HashedFile>, CliFault> {
+    let mut files = open_all(rt, others, words.get_strs("source").unwrap_or(&[]))?;
+    if others > usize::MAX - files.len() {
+        return Err(CliFault::Memory);
+    }
+    read_all_sources(rt.alloc(), others, &mut files)
+}
+
+// Draws the session of standard input.
+fn draw_input<F: Files + AllocGlobal, R: Read, W: Write>(
     rt: &F,
     words: &ArgMatches<'_>,
     input: &mut Latch<R>,
     output: &mut Latch<W>,
 ) -> Result<(), CliFault> {
     let (drawing, rate) = (drawing_of(words), rate_of(words));
-    match words.get_strs("LOG") {
-        Some(names) if !names.is_empty() => {
-            let mut files = open_all(rt, 0, names)?;
-            draw_logs(rt.alloc(), drawing, rate, &mut files, output)
-        }
-        _ => draw_log(rt.alloc(), drawing, rate, input, output),
+    let files = recordings_of(rt, 1, words)?;
+    let recordings = catalogue_of(rt.alloc(), &files)?;
+    draw_log(rt.alloc(), drawing, rate, &recordings, input, output)
+}
+
+pub(crate) fn run<F: Files + AllocGlobal, R: Read, W: Write>(
+    rt: &F,
+    words: &ArgMatches<'_>,
+    input: &mut Latch<R>,
+    output: &mut Latch<W>,
+) -> Result<(), CliFault> {
+    let names = words.get_strs("LOG").unwrap_or(&[]);
+    if names.is_empty() {
+        return draw_input(rt, words, input, output);
     }
+    let (drawing, rate) = (drawing_of(words), rate_of(words));
+    let mut logs = open_all(rt, 0, names)?;
+    let files = recordings_of(rt, names.len(), words)?;
+    let recordings = catalogue_of(rt.alloc(), &files)?;
+    draw_logs(rt.alloc(), drawing, rate, &recordings, &mut logs, output)
 }

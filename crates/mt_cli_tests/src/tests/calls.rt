@@ -1,12 +1,13 @@
 //! The commands over a few texts, one of each, whatever the memory, the readers and the writer are.
 use super::texts::{
     ANSWER, BOTH, COMPARED, COMPARED_FIELDS, COMPARED_VIEWS, DRAWN_VOICE, EDITED, EMPTY, FILE,
-    FOUND_CLIP, FOUND_MARKER, HAS_NEWS, HAS_NOTHING, LABELLED, LAID, LATE, LISTED, NEWS, PICTURE,
-    PLAYED, PULLED, REVERTED, SCRIPT, SENT, SHOWN, TOLD, VOICE,
+    FOUND_CLIP, FOUND_MARKER, HAS_NEWS, HAS_NOTHING, LABELLED, LAID, LATE, LISTED, LOUD,
+    LOUD_VOICE, NEWS, OBJECTS, PICTURE, PLAYED, PULLED, REVERTED, SCRIPT, SENT, SHOWN,
+    TIMED_SCRIPT, TOLD, VOICE,
 };
 use mt_cli::{
-    CliFault, DiffForm, Drawing, Laying, Wanted, bounce_logs, check_log, diff_logs, draw_log,
-    draw_logs, edit_log, find_items, have_log, lack_log, lay_files, list_log, list_logs,
+    CliFault, DiffForm, Drawing, Laying, LineForm, Wanted, bounce_logs, check_log, diff_logs,
+    draw_log, draw_logs, edit_log, find_items, have_log, lack_log, lay_files, list_log, list_logs,
     list_sources, merge_logs, pull_logs, read_growing, revert_log, swap_log, take_log, view_log,
     view_logs, write_info,
 };
@@ -14,10 +15,11 @@ use mt_cuewrite::Head;
 use mt_op::Digest;
 use mt_opcodec::Latch;
 use mt_preflight::Listing;
-use mt_render::Format;
+use mt_render::{Catalogue, Format};
 use mt_stamp::Stamp;
 use mt_sync::{GrowingLog, Holder, Side};
 use mt_testkit::{A, B, RECORDING};
+use mt_timeline::Lengths;
 use std::alloc::{Allocator, Global};
 use std::io::{Read, Write};
 
@@ -26,6 +28,7 @@ use std::io::{Read, Write};
 pub(crate) enum Call {
     ViewLog,
     ViewLogs,
+    ViewObjects,
     ListLog,
     ListLogs,
     DrawLog,
@@ -51,9 +54,10 @@ pub(crate) enum Call {
 }
 
 /// All of them.
-pub(crate) const CALLS: [Call; 26] = [
+pub(crate) const CALLS: [Call; 27] = [
     Call::ViewLog,
     Call::ViewLogs,
+    Call::ViewObjects,
     Call::ListLog,
     Call::ListLogs,
     Call::DrawLog,
@@ -85,11 +89,13 @@ const NOTHING: &[u8] = b"";
 /// What it reads.
 pub(crate) fn inputs_of(call: Call) -> (&'static [u8], &'static [u8]) {
     match call {
-        Call::ViewLog | Call::ListLog | Call::FindMarker | Call::Revert => (BOTH, NOTHING),
+        Call::ViewLog | Call::ViewObjects | Call::ListLog | Call::FindMarker | Call::Revert => (
+            BOTH, NOTHING,
+        ),
         Call::FindClip | Call::DrawLog => (VOICE, NOTHING),
+        Call::DrawLogs => (LOUD_VOICE, EMPTY),
         Call::ViewLogs
         | Call::ListLogs
-        | Call::DrawLogs
         | Call::Merge
         | Call::Pull { .. }
         | Call::Diff
@@ -98,7 +104,8 @@ pub(crate) fn inputs_of(call: Call) -> (&'static [u8], &'static [u8]) {
         Call::Have => (NEWS, NOTHING),
         Call::Lack => (NEWS, HAS_NOTHING),
         Call::Take => (EMPTY, SENT),
-        Call::Edit { .. } => (EMPTY, SCRIPT),
+        Call::Edit { told: false } => (EMPTY, SCRIPT),
+        Call::Edit { told: true } => (EMPTY, TIMED_SCRIPT),
         Call::Swap => (NEWS, ANSWER),
         Call::Lay => (RECORDING, RECORDING),
         Call::Sources | Call::Check | Call::Bounce => (VOICE, RECORDING),
@@ -110,6 +117,7 @@ pub(crate) fn inputs_of(call: Call) -> (&'static [u8], &'static [u8]) {
 fn output_of(call: Call) -> &'static [u8] {
     match call {
         Call::ViewLog | Call::ViewLogs => SHOWN,
+        Call::ViewObjects => OBJECTS,
         Call::ListLog | Call::ListLogs => LISTED,
         Call::DrawLog => DRAWN_VOICE,
         Call::DrawLogs => PICTURE,
@@ -176,6 +184,33 @@ fn two<R: Read + Drop>(alloc: Global, (first, second): (R, R)) -> Option<Vec<Lat
     Some(inputs)
 }
 
+// A picture with the peaks of a recording.
+fn draw_all<M: Allocator + Clone, R: Read, W: Write>(
+    memory: M,
+    inputs: &mut [Latch<R>],
+    output: &mut Latch<W>,
+) -> Result<(), CliFault> {
+    let mut recordings = Catalogue::new(memory.clone()?);
+    if recordings.add(LOUD).is_err() {
+        return Err(CliFault::Memory);
+    }
+    draw_logs(memory, Drawing::Svg, 48_000, &recordings, inputs, output)
+}
+
+// A text of three columns.
+fn draw_one<M: Allocator + Clone, R: Read, W: Write>(
+    memory: M,
+    input: &mut Latch<R>,
+    output: &mut Latch<W>,
+) -> Result<(), CliFault> {
+    let text = Drawing::Text {
+        width: 3,
+        lengths: Lengths::FramesAndTimes,
+    };
+    let recordings = Catalogue::new(memory.clone()?);
+    draw_log(memory, text, 48_000, &recordings, input, output)
+}
+
 // Commands that write one text of some logs.
 fn run_on_logs<M: Allocator + Clone, R: Read + Drop, W: Write>(
     memory: M,
@@ -186,31 +221,35 @@ fn run_on_logs<M: Allocator + Clone, R: Read + Drop, W: Write>(
 ) -> Option<Result<(), CliFault>> {
     let mut inputs = two(alloc, inputs)?;
     Some(match call {
-        Call::ViewLogs => view_logs(memory, &mut inputs, output),
-        Call::ListLogs => list_logs(memory, &mut inputs, output),
-        Call::DrawLogs => draw_logs(memory, Drawing::Svg, 48_000, &mut inputs, output),
+        Call::ViewLogs => view_logs(memory, LineForm::PLAIN, &mut inputs, output),
+        Call::ListLogs => list_logs(memory, LineForm::PLAIN, &mut inputs, output),
+        Call::DrawLogs => draw_all(memory, &mut inputs, output),
         _ => merge_logs(memory, &mut inputs, output),
     })
+}
+
+// Times, and an object for each line.
+fn objects(alloc: Global) -> LineForm {
+    LineForm {
+        rate: Some(48_000),
+        json: Some(alloc),
+    }
 }
 
 // Those of one log.
 fn run_on_log<M: Allocator + Clone, R: Read + Drop, W: Write>(
     memory: M,
+    alloc: Global,
     call: Call,
     (input, _other): (R, R),
     output: &mut Latch<W>,
 ) -> Result<(), CliFault> {
     let mut input = Latch::new(input);
     match call {
-        Call::ViewLog => view_log(memory, &mut input, output),
-        Call::ListLog => list_log(memory, &mut input, output),
-        Call::DrawLog => draw_log(
-            memory,
-            Drawing::Text { width: 3 },
-            48_000,
-            &mut input,
-            output,
-        ),
+        Call::ViewLog => view_log(memory, LineForm::PLAIN, &mut input, output),
+        Call::ViewObjects => view_log(memory, objects(alloc), &mut input, output),
+        Call::ListLog => list_log(memory, LineForm::PLAIN, &mut input, output),
+        Call::DrawLog => draw_one(memory, &mut input, output),
         Call::FindMarker => {
             find_items(memory, true, &Wanted::Marker("Late"), &mut input, output)
         }
@@ -243,6 +282,7 @@ fn run_by_hand<M: Allocator + Clone, R: Read + Drop, W: Write>(
             memory,
             alloc,
             DiffForm::Operations,
+            LineForm::PLAIN,
             &mut log,
             &mut other,
             output,
@@ -251,11 +291,20 @@ fn run_by_hand<M: Allocator + Clone, R: Read + Drop, W: Write>(
             memory,
             alloc,
             DiffForm::Fields,
+            LineForm::PLAIN,
             &mut log,
             &mut other,
             output,
         ),
-        Call::DiffView => diff_logs(memory, alloc, DiffForm::View, &mut log, &mut other, output),
+        Call::DiffView => diff_logs(
+            memory,
+            alloc,
+            DiffForm::View,
+            LineForm::PLAIN,
+            &mut log,
+            &mut other,
+            output,
+        ),
         _ => take_log(memory, alloc, &mut log, &mut other, output),
     }
 }
@@ -284,10 +333,18 @@ fn edit<M: Allocator + Clone, R: Read + Drop, W: Write>(
     let (mut log, mut script) = (Latch::new(log), Latch::new(script));
     let mut other = Latch::new(Vec::new(alloc));
     if told {
-        let answer = edit_log(memory, A, &mut log, &mut script, &mut other, output);
+        let answer = edit_log(
+            memory,
+            A,
+            Some(48_000),
+            &mut log,
+            &mut script,
+            &mut other,
+            output,
+        );
         return beside(answer, other, NEWS);
     }
-    let answer = edit_log(memory, A, &mut log, &mut script, output, &mut other);
+    let answer = edit_log(memory, A, None, &mut log, &mut script, output, &mut other);
     beside(answer, other, EDITED)
 }
 
@@ -415,12 +472,13 @@ pub(crate) fn run<M: Allocator + Copy, R: Read + Drop, W: Write>(
             run_on_logs(memory, alloc, call, inputs, output)
         }
         Call::ViewLog
+        | Call::ViewObjects
         | Call::ListLog
         | Call::DrawLog
         | Call::FindMarker
         | Call::FindClip
         | Call::Revert
-        | Call::Have => Some(run_on_log(memory, call, inputs, output)),
+        | Call::Have => Some(run_on_log(memory, alloc, call, inputs, output)),
         Call::Lack | Call::Take | Call::Diff | Call::DiffFields | Call::DiffView => {
             Some(run_by_hand(memory, alloc, call, inputs, output))
         }

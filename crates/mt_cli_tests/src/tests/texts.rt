@@ -20,6 +20,12 @@ pub(crate) const BOTH: &[u8] =
 pub(crate) const SHOWN: &[u8] =
     b"marker 1.1.00000000-0000-0000-0000-00000000000a at 480 title Late\nheld 0\n";
 
+/// The same as an object for each line, with times.
+pub(crate) const OBJECTS: &[u8] = b"\
+{\"marker\":\"1.1.00000000-0000-0000-0000-00000000000a\",\"at\":\"0:00:00.010\",\"title\":\"Late\"}
+{\"held\":0}
+";
+
 /// The list of both.
 pub(crate) const LISTED: &[u8] = b"\
 1.1.00000000-0000-0000-0000-00000000000a ready add-marker 480 News
@@ -27,17 +33,29 @@ pub(crate) const LISTED: &[u8] = b"\
 operations 2
 ";
 
-/// The picture of both.
+/// A wave file of 16 bits, with the samples 0, 16384, -32768 and 8192.
+pub(crate) const LOUD: &[u8] =
+    b"RIFF,\0\0\0WAVEfmt \x10\0\0\0\x01\0\x01\0\x80\xbb\0\0\0w\x01\0\x02\0\x10\0data\x08\0\0\0\0\0\0@\0\x80\0 ";
+
+/// The log of a track with a clip of its four frames.
+pub(crate) const LOUD_VOICE: &[u8] =
+    b"RMTS\x01\0\0\0\0\0\0\0\x02\0\0\0\0\0\0\0\x01\0\0\0\0\0\0\0\0\0\0\0\0\0\0\0\n\0\0\0\0\0\0\0\x01\x01\0\x05Voice\0\0\0\0\0\0\0\x02\0\0\0\0\0\0\0\0\0\0\0\0\0\0\0\n\0\0\0\0\0\0\0\x02\x03\xb5\xa0\xf3\xcb\x91^\xa5$\xed6f(5\x8fZ'\x03)\x17\x02\x99M\x86\xa54\x17\xea6\xc521\xee\0\0\0\0\0\0\0\x01\0\0\0\0\0\0\0\0\0\0\0\0\0\0\0\n\0\0\0\0\0\0\0\x01\0\0\0\0\0\0\0\0\0\0\0\x04\x07\xc7\xb9\x8bV\xba\xdd\xdc\x1a+\xfc7M\xe7\x92\x81\xa5\xe7\x0c J3S\xbf\xfe\x03Cq5\xbd\xd3\xde";
+
+/// The picture of that, with the peaks of the file.
 pub(crate) const PICTURE: &[u8] = b"\
-<svg xmlns=\"http://www.w3.org/2000/svg\" width=\"1560\" height=\"80\" viewBox=\"0 0 1560 80\" font-family=\"sans-serif\" font-size=\"13\">
+<svg xmlns=\"http://www.w3.org/2000/svg\" width=\"1560\" height=\"120\" viewBox=\"0 0 1560 120\" font-family=\"sans-serif\" font-size=\"13\">
 <style>text{fill:#222}.time{font-size:11px;text-anchor:middle;fill:#666}.tick{stroke:#ccc}
 .row{fill:#000;fill-opacity:.05}.sound,.clip text{font-size:11px}.sound{fill:#666}
 .clip rect{fill:#8bd;fill-opacity:.8;stroke:#246;stroke-width:2}.fade{fill:#fff;fill-opacity:.6;stroke:#246}
 .mute .clip rect,.clip.mute rect{fill:#ccc;stroke:#888}.mute .fade{stroke:#888}.mute text{fill:#888}
 .marker path{stroke:#c22}.marker rect{fill:#c22;fill-opacity:.15}.marker text{fill:#c22;font-size:11px}</style>
-<rect width=\"1560\" height=\"80\" fill=\"#fff\"/>
-<path class=\"tick\" d=\"M200 18V72\"/><text class=\"time\" x=\"200\" y=\"14\">0:00</text>
-<g class=\"marker\"><title>Late</title><path class=\"start\" d=\"M1397 20V72\"/><svg x=\"1397\" y=\"20\" width=\"160\" height=\"16\"><text x=\"4\" y=\"12\">Late</text></svg></g>
+<rect width=\"1560\" height=\"120\" fill=\"#fff\"/>
+<path class=\"tick\" d=\"M200 18V112\"/><text class=\"time\" x=\"200\" y=\"14\">0:00</text>
+<g class=\"track\" transform=\"translate(0 72)\">
+<svg width=\"192\" height=\"40\"><title>Voice</title><text x=\"8\" y=\"17\">Voice</text><text class=\"sound\" x=\"8\" y=\"33\"></text></svg>
+<rect class=\"row\" x=\"200\" y=\"2\" width=\"1200\" height=\"36\"/>
+<svg class=\"clip\" x=\"200\" y=\"4\" width=\"1200\" height=\"32\"><title>2.2.00000000-0000-0000-0000-00000000000a</title><rect x=\"0\" y=\"0\" width=\"1200\" height=\"32\"/><path class=\"peaks\" stroke=\"#246\" stroke-opacity=\".5\" d=\"M300 9v14M600 1v30M900 13v6\"/><text x=\"4\" y=\"14\">b5a0f3cb</text></svg>
+</g>
 </svg>
 ";
 
@@ -46,6 +64,9 @@ pub(crate) const PULLED: &[u8] = b"from home.log new 1 shared 0\nops 2\n";
 
 /// The script that makes the first, and what is told of it.
 pub(crate) const SCRIPT: &[u8] = b"add-marker 480 News\n";
+
+/// The same with a time, at 48,000 frames a second.
+pub(crate) const TIMED_SCRIPT: &[u8] = b"add-marker 0.01s News\n";
 
 pub(crate) const EDITED: &[u8] = b"ops 1\n";
 

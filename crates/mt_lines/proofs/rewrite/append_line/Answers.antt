@@ -1,7 +1,8 @@
-use Rattle.std.proofs.Common.{ap, sym, ◌∙◌}
+use Rattle.std.proofs.Common.{◌++◌, ap, sym, ◌∙◌}
 use Rattle.mt_lines.specs.Cutting.{words}
 use Rattle.mt_lines.specs.Left.{words_left}
 use Rattle.mt_lines.specs.Line.{parts_of}
+use Rattle.mt_lines.specs.Writing.{line_by}
 use Rattle.mt_lines.specs.Seen.{part_of, pending_of}
 use Rattle.mt_lines.proofs.Steps.{part_read}
 use Rattle.mt_lines.proofs.Spaced.{part_written}
@@ -15,4 +16,4 @@ loop-left-preserved g c =
     let is_cut = ap words_left c.in-Some.is ∙ ap words (sym c.cut_word.ensures) ∙ cut.whole in
     let read = c.read_word-step.ensures.read in
     let first = part_read pending (pending_of step.pending) (part_of step.part) (words_left c.loop-left.left) (words_left step.left) (words_left cut.left) cut.word.now is_cut read.part read.pending read.left in
-    part_written c.args.telling c.args.rate c.loop-left.later pending cut.word.now (words_left cut.left) (part_of step.part) c.loop-left.text.items c.append_part.new.text.items _ (parts_of pending (words_left c.loop-left.left)) (parts_of (pending_of step.pending) (words_left step.left)) read.part first c.loop-left.invariant c.in_ok-append_part.ensures
+    part_written c.args.telling c.args.rate c.loop-left.later pending cut.word.now (words_left cut.left) (part_of step.part) c.loop-left.text.items c.append_part.new.text.items (c.args.text.now.items ++ line_by c.args.telling c.args.rate c.args.line.now) (parts_of pending (words_left c.loop-left.left)) (parts_of (pending_of step.pending) (words_left step.left)) read.part first c.loop-left.invariant c.in_ok-append_part.ensures
