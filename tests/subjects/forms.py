@@ -104,13 +104,13 @@ for other in ("missing", "files"):
          stderr="error: the argument '--json' cannot be used with '--%s'\n\nUsage: radio sources --json <LOG> [WAVE]...\n\nFor more information, try '--help'.\n" % other)
 
 # what a file says of itself: at its own rate
-CUES = riff(fmt(rate=8000, bits=16), bext(b"a \"b\"", b"c", b"", b"2026-11-28", b"12:30:00", 8000 * 3600, history=b"A=PCM\r\n"), data(bytes(16000)), cue(point(1, 12, 12, 0), point(7, 7999, 7999, 0)),
+CUES = riff(fmt(rate=8000, bits=16), chunk(b"bext", bext(b"a \"b\"", b"c", b"", b"2026-11-28", b"12:30:00", 8000 * 3600, history=b"A=PCM\r\n")), data(bytes(16000)), cue(point(1, 12, 12, 0), point(7, 7999, 7999, 0)),
             adtl(labl(1, b"News \xff\0"), ltxt(1, 4000)))
 CUED = info(CUES, rate=8000, bits=16, frames=8000, extension=["bext 0", 'description a "b"', "originator c", "reference ", "date 2026-11-28", "time 12:30:00", "time-reference 28800000", "history A=PCM\\x0d\\x0a"],
             cues=["cue 1 at 12 len 4000 label News \\xff", "cue 7 at 7999"])
 tells("told_in_forms", ["info", "wave"], {"wave": CUES}, CUED, [(["--time"], times_text(8000, CUED)), (["--json"], json_text(CUED)), (["--json", "--time"], json_text(times_text(8000, CUED)))])
 assert "cue 1 at 0:00:00.001 len 0:00:00.500 label" in times_text(8000, CUED) and "time-reference 1:00:00.000\n" in times_text(8000, CUED) and "frames 0:00:01.000\n" in times_text(8000, CUED)
-FAR = riff(fmt(), bext(reference_time=(1 << 64) - 1), data(bytes(3)))
+FAR = riff(fmt(), chunk(b"bext", bext(reference_time=(1 << 64) - 1)), data(bytes(3)))
 case("info_of_a_far_time_reference_time", ["info", "--time", "wave"], files={"wave": FAR}, stdout=times_text(48000, info(FAR, extension=["bext 0", "description ", "originator ", "reference ", "date ", "time ", "time-reference 18446744073709551615", "history "])))
 fault("info_of_no_wave_json", 26, ["info", "--json", "--time", "log"], files={"log": ONE})
 

@@ -1,4 +1,4 @@
-use Rattle.std.proofs.Common.{[], List, ◌∷◌, get_or, refl, subst, arith}
+use Rattle.std.proofs.Common.{List, get_or, refl, subst, arith}
 use Rattle.std.proofs.lemmas.List.{take_all}
 use Rattle.std.proofs.Math.ListN.{set}
 use Rattle.mt_latch.specs.Latch.{Latched}
