@@ -56,10 +56,10 @@ def says(members, line):
     values = [" ".join(map(str, value)) if isinstance(value, list) else {True: "on", False: "off"}.get(value, value) if isinstance(value, bool) else str(value) for value in members.values()]
     rest = line
     for value in values:
-        before, found, rest = rest.partition(value)
-        if not found:
+        if value not in rest:
             return False
-    return rest == ""
+        rest = rest[rest.index(value) + len(value):]
+    return rest == "" or values[-1] == "" and rest.endswith(" ")
 
 
 def objects_text(ops):

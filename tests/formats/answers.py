@@ -240,10 +240,10 @@ def parted(words, defaults=OPTIONS, flags=(), several=()):
     names, options, left = [], dict(defaults, **{name: [] for name in several}), [word for word in words if word not in flags]
     while left:
         word = left.pop(0)
-        if not word.startswith("--"):
+        name, is_given, value = word[2:].partition("=")
+        if not word.startswith("--") or name not in options:
             names.append(word)
             continue
-        name, is_given, value = word[2:].partition("=")
         value = value if is_given else left.pop(0)
         if name in several:
             options[name].append(value)
