@@ -143,7 +143,7 @@ def damaged_ops(draw, sent):
 def read_wave(draw, cases):
     whole = drawings.wave(draw)
     file = whole if draw.random() < 0.04 else damaged_wave(draw, whole, drawings.wave(draw))
-    return [(["info", *draw.choice([[], ["--json"], ["--time"], ["--json", "--time"]]), "wave"], {"wave": file}), laying(draw, {"wave": file}, 48000)]
+    return [(["info", *draw.choice([[], ["--json"], ["--time"], ["--json", "--time", "--rate", "44100"]]), "wave"], {"wave": file}), laying(draw, {"wave": file}, 48000)]
 
 
 def read_session(draw, cases):

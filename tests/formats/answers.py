@@ -155,8 +155,8 @@ def take(folder, log, ops, out):
 
 
 def info(folder, *words):
-    wave = Wave(*folder.open(*[word for word in words if word not in ("--time", "--json")]))
-    return Answer(output=formed(words, wave.rate)[1](wave.info()))
+    wave = Wave(*folder.open(*formed(words)[0]))
+    return Answer(output=formed(words, None if "--rate" in words else wave.rate)[1](wave.info()))
 
 
 def sources(folder, *words):

@@ -115,10 +115,11 @@ Arguments:
   <WAVE>  A wave file
 
 Options:
-      --time  Tell positions and lengths as H:MM:SS.mmm, at the file's own rate
-      --json  Tell each line as a JSON object
-      --why   Behind a refusal tell in one more line what it is about
-  -h, --help  Print help
+      --time      Tell positions and lengths as H:MM:SS.mmm, at --rate frames a second
+      --rate <N>  Frames a second, for --time, 1 to 384000 (the file's own)
+      --json      Tell each line as a JSON object
+      --why       Behind a refusal tell in one more line what it is about
+  -h, --help      Print help
 
 Example: radio info jingle.wav
 """ + STATUS

@@ -110,6 +110,7 @@ CUED = info(CUES, rate=8000, bits=16, frames=8000, extension=["bext 0", 'descrip
             cues=["cue 1 at 12 len 4000 label News \\xff", "cue 7 at 7999"])
 tells("told_in_forms", ["info", "wave"], {"wave": CUES}, CUED, [(["--time"], times_text(8000, CUED)), (["--json"], json_text(CUED)), (["--json", "--time"], json_text(times_text(8000, CUED)))])
 assert "cue 1 at 0:00:00.001 len 0:00:00.500 label" in times_text(8000, CUED) and "time-reference 1:00:00.000\n" in times_text(8000, CUED) and "frames 0:00:01.000\n" in times_text(8000, CUED)
+case("info_at_another_rate_time", ["info", "--time", "--rate", "16000", "wave"], files={"wave": CUES}, stdout=times_text(16000, CUED))
 FAR = riff(fmt(), chunk(b"bext", bext(reference_time=(1 << 64) - 1)), data(bytes(3)))
 case("info_of_a_far_time_reference_time", ["info", "--time", "wave"], files={"wave": FAR}, stdout=times_text(48000, info(FAR, extension=["bext 0", "description ", "originator ", "reference ", "date ", "time ", "time-reference 18446744073709551615", "history "])))
 fault("info_of_no_wave_json", 26, ["info", "--json", "--time", "log"], files={"log": ONE})

@@ -6,7 +6,7 @@ use crate::files::open;
 use crate::form::{LineForm, made_in_memory, put_in_form};
 use crate::info::write_info;
 use crate::read::read_all;
-use crate::words::{AS_JSON, Word, Words};
+use crate::words::{AS_JSON, AS_TIMES, Word, Words};
 use clap::ArgMatches;
 use mt_bwfread::Wave;
 use mt_opcodec::Latch;
@@ -22,22 +22,33 @@ pub(crate) const WORDS: Words = Words {
             name: "WAVE",
             help: "A wave file",
         },
-        Word::Flag {
-            name: "time",
-            help: "Tell positions and lengths as H:MM:SS.mmm, at the file's own rate",
+        AS_TIMES,
+        Word::Limit {
+            name: "rate",
+            least: 1,
+            greatest: 384_000,
+            help: "Frames a second, for --time, 1 to 384000 (the file's own)",
         },
         AS_JSON,
     ],
 };
 
-// At how many frames a second times are told, where these words ask for times: those of the file.
-fn own_rate(words: &ArgMatches<'_>, bytes: &[u8]) -> Option<u32> {
-    if !words.get_flag("time") {
-        return None;
-    }
+// The rate of a file, where it is a wave file.
+fn own_rate(bytes: &[u8]) -> Option<u32> {
     match Wave::read(bytes) {
         Ok(wave) => Some(wave.rate()),
         Err(_) => None,
+    }
+}
+
+// At how many frames a second times are told, where these words ask for times: those that are said, or else those of the file.
+fn rate_of(words: &ArgMatches<'_>, bytes: &[u8]) -> Option<u32> {
+    if !words.get_flag("time") {
+        return None;
+    }
+    match words.get_one::<u32>("rate") {
+        Some(rate) => Some(rate),
+        None => own_rate(bytes),
     }
 }
 
@@ -49,7 +60,7 @@ pub(crate) fn run<F: Files + AllocGlobal, W: Write>(
     let mut file = open(rt, 0, words.get_str("WAVE").unwrap_or(""))?;
     let bytes = read_all(rt.alloc(), 0, &mut file)?;
     let form = LineForm {
-        rate: own_rate(words, &bytes),
+        rate: rate_of(words, &bytes),
         json: memory_of_objects(rt.alloc(), words),
     };
     if form.is_plain() {

@@ -96,6 +96,7 @@ fn recordings_of<F: Files + AllocGlobal>(
     words: &ArgMatches<'_>,
 ) -> Result<Vec<HashedFile>, CliFault> {
     let mut files = open_all(rt, others, words.get_strs("source").unwrap_or(&[]))?;
+    // for the proof: that all inputs can be counted
     if others > usize::MAX - files.len() {
         return Err(CliFault::Memory);
     }
