@@ -3,10 +3,16 @@ use Rattle.std.specs.Prelude.{ℕ, List}
 use Rattle.mt_opcodec.specs.LogValue.{LogMap, operations}
 use Rattle.mt_opcodec.specs.Union.{union_all}
 use Rattle.mt_logtext.specs.LogText.{log_text}
+use Rattle.mt_cli.specs.Form.{in_form}
+use Rattle.mt_cli.specs.declared.form.LineForm.{LineForm}
 
 -- the text of a log's operations
 abbrev pub log_list : LogMap → List ℕ
 log_list log = log_text (operations log)
+
+-- the same in a form
+abbrev pub list_in : LineForm → LogMap → List ℕ
+list_in form log = in_form form (log_list log)
 
 -- the text of the operations of the union of the logs' sets
 abbrev pub list_text : List LogMap → List ℕ

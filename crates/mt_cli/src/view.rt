@@ -6,7 +6,7 @@ ghost use Rattle.mt_opcodec.specs.LogValue.{LogMap};
 ghost use Rattle.mt_opcodec.specs.Union.{AllAgree};
 ghost use Rattle.mt_cli.specs.Form.{in_form};
 ghost use Rattle.mt_cli.specs.Reading.{GaveLog, GaveLogs, IsRead, AreRead};
-ghost use Rattle.mt_cli.specs.Viewing.{log_view, view_text};
+ghost use Rattle.mt_cli.specs.Viewing.{log_view, view_in, view_text};
 ghost use Rattle.mt_cli.specs.Writing.{WriteFails, InputsFail, InputFails};
 
 use crate::fault::CliFault;
@@ -59,8 +59,7 @@ pub fn view_logs<A: Allocator + Clone, R: Read, W: Write>(
         × (GaveLogs R.remaining inputs.old logs × AllAgree logs × Appends (W.contents output.old.inner)
         (W.contents output.new.inner) (in_form form (view_text logs)))) }
     ensures read { OnOk result (AreRead R.remaining inputs.new) }
-    ensures err { IfErr result (InputsFail (λ log. in_form form (log_view log)) W.contents R.remaining inputs.old inputs.new output.old
-        output.new) }
+    ensures err { IfErr result (InputsFail (view_in form) W.contents R.remaining inputs.old inputs.new output.old output.new) }
     ensures sound { OnOk result (output.new.failed ≡ false) }
     ensures stays_failed { output.old.failed ≡ true → output.new ≡ output.old }
 {
@@ -79,9 +78,9 @@ pub fn view_log<A: Allocator + Clone, R: Read, W: Write>(
     output: &mut Latch<W>,
 ) -> Result<(), CliFault>
     ensures ok { OnOk result ((log : LogMap) × (GaveLog R.remaining input.old log
-        × Appends (W.contents output.old.inner) (W.contents output.new.inner) (in_form form (log_view log)))) }
+        × Appends (W.contents output.old.inner) (W.contents output.new.inner) (view_in form log))) }
     ensures read { OnOk result (IsRead R.remaining input.new) }
-    ensures err { IfErr result (InputFails (λ log. in_form form (log_view log)) W.contents R.remaining input.old input.new output.old output.new) }
+    ensures err { IfErr result (InputFails (view_in form) W.contents R.remaining input.old input.new output.old output.new) }
     ensures sound { OnOk result (output.new.failed ≡ false) }
     ensures stays_failed { output.old.failed ≡ true → output.new ≡ output.old }
 {
