@@ -6,7 +6,7 @@ ghost use Rattle.mt_opcodec.specs.LogValue.{LogMap};
 ghost use Rattle.mt_opcodec.specs.Union.{AllAgree};
 ghost use Rattle.mt_cli.specs.Form.{in_form};
 ghost use Rattle.mt_cli.specs.Reading.{GaveLog, GaveLogs, IsRead, AreRead};
-ghost use Rattle.mt_cli.specs.Listing.{log_list, list_in, list_text};
+ghost use Rattle.mt_cli.specs.Listing.{list_in, list_text};
 ghost use Rattle.mt_cli.specs.Writing.{WriteFails, InputsFail, InputFails};
 
 use crate::fault::CliFault;
