@@ -18,7 +18,7 @@ ghost use Rattle.mt_items.specs.Noting.{MayFollow, AreNoted, is_need_met, are_ne
 ghost use Rattle.mt_items.specs.Cells.{HoldsTrack, HoldsClip, HoldsMarker, HoldsTracks, items_of, rising_items};
 ghost use Rattle.mt_items.specs.Tags.{HoldsTags};
 
-use crate::cells::{ClipCells, MarkerCells, TrackCells};
+use crate::cells::{ClipCells, MarkerCells, TrackCells, subject};
 use crate::clip::note as note_clip;
 use crate::fault::ItemsFault;
 use crate::history::History;
@@ -65,6 +65,12 @@ impl<A: Allocator> Model for Items<A> {
 
     ghost invariant = { λ i. HoldsAll i.noted.items i.tracks i.clips i.markers i.places };
 }
+
+/// How many operations `look_ahead` looks at.
+pub const AHEAD: usize = 32;
+
+// An index at which no cells stand.
+const NOWHERE: usize = usize::MAX;
 
 impl<A: Allocator> Items<A> {
     // Nothing noted, with memory for so many items.
@@ -117,6 +123,39 @@ impl<A: Allocator> Items<A> {
         ensures ok { IfOk result (λ items. items ≡ op.now ∷ self) }
         ensures err { IfErr result (λ fault. fault ≡ ItemsFault.Memory) }
     {
+        self.note_near(NOWHERE, op)
+    }
+
+    // Where the cells of an operation's item stand among those of its kind; at any index where there are none.
+    fn near(&self, op: &Op<A>) -> usize {
+        let item = subject(op);
+        match self.markers.index_of(item) {
+            Some(index) => index,
+            None => match self.clips.index_of(item) {
+                Some(index) => index,
+                None => self.tracks.index_of(item).unwrap_or(NOWHERE),
+            },
+        }
+    }
+
+    /// Where the cells of the items of the next operations stand, of at most `AHEAD` of these: where `note_near` looks first. The cells of a great
+    /// log lie far apart, and whoever looks ahead waits for those of several operations at once and not for one after another.
+    pub fn look_ahead(&self, next: &[&Op<A>]) -> [usize; AHEAD] {
+        let mut near = [NOWHERE; AHEAD];
+        for place in 0..AHEAD.min(next.len()) {
+            near[place] = self.near(next[place]);
+        }
+        near
+    }
+
+    /// Notes an operation as `note` does, and looks for the cells of its item at an index first, as `look_ahead` told it.
+    pub fn note_near(self, near: usize, op: &Op<A>) -> Result<Self, ItemsFault>
+    where
+        A: Clone,
+        requires follows { MayFollow self op.now }
+        ensures ok { IfOk result (λ items. items ≡ op.now ∷ self) }
+        ensures err { IfErr result (λ fault. fault ≡ ItemsFault.Memory) }
+    {
         let Items {
             alloc,
             mut tracks,
@@ -125,9 +164,9 @@ impl<A: Allocator> Items<A> {
             mut places,
             noted,
         } = self;
-        note_track(&alloc, &mut tracks, op)?;
-        note_clip(&alloc, &mut clips, op)?;
-        note_marker(&alloc, &mut markers, op)?;
+        note_track(&alloc, &mut tracks, near, op)?;
+        note_clip(&alloc, &mut clips, near, op)?;
+        note_marker(&alloc, &mut markers, near, op)?;
         note_place(&mut places, op)?;
         Ok(Items {
             alloc,

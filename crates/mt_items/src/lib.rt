@@ -56,6 +56,6 @@ mod track;
 
 pub use cells::{ClipCells, MarkerCells, TrackCells};
 pub use fault::ItemsFault;
-pub use items::Items;
+pub use items::{AHEAD, Items};
 pub use marks::ItemMarks;
 pub use ready::items_of_ready;

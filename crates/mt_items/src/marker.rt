@@ -58,6 +58,7 @@ fn change<A: Allocator + Clone>(
 pub(crate) fn note<A: Allocator + Clone>(
     alloc: &A,
     markers: &mut StampMap<MarkerCells<A>, A>,
+    near: usize,
     op: &Op<A>,
 ) -> Result<(), ItemsFault>
     requires new { lookup (stamp_eq op.now.stamp) markers.old ≡ None }
@@ -68,7 +69,7 @@ pub(crate) fn note<A: Allocator + Clone>(
         markers.insert(op.stamp(), cells)?;
         return Ok(());
     }
-    if let Some(cells) = markers.get_mut(subject(op)) {
+    if let Some(cells) = markers.get_mut_near(near, subject(op)) {
         change(alloc, cells, op)?;
     }
     Ok(())

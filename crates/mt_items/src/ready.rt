@@ -9,7 +9,7 @@ ghost use Rattle.mt_op.specs.Ready.{ready};
 ghost use Rattle.mt_items.specs.Noting.{one_pass};
 
 use crate::fault::ItemsFault;
-use crate::items::Items;
+use crate::items::{AHEAD, Items};
 use mt_op::Op;
 use std::alloc::Allocator;
 
@@ -21,11 +21,16 @@ fn pass<A: Allocator + Clone>(alloc: A, ops: &[&Op<A>]) -> Result<Items<A>, Item
     ensures err { IfErr result (λ fault. fault ≡ ItemsFault.Memory) }
 {
     let mut items = Items::with_room_for(alloc, ops)?;
-    for op in ops {
+    let mut near = [0; AHEAD];
+    for place in 0..ops.len() {
+        if place % AHEAD == 0 {
+            near = items.look_ahead(&ops[place..]);
+        }
+        let op = ops[place];
         // for the proof: that the operation names older ones
         let _ = op.stamp();
         if items.are_needs_met(op) {
-            items = items.note(op)?;
+            items = items.note_near(near[place % AHEAD], op)?;
         }
     }
     Ok(items)

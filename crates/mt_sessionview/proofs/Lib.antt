@@ -25,3 +25,4 @@ pub mod Placing
 pub mod Beside
 pub mod Retold
 pub mod Parting
+pub mod Sifting

@@ -133,12 +133,12 @@ fn parts_of_items<A: Allocator + Clone>(
     })
 }
 
-// How many of the operations are not among the ready ones.
-fn count_held<A: Allocator>(ops: &[&Op<A>], ready: &[&Op<A>]) -> u64
-    requires { length ready.now ≤ length ops.now }
-    ensures { result ≡ length ops.now - length ready.now }
+// How many of so many operations are not among the ready ones.
+fn count_held<A: Allocator>(count: usize, ready: &[&Op<A>]) -> u64
+    requires { length ready.now ≤ count }
+    ensures { result ≡ count - length ready.now }
 {
-    (ops.len() - ready.len()) as u64
+    (count - ready.len()) as u64
 }
 
 /// What the session of a log's operations is made of: in a time of n log n for n of them and of the tags that they list. Refused only as
@@ -154,10 +154,9 @@ pub(crate) fn parts_of_log<A: Allocator + Clone>(
     // for the proof: that the dots of a log's operations differ
     let _ = log.runs();
     let sorted = sorted_ops(alloc.clone()?, log)?;
-    let ready = ready_of(alloc, &sorted)?;
-    let held = count_held(&sorted, &ready.ops);
-    drop(sorted);
-    let Ready { ops, items } = ready;
+    let count = sorted.as_slice().len();
+    let Ready { ops, items } = ready_of(alloc, sorted)?;
+    let held = count_held(count, &ops);
     let parts = parts_of_items(alloc, &ops, items, held)?;
     Ok(parts)
 }

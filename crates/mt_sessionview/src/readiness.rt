@@ -25,6 +25,6 @@ pub fn ready_stamps<A: Allocator + Clone>(
     // for the proof: that the dots of a log's operations differ
     let _ = log.runs();
     let sorted = sorted_ops(alloc.clone()?, log)?;
-    let ready = ready_of(&alloc, &sorted)?;
+    let ready = ready_of(&alloc, sorted)?;
     Ok(stamps_of(alloc, &ready.ops)?)
 }

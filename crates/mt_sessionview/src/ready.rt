@@ -7,7 +7,7 @@ ghost use Rattle.mt_items.specs.Noting.{AreNoted};
 ghost use Rattle.mt_sessionview.specs.Session.{ready_ops};
 
 use crate::fault::SessionFault;
-use mt_items::Items;
+use mt_items::{AHEAD, Items};
 use mt_op::Op;
 use std::alloc::Allocator;
 
@@ -19,26 +19,34 @@ pub(crate) struct Ready<'a, A: Allocator> {
 }
 
 // The ready ones of these operations, which rise by stamp. Each is looked at once: it is ready where those before it that are
-// ready meet its needs.
+// ready meet its needs. The ready ones take the places of those before them that are not.
 pub(crate) fn ready_of<'a, A: Allocator + Clone>(
     alloc: &A,
-    ops: &[&'a Op<A>],
+    ops: Vec<&'a Op<A>, A>,
 ) -> Result<Ready<'a, A>, SessionFault>
-    requires rising { RisesStrictly op_cmp (map (λ o. o.now) ops.now) }
-    ensures ops { IfOk result (λ ready. map (λ o. o.now) ready.ops.items ≡ ready_ops (map (λ o. o.now) ops.now)) }
-    ensures items { IfOk result (λ ready. ready.items ≡ reverse (ready_ops (map (λ o. o.now) ops.now))) }
+    requires rising { RisesStrictly op_cmp (map (λ o. o.now) ops.items) }
+    ensures ops { IfOk result (λ ready. map (λ o. o.now) ready.ops.items ≡ ready_ops (map (λ o. o.now) ops.entry.items)) }
+    ensures items { IfOk result (λ ready. ready.items ≡ reverse (ready_ops (map (λ o. o.now) ops.entry.items))) }
     ensures noted { IfOk result (λ ready. AreNoted ready.items) }
     ensures err { IfErr result (λ fault. fault ≡ SessionFault.Memory) }
 {
-    let mut ready = Vec::with_capacity(alloc.clone()?, ops.len())?;
-    let mut items = Items::with_room_for(alloc.clone()?, ops)?;
-    for op in ops {
+    let mut sifted = ops;
+    let mut items = Items::with_room_for(alloc.clone()?, &sifted)?;
+    let mut near = [0; AHEAD];
+    let mut kept = 0;
+    for place in 0..sifted.len() {
+        if place % AHEAD == 0 {
+            near = items.look_ahead(&sifted[place..]);
+        }
+        let op = sifted[place];
         // for the proof: that the operation names older ones
         let _ = op.stamp();
         if items.are_needs_met(op) {
-            items = items.note(op)?;
-            ready.push(*op)?;
+            items = items.note_near(near[place % AHEAD], op)?;
+            sifted[kept] = op;
+            kept += 1;
         }
     }
-    Ok(Ready { ops: ready, items })
+    sifted.truncate(kept);
+    Ok(Ready { ops: sifted, items })
 }

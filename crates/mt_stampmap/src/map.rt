@@ -85,8 +85,8 @@ impl<V: Drop, A: Allocator> StampMap<V, A> {
         Some(index)
     }
 
-    // The index at which a stamp stands.
-    fn index_of(&self, stamp: Stamp) -> Option<usize>
+    /// The index at which a stamp stands among the entries, and `None` where it has no value.
+    pub fn index_of(&self, stamp: Stamp) -> Option<usize>
         ensures { MatchOption result (lookup (stamp_eq stamp) self.now ≡ None)
             (λ i. is_key (slice_get (keys_of self.now) i) stamp ≡ true) }
     {
@@ -97,6 +97,17 @@ impl<V: Drop, A: Allocator> StampMap<V, A> {
             return Some(index);
         }
         self.checked(self.index.other_place(stamp), stamp)
+    }
+
+    // The index at which a stamp stands, looked for at one first.
+    fn index_near(&self, near: usize, stamp: Stamp) -> Option<usize>
+        ensures { MatchOption result (lookup (stamp_eq stamp) self.now ≡ None)
+            (λ i. is_key (slice_get (keys_of self.now) i) stamp ≡ true) }
+    {
+        if self.stands_at(near, stamp) {
+            return Some(near);
+        }
+        self.index_of(stamp)
     }
 
     /// The value of a stamp, and `None` where it has none.
@@ -124,7 +135,15 @@ impl<V: Drop, A: Allocator> StampMap<V, A> {
         ensures* writes_back { sem 𝓛 (LendsValueIf V.row A.row A.Allocator self.entry stamp result) }
         ensures value { option_copied_mut result ≡ lookup (stamp_eq stamp) self.old }
     {
-        match self.index_of(stamp) {
+        self.get_mut_near(usize::MAX, stamp)
+    }
+
+    /// The same, looked for first at an index, where `index_of` may have found it before.
+    pub fn get_mut_near(&mut self, near: usize, stamp: Stamp) -> Option<&mut V>
+        ensures* writes_back { sem 𝓛 (LendsValueIf V.row A.row A.Allocator self.entry stamp result) }
+        ensures value { option_copied_mut result ≡ lookup (stamp_eq stamp) self.old }
+    {
+        match self.index_near(near, stamp) {
             Some(index) => Some(self.value_mut(index, stamp)),
             None => None,
         }

@@ -4,28 +4,28 @@ use Rattle.mt_items.proofs.Fresh.{IsPassing, passes_all, next_follows, next_note
 use Rattle.mt_items.proofs.ready.pass.Goals as goal
 use Rattle.mt_items.proofs.ready.pass.Goals.{then-are_needs_met+in_ok-items-2, else-are_needs_met}
 
-pub loop-op-init : goal.loop-op-init
-loop-op-init g c = passes_all (map (λ o. o.now) c.args.ops.now) c.in_ok-items.items c.requires.rising c.in_ok-items.ensures.ok
+pub loop-place-init : goal.loop-place-init
+loop-place-init g c = passes_all (map (λ o. o.now) c.args.ops.now) c.in_ok-items.items c.requires.rising c.in_ok-items.ensures.ok
 
-pub note-requires : goal.note-requires
-note-requires g c =
+pub note_near-requires : goal.note_near-requires
+note_near-requires g c =
     let ops = c.args.ops.now in
     let all = map (λ o. o.now) ops in
-    let rest = map (λ o. o.now) (drop (c.loop-op.op-index + 1) ops) in
-    let here = ap (map (λ o. o.now)) (drop_here ops c.loop-op.op-index c.op-item.result c.loop-op-test.true c.op-item.is) in
-    let so_far = subst (IsPassing all c.loop-op.items) here c.loop-op.invariant in
-    record { follows = next_follows all c.loop-op.items rest c.op-item.result.now so_far (sym c.are_needs_met.ensures.met ∙ c.if-are_needs_met.true) }
+    let rest = map (λ o. o.now) (drop (c.loop-place.place + 1) ops) in
+    let here = ap (map (λ o. o.now)) (drop_here ops c.loop-place.place c.index-ops-place.result c.loop-place-test.true c.index-ops-place.is) in
+    let so_far = subst (IsPassing all c.loop-place.items) here c.loop-place.invariant in
+    record { follows = next_follows all c.loop-place.items rest c.index-ops-place.result.now so_far (sym c.are_needs_met.ensures.met ∙ c.if-are_needs_met.true) }
 
-pub loop-op-preserved : goal.loop-op-preserved
-loop-op-preserved g c =
+pub loop-place-preserved : goal.loop-place-preserved
+loop-place-preserved g c =
     let ops = c.args.ops.now in
     let all = map (λ o. o.now) ops in
-    let rest = map (λ o. o.now) (drop (c.loop-op.op-index + 1) ops) in
-    let here = ap (map (λ o. o.now)) (drop_here ops c.loop-op.op-index c.op-item.result c.loop-op-test.true c.op-item.is) in
-    let so_far = subst (IsPassing all c.loop-op.items) here c.loop-op.invariant in
+    let rest = map (λ o. o.now) (drop (c.loop-place.place + 1) ops) in
+    let here = ap (map (λ o. o.now)) (drop_here ops c.loop-place.place c.index-ops-place.result c.loop-place-test.true c.index-ops-place.is) in
+    let so_far = subst (IsPassing all c.loop-place.items) here c.loop-place.invariant in
     elim c.if-are_needs_met.branch [
       | then-are_needs_met+in_ok-items-2 w ↦
-          next_noted all c.loop-op.items rest c.if-are_needs_met.items c.op-item.result.now so_far (sym c.are_needs_met.ensures.met ∙ w.if-are_needs_met.true) c.stamp.ensures.valid.older (w.items-is ∙ w.in_ok-items-2.ensures.ok)
+          next_noted all c.loop-place.items rest c.if-are_needs_met.items c.index-ops-place.result.now so_far (sym c.are_needs_met.ensures.met ∙ w.if-are_needs_met.true) c.stamp.ensures.valid.older (w.items-is ∙ w.in_ok-items-2.ensures.ok)
       | else-are_needs_met w ↦
-          subst (λ (l : List _). IsPassing all l rest) (sym w.items-is) (next_held all c.loop-op.items rest c.op-item.result.now so_far (sym c.are_needs_met.ensures.met ∙ w.if-are_needs_met.false) c.stamp.ensures.valid.older)
+          subst (λ (l : List _). IsPassing all l rest) (sym w.items-is) (next_held all c.loop-place.items rest c.index-ops-place.result.now so_far (sym c.are_needs_met.ensures.met ∙ w.if-are_needs_met.false) c.stamp.ensures.valid.older)
     ]

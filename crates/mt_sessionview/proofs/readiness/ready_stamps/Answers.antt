@@ -14,11 +14,10 @@ pub ready_of-requires : goal.ready_of-requires
 ready_of-requires g c =
     let now : List (Bor (Op g.row.A.Denot)) → List Operation = λ l. map (λ (o : Bor (Op g.row.A.Denot)). o.now) l in
     let ops = operations c.args.log.now in
-    record { rising = subst (RisesStrictly op_cmp) (sym (ap now c.deref.ensures.value ∙ c.in_ok-sorted.ensures)) (rising_ops ops (every_stamp ops c.runs.ensures.logged.rise)) }
+    record { rising = subst (RisesStrictly op_cmp) (sym c.in_ok-sorted.ensures) (rising_ops ops (every_stamp ops c.runs.ensures.logged.rise)) }
 
 pub returns-clause-ok : goal.returns-clause-ok
 returns-clause-ok g c =
     let now : List (Bor (Op g.row.A.Denot)) → List Operation = λ l. map (λ (o : Bor (Op g.row.A.Denot)). o.now) l in
     let ops = operations c.args.log.now in
-    let sorted : now c.deref.result.now ≡ sort_by op_cmp ops = ap now c.deref.ensures.value ∙ c.in_ok-sorted.ensures in
-    c.in_ok-stamps_of.ensures ∙ ap (map stamp_of) (ap now c.deref-2.ensures.value ∙ c.in_ok-ready.ensures.ops ∙ ap ready_ops sorted) ∙ stamps_are ops c.runs.ensures.logged
+    c.in_ok-stamps_of.ensures ∙ ap (map stamp_of) (ap now c.deref.ensures.value ∙ c.in_ok-ready.ensures.ops ∙ ap ready_ops c.in_ok-sorted.ensures) ∙ stamps_are ops c.runs.ensures.logged

@@ -4,7 +4,7 @@ use Rattle.mt_op.specs.Operation.{Operation}
 use Rattle.mt_items.specs.All.{HoldsAll}
 use Rattle.mt_items.specs.Noting.{MayFollow}
 use Rattle.mt_items.proofs.Each.{new_item}
-use Rattle.mt_items.proofs.items.Items.note.Goals as goal
+use Rattle.mt_items.proofs.items.Items.note_near.Goals as goal
 
 pub invariant_of-result : goal.invariant_of-result
 invariant_of-result g c =
