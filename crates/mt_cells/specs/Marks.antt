@@ -6,7 +6,7 @@ use Rattle.mt_stamp.specs.Moment.{Moment, stamp_cmp}
 use Rattle.mt_stamp.specs.Codes.{moment_code}
 use Rattle.mt_stamp.specs.Presence as presence
 use Rattle.mt_cells.specs.declared.stamp_set.Kept.{Kept}
-use Rattle.mt_cells.specs.declared.stamp_set.Kept.TheVariants.{Nothing, One, Many}
+use Rattle.mt_cells.specs.declared.stamp_set.Kept.TheVariants.{Nothing, One, Two, Many}
 
 -- the stamps that tag the item, and those that were removed, of which a tag may still be to come
 pub record Marks : Type 0 where
@@ -43,8 +43,9 @@ stamps_code = set.code moment_code
 abbrev pub marks_code : Coded Marks
 marks_code = code_by (set.FinSet stamp_cmp × set.FinSet stamp_cmp) (coded× stamps_code stamps_code) (λ m. (m.tags, m.removed)) (λ p. record { tags = p.0; removed = p.1 }) (λ _. refl)
 
--- the stamps that a set keeps, in order
+-- the stamps that a set keeps, in whatever order
 abbrev pub stamps_in : {A : Type 0} → Kept A → List Moment
 stamps_in Nothing = []
 stamps_in (One stamp) = stamp ∷ []
+stamps_in (Two one another) = another ∷ one ∷ []
 stamps_in (Many stamps) = stamps.keys

@@ -23,7 +23,7 @@ either_way true false = refl
 either_way false true = refl
 either_way false false = refl
 
-grouped : (a b c : Bool) → ((a || b) || c) ≡ (a || (b || c))
+pub grouped : (a b c : Bool) → ((a || b) || c) ≡ (a || (b || c))
 grouped true b c = refl
 grouped false b c = refl
 

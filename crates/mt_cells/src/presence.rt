@@ -17,7 +17,8 @@ use std::marker::Model;
 
 /// Whether one item is there: the stamps that tag it, and those that were removed. It is present while a tag is not
 /// removed, so a removal takes away the tags that it names and no other (INRIA RR-7506, section 3.3.5:
-/// Observed-Remove Set). Marks may come in any order, a removal before its tag too.
+/// Observed-Remove Set). Marks may come in any order, a removal before its tag too. The tags take memory from the third
+/// one on, and so do the removals.
 #[derive(Drop)]
 pub struct Presence<A: Allocator = Global> {
     alloc: A,

@@ -1,7 +1,7 @@
 //! Sets of stamps.
 
 ghost use Rattle.std.specs.Prelude.{◌≡◌, ◌↔◌, ◌∷◌, [], ◌&&◌, not, IsTrue, IfOk, OnOk, OnErr};
-ghost use Rattle.std.specs.List.{filter};
+ghost use Rattle.std.specs.List.{list_all, filter};
 ghost use Rattle.std.specs.List.Sorted.{IsStrictlySortedBy};
 ghost use Rattle.std.specs.Ordering.{eq_by_cmp};
 ghost use Rattle.std.specs.FinSet as set;
@@ -11,18 +11,20 @@ ghost use Rattle.mt_cells.specs.Folds.{is_in};
 use crate::fault::CellFault;
 use mt_stamp::Stamp;
 use std::alloc::Allocator;
+use std::cmp::Ordering;
 use std::collections::BTreeSet;
 use std::marker::Model;
 
-/// Where the stamps of a set are: no stamp and one take no memory.
+/// Where the stamps of a set are: up to two take no memory.
 #[derive(Drop)]
 enum Kept<A: Allocator> {
     Nothing,
     One(Stamp),
+    Two(Stamp, Stamp),
     Many(BTreeSet<Stamp, A>),
 }
 
-/// A set of stamps, which takes memory from its second stamp on.
+/// A set of stamps, which takes memory from its third stamp on.
 #[derive(Drop)]
 pub(crate) struct StampSet<A: Allocator> {
     stamps: Kept<A>,
@@ -40,26 +42,28 @@ impl<A: Allocator> Model for StampSet<A> {
     ghost view = { λ s. set.from_list (stamps_in s.stamps) };
 }
 
-// The set of two stamps.
-fn both<A: Allocator + Clone>(
+// The set of three stamps.
+fn three<A: Allocator + Clone>(
     alloc: &A,
     one: Stamp,
-    other: Stamp,
+    another: Stamp,
+    third: Stamp,
 ) -> Result<BTreeSet<Stamp, A>, CellFault>
-    ensures { IfOk result (λ stamps. (stamp : Moment) → is_in (eq_by_cmp stamp_cmp) stamps.keys stamp ≡ is_in (eq_by_cmp stamp_cmp) (other ∷ one ∷ []) stamp) }
+    ensures { IfOk result (λ stamps. set.from_list {R = stamp_cmp} stamps.keys ≡ set.from_list (third ∷ another ∷ one ∷ [])) }
 {
     let mut stamps = BTreeSet::new(alloc.clone()?);
     stamps.insert(one)?;
-    stamps.insert(other)?;
+    stamps.insert(another)?;
+    stamps.insert(third)?;
     Ok(stamps)
 }
 
-// Whether each of these stamps is this one.
-fn are_all<A: Allocator>(stamps: &BTreeSet<Stamp, A>, one: &Stamp) -> bool
-    ensures { IsTrue result ↔ ((stamp : Moment) → IsTrue (is_in (eq_by_cmp stamp_cmp) stamps.now.keys stamp) → IsTrue (is_in (eq_by_cmp stamp_cmp) (one.now ∷ []) stamp)) }
+// Whether each of these stamps is among the others.
+fn are_in<A: Allocator>(stamps: &BTreeSet<Stamp, A>, others: &StampSet<A>) -> bool
+    ensures { result ≡ list_all (set.contains others.now) stamps.now.keys }
 {
     for stamp in stamps {
-        if stamp != one {
+        if !others.contains(stamp) {
             return false;
         }
     }
@@ -81,6 +85,7 @@ impl<A: Allocator> StampSet<A> {
         match &self.stamps {
             Kept::Nothing => false,
             Kept::One(one) => stamp == one,
+            Kept::Two(one, another) => stamp == one || stamp == another,
             Kept::Many(stamps) => stamps.contains(stamp),
         }
     }
@@ -92,9 +97,9 @@ impl<A: Allocator> StampSet<A> {
         match (&self.stamps, &other.stamps) {
             (Kept::Nothing, _) => true,
             (Kept::One(one), _) => other.contains(one),
-            (Kept::Many(stamps), Kept::Nothing) => stamps.is_empty(),
-            (Kept::Many(stamps), Kept::One(one)) => are_all(stamps, one),
+            (Kept::Two(one, another), _) => other.contains(one) && other.contains(another),
             (Kept::Many(stamps), Kept::Many(others)) => stamps.is_subset(others),
+            (Kept::Many(stamps), _) => are_in(stamps, other),
         }
     }
 
@@ -109,8 +114,14 @@ impl<A: Allocator> StampSet<A> {
             Kept::Nothing => self.stamps = Kept::One(stamp),
             Kept::One(one) => {
                 let one = *one;
-                if one != stamp {
-                    self.stamps = Kept::Many(both(alloc, one, stamp)?);
+                if !self.contains(&stamp) {
+                    self.stamps = Kept::Two(one, stamp);
+                }
+            }
+            Kept::Two(one, another) => {
+                let (one, another) = (*one, *another);
+                if !self.contains(&stamp) {
+                    self.stamps = Kept::Many(three(alloc, one, another, stamp)?);
                 }
             }
             Kept::Many(stamps) => {
@@ -132,6 +143,10 @@ impl<A: Allocator> StampSet<A> {
         match others {
             Kept::Nothing => Ok(()),
             Kept::One(stamp) => self.insert(alloc, stamp),
+            Kept::Two(one, another) => {
+                self.insert(alloc, one)?;
+                self.insert(alloc, another)
+            }
             Kept::Many(others) => self.append_many(others),
         }
     }
@@ -147,8 +162,13 @@ impl<A: Allocator> StampSet<A> {
         let mut others = others;
         match &mut self.stamps {
             Kept::Nothing => self.stamps = Kept::Many(others),
-            Kept::One(one) => {
+            Kept::One(stamp) => {
+                others.insert(*stamp)?;
+                self.stamps = Kept::Many(others);
+            }
+            Kept::Two(one, another) => {
                 others.insert(*one)?;
+                others.insert(*another)?;
                 self.stamps = Kept::Many(others);
             }
             Kept::Many(stamps) => stamps.append(&mut others)?,
@@ -166,6 +186,12 @@ impl<A: Allocator> StampSet<A> {
         match &self.stamps {
             Kept::Nothing => Ok(Vec::new(alloc.clone()?)),
             Kept::One(one) => left_of_one(alloc, one, other),
+            // A set never keeps two equal stamps; no invariant says so, and so they would be given once.
+            Kept::Two(one, another) => match one.cmp(another) {
+                Ordering::Less => left_of_two(alloc, one, another, other),
+                Ordering::Equal => left_of_one(alloc, one, other),
+                Ordering::Greater => left_of_two(alloc, another, one, other),
+            },
             Kept::Many(stamps) => left_of_many(alloc, stamps, other),
         }
     }
@@ -178,6 +204,7 @@ impl<A: Allocator> StampSet<A> {
         let stamps = match &self.stamps {
             Kept::Nothing => Kept::Nothing,
             Kept::One(one) => Kept::One(*one),
+            Kept::Two(one, another) => Kept::Two(*one, *another),
             Kept::Many(stamps) => Kept::Many(stamps.clone()?),
         };
         Ok(StampSet { stamps })
@@ -195,6 +222,22 @@ fn left_of_one<A: Allocator + Clone>(
     let mut left = Vec::new(alloc.clone()?);
     if !other.contains(one) {
         left.push(*one)?;
+    }
+    Ok(left)
+}
+
+// Those of two stamps that are not in the other set, one after the other.
+fn left_of_two<A: Allocator + Clone>(
+    alloc: &A,
+    one: &Stamp,
+    another: &Stamp,
+    other: &StampSet<A>,
+) -> Result<Vec<Stamp, A>, CellFault>
+    ensures { IfOk result (λ left. left.items ≡ filter (λ stamp. not (set.contains other.now stamp)) (one.now ∷ another.now ∷ [])) }
+{
+    let mut left = left_of_one(alloc, one, other)?;
+    if !other.contains(another) {
+        left.push(*another)?;
     }
     Ok(left)
 }

@@ -1,4 +1,4 @@
-use Rattle.std.proofs.Common.{◌≡◌, ◌∙◌, ◌-◌, ℕ, length, List, map, reverse, sym, ap, subst, Bor}
+use Rattle.std.proofs.Common.{◌∙◌, ◌-◌, length, List, map, reverse, sym, ap, subst, Bor}
 use Rattle.std.specs.List.{sum_by}
 use Rattle.std.proofs.lemmas.List.Sorted.{sum_by-IsPermutation, IsPermutation-reverse}
 use Rattle.mt_stamp.specs.Sorting.{sort_by, RisesStrictly}

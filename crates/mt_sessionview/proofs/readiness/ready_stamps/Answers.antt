@@ -1,5 +1,5 @@
-use Rattle.std.proofs.Common.{◌≡◌, ◌∙◌, List, map, sym, ap, subst, Bor}
-use Rattle.mt_stamp.specs.Sorting.{sort_by, RisesStrictly}
+use Rattle.std.proofs.Common.{◌∙◌, List, map, sym, ap, subst, Bor}
+use Rattle.mt_stamp.specs.Sorting.{RisesStrictly}
 use Rattle.mt_op.specs.declared.op.Op.{Op}
 use Rattle.mt_op.specs.ByStamp.{stamp_of, op_cmp}
 use Rattle.mt_op.specs.Operation.{Operation}

@@ -1,4 +1,4 @@
-use Rattle.std.proofs.Common.{◌≡◌, ◌<◌, ◌≤◌, [], map, length, refl, sym, ap, ◌∙◌, Bor, rules, arith}
+use Rattle.std.proofs.Common.{◌<◌, [], map, length, refl, sym, ap, ◌∙◌, Bor, arith}
 use Rattle.mt_op.specs.declared.op.Op.{Op}
 use Rattle.mt_op.specs.Operation.{Operation}
 use Rattle.mt_items.proofs.Fresh.{passes_all}
