@@ -130,7 +130,7 @@ fn some_of(stamps: &[Stamp], count: usize) -> &[Stamp] {
     stamps.get(..count).unwrap_or(stamps)
 }
 
-// Of many tags that are given or copied, and of two sets of each presence that are joined; and none without marks.
+// Of many tags that are given or copied, and of two sets of each presence that are joined; none without marks, and none of two tags that are removed and copied.
 #[test]
 fn refuses_each_growth(rt: HostRuntime) -> Result<(), Fail> {
     let (ours, theirs) = (falling(A)?, falling(B)?);
@@ -143,5 +143,7 @@ fn refuses_each_growth(rt: HostRuntime) -> Result<(), Fail> {
         assert!(rt; refusals(rt.alloc(), work, stamps) >= Some(least));
         assert!(rt; refusals(rt.alloc(), work, (&[], &[])) == Some(0));
     }
+    let two = (some_of(&ours, 2), some_of(&[], 0));
+    assert!(rt; refusals(rt.alloc(), Work::Copy, two) == Some(0));
     Ok(())
 }
