@@ -8,6 +8,7 @@ use Rattle.mt_sessionview.specs.Session.{session_of}
 use Rattle.mt_svg.specs.Svg.{svg_text}
 use Rattle.mt_timeline.specs.Timeline.{timeline_text}
 use Rattle.mt_cli.specs.declared.draw.Drawing.{Drawing}
+use Rattle.mt_cli.specs.declared.draw.SessionDrawing.{SessionDrawing}
 use Rattle.mt_cli.specs.declared.draw.Drawing.TheVariants.{Text, Svg}
 
 -- how many columns a text has; a picture is one
@@ -21,9 +22,9 @@ drawing_text (Text width lengths) rate sources session = timeline_text width len
 drawing_text Svg rate sources session = svg_text rate sources session
 
 -- a log's session so
-abbrev pub log_drawing : Drawing → ℕ → Sources → LogMap → List ℕ
-log_drawing drawing rate sources log = drawing_text drawing rate sources (session_of (operations log))
+abbrev pub log_drawing : {C : Type 0} → SessionDrawing C → LogMap → List ℕ
+log_drawing how log = drawing_text how.drawing how.rate how.recordings.now (session_of (operations log))
 
 -- the same of the session of the union of the logs' sets
-abbrev pub drawn_text : Drawing → ℕ → Sources → List LogMap → List ℕ
-drawn_text drawing rate sources logs = log_drawing drawing rate sources (union_all logs)
+abbrev pub drawn_text : {C : Type 0} → SessionDrawing C → List LogMap → List ℕ
+drawn_text how logs = log_drawing how (union_all logs)

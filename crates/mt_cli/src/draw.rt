@@ -56,20 +56,29 @@ fn put_drawing<A: Allocator + Clone, B: Allocator, C: Allocator, W: Write>(
     }
 }
 
-// The drawing of a log's session, its times at a rate, with these recordings at hand.
+/// How sessions are drawn, and with what.
 #[derive(Drop)]
-struct Drawn<'c, 'a, C: Allocator> {
-    drawing: Drawing,
-    rate: u32,
-    recordings: &'c Catalogue<'a, C>,
-    ghost columns_from: { 1 ≤ columns_of drawing },
-    ghost rate_from: { 1 ≤ rate },
+pub struct SessionDrawing<'c, 'a, C: Allocator> {
+    /// As text, or as a picture.
+    pub drawing: Drawing,
+    /// How many frames a second has, 1 and more, for the times that are told.
+    pub rate: u32,
+    /// The recordings at hand, whose peaks a picture shows.
+    pub recordings: &'c Catalogue<'a, C>,
 }
 
-impl<C: Allocator> Telling for Drawn<'_, '_, C> {
+// The drawing of a log's session.
+#[derive(Drop)]
+struct Drawn<'d, 'c, 'a, C: Allocator> {
+    how: &'d SessionDrawing<'c, 'a, C>,
+    ghost columns_from: { 1 ≤ columns_of how.now.drawing },
+    ghost rate_from: { 1 ≤ how.now.rate },
+}
+
+impl<C: Allocator> Telling for Drawn<'_, '_, '_, C> {
     ghost use Rattle.mt_cli.specs.Drawing.{log_drawing};
 
-    ghost told = { λ d. log_drawing d.drawing d.rate d.recordings.now };
+    ghost told = { λ d. log_drawing d.how.now };
 
     fn tell<A: Allocator + Clone, W: Write>(
         &self,
@@ -82,9 +91,9 @@ impl<C: Allocator> Telling for Drawn<'_, '_, C> {
         };
         match put_drawing(
             alloc,
-            self.drawing,
-            self.rate,
-            self.recordings,
+            self.how.drawing,
+            self.how.rate,
+            self.how.recordings,
             &session,
             output,
         ) {
@@ -95,8 +104,7 @@ impl<C: Allocator> Telling for Drawn<'_, '_, C> {
     }
 }
 
-/// Draws the session of the union of the inputs' logs, its times at `rate` frames a second, 1 and more, and writes nothing else: the text of `mt_timeline`, in a number of columns, or
-/// the one of `mt_svg`, with the peaks of these recordings.
+/// Draws the session of the union of the inputs' logs, and writes nothing else: the text of `mt_timeline`, in a number of columns, or the one of `mt_svg`.
 ///
 /// Refused, in this order: `Read` with the index of an input whose latch has failed, or `Log` with the index of
 /// one whose bytes are no log's text, from left to right; `Merge` where a log has another operation under a dot than
@@ -105,53 +113,38 @@ impl<C: Allocator> Telling for Drawn<'_, '_, C> {
 /// nothing was written then. Each input is read to its end, but for those behind one at fault, which are not asked.
 pub fn draw_logs<A: Allocator + Clone, C: Allocator, R: Read, W: Write>(
     alloc: A,
-    drawing: Drawing,
-    rate: u32,
-    recordings: &Catalogue<'_, C>,
+    how: &SessionDrawing<'_, '_, C>,
     inputs: &mut [Latch<R>],
     output: &mut Latch<W>,
 ) -> Result<(), CliFault>
-    requires columns { 1 ≤ columns_of drawing }
-    requires rate { 1 ≤ rate }
+    requires columns { 1 ≤ columns_of how.now.drawing }
+    requires rate { 1 ≤ how.now.rate }
     ensures ok { OnOk result ((logs : List LogMap)
         × (GaveLogs R.remaining inputs.old logs × AllAgree logs × Appends (W.contents output.old.inner)
-        (W.contents output.new.inner) (drawn_text drawing rate recordings.now logs))) }
+        (W.contents output.new.inner) (drawn_text how.now logs))) }
     ensures read { OnOk result (AreRead R.remaining inputs.new) }
-    ensures err { IfErr result (InputsFail (log_drawing drawing rate recordings.now) W.contents R.remaining inputs.old inputs.new output.old
-        output.new) }
+    ensures err { IfErr result (InputsFail (log_drawing how.now) W.contents R.remaining inputs.old inputs.new output.old output.new) }
     ensures sound { OnOk result (output.new.failed ≡ false) }
     ensures stays_failed { output.old.failed ≡ true → output.new ≡ output.old }
 {
-    let drawn = Drawn {
-        drawing,
-        rate,
-        recordings,
-    };
-    tell_logs(&drawn, alloc, inputs, output)
+    tell_logs(&Drawn { how }, alloc, inputs, output)
 }
 
 /// The same for one input.
 pub fn draw_log<A: Allocator + Clone, C: Allocator, R: Read, W: Write>(
     alloc: A,
-    drawing: Drawing,
-    rate: u32,
-    recordings: &Catalogue<'_, C>,
+    how: &SessionDrawing<'_, '_, C>,
     input: &mut Latch<R>,
     output: &mut Latch<W>,
 ) -> Result<(), CliFault>
-    requires columns { 1 ≤ columns_of drawing }
-    requires rate { 1 ≤ rate }
+    requires columns { 1 ≤ columns_of how.now.drawing }
+    requires rate { 1 ≤ how.now.rate }
     ensures ok { OnOk result ((log : LogMap) × (GaveLog R.remaining input.old log
-        × Appends (W.contents output.old.inner) (W.contents output.new.inner) (log_drawing drawing rate recordings.now log))) }
+        × Appends (W.contents output.old.inner) (W.contents output.new.inner) (log_drawing how.now log))) }
     ensures read { OnOk result (IsRead R.remaining input.new) }
-    ensures err { IfErr result (InputFails (log_drawing drawing rate recordings.now) W.contents R.remaining input.old input.new output.old output.new) }
+    ensures err { IfErr result (InputFails (log_drawing how.now) W.contents R.remaining input.old input.new output.old output.new) }
     ensures sound { OnOk result (output.new.failed ≡ false) }
     ensures stays_failed { output.old.failed ≡ true → output.new ≡ output.old }
 {
-    let drawn = Drawn {
-        drawing,
-        rate,
-        recordings,
-    };
-    tell_log(&drawn, alloc, input, output)
+    tell_log(&Drawn { how }, alloc, input, output)
 }

@@ -84,7 +84,7 @@ mod words;
 pub use both::read_growing;
 pub use check::check_log;
 pub use diff::{DiffForm, diff_logs};
-pub use draw::{Drawing, draw_log, draw_logs};
+pub use draw::{Drawing, SessionDrawing, draw_log, draw_logs};
 pub use edit::edit_log;
 pub use fault::{CliFault, LayFault, PartFault};
 pub use find::{Wanted, find_items};

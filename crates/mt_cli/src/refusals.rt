@@ -291,7 +291,7 @@ const OF_FILES_AND_PARTS: [Refusal; 16] = [
         number: 41,
         name: "BadLine",
         meaning: "a line of a script is none of the forms of a change",
-        advice: "`--why` tells the line. Look for a misspelt word, a digest that is none, a gain that is not NUM/DEN (-6 dB is 501/1000), a time in place of frames, a number with a leading zero, a line end with CR, a byte order mark, or a `$k` of a line that adds nothing.",
+        advice: "`--why` tells the line. Look for a misspelt word, a digest that is none, a gain that is not NUM/DEN (-6 dB is 501/1000), a time in place of frames (with `--time` a script may have 0:01:30.5, 1.5s and -6dB), a number with a leading zero, a line end with CR, a byte order mark, or a `$k` of a line that adds nothing.",
     },
     Refusal {
         number: 42,

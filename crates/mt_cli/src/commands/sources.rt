@@ -15,7 +15,7 @@ use std::rt::Files;
 pub(crate) const WORDS: Words = Words {
     name: "sources",
     about: "Tells which recordings a session plays, and which of the files these are",
-    after: "Example: radio sources desk.log jingle.wav interview.wav\n\nPrints a line for each recording that a clip plays, by rising digest: `source DIGEST clips N audible N end N`, and then what is known of the first WAVE\nthat it is, `rate N channels N frames N file NAME`, or `missing`. N audible clips are not muted, nor is their track; `end N` frames of it are played. Then\n`unused DIGEST file NAME` for each WAVE that no clip plays, `refused N file NAME` for each that is no wave file (`radio explain N` tells why), and last\n`missing N`.\n\nExit status: 0 done, 1 refused (the line `radio: fault N`; `radio explain N` tells why), 2 the command line does not parse.",
+    after: "Example: radio sources desk.log jingle.wav interview.wav\n\nPrints a line for each recording that a clip plays, by rising digest: `source DIGEST clips N audible N end N`, and then what is known of the first WAVE\nthat it is, `rate N channels N frames N file NAME`, or `missing`. N audible clips are not muted, nor is their track; `end N` tells how far into it they play, in frames. Then\n`unused DIGEST file NAME` for each WAVE that no clip plays, `refused N file NAME` for each that is no wave file (`radio explain N` tells why), and last\n`missing N`.\n\nExit status: 0 done, 1 refused (the line `radio: fault N`; `radio explain N` tells why), 2 the command line does not parse.",
     words: &[
         Word::Needed {
             name: "LOG",

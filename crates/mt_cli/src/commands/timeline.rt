@@ -3,7 +3,7 @@
 ghost use Rattle.std.specs.Prelude.{◌≤◌};
 ghost use Rattle.mt_cli.specs.Drawing.{columns_of};
 
-use crate::draw::{Drawing, draw_log, draw_logs};
+use crate::draw::{Drawing, SessionDrawing, draw_log, draw_logs};
 use crate::fault::CliFault;
 use crate::files::open_all;
 use crate::sources::{catalogue_of, read_all_sources};
@@ -113,7 +113,12 @@ fn draw_input<F: Files + AllocGlobal, R: Read, W: Write>(
     let (drawing, rate) = (drawing_of(words), rate_of(words));
     let files = recordings_of(rt, 1, words)?;
     let recordings = catalogue_of(rt.alloc(), &files)?;
-    draw_log(rt.alloc(), drawing, rate, &recordings, input, output)
+    let how = SessionDrawing {
+        drawing,
+        rate,
+        recordings: &recordings,
+    };
+    draw_log(rt.alloc(), &how, input, output)
 }
 
 pub(crate) fn run<F: Files + AllocGlobal, R: Read, W: Write>(
@@ -130,5 +135,10 @@ pub(crate) fn run<F: Files + AllocGlobal, R: Read, W: Write>(
     let mut logs = open_all(rt, 0, names)?;
     let files = recordings_of(rt, names.len(), words)?;
     let recordings = catalogue_of(rt.alloc(), &files)?;
-    draw_logs(rt.alloc(), drawing, rate, &recordings, &mut logs, output)
+    let how = SessionDrawing {
+        drawing,
+        rate,
+        recordings: &recordings,
+    };
+    draw_logs(rt.alloc(), &how, &mut logs, output)
 }

@@ -6,7 +6,7 @@ use super::texts::{
     TIMED_SCRIPT, TOLD, VOICE,
 };
 use mt_cli::{
-    CliFault, DiffForm, Drawing, Laying, LineForm, Wanted, bounce_logs, check_log, diff_logs,
+    CliFault, DiffForm, Drawing, Laying, LineForm, SessionDrawing, Wanted, bounce_logs, check_log, diff_logs,
     draw_log, draw_logs, edit_log, find_items, have_log, lack_log, lay_files, list_log, list_logs,
     list_sources, merge_logs, pull_logs, read_growing, revert_log, swap_log, take_log, view_log,
     view_logs, write_info,
@@ -194,7 +194,12 @@ fn draw_all<M: Allocator + Clone, R: Read, W: Write>(
     if recordings.add(LOUD).is_err() {
         return Err(CliFault::Memory);
     }
-    draw_logs(memory, Drawing::Svg, 48_000, &recordings, inputs, output)
+    let picture = SessionDrawing {
+        drawing: Drawing::Svg,
+        rate: 48_000,
+        recordings: &recordings,
+    };
+    draw_logs(memory, &picture, inputs, output)
 }
 
 // A text of three columns.
@@ -203,12 +208,16 @@ fn draw_one<M: Allocator + Clone, R: Read, W: Write>(
     input: &mut Latch<R>,
     output: &mut Latch<W>,
 ) -> Result<(), CliFault> {
-    let text = Drawing::Text {
-        width: 3,
-        lengths: Lengths::FramesAndTimes,
-    };
     let recordings = Catalogue::new(memory.clone()?);
-    draw_log(memory, text, 48_000, &recordings, input, output)
+    let text = SessionDrawing {
+        drawing: Drawing::Text {
+            width: 3,
+            lengths: Lengths::FramesAndTimes,
+        },
+        rate: 48_000,
+        recordings: &recordings,
+    };
+    draw_log(memory, &text, input, output)
 }
 
 // Commands that write one text of some logs.
