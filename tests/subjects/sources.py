@@ -109,7 +109,7 @@ Options:
 Example: radio sources desk.log jingle.wav interview.wav
 
 Prints a line for each recording that a clip plays, by rising digest: `source DIGEST clips N audible N end N`, and then what is known of the first WAVE
-that it is, `rate N channels N frames N file NAME`, or `missing`. N audible clips are not muted, nor is their track; `end N` frames of it are played. Then
+that it is, `rate N channels N frames N file NAME`, or `missing`. N audible clips are not muted, nor is their track; `end N` tells how far into it they play, in frames. Then
 `unused DIGEST file NAME` for each WAVE that no clip plays, `refused N file NAME` for each that is no wave file (`radio explain N` tells why), and last
 `missing N`.
 
