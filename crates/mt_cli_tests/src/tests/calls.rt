@@ -6,10 +6,10 @@ use super::texts::{
     TIMED_SCRIPT, TOLD, VOICE,
 };
 use mt_cli::{
-    CliFault, DiffForm, Drawing, Laying, LineForm, SessionDrawing, Wanted, bounce_logs, check_log, diff_logs,
-    draw_log, draw_logs, edit_log, find_items, have_log, lack_log, lay_files, list_log, list_logs,
-    list_sources, merge_logs, pull_logs, read_growing, revert_log, swap_log, take_log, view_log,
-    view_logs, write_info,
+    CliFault, DiffForm, Drawing, Laying, LineForm, SessionDrawing, Wanted, bounce_logs, check_log,
+    diff_logs, draw_log, draw_logs, edit_log, find_items, have_log, lack_log, lay_files, list_log,
+    list_logs, list_sources, merge_logs, pull_logs, read_growing, revert_log, swap_log, take_log,
+    view_log, view_logs, write_info,
 };
 use mt_cuewrite::Head;
 use mt_op::Digest;
