@@ -54,13 +54,14 @@ impl<T: Ord> Register<T> {
         self.value
     }
 
-    // By stamp, and then by value.
+    // By stamp, and then by value, which is looked at only where the stamps are one.
     fn compare(&self, other: &Self) -> Ordering
         ensures { result ≡ written_cmp T.cmp self.now other.now }
     {
-        self.stamp
-            .cmp(&other.stamp)
-            .then(self.value.cmp(&other.value))
+        match self.stamp.cmp(&other.stamp) {
+            Ordering::Equal => self.value.cmp(&other.value),
+            order => order,
+        }
     }
 }
 
