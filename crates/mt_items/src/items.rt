@@ -1,35 +1,32 @@
 //! The state of items.
 
-ghost use Rattle.std.specs.Prelude.{◌≡◌, false, List, [], ◌∷◌, Some, ◌≤◌, IfOk, IfErr, IfSome, MatchOption, option_map, slice_get};
+ghost use Rattle.std.specs.Prelude.{◌≡◌, false, List, [], ◌∷◌, Some, ◌≤◌, IfOk, IfErr, IfSome, MatchOption, option_map};
 ghost use Rattle.std.specs.Map.{keys_of};
 ghost use Rattle.std.specs.List.{AllByRecursion};
 ghost use Rattle.std.specs.List.Sorted.{IsStrictlySortedBy};
 ghost use Rattle.mt_stamp.specs.Moment.{Moment, stamp_cmp};
 ghost use Rattle.mt_stamp.specs.Written.{Written};
-ghost use Rattle.mt_op.specs.declared.need.Role.TheVariants.{Track, Place, Clip, Marker, Mixable, Titled, Item, TagOf};
+ghost use Rattle.mt_op.specs.declared.need.Role.TheVariants.{Track, Clip, Marker};
 ghost use Rattle.mt_op.specs.Operation.{Operation};
-ghost use Rattle.mt_op.specs.Needs.{need_of, needs};
-ghost use Rattle.mt_op.specs.declared.need.Need.{Need as NeedOf};
+ghost use Rattle.mt_op.specs.Needs.{need_of};
 ghost use Rattle.mt_op.specs.Presence.{is_present, is_listed, live_tags};
 ghost use Rattle.mt_op.specs.Writes.{title_written, gain_written, mute_written, track_place_written, clip_place_written, trim_written, source_written, position_written, fades_written, marker_length_written, last_write};
 ghost use Rattle.mt_op.specs.Valid.{AreShort};
-ghost use Rattle.mt_cells.specs.Marks.{unmarked};
-ghost use Rattle.mt_items.specs.Noting.{MayFollow, AreNoted, is_need_met, are_needs_met};
+ghost use Rattle.mt_items.specs.Noting.{MayFollow, AreNoted, is_need_met};
 ghost use Rattle.mt_items.specs.Cells.{HoldsTrack, HoldsClip, HoldsMarker, HoldsTracks, items_of, rising_items};
-ghost use Rattle.mt_items.specs.Tags.{HoldsTags};
 
-use crate::cells::{ClipCells, MarkerCells, TrackCells, subject};
+use crate::ahead::NOWHERE;
+use crate::cells::{ClipCells, MarkerCells, TrackCells};
 use crate::clip::note as note_clip;
 use crate::fault::ItemsFault;
 use crate::history::History;
 use crate::listing::stamps_of;
 use crate::marker::note as note_marker;
-use crate::marks::ItemMarks;
 use crate::place::note as note_place;
 use crate::room::{Room, room_for};
 use crate::track::note as note_track;
 use mt_cells::Register;
-use mt_op::{Digest, FadeLengths, Gain, Need, Op, Placement, Role, Title, TrimRange};
+use mt_op::{Digest, FadeLengths, Gain, Op, Placement, Title, TrimRange};
 use mt_stamp::Stamp;
 use mt_stampmap::StampMap;
 use std::alloc::{Allocator, Global};
@@ -43,11 +40,11 @@ use std::marker::Model;
 #[derive(Drop)]
 pub struct Items<A: Allocator = Global> {
     alloc: A,
-    tracks: StampMap<TrackCells<A>, A>,
-    clips: StampMap<ClipCells<A>, A>,
-    markers: StampMap<MarkerCells<A>, A>,
-    places: StampMap<(), A>,
-    noted: History<Op<A>>,
+    pub(crate) tracks: StampMap<TrackCells<A>, A>,
+    pub(crate) clips: StampMap<ClipCells<A>, A>,
+    pub(crate) markers: StampMap<MarkerCells<A>, A>,
+    pub(crate) places: StampMap<(), A>,
+    pub(crate) noted: History<Op<A>>,
 }
 
 impl<A: Allocator> Model for Items<A> {
@@ -65,12 +62,6 @@ impl<A: Allocator> Model for Items<A> {
 
     ghost invariant = { λ i. HoldsAll i.noted.items i.tracks i.clips i.markers i.places };
 }
-
-/// How many operations `look_ahead` looks at.
-pub const AHEAD: usize = 32;
-
-// An index at which no cells stand.
-const NOWHERE: usize = usize::MAX;
 
 impl<A: Allocator> Items<A> {
     // Nothing noted, with memory for so many items.
@@ -126,28 +117,6 @@ impl<A: Allocator> Items<A> {
         self.note_near(NOWHERE, op)
     }
 
-    // Where the cells of an operation's item stand among those of its kind; at any index where there are none.
-    fn near(&self, op: &Op<A>) -> usize {
-        let item = subject(op);
-        match self.markers.index_of(item) {
-            Some(index) => index,
-            None => match self.clips.index_of(item) {
-                Some(index) => index,
-                None => self.tracks.index_of(item).unwrap_or(NOWHERE),
-            },
-        }
-    }
-
-    /// Where the cells of the items of the next operations stand, of at most `AHEAD` of these: where `note_near` looks first. The cells of a great
-    /// log lie far apart, and whoever looks ahead waits for those of several operations at once and not for one after another.
-    pub fn look_ahead(&self, next: &[&Op<A>]) -> [usize; AHEAD] {
-        let mut near = [NOWHERE; AHEAD];
-        for place in 0..AHEAD.min(next.len()) {
-            near[place] = self.near(next[place]);
-        }
-        near
-    }
-
     /// Notes an operation as `note` does, and looks for the cells of its item at an index first, as `look_ahead` told it.
     pub fn note_near(self, near: usize, op: &Op<A>) -> Result<Self, ItemsFault>
     where
@@ -178,128 +147,11 @@ impl<A: Allocator> Items<A> {
         })
     }
 
-    // The presence of an item.
-    fn presence(&self, item: Stamp) -> Option<&ItemMarks<A>>
-        ensures { MatchOption result (HoldsTags item self.now unmarked) (λ p. HoldsTags item self.now p.now) }
-    {
-        match self.tracks.get(item) {
-            Some(cells) => Some(&cells.presence),
-            None => match self.clips.get(item) {
-                Some(cells) => Some(&cells.presence),
-                None => match self.markers.get(item) {
-                    Some(cells) => Some(&cells.presence),
-                    None => None,
-                },
-            },
-        }
-    }
-
-    // Whether a stamp names a track.
-    fn is_track(&self, stamp: Stamp) -> bool
-        ensures { result ≡ is_need_met self.now (need_of Track stamp) }
-    {
-        self.tracks.contains(stamp)
-    }
-
-    // Whether a stamp names a clip.
-    fn is_clip(&self, stamp: Stamp) -> bool
-        ensures { result ≡ is_need_met self.now (need_of Clip stamp) }
-    {
-        self.clips.contains(stamp)
-    }
-
-    // Whether a stamp names a marker.
-    fn is_marker(&self, stamp: Stamp) -> bool
-        ensures { result ≡ is_need_met self.now (need_of Marker stamp) }
-    {
-        self.markers.contains(stamp)
-    }
-
-    // Whether a stamp names an item that sounds.
-    fn is_mixable(&self, stamp: Stamp) -> bool
-        ensures { result ≡ is_need_met self.now (need_of Mixable stamp) }
-    {
-        self.is_track(stamp) || self.is_clip(stamp)
-    }
-
-    // Whether a stamp names an item that has a title.
-    fn is_titled(&self, stamp: Stamp) -> bool
-        ensures { result ≡ is_need_met self.now (need_of Titled stamp) }
-    {
-        self.is_track(stamp) || self.is_marker(stamp)
-    }
-
-    // Whether a stamp names an item.
-    fn is_item(&self, stamp: Stamp) -> bool
-        ensures { result ≡ is_need_met self.now (need_of Item stamp) }
-    {
-        self.is_mixable(stamp) || self.is_marker(stamp)
-    }
-
-    // Whether a stamp names a place of the track order.
-    fn is_place(&self, stamp: Stamp) -> bool
-        ensures { result ≡ is_need_met self.now (need_of Place stamp) }
-    {
-        self.places.contains(stamp)
-    }
-
-    // Whether a stamp names a tag of an item.
-    fn is_tag(&self, item: Stamp, stamp: Stamp) -> bool
-        ensures { result ≡ is_need_met self.now (need_of (TagOf item) stamp) }
-    {
-        match self.presence(item) {
-            Some(presence) => presence.has_tag(stamp),
-            None => false,
-        }
-    }
-
-    /// Whether a noted operation meets a need: whether it has this stamp and fits in this role.
-    pub fn meets(&self, need: &Need) -> bool
-        ensures { result ≡ is_need_met self.now need.now }
-    {
-        let stamp = need.stamp;
-        match need.role {
-            Role::Track => self.is_track(stamp),
-            Role::Place => self.is_place(stamp),
-            Role::Clip => self.is_clip(stamp),
-            Role::Marker => self.is_marker(stamp),
-            Role::Mixable => self.is_mixable(stamp),
-            Role::Titled => self.is_titled(stamp),
-            Role::Item => self.is_item(stamp),
-            Role::TagOf(item) => self.is_tag(item, stamp),
-        }
-    }
-
-    // Whether the need of an operation at place `i` is met.
-    fn is_met_at(&self, op: &Op<A>, i: usize) -> bool
-        ensures { (need : NeedOf) → slice_get (needs op.now) i ≡ Some need → result ≡ is_need_met self.now need }
-    {
-        match op.need(i) {
-            Some(need) => self.meets(&need),
-            None => false,
-        }
-    }
-
-    /// Whether noted operations meet each need of an operation.
-    pub fn are_needs_met(&self, op: &Op<A>) -> bool
-        ensures met { result ≡ are_needs_met self.now op.now }
-        ensures noted { AreNoted self.now }
-    {
-        // for the proof: that the cells are those of the operations noted
-        let _ = &self.noted;
-        for i in 0..op.need_count() {
-            if !self.is_met_at(op, i) {
-                return false;
-            }
-        }
-        true
-    }
-
     /// Whether an item is present: whether one of its tags is live. What is no item is not.
     pub fn is_present(&self, item: Stamp) -> bool
         ensures { result ≡ is_present self.now item }
     {
-        match self.presence(item) {
+        match self.presence_near(NOWHERE, item) {
             Some(presence) => presence.is_present(),
             None => false,
         }
@@ -317,7 +169,7 @@ impl<A: Allocator> Items<A> {
     {
         // for the proof: that the cells are those of the operations noted
         let _ = &self.noted;
-        match self.presence(item) {
+        match self.presence_near(NOWHERE, item) {
             Some(presence) => Ok(presence.live_tags(&self.alloc)?),
             None => Ok(Vec::new(self.alloc.clone()?)),
         }

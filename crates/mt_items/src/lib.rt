@@ -39,6 +39,7 @@
 //! of mt_op over that list; on which operations these are it depends, and on nothing else (`laws::any_order`).
 #![tactic(auto)]
 
+mod ahead;
 mod cells;
 mod clip;
 mod fault;
@@ -49,13 +50,15 @@ pub mod laws;
 mod listing;
 mod marker;
 mod marks;
+mod needs;
 mod place;
 mod ready;
 mod room;
 mod track;
 
+pub use ahead::AHEAD;
 pub use cells::{ClipCells, MarkerCells, TrackCells};
 pub use fault::ItemsFault;
-pub use items::{AHEAD, Items};
+pub use items::Items;
 pub use marks::ItemMarks;
 pub use ready::items_of_ready;

@@ -8,8 +8,9 @@ ghost use Rattle.mt_op.specs.Needs.{needs, meets, clock_of, names_are_older};
 ghost use Rattle.mt_op.specs.Ready.{ready};
 ghost use Rattle.mt_items.specs.Noting.{one_pass};
 
+use crate::ahead::AHEAD;
 use crate::fault::ItemsFault;
-use crate::items::{AHEAD, Items};
+use crate::items::Items;
 use mt_op::Op;
 use std::alloc::Allocator;
 
@@ -29,7 +30,7 @@ fn pass<A: Allocator + Clone>(alloc: A, ops: &[&Op<A>]) -> Result<Items<A>, Item
         let op = ops[place];
         // for the proof: that the operation names older ones
         let _ = op.stamp();
-        if items.are_needs_met(op) {
+        if items.are_needs_met_near(near[place % AHEAD], op) {
             items = items.note_near(near[place % AHEAD], op)?;
         }
     }

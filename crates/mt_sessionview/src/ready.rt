@@ -41,7 +41,7 @@ pub(crate) fn ready_of<'a, A: Allocator + Clone>(
         let op = sifted[place];
         // for the proof: that the operation names older ones
         let _ = op.stamp();
-        if items.are_needs_met(op) {
+        if items.are_needs_met_near(near[place % AHEAD], op) {
             items = items.note_near(near[place % AHEAD], op)?;
             sifted[kept] = op;
             kept += 1;

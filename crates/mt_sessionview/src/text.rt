@@ -207,12 +207,34 @@ fn put_tracks<A: Allocator, W: Write>(output: &mut BufferedLatch<'_, W>, tracks:
     }
 }
 
+// At how many titles `look_ahead` looks.
+const AHEAD: usize = 16;
+
+// Looks at the titles of the next markers, and tells for how many of these that will do: not for those whose title begins with NUL. Titles lie far apart in the memory
+// of a great session, so that each look at one waits for it; whoever looks at several waits for all of them together.
+fn look_ahead<A: Allocator>(next: &[MarkerView<A>]) -> usize {
+    let mut begun: usize = 0;
+    for place in 0..AHEAD.min(next.len()) {
+        let view = &next[place];
+        if view.title.text().as_bytes().first() != Some(&0) {
+            begun = begun.saturating_add(1);
+        }
+    }
+    begun
+}
+
 // Puts the lines of markers, in order.
 #[tactic(auto, using(mt_latch::proofs::Putting::puts_none))]
 fn put_markers<A: Allocator, W: Write>(output: &mut BufferedLatch<'_, W>, markers: &[MarkerView<A>])
     ensures { Puts W.contents output.old output.new (flat_map marker_line markers.now) }
 {
-    for view in markers {
+    let mut ahead = 0;
+    for index in 0..markers.len() {
+        if ahead == 0 {
+            ahead = look_ahead(&markers[index..]);
+        }
+        ahead = ahead.saturating_sub(1);
+        let view = &markers[index];
         put_marker_line(output, view);
     }
 }

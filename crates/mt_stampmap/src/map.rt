@@ -62,14 +62,19 @@ impl<V: Drop, A: Allocator> StampMap<V, A> {
         })
     }
 
-    // Whether the entry at an index has a stamp.
-    fn stands_at(&self, index: usize, stamp: Stamp) -> bool
+    /// Whether the entry at an index has a stamp.
+    pub fn stands_at(&self, index: usize, stamp: Stamp) -> bool
         ensures { result ≡ is_key (slice_get (keys_of self.now) index) stamp }
     {
         match self.entries.get(index) {
             Some(entry) => stamp == entry.0,
             None => false,
         }
+    }
+
+    /// The index at which a stamp stands, if it has a value and its number comes after those that its replica had before; else any. It looks at no entry.
+    pub fn likely_index(&self, stamp: Stamp) -> usize {
+        self.index.first_place(stamp).unwrap_or(usize::MAX)
     }
 
     // An index, where a stamp stands there.
@@ -114,7 +119,14 @@ impl<V: Drop, A: Allocator> StampMap<V, A> {
     pub fn get(&self, stamp: Stamp) -> Option<&V>
         ensures value { option_copied result ≡ lookup (stamp_eq stamp) self.now }
     {
-        match self.index_of(stamp) {
+        self.get_near(usize::MAX, stamp)
+    }
+
+    /// The same, looked for first at an index, where `index_of` may have found it before.
+    pub fn get_near(&self, near: usize, stamp: Stamp) -> Option<&V>
+        ensures value { option_copied result ≡ lookup (stamp_eq stamp) self.now }
+    {
+        match self.index_near(near, stamp) {
             Some(index) => Some(&self.entries[index].1),
             None => None,
         }
@@ -153,7 +165,14 @@ impl<V: Drop, A: Allocator> StampMap<V, A> {
     pub fn contains(&self, stamp: Stamp) -> bool
         ensures found { result ≡ is_some (lookup (stamp_eq stamp) self.now) }
     {
-        self.get(stamp).is_some()
+        self.contains_near(usize::MAX, stamp)
+    }
+
+    /// The same, looked for first at an index, where `index_of` may have found it before.
+    pub fn contains_near(&self, near: usize, stamp: Stamp) -> bool
+        ensures found { result ≡ is_some (lookup (stamp_eq stamp) self.now) }
+    {
+        self.get_near(near, stamp).is_some()
     }
 
     /// The entries, in the order in which they were put in.

@@ -4,7 +4,7 @@ use Rattle.mt_op.specs.Operation.{Operation}
 use Rattle.mt_items.proofs.Fresh.{passes_all}
 use Rattle.mt_sessionview.proofs.Sifting.{next_may_follow, one_sifted, one_passed, all_sifted}
 use Rattle.mt_sessionview.proofs.ready.ready_of.Goals as goal
-use Rattle.mt_sessionview.proofs.ready.ready_of.Goals.{then-are_needs_met+in_ok-items-2, else-are_needs_met}
+use Rattle.mt_sessionview.proofs.ready.ready_of.Goals.{then-are_needs_met_near+in_ok-items-2, else-are_needs_met_near}
 
 pub loop-place-init : goal.loop-place-init
 loop-place-init g c =
@@ -22,7 +22,7 @@ index-op-requires g c = omega (arith, c.loop-place.invariant.long, c.loop-place-
 pub note_near-requires : goal.note_near-requires
 note_near-requires g c = record {
   follows = next_may_follow (λ o. o.now) c.args.ops.items c.loop-place.sifted.items c.loop-place.place c.loop-place.kept c.loop-place.items c.loop-place.invariant
-      c.index-op.result.now (omega (arith, c.loop-place.invariant.long, c.loop-place-test.true, c.len-place-end.ensures)) c.index-op.ensures (sym c.are_needs_met.ensures.met ∙ c.if-are_needs_met.true);
+      c.index-op.result.now (omega (arith, c.loop-place.invariant.long, c.loop-place-test.true, c.len-place-end.ensures)) c.index-op.ensures (sym c.are_needs_met_near.ensures.met ∙ c.if-are_needs_met_near.true);
 }
 
 pub index_mut-requires : goal.index_mut-requires
@@ -35,13 +35,13 @@ pub loop-place-preserved : goal.loop-place-preserved
 loop-place-preserved g c =
     let now : Bor (Op g.row.A.Denot) → Operation = λ o. o.now in
     let inside : c.loop-place.place < length c.loop-place.sifted.items = omega (arith, c.loop-place.invariant.long, c.loop-place-test.true, c.len-place-end.ensures) in
-    elim c.if-are_needs_met.branch [
-      | then-are_needs_met+in_ok-items-2 w ↦
+    elim c.if-are_needs_met_near.branch [
+      | then-are_needs_met_near+in_ok-items-2 w ↦
           one_sifted now c.args.ops.items c.loop-place.sifted.items c.loop-place.place c.loop-place.kept c.loop-place.items c.loop-place.invariant c.index-op.result.now inside c.index-op.ensures
-          c.if-are_needs_met.items c.if-are_needs_met.sifted.items c.if-are_needs_met.kept (sym c.are_needs_met.ensures.met ∙ w.if-are_needs_met.true) c.stamp.ensures.valid.older (w.items-is ∙ w.in_ok-items-2.ensures.ok) (λ i. (w.sifted-is i).items) w.kept-is
-      | else-are_needs_met w ↦
+          c.if-are_needs_met_near.items c.if-are_needs_met_near.sifted.items c.if-are_needs_met_near.kept (sym c.are_needs_met_near.ensures.met ∙ w.if-are_needs_met_near.true) c.stamp.ensures.valid.older (w.items-is ∙ w.in_ok-items-2.ensures.ok) (λ i. (w.sifted-is i).items) w.kept-is
+      | else-are_needs_met_near w ↦
           one_passed now c.args.ops.items c.loop-place.sifted.items c.loop-place.place c.loop-place.kept c.loop-place.items c.loop-place.invariant c.index-op.result.now inside c.index-op.ensures
-          c.if-are_needs_met.items c.if-are_needs_met.sifted.items c.if-are_needs_met.kept (sym c.are_needs_met.ensures.met ∙ w.if-are_needs_met.false) c.stamp.ensures.valid.older w.items-is (λ i. (w.sifted-is i).items) w.kept-is
+          c.if-are_needs_met_near.items c.if-are_needs_met_near.sifted.items c.if-are_needs_met_near.kept (sym c.are_needs_met_near.ensures.met ∙ w.if-are_needs_met_near.false) c.stamp.ensures.valid.older w.items-is (λ i. (w.sifted-is i).items) w.kept-is
     ]
 
 pub returns-clause-ops : goal.returns-clause-ops

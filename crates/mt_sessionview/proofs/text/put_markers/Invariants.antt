@@ -4,5 +4,5 @@ use Rattle.mt_latch.specs.Buffered.{Puts}
 use Rattle.mt_sessionview.specs.SessionText.{marker_line}
 use Rattle.mt_sessionview.proofs.text.put_markers.Given as goal
 
-abbrev pub invariant-loop-view : goal.invariant-loop-view
-invariant-loop-view g l = Puts g.W.Write.contents l.initial.output l.output (flat_map marker_line (take l.view-index l.markers))
+abbrev pub invariant-loop-index : goal.invariant-loop-index
+invariant-loop-index g l = Puts g.W.Write.contents l.initial.output l.output (flat_map marker_line (take l.index l.markers))

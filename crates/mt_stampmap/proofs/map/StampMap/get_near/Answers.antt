@@ -5,7 +5,7 @@ use Rattle.mt_stamp.specs.Moment.{Moment, stamp_eq}
 use Rattle.mt_stampmap.specs.Index.{is_key}
 use Rattle.mt_stampmap.proofs.Finding.{distinct, one_index}
 use Rattle.mt_stampmap.proofs.Entries.{read_at, value_at}
-use Rattle.mt_stampmap.proofs.map.StampMap.get.Goals as goal
+use Rattle.mt_stampmap.proofs.map.StampMap.get_near.Goals as goal
 
 pub returns-in-Some : goal.returns-in-Some
 returns-in-Some g c =

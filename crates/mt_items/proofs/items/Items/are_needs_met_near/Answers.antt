@@ -2,7 +2,7 @@ use Rattle.std.proofs.Common.{arith}
 use Rattle.mt_op.specs.Needs.{needs}
 use Rattle.mt_items.specs.Noting.{is_need_met}
 use Rattle.mt_items.proofs.EachNeed.{one_fails, one_passes, none_left}
-use Rattle.mt_items.proofs.items.Items.are_needs_met.Goals as goal
+use Rattle.mt_items.proofs.items.Items.are_needs_met_near.Goals as goal
 
 pub returns-then-not-is_met_at-clause-met : goal.returns-then-not-is_met_at-clause-met
 returns-then-not-is_met_at-clause-met g c =
