@@ -3,4 +3,5 @@ mod calls;
 mod devices;
 mod growth;
 mod headline;
+mod running;
 mod texts;

@@ -1,5 +1,6 @@
 //! Each read and each write of a command failing in turn, byte by byte.
-use super::calls::{CALLS, Call, inputs_of, is_front, length_of, run};
+use super::calls::{CALLS, Call, inputs_of, is_front, length_of};
+use super::running::run;
 use mt_cli::CliFault;
 use mt_opcodec::Latch;
 use mt_testkit::{ChokedWriter, FailingWriter, SlowReader};

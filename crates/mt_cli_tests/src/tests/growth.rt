@@ -1,5 +1,6 @@
 //! Each growth of a command refused in turn, until a run meets no refusal; and that no count takes memory.
-use super::calls::{CALLS, Call, inputs_of, is_front, length_of, run};
+use super::calls::{CALLS, Call, inputs_of, is_front, length_of};
+use super::running::run;
 use super::texts::{ONE_FRAME, PROMISING, SMALLEST};
 use mt_cli::{CliFault, write_info};
 use mt_opcodec::Latch;
