@@ -3,4 +3,5 @@ pub mod Choosing
 pub mod Fours
 pub mod Kept
 pub mod Last
+pub mod Pieces
 pub mod Rotating

@@ -5,7 +5,7 @@
 //! they take one by one.
 //!
 //! ```rust
-//! use mt_digests::{digests_of, sha256_of};
+//! use mt_digests::{Hashing, digests_of, sha256_of};
 //! use std::test::Fail;
 //!
 //! fn hashes_four_messages(rt: HostRuntime) -> Result<(), Fail> {
@@ -17,6 +17,10 @@
 //!     assert!(rt; digests[2] == digests[0] && digests[3] == digests[0]);
 //!     // a message by itself
 //!     assert!(rt; sha256_of(b"abc") == digests[0]);
+//!     // and one that comes piece by piece
+//!     let mut hashing = Hashing::new();
+//!     hashing.take(&[b'a'; 64]);
+//!     assert!(rt; hashing.finish(b"abc") == sha256_of(&[[b'a'; 64].as_slice(), b"abc"].concat(rt.alloc())?));
 //!     Ok(())
 //! }
 //! ```
@@ -29,6 +33,7 @@
 
 mod constants;
 mod ending;
+mod hashing;
 mod lane;
 mod round;
 mod rounds;
@@ -36,4 +41,5 @@ mod single;
 mod words;
 
 pub use ending::sha256_of;
+pub use hashing::Hashing;
 pub use lane::digests_of;
