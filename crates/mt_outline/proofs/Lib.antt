@@ -1,0 +1,5 @@
+pub mod Cutting
+pub mod Filling
+pub mod Heading
+pub mod Outlining
+pub mod Passages

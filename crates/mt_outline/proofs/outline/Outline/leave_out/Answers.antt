@@ -1,0 +1,15 @@
+use Rattle.std.proofs.Common.{arith, refl}
+use Rattle.mt_outline.proofs.Outlining.{ends_short, goes_past}
+use Rattle.mt_outline.proofs.outline.Outline.leave_out.Goals as goal
+
+pub returns-then-len-from-clause-outline : goal.returns-then-len-from-clause-outline
+returns-then-len-from-clause-outline g c =
+    let head = rw c.deref.ensures.value at c.in_ok-head_of.ensures in
+    ends_short _ _ _ c.take_all.new.self c.args.front.kept.items _ c.args.samples.at c.args.samples.len c.requires.come c.requires.begins head (omega arith)
+    c.requires.goes_on c.in_ok-digest.ensures.bytes (omega arith) refl
+
+pub returns-clause-outline : goal.returns-clause-outline
+returns-clause-outline g c =
+    let head = rw c.deref.ensures.value at c.in_ok-head_of.ensures in
+    goes_past _ _ _ c.take_all.new.self c.args.front.kept.items _ c.args.samples.at c.args.samples.len c.requires.come c.requires.begins head (omega arith)
+    c.requires.goes_on c.in_ok-digest.ensures.bytes (omega arith) refl refl

@@ -1,0 +1,12 @@
+use Rattle.std.proofs.Common.{◌≡◌, true, None}
+use Rattle.mt_outline.specs.Passing.{Passes}
+use Rattle.mt_outline.proofs.passing.Passing.take_all.Given as goal
+
+abbrev pub invariant-loop-digest : goal.invariant-loop-digest
+invariant-loop-digest g l = record {
+  come : Passes (g.R.Read.remaining l.fn.input.inner) (g.R.Read.remaining l.input.inner) l.fn.self l.self None;
+  stays : l.fn.input.failed ≡ true → l.input ≡ l.fn.input;
+}
+
+abbrev pub decreases-loop-digest : goal.decreases-loop-digest
+decreases-loop-digest g l = l.input.reads_left
