@@ -1,6 +1,7 @@
 pub mod Readers
 pub mod Writing
 pub mod Firsts
+pub mod Outlined
 pub mod Recordings
 pub mod Headline
 mod Keeping

@@ -55,22 +55,32 @@ abbrev pub cue_line : CueText → List ℕ
 cue_line c = codes "cue " ++ (decimal c.name ++ (codes " at " ++ (decimal c.at ++ (length_text c.length ++ (label_text c.label ++ (newline ∷ []))))))
 
 -- the lines of the sound: frames a second, channels, bits of a sample, and frames
-abbrev pub sound_lines : List ℕ → List ℕ
-sound_lines bytes =
+abbrev pub sound_lines : List ℕ → ℕ → List ℕ
+sound_lines bytes frames =
     line (codes "rate") (decimal (rate_of bytes))
     ++ (line (codes "channels") (decimal (channels_of bytes))
     ++ (line (codes "bits") (decimal (bits_of bytes))
-    ++ line (codes "frames") (decimal (frames_of bytes))))
+    ++ line (codes "frames") (decimal frames)))
 
--- the text of a wave file: its SHA-256, the sound, the broadcast extension, and the cues in order
-abbrev pub info_text : List ℕ → List ℕ
-info_text bytes =
-    line (codes "digest") (encode_lower (sha256 bytes))
-    ++ (sound_lines bytes
+-- what is read off the bytes of a wave file, with these digits of its digest and so many frames: the sound, the broadcast extension, and the cues in order
+abbrev pub told_text : List ℕ → List ℕ → ℕ → List ℕ
+told_text digits bytes frames =
+    line (codes "digest") digits
+    ++ (sound_lines bytes frames
     ++ (extension_lines (bext_of bytes)
     ++ flat_map cue_line (cues_of bytes)))
 
+-- the text of a wave file: its SHA-256 first
+abbrev pub info_text : List ℕ → List ℕ
+info_text bytes = told_text (encode_lower (sha256 bytes)) bytes (frames_of bytes)
+
 module _ {W : Type 0} (contents : W → Option (List ℕ)) where
+  -- What refuses such a text: memory, with the output as it was; or the output has failed, and holds a prefix of the text.
+  abbrev pub ToldFails : List ℕ → Latched W → Latched W → CliFault → Type 0
+  ToldFails text old new Memory = new ≡ old
+  ToldFails text old new Write = (new.failed ≡ true) × AppendsPrefix (contents old.inner) (contents new.inner) text
+  ToldFails text old new _ = ⊥
+
   -- What refuses it: the bytes are no wave file, or memory, each with the output as it was; or the output has failed,
   -- and holds a prefix of the text.
   abbrev pub InfoFails : List ℕ → Latched W → Latched W → CliFault → Type 0

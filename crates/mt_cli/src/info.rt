@@ -8,11 +8,11 @@ ghost use Rattle.std.specs.Ordering.{nat_cmp};
 ghost use Rattle.mt_bwfread.specs.Wave.{IsWave};
 ghost use Rattle.mt_bwfread.specs.Extension.{extension, bext_of};
 ghost use Rattle.mt_bwfread.specs.Cues.{CueText, cues_of, lengths_of, labels_of, first_for};
-ghost use Rattle.hex.specs.Hex.{encode_lower};
-ghost use Rattle.sha2.specs.Sha256.{sha256};
+ghost use Rattle.mt_op.specs.Digest.{digest_text};
+ghost use Rattle.mt_outline.specs.Outline.{IsOutline};
 ghost use Rattle.mt_latch.specs.Latch.{AppendsPrefix};
 ghost use Rattle.mt_latch.specs.Buffered.{Puts};
-ghost use Rattle.mt_cli.specs.Info.{info_text, line, shown_byte, shown, sound_lines, extension_lines, length_text, label_text, cue_line, InfoFails};
+ghost use Rattle.mt_cli.specs.Info.{info_text, told_text, line, shown_byte, shown, sound_lines, extension_lines, length_text, label_text, cue_line, InfoFails, ToldFails};
 ghost use Rattle.std.specs.Fmt.{decimal};
 ghost use Rattle.std.specs.List.{flat_map};
 
@@ -20,6 +20,7 @@ use crate::fault::CliFault;
 use mt_bwfread::{Bext, Wave};
 use mt_op::Digest;
 use mt_opcodec::{BufferedLatch, Latch};
+use mt_outline::Outline;
 use std::alloc::{AllocError, Allocator};
 use std::collections::BTreeMap;
 use std::io::Write;
@@ -80,13 +81,13 @@ fn put_text_line<W: Write>(output: &mut BufferedLatch<'_, W>, word: &str, text: 
 }
 
 // Puts the lines of the sound.
-fn put_sound<W: Write>(output: &mut BufferedLatch<'_, W>, wave: &Wave<'_>)
-    ensures { Puts W.contents output.old output.new (sound_lines wave.now) }
+fn put_sound<W: Write>(output: &mut BufferedLatch<'_, W>, wave: &Wave<'_>, frames: u64)
+    ensures { Puts W.contents output.old output.new (sound_lines wave.now frames) }
 {
     put_number_line(output, "rate", u64::from(wave.rate()));
     put_number_line(output, "channels", u64::from(wave.channels()));
     put_number_line(output, "bits", u64::from(wave.bits()));
-    put_number_line(output, "frames", wave.frames());
+    put_number_line(output, "frames", frames);
 }
 
 // Puts the lines of the broadcast extension.
@@ -227,39 +228,76 @@ pub fn write_info<A: Allocator + Clone, W: Write>(
     ensures sound { OnOk result (output.new.failed ≡ false) }
     ensures stays_failed { output.old.failed ≡ true → output.new ≡ output.old }
 {
-    let wave = match Wave::read(bytes) {
+    match Wave::read(bytes) {
+        Ok(wave) => write_told(alloc, Digest::of(bytes), &wave, wave.frames(), output),
+        Err(fault) => Err(CliFault::Source(0, fault)),
+    }
+}
+
+/// Writes the same of a wave file by its outline, and is refused as for the file. The time is that of the text and of the walks over the chunks of the
+/// outline, which has been hashed.
+pub fn write_outline<A: Allocator + Clone, W: Write>(
+    alloc: A,
+    outline: &Outline<A>,
+    output: &mut Latch<W>,
+) -> Result<(), CliFault>
+    ensures ok { OnOk result ((text : List ℕ) → IsOutline text outline.now
+        → IsWave text × Appends (W.contents output.old.inner) (W.contents output.new.inner) (info_text text)) }
+    ensures err { IfErr result (λ fault. (text : List ℕ) → IsOutline text outline.now → InfoFails W.contents text output.old output.new fault) }
+    ensures sound { OnOk result (output.new.failed ≡ false) }
+    ensures stays_failed { output.old.failed ≡ true → output.new ≡ output.old }
+{
+    let wave = match Wave::read(outline.bytes()) {
         Ok(wave) => wave,
         Err(fault) => return Err(CliFault::Source(0, fault)),
     };
-    let lengths = first_lengths(alloc.clone()?, &wave)?;
-    let labels = first_labels(alloc.clone()?, &wave)?;
-    let Ok(digest) = Digest::of(bytes).text(alloc) else {
-        return Err(CliFault::Memory);
-    };
-    write_lines(&wave, digest.as_str(), &lengths, &labels, output)
+    let digest = Digest(outline.digest());
+    write_told(alloc, digest, &wave, outline.frames(&wave), output)
 }
 
-// Writes the text of a wave file whose digest has this text, and whose lengths and labels are these.
+// Writes what is read off the bytes of a wave file, with this digest and so many frames.
+fn write_told<A: Allocator + Clone, W: Write>(
+    alloc: A,
+    digest: Digest,
+    wave: &Wave<'_>,
+    frames: u64,
+    output: &mut Latch<W>,
+) -> Result<(), CliFault>
+    ensures ok { OnOk result (Appends (W.contents output.old.inner) (W.contents output.new.inner)
+        (told_text (digest_text digest) wave.now frames)) }
+    ensures err { IfErr result (ToldFails W.contents (told_text (digest_text digest) wave.now frames) output.old output.new) }
+    ensures sound { OnOk result (output.new.failed ≡ false) }
+    ensures stays_failed { output.old.failed ≡ true → output.new ≡ output.old }
+{
+    let lengths = first_lengths(alloc.clone()?, wave)?;
+    let labels = first_labels(alloc.clone()?, wave)?;
+    let Ok(digits) = digest.text(alloc) else {
+        return Err(CliFault::Memory);
+    };
+    write_lines(digits.as_str(), wave, frames, &lengths, &labels, output)
+}
+
+// Writes that text of these digits, lengths and labels.
 #[tactic(auto, unfolding(mt_latch::specs::Buffered::Puts))]
 fn write_lines<A: Allocator, W: Write>(
+    digits: &str,
     wave: &Wave<'_>,
-    digest: &str,
+    frames: u64,
     lengths: &BTreeMap<u32, u32, A>,
     labels: &BTreeMap<u32, &[u8], A>,
     output: &mut Latch<W>,
 ) -> Result<(), CliFault>
     requires lengths { (name : ℕ) → get nat_cmp lengths.now name ≡ first_for name (lengths_of wave.now) }
     requires labels { (name : ℕ) → option_copied (get nat_cmp labels.now name) ≡ first_for name (labels_of wave.now) }
-    requires digest { digest.now ≡ encode_lower (sha256 wave.now) }
     ensures ok { OnOk result (Appends (W.contents output.old.inner) (W.contents output.new.inner)
-        (info_text wave.now)) }
+        (told_text digits.now wave.now frames)) }
     ensures err { IfErr result (λ fault. (fault ≡ CliFault.Write) × (output.new.failed ≡ true)
-        × AppendsPrefix (W.contents output.old.inner) (W.contents output.new.inner) (info_text wave.now)) }
+        × AppendsPrefix (W.contents output.old.inner) (W.contents output.new.inner) (told_text digits.now wave.now frames)) }
     ensures sound { OnOk result (output.new.failed ≡ false) }
     ensures stays_failed { output.old.failed ≡ true → output.new ≡ output.old }
 {
     let mut lines = BufferedLatch::new(output);
-    put_lines(&mut lines, wave, digest, lengths, labels);
+    put_lines(&mut lines, digits, wave, frames, lengths, labels);
     if lines.flush().is_err() {
         return Err(CliFault::Write);
     }
@@ -269,18 +307,18 @@ fn write_lines<A: Allocator, W: Write>(
 // Puts that text.
 fn put_lines<A: Allocator, W: Write>(
     output: &mut BufferedLatch<'_, W>,
+    digits: &str,
     wave: &Wave<'_>,
-    digest: &str,
+    frames: u64,
     lengths: &BTreeMap<u32, u32, A>,
     labels: &BTreeMap<u32, &[u8], A>,
 )
     requires lengths { (name : ℕ) → get nat_cmp lengths.now name ≡ first_for name (lengths_of wave.now) }
     requires labels { (name : ℕ) → option_copied (get nat_cmp labels.now name) ≡ first_for name (labels_of wave.now) }
-    requires digest { digest.now ≡ encode_lower (sha256 wave.now) }
-    ensures { Puts W.contents output.old output.new (info_text wave.now) }
+    ensures { Puts W.contents output.old output.new (told_text digits.now wave.now frames) }
 {
-    put_line(output, "digest", digest);
-    put_sound(output, wave);
+    put_line(output, "digest", digits);
+    put_sound(output, wave, frames);
     put_extension(output, wave.bext());
     put_cues(output, wave, lengths, labels);
 }

@@ -2,7 +2,6 @@
 
 ghost use Rattle.std.specs.Prelude.{◌≡◌, ◌+◌, ◌++◌, ◌<◌, ◌^◌, true, false, None, Ok, IfOk, IfErr, OnOk};
 ghost use Rattle.std.specs.String.{string_bytes};
-ghost use Rattle.mt_bwfread.specs.Wave.{frames_of};
 ghost use Rattle.mt_op.specs.Digest.{digest_text};
 ghost use Rattle.mt_logtext.specs.LogText.{word, number_word};
 ghost use Rattle.mt_cli.specs.Laying.{clip_words, clip_line, lay_fault, laid, NotLaid, LaysOut, GaveSound, HasWaveCause, FilesLaid, FilesNotLaid};
@@ -13,7 +12,7 @@ ghost use Rattle.mt_cli.specs.Sources.{IsSourceCause};
 
 use crate::fault::{CliFault, LayFault};
 use crate::put::put_bytes;
-use crate::sources::read_source;
+use crate::read::read_outline;
 use mt_bwfread::Wave;
 use mt_op::Digest;
 use mt_opcodec::Latch;
@@ -41,15 +40,8 @@ pub(crate) struct Sound {
     pub(crate) frames: u32,
 }
 
-// The frames of a wave file.
-fn frames_of(wave: &Wave<'_>) -> u32
-    ensures { result ≡ frames_of wave.now }
-{
-    wave.frames() as u32
-}
-
 // Reads the wave file of the recording of this index.
-fn read_sound<A: Allocator, R: Read>(
+fn read_sound<A: Allocator + Clone, R: Read>(
     alloc: A,
     index: usize,
     input: &mut Latch<R>,
@@ -59,12 +51,12 @@ fn read_sound<A: Allocator, R: Read>(
     ensures rest { IsRest R.remaining input.old input.new }
     ensures err { IfErr result (IsSourceCause R.remaining 0 index input.old input.new) }
 {
-    let bytes = read_source(alloc, 0, index, input)?;
-    match Wave::read(&bytes) {
+    let outline = read_outline(alloc, index, input)?;
+    match Wave::read(outline.bytes()) {
         Ok(wave) => Ok(Sound {
-            digest: Digest::of(&bytes),
+            digest: Digest(outline.digest()),
             rate: wave.rate(),
-            frames: frames_of(&wave),
+            frames: outline.frames(&wave) as u32,
         }),
         Err(fault) => Err(CliFault::Source(index, fault)),
     }
@@ -217,7 +209,7 @@ fn put_sounds<A: Allocator + Clone, W: Write>(
 /// position is over 4,294,967,295 (35), tested in this order; `Write` where the output's latch has failed, which then holds a prefix of the text. `Memory`
 /// where a growth was refused. But for `Write` nothing was written, and the output was not asked. An output that had failed stays as it was.
 ///
-/// Each input is read, hashed and let go in its turn: the memory is that of the greatest of them, and of the lines.
+/// Each input is read and hashed in its turn, and its outline let go: the memory is that of the greatest of these, and of the lines.
 pub fn lay_files<A: Allocator + Clone, R: Read, W: Write>(
     alloc: A,
     laying: &Laying<'_>,

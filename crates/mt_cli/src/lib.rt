@@ -1,6 +1,6 @@
 //! The commands of `radio`.
 //!
-//! `view_logs`, `list_logs`, `draw_logs`, `merge_logs`, `pull_logs`, `list_sources`, `find_items`, `diff_logs`, `lay_files`, `revert_log`, `check_log`, `bounce_logs`, `write_info`, `edit_log`, `have_log`, `lack_log`, `take_log` and
+//! `view_logs`, `list_logs`, `draw_logs`, `merge_logs`, `pull_logs`, `list_sources`, `find_items`, `diff_logs`, `lay_files`, `revert_log`, `check_log`, `bounce_logs`, `write_info`, `write_outline`, `edit_log`, `have_log`, `lack_log`, `take_log` and
 //! `swap_log` do the work of commands over any readers and writers, of which each is in a latch:
 //!
 //! ```rust
@@ -90,7 +90,7 @@ pub use fault::{CliFault, LayFault, PartFault};
 pub use find::{Wanted, find_items};
 pub use form::LineForm;
 pub use have::have_log;
-pub use info::write_info;
+pub use info::{write_info, write_outline};
 pub use lack::lack_log;
 pub use lay::{Laying, lay_files};
 pub use list::{list_log, list_logs};

@@ -2,12 +2,14 @@
 
 ghost use Rattle.std.specs.Prelude.{◌≡◌, ◌≢◌, IfOk, IfErr, OnOk};
 ghost use Rattle.mt_opcodec.specs.declared.fault.LogFault.TheVariants as log;
+ghost use Rattle.mt_outline.specs.Outline.{Gives};
 ghost use Rattle.mt_cli.specs.Reading.{Gave, GaveDigest, GaveLog, IsRead, IsRest, AreRead, GaveLogs, IsReadCause, IsCause, HasCause};
 
 use crate::fault::CliFault;
 use crate::laws::log_in_memory;
 use mt_op::Digest;
 use mt_opcodec::{Latch, LatchFault, Log, LogFault};
+use mt_outline::Outline;
 use std::alloc::Allocator;
 use std::io::Read;
 
@@ -27,6 +29,25 @@ pub(crate) fn read_all<A: Allocator, R: Read>(
         Err(LatchFault::Memory) => Err(CliFault::Memory),
         Err(_) => Err(CliFault::Read(index)),
     }
+}
+
+/// Reads the outline of the file of the input of this index.
+pub(crate) fn read_outline<A: Allocator + Clone, R: Read>(
+    alloc: A,
+    index: usize,
+    input: &mut Latch<R>,
+) -> Result<Outline<A>, CliFault>
+    ensures read { OnOk result (IsRead R.remaining input.new) }
+    ensures ok { IfOk result (λ outline. Gives (R.remaining input.old.inner) outline) }
+    ensures rest { IsRest R.remaining input.old input.new }
+    ensures err { IfErr result (IsReadCause index input.new) }
+{
+    let outline = match Outline::read(alloc, input) {
+        Ok(outline) => outline,
+        Err(LatchFault::Memory) => return Err(CliFault::Memory),
+        Err(_) => return Err(CliFault::Read(index)),
+    };
+    Ok(outline)
 }
 
 /// Reads the bytes of the input of this index, and keeps their digest alone.

@@ -1,6 +1,7 @@
 //! Telling which recordings a log's session names.
 
-ghost use Rattle.std.specs.Prelude.{◌≡◌, ◌+◌, ◌<◌, ◌^◌, true, false, map, IfOk, IfErr, OnOk};
+ghost use Rattle.std.specs.Prelude.{◌≡◌, ℕ, ◌+◌, ◌<◌, ◌^◌, true, false, List, map, IfOk, IfErr, OnOk};
+ghost use Rattle.mt_outline.specs.Outline.{IsOutline};
 ghost use Rattle.std.specs.Io.KnownBytes.{Appends};
 ghost use Rattle.mt_bwfread.specs.Wave.{fault_of};
 ghost use Rattle.mt_opcodec.specs.LogValue.{operations};
@@ -13,23 +14,33 @@ ghost use Rattle.mt_cli.specs.SourcesListing.{given_files, listing, GaveRecordin
 
 use crate::fault::CliFault;
 use crate::pull::count_pairs;
-use crate::read::{read_all, read_log};
-use mt_bwfread::WaveFault;
+use crate::read::{read_log, read_outline};
+use mt_bwfread::{Wave, WaveFault};
+use mt_op::Digest;
 use mt_opcodec::{Latch, Log};
-use mt_preflight::{Given, Listing, Recording, describe, write_sources};
+use mt_outline::Outline;
+use mt_preflight::{Given, Listing, Recording, write_sources};
 use mt_sessionview::{SessionFault, from_scratch};
 use std::alloc::{AllocError, Allocator};
 use std::io::{Read, Write};
 
-// What these bytes are.
-fn recording_of(bytes: &[u8]) -> Result<Recording, WaveFault>
-    ensures { result ≡ recording_of bytes.now (fault_of bytes.now) }
+// What the file of this outline is.
+fn recording_of<A: Allocator>(outline: &Outline<A>) -> Result<Recording, WaveFault>
+    ensures { (text : List ℕ) → IsOutline text outline.now → result ≡ recording_of text (fault_of text) }
 {
-    describe("", bytes).recording
+    match Wave::read(outline.bytes()) {
+        Ok(wave) => Ok(Recording {
+            digest: Digest(outline.digest()),
+            rate: wave.rate(),
+            channels: wave.channels(),
+            frames: outline.frames(&wave),
+        }),
+        Err(fault) => Err(fault),
+    }
 }
 
 // Reads what the file of this index is. It is counted behind the log.
-fn read_recording<A: Allocator, R: Read>(
+fn read_recording<A: Allocator + Clone, R: Read>(
     alloc: A,
     index: usize,
     input: &mut Latch<R>,
@@ -40,8 +51,8 @@ fn read_recording<A: Allocator, R: Read>(
     ensures rest { IsRest R.remaining input.old input.new }
     ensures err { IfErr result (IsFileCause R.remaining index input.old input.new) }
 {
-    match read_all(alloc, index + 1, input) {
-        Ok(bytes) => Ok(recording_of(&bytes)),
+    match read_outline(alloc, index + 1, input) {
+        Ok(outline) => Ok(recording_of(&outline)),
         Err(fault) => Err(fault),
     }
 }
@@ -159,7 +170,7 @@ fn list_files<A: Allocator + Clone, R: Read, W: Write>(
 /// refused, and nothing was written then. Each input is read to its end, but for those behind one at fault, which are not asked. An output that had failed
 /// stays as it was.
 ///
-/// The memory is that of the log, of its session and of one file at a time.
+/// The memory is that of the log, of its session and of the outline of one file at a time.
 pub fn list_sources<A: Allocator + Clone, R: Read, W: Write>(
     alloc: A,
     which: Listing,

@@ -4,8 +4,8 @@ use super::memory_of_objects;
 use crate::fault::CliFault;
 use crate::files::open;
 use crate::form::{LineForm, made_in_memory, put_in_form};
-use crate::info::write_info;
-use crate::read::read_all;
+use crate::info::write_outline;
+use crate::read::read_outline;
 use crate::words::{AS_JSON, AS_TIMES, Word, Words};
 use clap::ArgMatches;
 use mt_bwfread::Wave;
@@ -58,15 +58,15 @@ pub(crate) fn run<F: Files + AllocGlobal, W: Write>(
     output: &mut Latch<W>,
 ) -> Result<(), CliFault> {
     let mut file = open(rt, 0, words.get_str("WAVE").unwrap_or(""))?;
-    let bytes = read_all(rt.alloc(), 0, &mut file)?;
+    let outline = read_outline(rt.alloc(), 0, &mut file)?;
     let form = LineForm {
-        rate: rate_of(words, &bytes),
+        rate: rate_of(words, outline.bytes()),
         json: memory_of_objects(rt.alloc(), words),
     };
     if form.is_plain() {
-        return write_info(rt.alloc(), &bytes, output);
+        return write_outline(rt.alloc(), &outline, output);
     }
     let mut made = Latch::new(Vec::new(rt.alloc()));
-    made_in_memory(write_info(rt.alloc(), &bytes, &mut made))?;
+    made_in_memory(write_outline(rt.alloc(), &outline, &mut made))?;
     put_in_form(rt.alloc(), form, &made.into_inner(), output)
 }

@@ -5,5 +5,5 @@ use Rattle.mt_cli.proofs.info.put_lines.Goals as goal
 pub returns : goal.returns
 unfolding Puts
 returns g c =
-    rw (← c.requires.digest, ← c.bext.ensures)
+    rw (← c.bext.ensures)
     (then_handed _ c.put_line.ensures (then_handed _ c.put_sound.ensures (then_handed _ c.put_extension.ensures c.put_cues.ensures)))

@@ -1,0 +1,79 @@
+-- What is told of a wave file by its outline.
+use Rattle.std.proofs.Common.{◌≡◌, ℕ, List, refl, sym, ap, ◌∙◌}
+use Rattle.std.specs.Prelude.{Option, Result, Ok, Err, IfSome, IfErr, OnOk}
+use Rattle.std.specs.Io.KnownBytes.{Appends}
+use Rattle.hex.specs.Hex.{encode_lower}
+use Rattle.sha2.specs.Sha256.{sha256}
+use Rattle.mt_latch.specs.Latch.{Latched}
+use Rattle.mt_bwfread.specs.Wave.{IsWave, fault_of, format_of, rate_of, channels_of, bits_of, frames_of}
+use Rattle.mt_bwfread.specs.Extension.{bext_of}
+use Rattle.mt_bwfread.specs.Cues.{cue_chunk, points_of, entries_of, lengths_of, labels_of, cues_of}
+use Rattle.mt_outline.specs.Outline.{Gives, IsOutline, SayTheSame}
+use Rattle.mt_outline.specs.declared.outline.Outline.{Outline}
+use Rattle.mt_preflight.specs.Files.{recording_of}
+use Rattle.mt_cli.specs.declared.fault.CliFault.{CliFault}
+use Rattle.mt_cli.specs.declared.fault.CliFault.TheVariants.{Memory, Write}
+use Rattle.mt_cli.specs.Info.{told_text, info_text, ToldFails, InfoFails}
+use Rattle.mt_cli.specs.Laying.{sound_of}
+
+-- what is told of files that say the same
+told_same : (kept text digits : List ℕ) (frames : ℕ) → SayTheSame kept text → told_text digits kept frames ≡ told_text digits text frames
+unfolding format_of rate_of channels_of bits_of bext_of cue_chunk points_of entries_of lengths_of labels_of cues_of
+told_same kept text digits frames same = rw (same.fmt, same.bext, same.cue, same.lists) refl
+
+-- what refuses such a text refuses the one of the file
+module _ {W : Type 0} (contents : W → Option (List ℕ)) where
+  fails_as : (text told : List ℕ) (old new : Latched W) (fault : CliFault) → IsWave text → told ≡ info_text text → ToldFails contents told old new fault → InfoFails contents text old new fault
+  fails_as text told old new Memory wave is fails = fails
+  fails_as text told old new Write wave is fails = (wave, fails.0, rw (← is) fails.1)
+  fails_as text told old new _ wave is fails = absurd fails
+
+module _ {A : Type 0} where
+  pub told_outline : (text kept : List ℕ) (o : Outline A) (digits : List ℕ) (frames : ℕ) → IsOutline text o → IsWave text → kept ≡ o.kept.items → digits ≡ encode_lower (sha256 text)
+      → frames ≡ frames_of text → told_text digits kept frames ≡ info_text text
+  told_outline text kept o digits frames outline wave is ed en =
+      rw (is, ed, en) (told_same o.kept.items text (encode_lower (sha256 text)) (frames_of text) (outline.says wave))
+
+  -- the file of an outline is a wave file where what is kept is one
+  pub wave_of : (text kept : List ℕ) (o : Outline A) → IsOutline text o → IsWave kept → kept ≡ o.kept.items → IsWave text
+  wave_of text kept o outline wave is = sym outline.fault ∙ ap fault_of (sym is) ∙ wave
+
+  pub recording_is : (text kept : List ℕ) (o : Outline A) (d : List ℕ) (rate channels frames : ℕ) → IsOutline text o → IsWave kept → kept ≡ o.kept.items
+      → d ≡ sha256 text → rate ≡ rate_of kept → channels ≡ channels_of kept → (IsWave text → frames ≡ frames_of text)
+      → Ok (record { digest = record { 0 = d }; rate = rate; channels = channels; frames = frames }) ≡ recording_of text (fault_of text)
+  unfolding format_of rate_of channels_of
+  recording_is text kept o d rate channels frames outline wave is ed er ec en =
+      let all = wave_of text kept o outline wave is in
+      let same = outline.says all in
+      rw (all, ed, er, ec, en all, is, same.fmt) refl
+
+  pub sound_is : (left : Option (List ℕ)) (kept : List ℕ) (o : Outline A) (d : List ℕ) (rate frames : ℕ) → Gives left o → IsWave kept → kept ≡ o.kept.items
+      → ((text : List ℕ) → IsOutline text o → d ≡ sha256 text) → rate ≡ rate_of kept → ((text : List ℕ) → IsOutline text o → IsWave text → frames ≡ frames_of text)
+      → (bytes : List ℕ) × ((IfSome left (λ all. bytes ≡ all) × IsWave bytes) × (record { digest = record { 0 = d }; rate = rate; frames = frames } ≡ sound_of bytes))
+  unfolding format_of rate_of
+  sound_is left kept o d rate frames gives wave is ed er en =
+      let text = gives.text in
+      let all = wave_of text kept o gives.outline wave is in
+      let same = gives.outline.says all in
+      (text, ((gives.all, all), rw (ed text gives.outline, er, en text gives.outline all, is, same.fmt) refl))
+
+  -- ---- a text that is told, and why it is not
+
+  module _ {W : Type 0} (contents : W → Option (List ℕ)) where
+    -- what is written of a wave file by its outline, and what refuses it
+    pub outline_written : (r : Result (Unit {0}) CliFault) (kept : List ℕ) (o : Outline A) (d : List ℕ) (frames : ℕ) (old new : Latched W) → IsWave kept → kept ≡ o.kept.items
+        → ((text : List ℕ) → IsOutline text o → d ≡ sha256 text) → ((text : List ℕ) → IsOutline text o → IsWave text → frames ≡ frames_of text)
+        → OnOk r (Appends (contents old.inner) (contents new.inner) (told_text (encode_lower d) kept frames))
+        → OnOk r ((text : List ℕ) → IsOutline text o → IsWave text × Appends (contents old.inner) (contents new.inner) (info_text text))
+    outline_written (Ok done) kept o d frames old new wave is ed en written = λ text outline.
+        let all = wave_of text kept o outline wave is in
+        (all, rw (← told_outline text kept o (encode_lower d) frames outline all is (ap encode_lower (ed text outline)) (en text outline all)) written)
+    outline_written (Err fault) kept o d frames old new wave is ed en written = tt
+
+    pub outline_refused : (r : Result (Unit {0}) CliFault) (kept : List ℕ) (o : Outline A) (d : List ℕ) (frames : ℕ) (old new : Latched W) → IsWave kept → kept ≡ o.kept.items
+        → ((text : List ℕ) → IsOutline text o → d ≡ sha256 text) → ((text : List ℕ) → IsOutline text o → IsWave text → frames ≡ frames_of text)
+        → IfErr r (ToldFails contents (told_text (encode_lower d) kept frames) old new) → IfErr r (λ fault. (text : List ℕ) → IsOutline text o → InfoFails contents text old new fault)
+    outline_refused (Ok done) kept o d frames old new wave is ed en fails = tt
+    outline_refused (Err fault) kept o d frames old new wave is ed en fails = λ text outline.
+        let all = wave_of text kept o outline wave is in
+        fails_as contents text (told_text (encode_lower d) kept frames) old new fault all (told_outline text kept o (encode_lower d) frames outline all is (ap encode_lower (ed text outline)) (en text outline all)) fails
