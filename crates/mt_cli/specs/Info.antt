@@ -2,6 +2,7 @@
 use Rattle.std.specs.Prelude.{◌≡◌, ℕ, true, Bool, ◌==◌, ◌&&◌, not, nat_le, if◌then◌else◌, List, [], ◌∷◌, ◌++◌, codes, Option, Some, None}
 use Rattle.std.specs.Fmt.{decimal}
 use Rattle.std.specs.List.{flat_map}
+use Rattle.std.specs.Io.KnownBytes.{Appends}
 use Rattle.hex.specs.Hex.{encode_lower}
 use Rattle.sha2.specs.Sha256.{sha256}
 use Rattle.mt_latch.specs.Latch.{Latched, AppendsPrefix}
@@ -9,6 +10,8 @@ use Rattle.mt_sessionview.specs.SessionText.{newline}
 use Rattle.mt_bwfread.specs.Wave.{IsWave, fault_of, rate_of, channels_of, bits_of, frames_of}
 use Rattle.mt_bwfread.specs.Extension.{Extension, bext_of}
 use Rattle.mt_bwfread.specs.Cues.{CueText, cues_of}
+use Rattle.mt_outline.specs.Outline.{IsOutline}
+use Rattle.mt_outline.specs.declared.outline.Outline.{Outline}
 use Rattle.mt_cli.specs.declared.fault.CliFault.{CliFault}
 use Rattle.mt_cli.specs.declared.fault.CliFault.TheVariants.{Memory, Source, Write}
 
@@ -88,3 +91,10 @@ module _ {W : Type 0} (contents : W → Option (List ℕ)) where
   InfoFails bytes old new (Source place fault) = (place ≡ 0) × (fault_of bytes ≡ Some fault) × (new ≡ old)
   InfoFails bytes old new Write = IsWave bytes × (new.failed ≡ true) × AppendsPrefix (contents old.inner) (contents new.inner) (info_text bytes)
   InfoFails bytes old new _ = ⊥
+
+  -- The same of the file that an outline is of, whichever it is: its text was appended, or it is refused.
+  abbrev pub OutlineTold : {A : Type 0} → Outline A → Latched W → Latched W → Type 0
+  OutlineTold o old new = (bytes : List ℕ) → IsOutline bytes o → IsWave bytes × Appends (contents old.inner) (contents new.inner) (info_text bytes)
+
+  abbrev pub OutlineFails : {A : Type 0} → Outline A → Latched W → Latched W → CliFault → Type 0
+  OutlineFails o old new fault = (bytes : List ℕ) → IsOutline bytes o → InfoFails bytes old new fault

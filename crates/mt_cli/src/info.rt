@@ -9,10 +9,9 @@ ghost use Rattle.mt_bwfread.specs.Wave.{IsWave};
 ghost use Rattle.mt_bwfread.specs.Extension.{extension, bext_of};
 ghost use Rattle.mt_bwfread.specs.Cues.{CueText, cues_of, lengths_of, labels_of, first_for};
 ghost use Rattle.mt_op.specs.Digest.{digest_text};
-ghost use Rattle.mt_outline.specs.Outline.{IsOutline};
 ghost use Rattle.mt_latch.specs.Latch.{AppendsPrefix};
 ghost use Rattle.mt_latch.specs.Buffered.{Puts};
-ghost use Rattle.mt_cli.specs.Info.{info_text, told_text, line, shown_byte, shown, sound_lines, extension_lines, length_text, label_text, cue_line, InfoFails, ToldFails};
+ghost use Rattle.mt_cli.specs.Info.{info_text, told_text, line, shown_byte, shown, sound_lines, extension_lines, length_text, label_text, cue_line, InfoFails, ToldFails, OutlineTold, OutlineFails};
 ghost use Rattle.std.specs.Fmt.{decimal};
 ghost use Rattle.std.specs.List.{flat_map};
 
@@ -241,9 +240,8 @@ pub fn write_outline<A: Allocator + Clone, W: Write>(
     outline: &Outline<A>,
     output: &mut Latch<W>,
 ) -> Result<(), CliFault>
-    ensures ok { OnOk result ((text : List ℕ) → IsOutline text outline.now
-        → IsWave text × Appends (W.contents output.old.inner) (W.contents output.new.inner) (info_text text)) }
-    ensures err { IfErr result (λ fault. (text : List ℕ) → IsOutline text outline.now → InfoFails W.contents text output.old output.new fault) }
+    ensures ok { OnOk result (OutlineTold W.contents outline.now output.old output.new) }
+    ensures err { IfErr result (OutlineFails W.contents outline.now output.old output.new) }
     ensures sound { OnOk result (output.new.failed ≡ false) }
     ensures stays_failed { output.old.failed ≡ true → output.new ≡ output.old }
 {

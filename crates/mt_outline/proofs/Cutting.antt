@@ -1,5 +1,5 @@
 -- A wave file whose samples are left out says the same of all else.
-use Rattle.std.proofs.Common.{◌≡◌, ℕ, ◌+◌, ◌-◌, ◌%◌, ◌^◌, ◌<◌, ◌≤◌, Bool, true, false, cond, min, List, [], ◌∷◌, ◌++◌, length, take, drop, Some, None, refl, sym, ap, subst, ◌∙◌, arith, append_assoc, length-append, length-drop}
+use Rattle.std.proofs.Common.{◌≡◌, ℕ, ◌+◌, ◌-◌, ◌%◌, ◌^◌, ◌<◌, ◌≤◌, true, false, min, List, [], ◌∷◌, ◌++◌, length, take, drop, Some, None, refl, sym, ap, subst, ◌∙◌, arith, append_assoc, length-append, length-drop}
 use Rattle.std.specs.Prelude.{codes, slice_range, Option}
 use Rattle.std.specs.Str.{bytes_eq}
 use Rattle.std.proofs.lemmas.Bool.{le-leb, lt-leb}
@@ -16,7 +16,7 @@ use Rattle.mt_bwfread.proofs.Chunks.{chunks_step, rest_step, rest_stop}
 use Rattle.mt_bwfread.proofs.Reading.{truncated_at}
 use Rattle.mt_outline.specs.Fronts.{AreOthers, BeginsSamples, head_of}
 use Rattle.mt_outline.specs.Outline.{SayTheSame}
-use Rattle.mt_outline.proofs.Heading.{number_front, number_taken}
+use Rattle.mt_outline.proofs.Heading.{behind_none, number_front, number_taken}
 
 -- ---- two lists of chunks that differ in one chunk data
 
@@ -24,10 +24,6 @@ content_other : (id : List ℕ) (gs : List Chunk) (c d : Chunk) (cs : List Chunk
 unfolding content_of
 content_other id [] c d cs ec ed = rw (ec, ed) refl
 content_other id (g ∷ gs) c d cs ec ed = rw (content_other id gs c d cs ec ed) refl
-
-behind_none : (b : Bool) (x : List ℕ) (more other r : Option (List ℕ)) → cond b (Some x) more ≡ None → (more ≡ None → other ≡ r) → cond b (Some x) other ≡ r
-behind_none true x more other r none goes = absurd cc
-behind_none false x more other r none goes = goes none
 
 content_data : (id : List ℕ) (gs : List Chunk) (c : Chunk) (cs : List Chunk) → content_of id gs ≡ None → bytes_eq c.id id ≡ true → content_of id (gs ++ c ∷ cs) ≡ Some c.content
 unfolding content_of

@@ -46,14 +46,15 @@ passed piece behind len said long =
       rest = rest_step (piece ++ behind) whole ∙ ap rest_of after;
     }
 
-none_behind : (b : Bool) (x : List ℕ) (more other : Option (List ℕ)) → cond b (Some x) more ≡ None → (more ≡ None → other ≡ None) → cond b (Some x) other ≡ None
-none_behind true x more other none goes = absurd cc
-none_behind false x more other none goes = goes none
+-- where no first content is, what stands behind counts
+pub behind_none : (b : Bool) (x : List ℕ) (more other r : Option (List ℕ)) → cond b (Some x) more ≡ None → (more ≡ None → other ≡ r) → cond b (Some x) other ≡ r
+behind_none true x more other r none goes = absurd cc
+behind_none false x more other r none goes = goes none
 
 none_with : (id : List ℕ) (cs : List Chunk) (c : Chunk) → content_of id cs ≡ None → bytes_eq c.id id ≡ false → content_of id (cs ++ c ∷ []) ≡ None
 unfolding content_of
 none_with id [] c none other = rw other refl
-none_with id (d ∷ ds) c none other = none_behind (bytes_eq d.id id) d.content (content_of id ds) (content_of id (ds ++ c ∷ [])) none (λ rest. none_with id ds c rest other)
+none_with id (d ∷ ds) c none other = behind_none (bytes_eq d.id id) d.content (content_of id ds) (content_of id (ds ++ c ∷ [])) None none (λ rest. none_with id ds c rest other)
 
 pub no_bytes : AreOthers []
 unfolding content_of

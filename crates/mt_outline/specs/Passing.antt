@@ -2,6 +2,7 @@
 use Rattle.std.specs.Prelude.{◌≡◌, ℕ, ◌-◌, List, ◌++◌, length, drop, Option, MatchOption}
 use Rattle.std.specs.Io.KnownBytes.{Consumes}
 use Rattle.sha2.specs.Sha256.{sha256}
+use Rattle.mt_latch.specs.Latch.{Latched}
 use Rattle.mt_digests.specs.Pieces.{Holds}
 use Rattle.mt_outline.specs.declared.passing.Passing.{Passing}
 
@@ -17,3 +18,7 @@ module _ {A : Type 0} where
     pub bytes : List ℕ
     pub consumed : Consumes before after bytes
     pub passed : Passed old new digest bytes
+
+  -- the same of the reader in a latch
+  abbrev pub Takes : {R : Type 0} → (R → Option (List ℕ)) → Latched R → Latched R → Passing A → Passing A → Option (List ℕ) → Type 0
+  Takes remaining before after old new digest = Passes (remaining before.inner) (remaining after.inner) old new digest

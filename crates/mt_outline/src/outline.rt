@@ -58,7 +58,7 @@ impl<A: Allocator + Clone> Outline<A> {
     ghost use Rattle.std.specs.Io.KnownBytes.{IsAtEnd};
     ghost use Rattle.mt_bwfread.specs.Wave.{IsWave, frames_of};
     ghost use Rattle.mt_latch.specs.Latch.{ConsumesPrefix};
-    ghost use Rattle.mt_latch.specs.declared.fault.LatchFault.TheVariants.{Write as WriteFault, Read as ReadFault};
+    ghost use Rattle.mt_latch.specs.declared.fault.LatchFault.TheVariants.{Memory, Write as WriteFault, Read as ReadFault};
     ghost use Rattle.mt_digests.specs.Pieces.{Holds};
     ghost use Rattle.mt_outline.specs.Outline.{Gives, Outlines};
 
@@ -77,6 +77,7 @@ impl<A: Allocator + Clone> Outline<A> {
         ensures never_write { IfErr result (λ fault. fault ≢ WriteFault) }
         ensures refused_when_failed { IfErr result (λ fault. fault ≡ ReadFault → input.new.failed ≡ true) }
         ensures sound_when_read { OnOk result (input.new.failed ≡ false) }
+        ensures memory_leaves { IfErr result (λ fault. fault ≡ Memory → input.old.failed ≡ false → input.new.failed ≡ false) }
         ensures stays_failed { input.old.failed ≡ true → input.new ≡ input.old }
     {
         let mut passing = front;
@@ -106,6 +107,7 @@ impl<A: Allocator + Clone> Outline<A> {
         ensures never_write { IfErr result (λ fault. fault ≢ WriteFault) }
         ensures refused_when_failed { IfErr result (λ fault. fault ≡ ReadFault → input.new.failed ≡ true) }
         ensures sound_when_read { OnOk result (input.new.failed ≡ false) }
+        ensures memory_leaves { IfErr result (λ fault. fault ≡ Memory → input.old.failed ≡ false → input.new.failed ≡ false) }
         ensures stays_failed { input.old.failed ≡ true → input.new ≡ input.old }
     {
         let odd = samples.len % 2;
@@ -146,6 +148,7 @@ impl<A: Allocator + Clone> Outline<A> {
         ensures never_write { IfErr result (λ fault. fault ≢ WriteFault) }
         ensures refused_when_failed { IfErr result (λ fault. fault ≡ ReadFault → input.new.failed ≡ true) }
         ensures sound_when_read { OnOk result (input.new.failed ≡ false) }
+        ensures memory_leaves { IfErr result (λ fault. fault ≡ Memory → input.old.failed ≡ false → input.new.failed ≡ false) }
         ensures stays_failed { input.old.failed ≡ true → input.new ≡ input.old }
     {
         match samples_in(&front.kept) {
@@ -160,8 +163,8 @@ impl<A: Allocator + Clone> Outline<A> {
     /// twice and what stands behind them; where they begin later, it takes all of the file. What is no wave file has an outline as well, which
     /// `Wave::read` refuses as it refuses the file.
     ///
-    /// `Read` (45) where the latch has failed, before or in this call; `Memory` (0) where a growth was refused. Either way the bytes that were read
-    /// by then are gone.
+    /// `Read` (45) where the latch has failed, before or in this call; `Memory` (0) where a growth was refused, and the latch has not failed
+    /// in this call. Either way the bytes that were read by then are gone.
     #[tactic(auto, using(crate::proofs::Outlining::gives_front, crate::proofs::Outlining::gives_behind))]
     pub fn read<R: Read>(alloc: A, input: &mut Latch<R>) -> Result<Outline<A>, LatchFault>
         ensures outline { IfOk result (λ o. Gives (R.remaining input.old.inner) o) }
@@ -170,6 +173,7 @@ impl<A: Allocator + Clone> Outline<A> {
         ensures never_write { IfErr result (λ fault. fault ≢ WriteFault) }
         ensures refused_when_failed { IfErr result (λ fault. fault ≡ ReadFault → input.new.failed ≡ true) }
         ensures sound_when_read { OnOk result (input.new.failed ≡ false) }
+        ensures memory_leaves { IfErr result (λ fault. fault ≡ Memory → input.old.failed ≡ false → input.new.failed ≡ false) }
         ensures stays_failed { input.old.failed ≡ true → input.new ≡ input.old }
     {
         let mut piece = [0; PIECE];

@@ -4,7 +4,7 @@ ghost use Rattle.std.specs.Prelude.{◌≡◌, ◌≢◌, ◌<◌, ◌≤◌, �
 ghost use Rattle.std.specs.Io.KnownBytes.{Consumes, IsAtEnd};
 ghost use Rattle.mt_latch.specs.Latch.{ConsumesPrefix};
 ghost use Rattle.mt_latch.specs.declared.fault.LatchFault.TheVariants.{Memory, Write as WriteFault, Read as ReadFault};
-ghost use Rattle.mt_outline.specs.Passing.{Passes};
+ghost use Rattle.mt_outline.specs.Passing.{Takes};
 
 use mt_digests::Hashing;
 use mt_latch::{Latch, LatchFault};
@@ -67,7 +67,7 @@ impl<A: Allocator> Passing<A> {
         input: &mut Latch<R>,
         piece: &mut [u8; PIECE],
     ) -> Result<Option<[u8; 32]>, LatchFault>
-        ensures bytes { IfOk result (λ digest. Passes (R.remaining input.old.inner) (R.remaining input.new.inner) self.old self.new digest) }
+        ensures bytes { IfOk result (Takes R.remaining input.old input.new self.old self.new) }
         ensures at_end { IfOk result (λ digest. OnSome digest (IsAtEnd (R.remaining input.new.inner))) }
         ensures prefix { ConsumesPrefix (R.remaining input.old.inner) (R.remaining input.new.inner) }
         ensures never_write { IfErr result (λ fault. fault ≢ WriteFault) }
@@ -95,13 +95,15 @@ impl<A: Allocator> Passing<A> {
         piece: &mut [u8; PIECE],
         pieces: usize,
     ) -> Result<Option<[u8; 32]>, LatchFault>
-        ensures bytes { IfOk result (λ digest. Passes (R.remaining input.old.inner) (R.remaining input.new.inner) self.old self.new digest) }
+        ensures bytes { IfOk result (Takes R.remaining input.old input.new self.old self.new) }
         ensures at_end { IfOk result (λ digest. OnSome digest (IsAtEnd (R.remaining input.new.inner))) }
         ensures prefix { ConsumesPrefix (R.remaining input.old.inner) (R.remaining input.new.inner) }
         ensures never_write { IfErr result (λ fault. fault ≢ WriteFault) }
         ensures refused_when_failed { IfErr result (λ fault. fault ≡ ReadFault → input.new.failed ≡ true) }
+        ensures memory_leaves { IfErr result (λ fault. fault ≡ Memory → input.old.failed ≡ false → input.new.failed ≡ false) }
         ensures stays_failed { input.old.failed ≡ true → input.new ≡ input.old }
         ensures sound_when_over { IfOk result (λ digest. OnSome digest (input.new.failed ≡ false)) }
+        ensures stays_sound { OnOk result (input.old.failed ≡ false → input.new.failed ≡ false) }
     {
         for _ in 0..pieces {
             if let Some(digest) = self.take(input, piece)? {
@@ -118,12 +120,13 @@ impl<A: Allocator> Passing<A> {
         input: &mut Latch<R>,
         piece: &mut [u8; PIECE],
     ) -> Result<[u8; 32], LatchFault>
-        ensures bytes { IfOk result (λ digest. Passes (R.remaining input.old.inner) (R.remaining input.new.inner) self.old self.new (Some digest)) }
+        ensures bytes { IfOk result (λ digest. Takes R.remaining input.old input.new self.old self.new (Some digest)) }
         ensures at_end { OnOk result (IsAtEnd (R.remaining input.new.inner)) }
         ensures prefix { ConsumesPrefix (R.remaining input.old.inner) (R.remaining input.new.inner) }
         ensures never_write { IfErr result (λ fault. fault ≢ WriteFault) }
         ensures refused_when_failed { IfErr result (λ fault. fault ≡ ReadFault → input.new.failed ≡ true) }
         ensures sound_when_read { OnOk result (input.new.failed ≡ false) }
+        ensures memory_leaves { IfErr result (λ fault. fault ≡ Memory → input.old.failed ≡ false → input.new.failed ≡ false) }
         ensures stays_failed { input.old.failed ≡ true → input.new ≡ input.old }
     {
         loop {

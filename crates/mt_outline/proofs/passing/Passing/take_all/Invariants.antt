@@ -1,4 +1,4 @@
-use Rattle.std.proofs.Common.{◌≡◌, true, None}
+use Rattle.std.proofs.Common.{◌≡◌, true, false, None}
 use Rattle.mt_outline.specs.Passing.{Passes}
 use Rattle.mt_outline.proofs.passing.Passing.take_all.Given as goal
 
@@ -6,6 +6,7 @@ abbrev pub invariant-loop-digest : goal.invariant-loop-digest
 invariant-loop-digest g l = record {
   come : Passes (g.R.Read.remaining l.fn.input.inner) (g.R.Read.remaining l.input.inner) l.fn.self l.self None;
   stays : l.fn.input.failed ≡ true → l.input ≡ l.fn.input;
+  sound : l.fn.input.failed ≡ false → l.input.failed ≡ false;
 }
 
 abbrev pub decreases-loop-digest : goal.decreases-loop-digest
