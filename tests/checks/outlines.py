@@ -1,6 +1,6 @@
 #!/usr/bin/env python3
-"""Compares what `radio info`, `sources` and `lay` say of wave files of more than a MiB, whose samples are not kept, with a second reading of the
-whole files: python3 tests/checks/outlines.py PROGRAM [--files N] [--seed S]
+"""Compares what `radio info`, `sources` and `lay` say of wave files of more than a MiB, whose samples are not kept, and which clips `find --wave` finds by
+them, with a second reading of the whole files: python3 tests/checks/outlines.py PROGRAM [--files N] [--seed S]
 
 The second reading is tests/formats/read_waves.py. The files are drawn: where the samples begin, at, before and behind the end of the first MiB; with
 an odd number of bytes and without their pad byte; a second chunk `data`; lists, cue points and extensions before and behind the samples; sizes that
@@ -25,6 +25,8 @@ MIB = 2**20
 # the refusal of a recording of no frame by `lay`
 LENGTH = 6
 EDITOR = "00000000-0000-0000-0000-00000000000a"
+# the clip of a script of two lines, the second of which adds it
+CLIP = "2.2." + EDITOR
 
 
 def formats(rng):
@@ -119,13 +121,13 @@ def main():
             name = "/dev/stdin" if piped else path
             text, line, unused, used = wanted(file, name)
             refused += isinstance(text, int)
-            asked = [(["info", name], text), (["lay", "$1", name], line), (["sources", log, name], unused)]
+            asked = [(["info", name], text), (["lay", "$1", name], line), (["sources", log, name], unused), (["find", "--wave", log, "clip", name], "")]
             if used is not None:
                 played += 1
                 with open(script, "w") as out:
                     out.write("add-track head Voice\n" + line)
                 subprocess.run([program, "edit", EDITOR, log, script, laid], check=True, stdout=subprocess.DEVNULL)
-                asked.append((["sources", laid, name], used))
+                asked += [(["sources", laid, name], used), (["find", "--wave", laid, "clip", name], CLIP + "\n")]
             for words, right in asked:
                 if answer([program, *words], path, piped) != right:
                     failed += 1
@@ -134,10 +136,11 @@ def main():
             samples = rng.randbytes(64 * MIB + 1)
             file = riff(fmt(1, 48000, 8), data(samples), cue(point(1, 5)), adtl(labl(1, b"End\0")))
             out.write(file)
-        told = subprocess.run(["sh", "-c", 'ulimit -v 49152; exec "$@"', "sh", program, "info", path], stdout=subprocess.PIPE, text=True)
-        if told.stdout != Wave(file).info():
-            failed += 1
-            print("FAILED: info of 64 MiB in 48 MiB of address space")
+        for words, right in [(["info", path], Wave(file).info()), (["find", "--wave", log, "clip", path], "")]:
+            told = subprocess.run(["sh", "-c", 'ulimit -v 49152; exec "$@"', "sh", program, *words], stdout=subprocess.PIPE, text=True)
+            if (told.returncode, told.stdout) != (0, right):
+                failed += 1
+                print("FAILED: %s of 64 MiB in 48 MiB of address space" % words[0])
     print("%d files round a MiB and more, %d of them refused, %d played, %d failed" % (given.files, refused, played, failed))
     sys.exit(1 if failed else 0)
 

@@ -13,6 +13,9 @@ use mt_outline::Outline;
 use std::alloc::Allocator;
 use std::io::Read;
 
+// How many bytes `read_into` asks for in one read.
+const PIECE: usize = 65_536;
+
 /// Reads the bytes of the input of this index.
 pub(crate) fn read_all<A: Allocator, R: Read>(
     alloc: A,
@@ -28,6 +31,31 @@ pub(crate) fn read_all<A: Allocator, R: Read>(
         Ok(bytes) => Ok(bytes),
         Err(LatchFault::Memory) => Err(CliFault::Memory),
         Err(_) => Err(CliFault::Read(index)),
+    }
+}
+
+/// Reads the bytes of the input of this index into the room of a vector, whose own bytes are gone: what was taken for others need not be taken again.
+pub(crate) fn read_into<A: Allocator, R: Read>(
+    room: Vec<u8, A>,
+    index: usize,
+    input: &mut Latch<R>,
+) -> Result<Vec<u8, A>, CliFault>
+    ensures read { OnOk result (IsRead R.remaining input.new) }
+    ensures ok { IfOk result (λ bytes. Gave R.remaining input.old bytes.items) }
+    ensures rest { IsRest R.remaining input.old input.new }
+    ensures err { IfErr result (IsReadCause index input.new) }
+{
+    let mut bytes = room;
+    bytes.clear();
+    let mut piece = [0; PIECE];
+    loop {
+        let Ok(count) = input.get(&mut piece) else {
+            return Err(CliFault::Read(index));
+        };
+        if count == 0 {
+            return Ok(bytes);
+        }
+        bytes.extend_from_slice(&piece[..count])?;
     }
 }
 
@@ -50,8 +78,8 @@ pub(crate) fn read_outline<A: Allocator + Clone, R: Read>(
     Ok(outline)
 }
 
-/// Reads the bytes of the input of this index, and keeps their digest alone.
-pub(crate) fn read_digest<A: Allocator, R: Read>(
+/// Reads the file of the input of this index, and keeps its digest alone. Of a wave file no sample is held meanwhile, where they begin in the first MiB.
+pub(crate) fn read_digest<A: Allocator + Clone, R: Read>(
     alloc: A,
     index: usize,
     input: &mut Latch<R>,
@@ -61,8 +89,10 @@ pub(crate) fn read_digest<A: Allocator, R: Read>(
     ensures rest { IsRest R.remaining input.old input.new }
     ensures err { IfErr result (IsReadCause index input.new) }
 {
-    let bytes = read_all(alloc, index, input)?;
-    Ok(Digest::of(&bytes))
+    match read_outline(alloc, index, input) {
+        Ok(outline) => Ok(Digest(outline.digest())),
+        Err(fault) => Err(fault),
+    }
 }
 
 /// Reads the log of the input of this index.

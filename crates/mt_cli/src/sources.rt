@@ -1,6 +1,8 @@
 //! Reading recordings.
 
-ghost use Rattle.std.specs.Prelude.{◌≡◌, ◌+◌, ◌++◌, ◌∷◌, [], ◌<◌, ◌^◌, length, map, if◌then◌else◌, IfOk, IfErr, OnOk};
+ghost use Rattle.std.specs.Prelude.{◌≡◌, ◌+◌, ◌++◌, ◌∷◌, [], ◌<◌, ◌≤◌, ◌^◌, length, map, if◌then◌else◌, IfOk, IfErr, OnOk};
+ghost use Rattle.std.specs.List.{AllByRecursion};
+ghost use Rattle.std.specs.Vec.{vec_capacity};
 ghost use Rattle.sha2.specs.Sha256.{sha256};
 ghost use Rattle.mt_bwfread.specs.Wave.{IsWave};
 ghost use Rattle.mt_op.specs.declared.digest.Digest.{Digest as DigestOf};
@@ -10,10 +12,11 @@ ghost use Rattle.mt_cli.specs.Reading.{Gave, IsRead, IsRest, AreRead};
 ghost use Rattle.mt_cli.specs.Sources.{IsSourceCause, HasSourceCause, HoldWanted, GaveKept, GaveWaves, bytes_in};
 
 use crate::fault::CliFault;
+use crate::read::read_into;
 use mt_bwfread::Wave;
 use mt_digests::digests_of;
 use mt_op::Digest;
-use mt_opcodec::{Latch, LatchFault};
+use mt_opcodec::Latch;
 use mt_preflight::Audible;
 use mt_render::{Catalogue, HashedFile};
 use std::alloc::{AllocError, Allocator};
@@ -23,9 +26,13 @@ use std::mem;
 // How many recordings are held until they are hashed together and those that are not audible are let go.
 const GROUP: usize = 8;
 
-/// Reads the wave file of the recording of this index, which stands behind so many other inputs.
+// The greatest room of a recording that is let go, in bytes, into which another one is read: so the memory of a group of short ones is taken once, and
+// that of a long one is given back.
+const ROOM: usize = 33_554_432;
+
+/// Reads the wave file of the recording of this index, which stands behind so many other inputs, into the room of a vector.
 pub(crate) fn read_source<A: Allocator, R: Read>(
-    alloc: A,
+    room: Vec<u8, A>,
     others: usize,
     index: usize,
     input: &mut Latch<R>,
@@ -36,10 +43,9 @@ pub(crate) fn read_source<A: Allocator, R: Read>(
     ensures rest { IsRest R.remaining input.old input.new }
     ensures err { IfErr result (IsSourceCause R.remaining others index input.old input.new) }
 {
-    let bytes = match input.get_all(alloc) {
+    let bytes = match read_into(room, others + index, input) {
         Ok(bytes) => bytes,
-        Err(LatchFault::Memory) => return Err(CliFault::Memory),
-        Err(_) => return Err(CliFault::Read(others + index)),
+        Err(fault) => return Err(fault),
     };
     match Wave::read(&bytes) {
         Ok(_) => Ok(bytes),
@@ -62,7 +68,7 @@ fn digests_in<A: Allocator + Clone>(
     Ok(digests)
 }
 
-// Moves a recording behind what is kept, if it is audible.
+// Moves a recording behind what is kept, if it is audible, and in no more room than it needs.
 fn keep_one<A: Allocator + Clone>(
     alloc: &A,
     audible: &Audible<A>,
@@ -77,7 +83,8 @@ fn keep_one<A: Allocator + Clone>(
     if !audible.plays(&digest) {
         return Ok(());
     }
-    let bytes = mem::replace(text, Vec::new(alloc.clone()?));
+    let mut bytes = mem::replace(text, Vec::new(alloc.clone()?));
+    bytes.shrink_to_fit();
     kept.push(HashedFile::new(digest, bytes))?;
     Ok(())
 }
@@ -101,11 +108,29 @@ fn keep_each<A: Allocator + Clone>(
     Ok(())
 }
 
-// Moves those recordings of a group that are audible behind what is kept, and lets the others go.
+// Leaves a group with nothing, and the room of its recordings for others, where that is not large.
+fn make_room<A: Allocator>(
+    group: &mut Vec<Vec<u8, A>, A>,
+    rooms: &mut Vec<Vec<u8, A>, A>,
+) -> Result<(), AllocError>
+    ensures empty { OnOk result (group.new.items ≡ []) }
+    ensures small { OnOk result (AllByRecursion (λ room. vec_capacity room ≤ 33554432) rooms.new.items) }
+{
+    rooms.clear();
+    while let Some(text) = group.pop() {
+        if text.capacity() <= ROOM {
+            rooms.push(text)?;
+        }
+    }
+    Ok(())
+}
+
+// Moves those recordings of a group that are audible behind what is kept, and lets the others go, but for their room.
 fn keep_group<A: Allocator + Clone>(
     alloc: &A,
     audible: &Audible<A>,
     group: &mut Vec<Vec<u8, A>, A>,
+    rooms: &mut Vec<Vec<u8, A>, A>,
     kept: &mut Vec<HashedFile<A>, A>,
 ) -> Result<(), AllocError>
     ensures holds { OnOk result (HoldWanted (plays audible.now.uses) kept.new.items
@@ -114,7 +139,7 @@ fn keep_group<A: Allocator + Clone>(
 {
     let digests = digests_in(alloc.clone()?, group)?;
     keep_each(alloc, audible, &digests, group, kept)?;
-    group.clear();
+    make_room(group, rooms)?;
     Ok(())
 }
 
@@ -123,6 +148,7 @@ fn keep_whole<A: Allocator + Clone>(
     alloc: &A,
     audible: &Audible<A>,
     group: &mut Vec<Vec<u8, A>, A>,
+    rooms: &mut Vec<Vec<u8, A>, A>,
     kept: &mut Vec<HashedFile<A>, A>,
 ) -> Result<(), AllocError>
     ensures { OnOk result (HoldWanted (plays audible.now.uses) (kept.new.items ++ bytes_in group.new.items)
@@ -131,12 +157,20 @@ fn keep_whole<A: Allocator + Clone>(
     if group.len() < GROUP {
         return Ok(());
     }
-    keep_group(alloc, audible, group, kept)?;
+    keep_group(alloc, audible, group, rooms, kept)?;
     Ok(())
 }
 
+// Room that is there, or none yet.
+fn next_room<A: Allocator>(alloc: A, rooms: &mut Vec<Vec<u8, A>, A>) -> Vec<u8, A> {
+    match rooms.pop() {
+        Some(room) => room,
+        None => Vec::new(alloc),
+    }
+}
+
 /// Reads the wave file of each recording, from left to right, and keeps those that are audible, each with its digest. They stand behind so many other
-/// inputs. In memory are at most eight at a time beside those that are kept.
+/// inputs. In memory are at most eight at a time beside those that are kept, or room for eight of at most 32 MiB.
 pub(crate) fn read_audible<A: Allocator + Clone, R: Read>(
     alloc: A,
     others: usize,
@@ -150,13 +184,15 @@ pub(crate) fn read_audible<A: Allocator + Clone, R: Read>(
 {
     let mut kept = Vec::new(alloc.clone()?);
     let mut group = Vec::new(alloc.clone()?);
+    let mut rooms = Vec::new(alloc.clone()?);
     for place in 0..inputs.len() {
         let input = &mut inputs[place];
-        let text = read_source(alloc.clone()?, others, place, input)?;
+        let room = next_room(alloc.clone()?, &mut rooms);
+        let text = read_source(room, others, place, input)?;
         group.push(text)?;
-        keep_whole(&alloc, audible, &mut group, &mut kept)?;
+        keep_whole(&alloc, audible, &mut group, &mut rooms, &mut kept)?;
     }
-    keep_group(&alloc, audible, &mut group, &mut kept)?;
+    keep_group(&alloc, audible, &mut group, &mut rooms, &mut kept)?;
     Ok(kept)
 }
 
@@ -174,7 +210,8 @@ pub(crate) fn read_all_sources<A: Allocator + Clone, R: Read>(
     let mut kept = Vec::new(alloc.clone()?);
     for place in 0..inputs.len() {
         let input = &mut inputs[place];
-        let text = read_source(alloc.clone()?, others, place, input)?;
+        let room = Vec::new(alloc.clone()?);
+        let text = read_source(room, others, place, input)?;
         kept.push(HashedFile::new(Digest::of(&text), text))?;
     }
     Ok(kept)

@@ -21,12 +21,17 @@ returns-in_err-clone-2-clause-err g c =
     told_as c.from_residual-in_err-clone-2.result (HasSourceCause g.R.Read.remaining c.args.others 0 c.args.inputs.now c.args.inputs.now) Memory c.from_residual-in_err-clone-2.ensures.1
     (HasSourceCause-memory g.R.Read.remaining c.args.others 0 c.args.inputs.now)
 
+pub returns-in_err-clone-3-clause-err : goal.returns-in_err-clone-3-clause-err
+returns-in_err-clone-3-clause-err g c =
+    told_as c.from_residual-in_err-clone-3.result (HasSourceCause g.R.Read.remaining c.args.others 0 c.args.inputs.now c.args.inputs.now) Memory c.from_residual-in_err-clone-3.ensures.1
+    (HasSourceCause-memory g.R.Read.remaining c.args.others 0 c.args.inputs.now)
+
 pub loop-place-init : goal.loop-place-init
 loop-place-init g c = record { gave = ([], (tt, λ d wants. rw (c.new-kept.ensures.items, c.new-group.ensures.items) refl)); read = tt; left = refl }
 
-pub returns-in_err-clone-3-clause-err : goal.returns-in_err-clone-3-clause-err
-returns-in_err-clone-3-clause-err g c =
-    told_as c.from_residual-in_err-clone-3.result (HasSourceCause g.R.Read.remaining c.args.others 0 c.args.inputs.now (set c.loop-place.inputs c.loop-place.place (get_or c.loop-place.inputs c.loop-place.place c.index-inputs-place.result))) Memory c.from_residual-in_err-clone-3.ensures.1
+pub returns-in_err-clone-4-clause-err : goal.returns-in_err-clone-4-clause-err
+returns-in_err-clone-4-clause-err g c =
+    told_as c.from_residual-in_err-clone-4.result (HasSourceCause g.R.Read.remaining c.args.others 0 c.args.inputs.now (set c.loop-place.inputs c.loop-place.place (get_or c.loop-place.inputs c.loop-place.place c.index-inputs-place.result))) Memory c.from_residual-in_err-clone-4.ensures.1
     (cause_at g.R.Read.remaining c.args.inputs.now c.loop-place.inputs c.loop-place.place c.index-inputs-place.result (get_or c.loop-place.inputs c.loop-place.place c.index-inputs-place.result) c.loop-place.auto.inputs c.loop-place-test.true (GaveWave g.R.Read.remaining) (IsSourceCause g.R.Read.remaining c.args.others) c.loop-place.invariant.gave.0 Memory c.loop-place.invariant.left c.index-inputs-place.is c.loop-place.invariant.gave.1.0 c.loop-place.invariant.read (rest_same g.R.Read.remaining (get_or c.loop-place.inputs c.loop-place.place c.index-inputs-place.result)))
 
 pub returns-in_err-text-clause-err : goal.returns-in_err-text-clause-err
