@@ -341,9 +341,10 @@ def crate_lines():
         return {line.partition(":")[0].strip(): line for line in file if not line.startswith("#") and ":" in line}
 
 
-def without_bodies(path, text):
-    """A source file's text without the bodies of its functions: a caller knows of a function what its head and its clauses say. What is no plain body
-    stays: a constant function's, which a type may hang on, and any whose beginning is not found."""
+def for_callers(path, text):
+    """What other crates can know of a source file: of a function its head and its clauses, and nothing of one that they cannot name, since it is not
+    `pub`, no method of an interface and no constant; of a file that has nothing else, nothing. What is no plain body stays: a constant function's, which
+    a type may hang on, and any whose beginning is not found."""
     lines, left = text.split("\n"), set()
     for one in functions(path, text):
         head = next(i for i in range(one.first - 1, one.last) if re.match(r" *(pub(\(crate\))? )?(const )?fn ", lines[i]))
@@ -352,9 +353,12 @@ def without_bodies(path, text):
         begins = [i for i in range(head, one.last) if lines[i] == indent + "{"]
         if not begins and not clauses:
             begins = [i for i in range(head, one.last) if lines[i].endswith(" {")]
-        if begins and " const fn " not in " " + lines[head]:
+        if re.match(r"(pub\(crate\) )?fn ", lines[head].strip()) and (not indent or one.owner):
+            left.update(range(one.first - 1, one.last))
+        elif begins and " const fn " not in " " + lines[head]:
             left.update(range(begins[0] + 1, one.last - 1))
-    return "\n".join(line for i, line in enumerate(lines) if i not in left)
+    kept = "\n".join(line for i, line in enumerate(lines) if i not in left)
+    return kept if re.sub(r"(?m)^ *//.*$|^(ghost )?use [^;]*;$", "", kept).strip() else ""
 
 
 # What counts as refused: a line of wrong_bodies.tried holds by these rules alone.
@@ -387,7 +391,9 @@ def sum_of(name):
         with open(path) as file:
             text = file.read()
         if path.endswith(".rt"):
-            text = re.sub(r"#\[cfg\(test\)\]\nmod \w+;\n", "", without_bodies(path, text) if is_below else text)
+            text = re.sub(r"#\[cfg\(test\)\]\nmod \w+;\n", "", for_callers(path, text) if is_below else text)
+            if not text:
+                continue
         # neither a remark nor an empty line proves anything
         text = re.sub(r"\n\s*\n+", "\n", re.sub(r"(?m)^ *(//|--).*$", "", text))
         made.update(("%s %s\n" % (os.path.relpath(path, TOP), hashlib.sha256(text.encode()).hexdigest())).encode())
