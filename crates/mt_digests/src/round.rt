@@ -1,20 +1,22 @@
 //! One round, and what ends the rounds of a block (FIPS 180-4, section 6.2.2).
 
-ghost use Rattle.std.specs.Prelude.{◌≡◌, ℕ};
-ghost use Rattle.sha2.specs.Sha256.{add32, add_state, round};
+ghost use Rattle.std.specs.Prelude.{◌≡◌, ℕ, slice_index};
+ghost use Rattle.sha2.specs.Sha256.{add32, add_state, big_sigma1, round};
 
-use crate::words::{big_sigma0, big_sigma1, ch, maj};
+use crate::words::{big_sigma0, ch, maj};
 
-/// A round of a word and a constant, which are added up already: their sum waits for no round.
+/// A round of a word and a constant, which are added up already: their sum waits for no round. Σ1 of the fifth variable comes along,
+/// since its best form depends on how many messages go on together.
 #[inline(always)]
-pub(crate) fn round(variables: [u32; 8], sum: u32) -> [u32; 8]
+pub(crate) fn round(variables: [u32; 8], sum: u32, sigma1: u32) -> [u32; 8]
+    requires { sigma1 ≡ big_sigma1 (slice_index variables 4) }
     ensures { (constant word : ℕ) → sum ≡ add32 word constant → result ≡ round variables constant word }
 {
     let [a, b, c, d, e, f, g, h] = variables;
     let first = h
         .wrapping_add(sum)
         .wrapping_add(ch(e, f, g))
-        .wrapping_add(big_sigma1(e));
+        .wrapping_add(sigma1);
     let second = big_sigma0(a).wrapping_add(maj(a, b, c));
     [
         first.wrapping_add(second),

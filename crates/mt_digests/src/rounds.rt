@@ -5,7 +5,7 @@ ghost use Rattle.sha2.specs.Sha256.{IsRoundsAt, IsWindow, compress, rounds, sche
 
 use crate::constants::ROUND_CONSTANTS;
 use crate::round::{round, sum};
-use crate::words::{small_sigma0, small_sigma1};
+use crate::words::{big_sigma1, small_sigma0, small_sigma1};
 
 // The next word of the schedule. The window is a ring of the last sixteen: the new one goes at `place`, over the oldest.
 #[inline(always)]
@@ -28,7 +28,11 @@ fn first_step(window: &[u32; 16], variables: [u32; 8], t: usize) -> [u32; 8]
     requires { t < 16 }
     ensures { (b h : List ℕ) → IsWindow window.now (schedule b 48) 16 → variables ≡ rounds h (schedule b 48) t → result ≡ rounds h (schedule b 48) (t + 1) }
 {
-    round(variables, window[t].wrapping_add(ROUND_CONSTANTS[t]))
+    round(
+        variables,
+        window[t].wrapping_add(ROUND_CONSTANTS[t]),
+        big_sigma1(variables[4]),
+    )
 }
 
 // Four rounds to a function: one of sixteen is too large for the compiler to lay into the loop over lanes.
@@ -55,6 +59,7 @@ fn step(window: &mut [u32; 16], variables: [u32; 8], turn: usize, place: usize) 
     round(
         variables,
         word.wrapping_add(ROUND_CONSTANTS[16 * turn + place]),
+        big_sigma1(variables[4]),
     )
 }
 

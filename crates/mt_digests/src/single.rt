@@ -8,7 +8,7 @@ ghost use Rattle.mt_digests.specs.Fours.{AreWordsFrom};
 
 use crate::constants::ROUND_CONSTANTS;
 use crate::round::{round, sum};
-use crate::words::word_at;
+use crate::words::{big_sigma1_flat, word_at};
 use std::simd::prelude::*;
 
 // Each word rotated right by `n` bits.
@@ -85,10 +85,10 @@ fn four_rounds(variables: [u32; 8], words: u32x4, t: usize) -> [u32; 8]
     ensures { (m h : List ℕ) → AreWordsFrom t (schedule m 48) words → variables ≡ rounds h (schedule m 48) t → result ≡ rounds h (schedule m 48) (t + 4) }
 {
     let [p, q, r, s] = with_constants(words, t);
-    let v = round(variables, p);
-    let v = round(v, q);
-    let v = round(v, r);
-    round(v, s)
+    let v = round(variables, p, big_sigma1_flat(variables[4]));
+    let v = round(v, q, big_sigma1_flat(v[4]));
+    let v = round(v, r, big_sigma1_flat(v[4]));
+    round(v, s, big_sigma1_flat(v[4]))
 }
 
 // Takes one block into a hash value. Nothing here is a loop, so the words stay in registers; and nothing but `absorb` calls it, so the
