@@ -1,5 +1,6 @@
 pub mod After
 pub mod Choosing
+pub mod Columns
 pub mod Fours
 pub mod Kept
 pub mod Last

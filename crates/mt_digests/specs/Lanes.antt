@@ -1,10 +1,14 @@
--- Messages in lanes. Lane k has the message at the k-th of some places, of which so many blocks are in a hash value.
-use Rattle.std.specs.Prelude.{◌≡◌, ℕ, ◌+◌, ◌*◌, ◌/◌, ◌<◌, ◌≤◌, List, [], drop, get_or, length, slice_index, take}
+-- Messages in lanes. Lane k has the message at the k-th of some places, of which so many blocks are in a hash value, and the k-th word of each of some rows.
+use Rattle.std.specs.Prelude.{◌≡◌, ℕ, ◌+◌, ◌*◌, ◌/◌, ◌<◌, ◌≤◌, List, [], drop, get_or, length, map, slice_index, take}
 use Rattle.sha2.specs.Sha256.{IsWindow, hash_after, initial_hash_256, schedule}
 
 -- block i of a message
 abbrev pub block : ℕ → List ℕ → List ℕ
 block i m = take 64 (drop (i * 64) m)
+
+-- what lane k has of each row
+abbrev pub column : ℕ → List (List ℕ) → List ℕ
+column k rows = map (λ row. slice_index row k) rows
 
 -- each message has n blocks left
 abbrev pub HaveLeft : ℕ → List (List ℕ) → List ℕ → List ℕ → Type 0
@@ -14,9 +18,9 @@ HaveLeft n messages blocks places = (k : ℕ) → k < length places
 -- the states once n more blocks of each message are in them
 abbrev pub AreAfter : ℕ → List (List ℕ) → List ℕ → List ℕ → List (List ℕ) → Type 0
 AreAfter n messages blocks places states = (k : ℕ) → k < length places
-    → get_or states k [] ≡ hash_after initial_hash_256 (get_or messages (slice_index places k) []) (get_or blocks (slice_index places k) 0 + n)
+    → column k states ≡ hash_after initial_hash_256 (get_or messages (slice_index places k) []) (get_or blocks (slice_index places k) 0 + n)
 
 -- the words of block i of what is left of each message
 abbrev pub AreWordsAt : ℕ → List (List ℕ) → List ℕ → List ℕ → List (List ℕ) → Type 0
 AreWordsAt i messages blocks places words = (k : ℕ) → k < length places
-    → IsWindow (get_or words k []) (schedule (block (get_or blocks (slice_index places k) 0 + i) (get_or messages (slice_index places k) [])) 48) 16
+    → IsWindow (column k words) (schedule (block (get_or blocks (slice_index places k) 0 + i) (get_or messages (slice_index places k) [])) 48) 16

@@ -28,9 +28,11 @@
 //! Messages may be of any lengths and any number. Eight go on together as long as there are so many, then four, and one that ends makes
 //! room for the next; three go on together too, and what one or two messages have left is worked out by itself, as `sha256_of` does it:
 //! there the schedule of the words lies in vectors. In `rounds` the vectors are the compiler's: the loop over the lanes has a body of
-//! plain whole numbers, which it lays side by side, four at a time or, on a processor with longer registers, eight.
+//! plain whole numbers, which it lays side by side, four at a time or, on a processor with longer registers, eight. It finds them so in
+//! memory: states and words lie in rows, each of which has a word for each lane (`column`, `transposing`).
 #![tactic(auto)]
 
+mod column;
 mod constants;
 mod ending;
 mod hashing;
@@ -38,6 +40,7 @@ mod lane;
 mod round;
 mod rounds;
 mod single;
+mod transposing;
 mod words;
 
 pub use ending::sha256_of;

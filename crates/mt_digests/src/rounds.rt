@@ -1,8 +1,10 @@
 //! The rounds of a block of each of several messages at once (FIPS 180-4, section 6.2.2).
 
-ghost use Rattle.std.specs.Prelude.{◌≡◌, ℕ, List, [], ◌+◌, ◌*◌, ◌<◌, ◌≤◌, get_or, slice_set};
+ghost use Rattle.std.specs.Prelude.{◌≡◌, ℕ, List, ◌+◌, ◌*◌, ◌<◌, ◌≤◌, slice_set};
 ghost use Rattle.sha2.specs.Sha256.{IsRoundsAt, IsWindow, compress, rounds, schedule, window_word};
+ghost use Rattle.mt_digests.specs.Lanes.{column};
 
+use crate::column::{column, put_column};
 use crate::constants::ROUND_CONSTANTS;
 use crate::round::{round, sum};
 use crate::words::{big_sigma1, small_sigma0, small_sigma1};
@@ -78,13 +80,13 @@ fn four_steps(window: &mut [u32; 16], variables: [u32; 8], turn: usize, place: u
 
 /// Takes the words of a block of each message into its hash value, each lane by itself: nothing here may be a call that stays one,
 /// or the compiler does not lay the lanes side by side.
-pub(crate) fn compress_lanes<const N: usize>(states: &mut [[u32; 8]; N], words: &[[u32; 16]; N])
-    ensures { (k : ℕ) (b : List ℕ) → k < N → IsWindow (get_or words.now k []) (schedule b 48) 16
-        → get_or states.new k [] ≡ compress (get_or states.old k []) b }
+pub(crate) fn compress_lanes<const N: usize>(states: &mut [[u32; N]; 8], words: &[[u32; N]; 16])
+    ensures { (k : ℕ) (b : List ℕ) → k < N → IsWindow (column k words.now) (schedule b 48) 16
+        → column k states.new ≡ compress (column k states.old) b }
 {
     'lanes: for lane in 0..N {
-        let mut window = words[lane];
-        let start = states[lane];
+        let mut window = column(words, lane);
+        let start = column(states, lane);
         let v = first_four_steps(&window, start, 0);
         let v = first_four_steps(&window, v, 4);
         let v = first_four_steps(&window, v, 8);
@@ -101,6 +103,6 @@ pub(crate) fn compress_lanes<const N: usize>(states: &mut [[u32; 8]; N], words: 
         let v = four_steps(&mut window, v, 3, 4);
         let v = four_steps(&mut window, v, 3, 8);
         let v = four_steps(&mut window, v, 3, 12);
-        states[lane] = sum(start, v);
+        put_column(states, lane, &sum(start, v));
     }
 }

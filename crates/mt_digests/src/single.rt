@@ -3,12 +3,12 @@
 
 ghost use Rattle.std.specs.Prelude.{◌≡◌, ℕ, ◌+◌, ◌-◌, ◌*◌, ◌/◌, ◌%◌, ◌^◌, ◌<◌, ◌≤◌, List, [], ◌∷◌, bit_or, length, map, slice_index};
 ghost use Rattle.std.specs.Simd.Lanes.{zip2};
-ghost use Rattle.sha2.specs.Sha256.{add32, compress, hash_after, round_constants, rounds, schedule, small_sigma0, small_sigma1};
+ghost use Rattle.sha2.specs.Sha256.{add32, compress, hash_after, round_constants, rounds, schedule, small_sigma0, small_sigma1, word_at};
 ghost use Rattle.mt_digests.specs.Fours.{AreWordsFrom};
 
 use crate::constants::ROUND_CONSTANTS;
 use crate::round::{round, sum};
-use crate::words::{big_sigma1_flat, word_at};
+use crate::words::big_sigma1_flat;
 use std::simd::prelude::*;
 
 // Each word rotated right by `n` bits.
@@ -35,19 +35,25 @@ fn small_sigma1_of(words: u32x4) -> u32x4
     rotated(words, 17) ^ rotated(words, 19) ^ (words >> u32x4::splat(10))
 }
 
-// Four of the first sixteen words, which are the block's.
+// The words of sixteen bytes.
 #[inline(always)]
-fn first_four(block: &[u8], t: usize) -> u32x4
+fn four_words(bytes: &[u8]) -> u32x4
+    requires { 16 ≤ length bytes.now }
+    ensures { result ≡ word_at bytes.now 0 ∷ word_at bytes.now 4 ∷ word_at bytes.now 8 ∷ word_at bytes.now 12 ∷ [] }
+{
+    u32x4::from_le_bytes(u8x16::from_slice(bytes).swizzle([
+        3, 2, 1, 0, 7, 6, 5, 4, 11, 10, 9, 8, 15, 14, 13, 12,
+    ]))
+}
+
+/// Four of the first sixteen words, which are the block's.
+#[inline(always)]
+pub(crate) fn first_four(block: &[u8], t: usize) -> u32x4
     requires block { length block.now ≡ 64 }
     requires within { t + 4 ≤ 16 }
     ensures { AreWordsFrom t (schedule block.now 48) result }
 {
-    u32x4::from_array([
-        word_at(block, 4 * t),
-        word_at(block, 4 * (t + 1)),
-        word_at(block, 4 * (t + 2)),
-        word_at(block, 4 * (t + 3)),
-    ])
+    four_words(&block[4 * t..])
 }
 
 // The four words behind sixteen. The last two of them stand on the first two, so those are worked out before.

@@ -1,7 +1,7 @@
-use Rattle.std.proofs.Common.{◌≡◌, ℕ, ◌<◌, List, [], get_or, refl, ap, ◌∙◌, arith, inl, inr}
-use Rattle.std.proofs.lemmas.List.{get_or-set_same, get_or-set_other, length-set}
+use Rattle.std.proofs.Common.{◌≡◌, ℕ, List, ap, ◌∙◌, arith, inl, inr}
 use Rattle.std.proofs.lemmas.Bool.{cases_lt}
 use Rattle.sha2.specs.Sha256.{IsWindow, add_state, compress, rounds, schedule}
+use Rattle.mt_digests.specs.Lanes.{column}
 use Rattle.mt_digests.proofs.rounds.compress_lanes.Goals as goal
 
 pub lanes-preserved : goal.lanes-preserved
@@ -9,20 +9,21 @@ unfolding rounds compress
 lanes-preserved g c =
     let lane : ℕ = c.lanes.lane in
     let states : List (List ℕ) = c.lanes.states in
-    let fits : lane < g.row.N = c.lanes-test.true in
+    let put = c.put_column.ensures in
     record {
-      size = length-set states lane c.sum.result ∙ c.lanes.invariant.size;
       done = λ k b lt window. elim (cases_lt k lane) [
-        | inl a ↦ get_or-set_other states lane k c.sum.result [] (omega arith) ∙ c.lanes.invariant.done k b a window
+        | inl a ↦ put.others k (omega arith) ∙ c.lanes.invariant.done k b a window
         | inr ge ↦
             let e : lane ≡ k = omega arith in
-            let h : List ℕ = get_or states lane [] in
-            let here : IsWindow (get_or c.args.words.now lane []) (schedule b 48) 16 = rw e window in
-            let s1 = c.first_four_steps-v.ensures b h here refl in
-            let s2 = c.first_four_steps-v-in-lanes.ensures b h here s1 in
-            let s3 = c.first_four_steps-v-in-lanes-2.ensures b h here s2 in
-            let s4 = c.first_four_steps-v-in-lanes-3.ensures b h here s3 in
-            let t1 = c.four_steps-v.ensures b h (here, s4) in
+            let h : List ℕ = column lane states in
+            let here : IsWindow (column lane c.args.words.now) (schedule b 48) 16 = rw e window in
+            let first : IsWindow c.column-window.result (schedule b 48) 16 = rw c.column-window.ensures here in
+            let start = c.column-start.ensures in
+            let s1 = c.first_four_steps-v.ensures b h first start in
+            let s2 = c.first_four_steps-v-in-lanes.ensures b h first s1 in
+            let s3 = c.first_four_steps-v-in-lanes-2.ensures b h first s2 in
+            let s4 = c.first_four_steps-v-in-lanes-3.ensures b h first s3 in
+            let t1 = c.four_steps-v.ensures b h (first, s4) in
             let t2 = c.four_steps-v-in-lanes.ensures b h t1 in
             let t3 = c.four_steps-v-in-lanes-2.ensures b h t2 in
             let t4 = c.four_steps-v-in-lanes-3.ensures b h t3 in
@@ -34,9 +35,9 @@ lanes-preserved g c =
             let t10 = c.four_steps-v-in-lanes-9.ensures b h t9 in
             let t11 = c.four_steps-v-in-lanes-10.ensures b h t10 in
             let t12 = c.four_steps-v-in-lanes-11.ensures b h t11 in
-            let sum : c.sum.result ≡ compress h b = c.sum.ensures ∙ ap (add_state h) t12.1 in
-            let kept : h ≡ get_or c.args.states.now lane [] = c.lanes.invariant.rest lane (omega arith) in
-            rw (← e) (get_or-set_same states lane c.sum.result [] (omega (arith, c.lanes.invariant.size)) ∙ sum ∙ ap (λ (x : List ℕ). compress x b) kept)
+            let sum : c.sum.result ≡ compress h b = c.sum.ensures ∙ rw start (ap (add_state h) t12.1) in
+            let kept = c.lanes.invariant.rest lane (omega arith) in
+            rw (← e) (put.here ∙ sum ∙ ap (λ (x : List ℕ). compress x b) kept)
       ];
-      rest = λ k le. get_or-set_other states lane k c.sum.result [] (omega arith) ∙ c.lanes.invariant.rest k (omega arith);
+      rest = λ k le. put.others k (omega arith) ∙ c.lanes.invariant.rest k (omega arith);
     }

@@ -1,11 +1,10 @@
-use Rattle.std.proofs.Common.{◌≡◌, ℕ, ◌<◌, ◌≤◌, List, [], length, get_or}
+use Rattle.std.proofs.Common.{◌≡◌, ℕ, ◌<◌, ◌≤◌, List}
 use Rattle.sha2.specs.Sha256.{IsWindow, compress, schedule}
+use Rattle.mt_digests.specs.Lanes.{column}
 use Rattle.mt_digests.proofs.rounds.compress_lanes.Given as goal
 
 abbrev pub invariant-lanes : goal.invariant-lanes
 invariant-lanes g l = record {
-  size : length l.states ≡ g.row.N;
-  done : (k : ℕ) (b : List ℕ) → k < l.lane → IsWindow (get_or l.words k []) (schedule b 48) 16
-      → get_or l.states k [] ≡ compress (get_or l.fn.states k []) b;
-  rest : (k : ℕ) → l.lane ≤ k → get_or l.states k [] ≡ get_or l.fn.states k [];
+  done : (k : ℕ) (b : List ℕ) → k < l.lane → IsWindow (column k l.words) (schedule b 48) 16 → column k l.states ≡ compress (column k l.fn.states) b;
+  rest : (k : ℕ) → l.lane ≤ k → column k l.states ≡ column k l.fn.states;
 }
