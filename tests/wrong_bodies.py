@@ -343,8 +343,8 @@ def crate_lines():
 
 def for_callers(path, text):
     """What other crates can know of a source file: of a function its head and its clauses, and nothing of one that they cannot name, since it is not
-    `pub`, no method of an interface and no constant; of a file that has nothing else, nothing. What is no plain body stays: a constant function's, which
-    a type may hang on, and any whose beginning is not found."""
+    `pub`, no method of an interface and no constant; no remark, and no line for names that none of this has; of a file that has nothing else, nothing.
+    What is no plain body stays: a constant function's, which a type may hang on, and any whose beginning is not found."""
     lines, left = text.split("\n"), set()
     for one in functions(path, text):
         head = next(i for i in range(one.first - 1, one.last) if re.match(r" *(pub(\(crate\))? )?(const )?fn ", lines[i]))
@@ -357,8 +357,46 @@ def for_callers(path, text):
             left.update(range(one.first - 1, one.last))
         elif begins and " const fn " not in " " + lines[head]:
             left.update(range(begins[0] + 1, one.last - 1))
-    kept = "\n".join(line for i, line in enumerate(lines) if i not in left)
-    return kept if re.sub(r"(?m)^ *//.*$|^(ghost )?use [^;]*;$", "", kept).strip() else ""
+    kept = re.sub(r"(?m)^ *//.*\n|^mod \w+;\n", "", "\n".join(line for i, line in enumerate(lines) if i not in left))
+    rest = re.sub(IMPORT, "", kept)
+    return re.sub(IMPORT, lambda line: of_use(line.group(), rest), kept) if rest.strip() else ""
+
+
+# A line that brings names into a file, and into no other.
+IMPORT = r"(?m)^(ghost )?use [^;]*;\n"
+
+
+def of_use(line, text):
+    """Such a line with those of its names, and of its signs, that a text has; nothing where it has none."""
+    origin, _, listed = line.partition("{") if "{" in line else line.rpartition("::")
+    names = [name.strip() for name in listed.rstrip("};\n").split(",")]
+    used = [name for name in names if name == "*" or re.search(r"(?<!\w)%s(?!\w)" % re.escape(name.split(" ")[-1].strip("◌")), text)]
+    return "%s{%s}\n" % (origin, ", ".join(used)) if used else ""
+
+
+def modules_named(text):
+    """The files of the modules of definitions and of proofs that a text names, as a clause and a proof do, or as an attribute does."""
+    found = set()
+    for crate, part, names in re.findall(r"\b(\w+)\.(specs|proofs)((?:\.\w+)+)", text.replace("::", ".")):
+        names = names[1:].split(".")
+        while names:
+            path = os.path.join(TOP, "crates", crate, part, *names) + ".antt"
+            if os.path.exists(path):
+                found.add(path)
+                break
+            names.pop()
+    return found
+
+
+def with_what_they_name(texts):
+    """Texts by their files, with those of the modules that they name, and that these name."""
+    texts, wanted = dict(texts), list(texts)
+    while wanted:
+        for path in modules_named(texts[wanted.pop()]) - texts.keys():
+            with open(path) as file:
+                texts[path] = file.read()
+            wanted.append(path)
+    return texts
 
 
 # What counts as refused: a line of wrong_bodies.tried holds by these rules alone.
@@ -367,33 +405,34 @@ RULES = "by a goal that is open, once answers that fit no longer are left out"
 # Tests, which no round compiles, and their proofs.
 OF_TESTS = re.compile(r"/(src|proofs)/(\w+_)?tests(\.rt$|/)")
 
-# The proofs of a function itself, which no other proof can cite.
-OWN_PROOFS = ("Answers.antt", "Invariants.antt", "Proof.antt")
+def files_below(*folders):
+    """The files of some folders and of those in them, but for tests."""
+    files = [os.path.join(at, file) for folder in folders for at, _, found in os.walk(os.path.join(TOP, folder)) for file in found]
+    return [path for path in files if not OF_TESTS.search(path)]
 
 
 def sum_of(name):
-    """A sum of all that it hangs on whether a crate's wrong bodies are refused: its own files, and of those that it stands on what their callers can know."""
+    """A sum of all that it hangs on whether a crate's wrong bodies are refused: its own files; of those that it stands on what their callers can know of
+    their sources, and the definitions and proofs that any of this names."""
     lines = crate_lines()
     reached = sorted(crates_below(name, lines))
-    folders = [os.path.join("crates", one, part) for one in reached for part in ["src", "specs", "proofs"]]
-    folders.append(os.path.join("crates", name, "wrong-bodies"))
-    files = [os.path.join(at, file) for folder in folders for at, _, found in os.walk(os.path.join(TOP, folder)) for file in found]
+    texts = {}
+    for path in files_below(*[os.path.join("crates", name, part) for part in ["src", "specs", "proofs", "wrong-bodies"]]):
+        with open(path) as file:
+            texts[path] = file.read()
+    for path in files_below(*[os.path.join("crates", one, "src") for one in reached if one != name]):
+        with open(path) as file:
+            told = for_callers(path, file.read())
+        if told:
+            texts[path] = told
     version = subprocess.run(["rt", "version"], capture_output=True, check=True, text=True).stdout
     made = hashlib.sha256(version.partition("logic ")[2].encode())
     for line in [lines[one] for one in reached]:
         made.update(line.encode())
-    own = os.path.join(TOP, "crates", name, "")
     made.update(RULES.encode())
-    for path in sorted(files):
-        is_below = os.path.join(TOP, "crates", "") in path and not path.startswith(own)
-        if OF_TESTS.search(path) or is_below and os.path.basename(path) in OWN_PROOFS:
-            continue
-        with open(path) as file:
-            text = file.read()
+    for path, text in sorted(with_what_they_name(texts).items()):
         if path.endswith(".rt"):
-            text = re.sub(r"#\[cfg\(test\)\]\nmod \w+;\n", "", for_callers(path, text) if is_below else text)
-            if not text:
-                continue
+            text = re.sub(r"#\[cfg\(test\)\]\nmod \w+;\n", "", text)
         # neither a remark nor an empty line proves anything
         text = re.sub(r"\n\s*\n+", "\n", re.sub(r"(?m)^ *(//|--).*$", "", text))
         made.update(("%s %s\n" % (os.path.relpath(path, TOP), hashlib.sha256(text.encode()).hexdigest())).encode())
