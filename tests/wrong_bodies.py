@@ -16,7 +16,8 @@ It works on copies of the crates, over what their checks keep in out/, which it 
 
 tests/wrong_bodies.tried has a line for each crate whose wrong bodies were all refused: its name, how many there were, and a sum of all
 that this hung on: the files of the crate, its wrong bodies, of the crates that it stands on what their callers can know, the definitions and proofs that
-any of this names, what counts as refused, and the toolchain's logic; no tests. With --changed, as the gate calls it, the crates whose line still holds are passed over, and all others are tried."""
+any of this names, what counts as refused, and the toolchain's logic; no tests. With --changed, as the gate calls it, the crates whose line still holds are
+passed over, and all others are tried."""
 import argparse
 import concurrent.futures
 import glob
