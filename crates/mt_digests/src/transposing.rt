@@ -9,38 +9,37 @@ use std::simd::prelude::*;
 
 // Four words of each of four blocks, block by block for each word.
 #[inline(always)]
-fn transposed(a: u32x4, b: u32x4, c: u32x4, d: u32x4) -> [[u32; 4]; 4]
+fn transposed(a: u32x4, b: u32x4, c: u32x4, d: u32x4) -> [u32x4; 4]
     ensures { result ≡ column 0 (a ∷ b ∷ c ∷ d ∷ []) ∷ column 1 (a ∷ b ∷ c ∷ d ∷ []) ∷ column 2 (a ∷ b ∷ c ∷ d ∷ []) ∷ column 3 (a ∷ b ∷ c ∷ d ∷ []) ∷ [] }
 {
     let low = [a.shuffle(b, [0, 4, 1, 5]), c.shuffle(d, [0, 4, 1, 5])];
     let high = [a.shuffle(b, [2, 6, 3, 7]), c.shuffle(d, [2, 6, 3, 7])];
     [
-        low[0].shuffle(low[1], [0, 1, 4, 5]).to_array(),
-        low[0].shuffle(low[1], [2, 3, 6, 7]).to_array(),
-        high[0].shuffle(high[1], [0, 1, 4, 5]).to_array(),
-        high[0].shuffle(high[1], [2, 3, 6, 7]).to_array(),
+        low[0].shuffle(low[1], [0, 1, 4, 5]),
+        low[0].shuffle(low[1], [2, 3, 6, 7]),
+        high[0].shuffle(high[1], [0, 1, 4, 5]),
+        high[0].shuffle(high[1], [2, 3, 6, 7]),
     ]
 }
 
 // Writes a word into each of four lanes of a row.
 #[inline(always)]
-fn put<const N: usize>(row: &mut [u32; N], lane: usize, four: &[u32; 4])
+fn put<const N: usize>(row: &mut [u32; N], lane: usize, four: u32x4)
     requires { lane + 4 ≤ N }
-    ensures here { (j : ℕ) → j < 4 → slice_index row.new (lane + j) ≡ slice_index four.now j }
+    ensures here { (j : ℕ) → j < 4 → slice_index row.new (lane + j) ≡ slice_index four j }
     ensures before { (k : ℕ) → k < lane → slice_index row.new k ≡ slice_index row.old k }
 {
-    'each: for j in 0..4 {
-        row[lane + j] = four[j];
-    }
+    let lanes = &mut row[..];
+    four.copy_to_slice(&mut lanes[lane..]);
 }
 
 // Writes word `t` of each of four lanes.
 #[inline(always)]
-fn put_row<const N: usize>(rows: &mut [[u32; N]; 16], t: usize, lane: usize, four: &[u32; 4])
+fn put_row<const N: usize>(rows: &mut [[u32; N]; 16], t: usize, lane: usize, four: u32x4)
     requires row { t < 16 }
     requires lanes { lane + 4 ≤ N }
     ensures size { length rows.new ≡ 16 }
-    ensures here { (j : ℕ) → j < 4 → slice_index (column (lane + j) rows.new) t ≡ slice_index four.now j }
+    ensures here { (j : ℕ) → j < 4 → slice_index (column (lane + j) rows.new) t ≡ slice_index four j }
     ensures rest { (k u : ℕ) → u ≢ t → slice_index (column k rows.new) u ≡ slice_index (column k rows.old) u }
     ensures before { (k : ℕ) → k < lane → column k rows.new ≡ column k rows.old }
 {
@@ -75,9 +74,9 @@ pub(crate) fn put_blocks<const N: usize>(
             first_four(c, 4 * t),
             first_four(d, 4 * t),
         );
-        put_row(rows, 4 * t, lane, &words[0]);
-        put_row(rows, 4 * t + 1, lane, &words[1]);
-        put_row(rows, 4 * t + 2, lane, &words[2]);
-        put_row(rows, 4 * t + 3, lane, &words[3]);
+        put_row(rows, 4 * t, lane, words[0]);
+        put_row(rows, 4 * t + 1, lane, words[1]);
+        put_row(rows, 4 * t + 2, lane, words[2]);
+        put_row(rows, 4 * t + 3, lane, words[3]);
     }
 }

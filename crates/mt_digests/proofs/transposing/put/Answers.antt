@@ -1,0 +1,9 @@
+use Rattle.std.proofs.Common.{arith}
+use Rattle.std.proofs.lemmas.Simd.{get_or-put_chunk_at, get_or-put_chunk_below}
+use Rattle.mt_digests.proofs.transposing.put.Goals as goal
+
+pub returns-clause-here : goal.returns-clause-here
+returns-clause-here g c = λ j lt. get_or-put_chunk_at c.args.lane c.args.row.now c.args.four j 0 (omega arith) (omega arith)
+
+pub returns-clause-before : goal.returns-clause-before
+returns-clause-before g c = λ k lt. get_or-put_chunk_below c.args.lane c.args.row.now c.args.four k 0 lt
