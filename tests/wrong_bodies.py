@@ -406,6 +406,7 @@ RULES = "by a goal that is open, once answers that fit no longer are left out"
 # Tests, which no round compiles, and their proofs.
 OF_TESTS = re.compile(r"/(src|proofs)/(\w+_)?tests(\.rt$|/)")
 
+
 def files_below(*folders):
     """The files of some folders and of those in them, but for tests."""
     files = [os.path.join(at, file) for folder in folders for at, _, found in os.walk(os.path.join(TOP, folder)) for file in found]

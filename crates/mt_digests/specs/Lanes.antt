@@ -1,5 +1,5 @@
 -- Messages in lanes. Lane k has the message at the k-th of some places, of which so many blocks are in a hash value, and the k-th word of each of some rows.
-use Rattle.std.specs.Prelude.{◌≡◌, ℕ, ◌+◌, ◌*◌, ◌/◌, ◌<◌, ◌≤◌, List, [], drop, get_or, length, map, slice_index, take}
+use Rattle.std.specs.Prelude.{◌≡◌, ℕ, ◌+◌, ◌*◌, ◌/◌, ◌<◌, ◌≤◌, List, [], ◌∷◌, drop, get_or, length, map, slice_index, take}
 use Rattle.sha2.specs.Sha256.{IsWindow, hash_after, initial_hash_256, schedule}
 
 -- block i of a message
@@ -9,6 +9,10 @@ block i m = take 64 (drop (i * 64) m)
 -- what lane k has of each row
 abbrev pub column : ℕ → List (List ℕ) → List ℕ
 column k rows = map (λ row. slice_index row k) rows
+
+-- what each of the first four lanes has
+abbrev pub four_columns : List (List ℕ) → List (List ℕ)
+four_columns rows = column 0 rows ∷ column 1 rows ∷ column 2 rows ∷ column 3 rows ∷ []
 
 -- each message has n blocks left
 abbrev pub HaveLeft : ℕ → List (List ℕ) → List ℕ → List ℕ → Type 0

@@ -1,8 +1,8 @@
 //! The words of blocks side by side: row t has the t-th word of each block.
 
-ghost use Rattle.std.specs.Prelude.{◌≡◌, ◌≢◌, ◌∷◌, [], ℕ, List, ◌+◌, ◌<◌, ◌≤◌, length, slice_index};
+ghost use Rattle.std.specs.Prelude.{◌≡◌, ◌≢◌, ◌⊎◌, ◌∷◌, [], ℕ, List, ◌+◌, ◌<◌, ◌≤◌, length, slice_index};
 ghost use Rattle.sha2.specs.Sha256.{IsWindow, schedule};
-ghost use Rattle.mt_digests.specs.Lanes.{column};
+ghost use Rattle.mt_digests.specs.Lanes.{column, four_columns};
 
 use crate::single::first_four;
 use std::simd::prelude::*;
@@ -10,7 +10,7 @@ use std::simd::prelude::*;
 // Four words of each of four blocks, block by block for each word.
 #[inline(always)]
 fn transposed(a: u32x4, b: u32x4, c: u32x4, d: u32x4) -> [u32x4; 4]
-    ensures { result ≡ column 0 (a ∷ b ∷ c ∷ d ∷ []) ∷ column 1 (a ∷ b ∷ c ∷ d ∷ []) ∷ column 2 (a ∷ b ∷ c ∷ d ∷ []) ∷ column 3 (a ∷ b ∷ c ∷ d ∷ []) ∷ [] }
+    ensures { result ≡ four_columns (a ∷ b ∷ c ∷ d ∷ []) }
 {
     let low = [a.shuffle(b, [0, 4, 1, 5]), c.shuffle(d, [0, 4, 1, 5])];
     let high = [a.shuffle(b, [2, 6, 3, 7]), c.shuffle(d, [2, 6, 3, 7])];
@@ -27,7 +27,7 @@ fn transposed(a: u32x4, b: u32x4, c: u32x4, d: u32x4) -> [u32x4; 4]
 fn put<const N: usize>(row: &mut [u32; N], lane: usize, four: u32x4)
     requires { lane + 4 ≤ N }
     ensures here { (j : ℕ) → j < 4 → slice_index row.new (lane + j) ≡ slice_index four j }
-    ensures before { (k : ℕ) → k < lane → slice_index row.new k ≡ slice_index row.old k }
+    ensures others { (k : ℕ) → k < lane ⊎ lane + 4 ≤ k → slice_index row.new k ≡ slice_index row.old k }
 {
     let lanes = &mut row[..];
     four.copy_to_slice(&mut lanes[lane..]);
@@ -41,7 +41,7 @@ fn put_row<const N: usize>(rows: &mut [[u32; N]; 16], t: usize, lane: usize, fou
     ensures size { length rows.new ≡ 16 }
     ensures here { (j : ℕ) → j < 4 → slice_index (column (lane + j) rows.new) t ≡ slice_index four j }
     ensures rest { (k u : ℕ) → u ≢ t → slice_index (column k rows.new) u ≡ slice_index (column k rows.old) u }
-    ensures before { (k : ℕ) → k < lane → column k rows.new ≡ column k rows.old }
+    ensures others { (k : ℕ) → k < lane ⊎ lane + 4 ≤ k → column k rows.new ≡ column k rows.old }
 {
     put(&mut rows[t], lane, four);
 }
@@ -65,7 +65,7 @@ pub(crate) fn put_blocks<const N: usize>(
     ensures b { IsWindow (column (lane + 1) rows.new) (schedule b.now 48) 16 }
     ensures c { IsWindow (column (lane + 2) rows.new) (schedule c.now 48) 16 }
     ensures d { IsWindow (column (lane + 3) rows.new) (schedule d.now 48) 16 }
-    ensures before { (k : ℕ) → k < lane → column k rows.new ≡ column k rows.old }
+    ensures others { (k : ℕ) → k < lane ⊎ lane + 4 ≤ k → column k rows.new ≡ column k rows.old }
 {
     'each: for t in 0..4 {
         let words = transposed(

@@ -1,4 +1,4 @@
-use Rattle.std.proofs.Common.{ℕ, ◌+◌, ◌*◌, ◌<◌, [], get_or, length, map, slice_index, arith}
+use Rattle.std.proofs.Common.{ℕ, ◌+◌, ◌*◌, ◌<◌, [], get_or, length, map, slice_index, inl, arith}
 use Rattle.sha2.specs.Sha256.{IsWindow, schedule}
 use Rattle.mt_digests.specs.Lanes.{block, column}
 use Rattle.mt_digests.proofs.Kept.{four_further, seen_at}
@@ -12,7 +12,7 @@ each-preserved g c =
     let put = c.put_blocks.ensures in
     let within = λ (j : ℕ) (lt : j < length places). c.requires.within j 0 lt in
     four_further (λ (j : ℕ). IsWindow (column j c.put_blocks.new.rows) (schedule (block (get_or (map (λ lane. lane.blocks) lanes) (slice_index places j) 0 + c.args.i) (get_or (map (λ lane. lane.message.now) lanes) (slice_index places j) [])) 48) 16)
-    n (4 * (c.each.k + 1)) (omega arith) (λ j low. rw (put.before j low) (c.each.invariant j low))
+    n (4 * (c.each.k + 1)) (omega arith) (λ j low. rw (put.others j (inl low)) (c.each.invariant j low))
     (rw (
       seen_at (λ lane. lane.blocks) lanes (slice_index places n) c.index-lanes-places.result 0 (within n (omega arith)) c.index-lanes-places.is,
       seen_at (λ lane. lane.message.now) lanes (slice_index places n) c.index-lanes-places.result [] (within n (omega arith)) c.index-lanes-places.is,

@@ -44,7 +44,7 @@ each-preserved g c =
       d = four_rows (lane + 3) n (4 * (c.each.t + 1)) sd r0 r1 r2 r3 r4 (omega arith) before.d
           (p1.rest (lane + 3)) (p1.here 3 (omega arith) ∙ word 0 3) (p2.rest (lane + 3)) (p2.here 3 (omega arith) ∙ word 1 3)
           (p3.rest (lane + 3)) (p3.here 3 (omega arith) ∙ word 2 3) (p4.rest (lane + 3)) (p4.here 3 (omega arith) ∙ word 3 3);
-      before = λ k lt. p4.before k lt ∙ p3.before k lt ∙ p2.before k lt ∙ p1.before k lt ∙ before.before k lt;
+      others = λ k out. p4.others k out ∙ p3.others k out ∙ p2.others k out ∙ p1.others k out ∙ before.others k out;
     }
 
 pub returns-clause-a : goal.returns-clause-a

@@ -1,4 +1,4 @@
-use Rattle.std.proofs.Common.{◌≡◌, ℕ, ◌+◌, ◌*◌, ◌<◌, length, slice_index}
+use Rattle.std.proofs.Common.{◌≡◌, ℕ, ◌+◌, ◌*◌, ◌<◌, ◌≤◌, ◌⊎◌, length, slice_index}
 use Rattle.sha2.specs.Sha256.{schedule}
 use Rattle.mt_digests.specs.Lanes.{column}
 use Rattle.mt_digests.proofs.transposing.put_blocks.Given as goal
@@ -10,5 +10,5 @@ invariant-each g l = record {
   b : (u : ℕ) → u < 4 * l.t → slice_index (column (l.lane + 1) l.rows) u ≡ slice_index (schedule l.b 48) u;
   c : (u : ℕ) → u < 4 * l.t → slice_index (column (l.lane + 2) l.rows) u ≡ slice_index (schedule l.c 48) u;
   d : (u : ℕ) → u < 4 * l.t → slice_index (column (l.lane + 3) l.rows) u ≡ slice_index (schedule l.d 48) u;
-  before : (k : ℕ) → k < l.lane → column k l.rows ≡ column k l.fn.rows;
+  others : (k : ℕ) → k < l.lane ⊎ l.lane + 4 ≤ k → column k l.rows ≡ column k l.fn.rows;
 }

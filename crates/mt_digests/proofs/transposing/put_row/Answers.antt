@@ -19,5 +19,5 @@ returns-clause-rest g c = λ k u ne.
     let row = c.put.new.row in
     rw (map-set (λ (row : List ℕ). slice_index row k) rows c.args.t row) (get_or-set_other (column k rows) c.args.t u (slice_index row k) 0 ne)
 
-pub returns-clause-before : goal.returns-clause-before
-returns-clause-before g c = λ k lt. map-set_same (λ (row : List ℕ). slice_index row k) c.args.rows.now c.args.t c.put.new.row [] (c.put.ensures.before k lt)
+pub returns-clause-others : goal.returns-clause-others
+returns-clause-others g c = λ k out. map-set_same (λ (row : List ℕ). slice_index row k) c.args.rows.now c.args.t c.put.new.row [] (c.put.ensures.others k out)
