@@ -1,5 +1,5 @@
 """What `radio` answers to words and files, by the second reading in this folder: status, standard output, the refusal's number, and the files that it makes.
-The order of the refusals is that of docs/refusals.md and of the README: a command checks its words, opens its files from left to right, and reads and checks
+The order of the refusals is that of docs/formats and docs/use/commands.md: a command checks its words, opens its files from left to right, and reads and checks
 each in turn (`sources` and `lay` open each where they read it); `merge` and `render` make OUT.part once their files are open, the others once all is known."""
 import hashlib
 

@@ -1,4 +1,4 @@
-"""The texts of `radio diff`, and what an input of it is, by docs/formats.md alone and not by the program under test."""
+"""The texts of `radio diff`, and what an input of it is, by docs/use/output.md alone and not by the program under test."""
 import io
 
 from formats.log_text import act_words, stamp

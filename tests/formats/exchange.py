@@ -1,4 +1,4 @@
-"""Messages of the exchange as bytes, written from the format alone (docs/formats.md) and not by the program under test."""
+"""Messages of the exchange as bytes, written from the format alone (docs/formats/log.md) and not by the program under test."""
 import struct
 
 LONGEST = 8388608

@@ -1,4 +1,4 @@
-"""The text of `radio find`, by docs/formats.md alone and not by the program under test."""
+"""The text of `radio find`, by docs/use/output.md alone and not by the program under test."""
 from formats.logs import stamp_text
 from formats.refused import Refused, refuse_unless
 

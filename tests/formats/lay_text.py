@@ -1,4 +1,4 @@
-"""The text of `radio lay`, by docs/formats.md alone and not by the program under test."""
+"""The text of `radio lay`, by docs/use/scripts.md alone and not by the program under test."""
 import hashlib
 import re
 

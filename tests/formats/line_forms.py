@@ -1,5 +1,5 @@
 """The lines of texts and of scripts, word by word, and their other forms: JSON, times in the place of frames, and frames in the place of times, by
-docs/formats.md alone and not by the program under test."""
+docs/use/output.md alone and not by the program under test."""
 import json
 import re
 from decimal import Decimal, localcontext

@@ -1,4 +1,4 @@
-"""The text of a log's operations, told from their bytes by docs/formats.md alone and not by the program under test."""
+"""The text of a log's operations, told from their bytes by docs/use/output.md alone and not by the program under test."""
 import io
 
 from formats.logs import stamp_text

@@ -1,4 +1,4 @@
-"""Operations and logs as bytes, written from the format alone (docs/formats.md) and not by the program under test."""
+"""Operations and logs as bytes, written from the format alone (docs/formats/log.md) and not by the program under test."""
 import hashlib
 import struct
 

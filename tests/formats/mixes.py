@@ -1,4 +1,4 @@
-"""The file that `radio render` makes of a session and recordings, or the number of its refusal, by docs/formats.md, docs/model.md and docs/refusals.md
+"""The file that `radio render` makes of a session and recordings, or the number of its refusal, by docs/formats, docs/build/model.md and docs/use/errors.md
 alone: each sample by itself."""
 import hashlib
 import re

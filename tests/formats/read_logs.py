@@ -1,4 +1,4 @@
-"""Operations and logs read from bytes, or the number of their refusal, by docs/formats.md and docs/refusals.md alone and not by the program under test."""
+"""Operations and logs read from bytes, or the number of their refusal, by docs/formats and docs/use alone and not by the program under test."""
 import hashlib
 
 from formats import logs

@@ -1,5 +1,5 @@
-"""Messages read from bytes, what `radio have`, `lack` and `take` write, and what an end of a conversation comes to, by docs/formats.md, docs/exchange.md and
-docs/refusals.md alone."""
+"""Messages read from bytes, what `radio have`, `lack` and `take` write, and what an end of a conversation comes to, by docs/formats/log.md, docs/use/exchange.md and
+docs/use/errors.md alone."""
 from formats.exchange import BYE, LONGEST, ops as ops_frames, summary
 from formats.read_logs import CONFLICT, GREATEST, dot, read_rising, same
 from formats.refused import Refused, refuse_unless

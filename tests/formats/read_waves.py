@@ -1,4 +1,4 @@
-"""Wave files read from bytes, the number of their refusal, and the text of `radio info`, by docs/formats.md alone and not by the program under test."""
+"""Wave files read from bytes, the number of their refusal, and the text of `radio info`, by docs/formats/wave.md and docs/use/output.md alone and not by the program under test."""
 import struct
 
 from formats.refused import refuse_unless

@@ -1,4 +1,4 @@
-"""The script of `radio revert`, by docs/commands.md and docs/formats.md alone and not by the program under test: of each field the writes of ready operations
+"""The script of `radio revert`, by docs/use/scripts.md and docs/formats/log.md alone and not by the program under test: of each field the writes of ready operations
 stand on a stack by rising stamp, from which those that are taken back are lifted, the newest first."""
 from formats.logs import stamp_text
 from formats.refused import Refused

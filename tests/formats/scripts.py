@@ -1,4 +1,4 @@
-"""What `radio edit` makes of a log by a script, or the number of its refusal, by docs/formats.md and docs/refusals.md alone: the forms of the lines, and
+"""What `radio edit` makes of a log by a script, or the number of its refusal, by docs/formats and docs/use alone: the forms of the lines, and
 the operation that an editor makes of the set with those before it."""
 import re
 

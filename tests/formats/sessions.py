@@ -1,4 +1,4 @@
-"""Operations as values, which of them are ready, and the session of a set, by docs/formats.md alone and in the plainest way: what is ready by a
+"""Operations as values, which of them are ready, and the session of a set, by docs/formats/log.md alone and in the plainest way: what is ready by a
 fixed point, a field's value by a maximum, the order of tracks by sorting whole paths."""
 from collections import namedtuple
 

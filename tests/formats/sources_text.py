@@ -1,4 +1,4 @@
-"""The text of `radio sources`, by docs/formats.md alone and not by the program under test."""
+"""The text of `radio sources`, by docs/use/output.md alone and not by the program under test."""
 import hashlib
 
 from formats.mixes import audible

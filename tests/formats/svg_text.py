@@ -1,4 +1,4 @@
-"""The text of `radio timeline --svg`, by docs/formats.md alone and not by the program under test: a tree of elements that is written out at the end."""
+"""The text of `radio timeline --svg`, by docs/use/output.md alone and not by the program under test: a tree of elements that is written out at the end."""
 
 import hashlib
 

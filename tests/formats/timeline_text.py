@@ -1,4 +1,4 @@
-"""The text of `radio timeline`, by docs/formats.md alone and not by the program under test: column by column, and of each every clip and marker."""
+"""The text of `radio timeline`, by docs/use/output.md alone and not by the program under test: column by column, and of each every clip and marker."""
 
 SHOWN = 20
 

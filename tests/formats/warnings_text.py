@@ -1,4 +1,4 @@
-"""The text of `radio check`, by docs/formats.md alone and not by the program under test."""
+"""The text of `radio check`, by docs/use/output.md alone and not by the program under test."""
 from formats.logs import stamp_text
 from formats.mixes import audible
 from formats.sessions import ready_of

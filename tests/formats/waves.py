@@ -1,4 +1,4 @@
-"""Wave files as bytes, and the text of `radio info`, written from the formats alone (docs/formats.md) and not by the
+"""Wave files as bytes, and the text of `radio info`, written from the formats alone (docs/formats/wave.md) and not by the
 program under test."""
 import hashlib
 import struct

@@ -1,12 +1,12 @@
-"""How a case is written, and what several subjects share. Each case is a folder below that of its command: the words after the
-program's name (a line each), the files that lie where it runs, its input, and the output, the errors and the status that are wanted."""
-import os
-
+"""How a case is made, and what several subjects share. A case has the words after the program's name,
+the files that lie where it runs, its input, and the output, the errors and the status that are wanted."""
+from formats.case_text import Case, os_bytes
 from formats.log_text import log_text
 from formats.logs import A, B, C, add_marker, head, log, marker_line, retitle, seal
 from formats.waves import info
 
-CASES = os.path.join(os.path.dirname(os.path.dirname(os.path.abspath(__file__))), "cases")
+# the cases by command, each in the order in which the subjects make them
+MADE = {}
 COMMANDS = ("view", "log", "timeline", "merge", "pull", "edit", "revert", "sources", "find", "diff", "check", "render", "have", "lack", "take", "serve", "meet", "info", "lay", "explain", "completions", "man")
 NEWS = add_marker((1, A, 1), 480, "News")
 LATE = retitle((2, B, 1), (1, A, 1), "Late")
@@ -22,33 +22,14 @@ def case(name, words, files=None, stdin=b"", stdout="", status=0, stderr=None, o
     """`made`: the files that it makes or writes anew, with their bytes. `needs`: `permissions`, where files that may not be read or
     written have to be refused. The words that call no command, and the help, are cases of `radio`."""
     command = words[0] if words and words[0] in COMMANDS and "--help" not in words else "radio"
-    folder = os.path.join(CASES, command, name.removeprefix(command + "_"))
-    os.makedirs(os.path.join(folder, "files"))
-    if stderr is None:
-        stderr = ""
-    parts = {
-        "words": b"".join((word if isinstance(word, bytes) else word.encode()) + b"\n" for word in words),
-        "stdin": stdin,
-        "stdout": stdout.encode(),
-        "stderr": stderr.encode(),
-        "status": b"%d\n" % status,
-    }
-    if output is not None:
-        parts["output"] = output.encode() + b"\n"
-    if setup is not None:
-        parts["setup"] = setup.encode() + b"\n"
-    if needs is not None:
-        parts["needs"] = needs.encode() + b"\n"
-    for part, data in parts.items():
-        with open(os.path.join(folder, part), "wb") as file:
-            file.write(data)
-    for kind, of_kind in (("files", files), ("made", made)):
-        for file_name, data in (of_kind or {}).items():
-            os.makedirs(os.path.join(folder, kind), exist_ok=True)
-            with open(os.path.join(folder, kind, file_name), "wb") as file:
-                file.write(data)
-    if not files:
-        open(os.path.join(folder, "files", ".keep"), "wb").close()
+    one = Case(command, name.removeprefix(command + "_"))
+    assert one.name not in MADE.setdefault(command, {}), one.title
+    one.words = [word if isinstance(word, bytes) else os_bytes(word) for word in words]
+    one.files, one.made, one.stdin = files or {}, made or {}, stdin
+    one.stdout, one.stderr, one.status = stdout.encode(), (stderr or "").encode(), status
+    one.setup = setup.encode() + b"\n" if setup else b""
+    one.output, one.needs = output or "", needs or ""
+    MADE[command][one.name] = one
 
 
 def fault(name, number, words, **more):

@@ -13,7 +13,7 @@ both_refuse("output_full", 37, ["log"], files={"log": ONE}, output="full")
 both_refuse("output_to_a_closed_pipe", 37, ["log"], files={"log": ONE}, output="pipe")
 
 # command lines
-STATUS = "\nExit status: 0 done, 1 refused (the line `radio: fault N`; `radio explain N` tells why), 2 the command line does not parse.\n"
+STATUS = "\nExit status: 0 done; 1 failed (`radio: fault N`, see `radio explain N`); 2 wrong command line.\n"
 USAGE = "Usage: radio [OPTIONS] <COMMAND>\n\nFor more information, try '--help'.\n"
 case("no_argument", [], status=2, stderr="error: 'radio' requires a subcommand but one was not provided\n  [subcommands: view, log, timeline, pull, merge, edit, revert, sources, find, diff, check, render, have, lack, take, serve, meet, info, lay, id, explain, completions, man, help]\n\n" + USAGE)
 case("frob", ["frob"], status=2, stderr="error: unrecognized subcommand 'frob'\n\n" + USAGE)
@@ -27,56 +27,56 @@ HELP = """A nondestructive multitrack audio editor whose sessions are replicated
 Usage: radio [OPTIONS] <COMMAND>
 
 Commands:
-  view         Prints the session of the union of the logs
-  log          Prints the operations of the union of the logs, a line each by rising stamp
-  timeline     Draws the session of the union of the logs: its markers and tracks, a line each
-  pull         Adds the operations of other logs to a log, and tells how many were new
-  merge        Writes the union of the logs as one log
-  edit         Makes the changes of a script, all or none, and writes the new log
-  revert       Prints the script that takes operations of a log back
-  sources      Tells which recordings a session plays, and which of the files these are
-  find         Prints the stamps of the items that have a title, or of the clips that play a recording
-  diff         Prints the operations that one of two logs alone has
-  check        Tells what a render would come to: how it is refused, or what sounds otherwise than one may think
-  render       Writes the session of a log as a broadcast wave file, its markers as cue points
-  have         Writes which operations a log has, for another editor to see what it lacks
-  lack         Writes the operations of a log that another editor lacks
-  take         Takes the operations that another editor sent, and writes the new log
-  serve        Waits for one editor who meets it, swaps operations, and writes the new log
-  meet         Meets an editor who serves, swaps operations, and writes the new log
-  info         Prints what a wave file says of itself
-  lay          Prints lines of a script that lay recordings on a track, one behind another
+  view         Prints the session: tracks, clips and markers of one or more logs
+  log          Prints the operations of one or more logs, sorted by stamp
+  timeline     Draws the session of one or more logs as text, or as a picture
+  pull         Adds the operations of other logs to a log, and prints how many were new
+  merge        Writes all operations of the logs into one new log
+  edit         Applies the changes of a script, all or none, and writes the new log
+  revert       Prints a script that undoes operations of a log
+  sources      Lists the recordings that a session plays, and which of the files they are
+  find         Finds items by title, or clips by their recording, and prints their stamps
+  diff         Prints the operations that only one of two logs has
+  check        Checks a programme before rendering: fails as render would, and lists what may sound unexpected
+  render       Renders a log as a Broadcast Wave file, with markers as cue points
+  have         Writes a summary of a log, from which another editor sees what is missing
+  lack         Writes the operations of a log that another editor is missing
+  take         Adds the operations that another editor sent, and writes the new log
+  serve        Waits for one editor who connects, exchanges operations, and writes the new log
+  meet         Connects to an editor who serves, exchanges operations, and writes the new log
+  info         Prints the format, texts and cue points of a wave file
+  lay          Prints script lines that put recordings on a track, one after another
   id           Prints a new name for an editor: a random UUID
-  explain      Prints what refusal N means, and what can be done about it; with no N all refusals
-  completions  Prints a script by which a shell completes the words of radio
-  man          Prints the page of the manual, radio(1), in roff
+  explain      Explains error N and what to do about it; without N, lists all errors
+  completions  Prints the completion script for a shell
+  man          Prints the manual page radio(1) in roff
   help         Print this message or the help of the given subcommand(s)
 
 Options:
-      --why      Behind a refusal tell in one more line what it is about
+      --why      After an error, print its cause on one more line
   -h, --help     Print help
   -V, --version  Print version
 
 Example: radio pull desk.log home.log
 
-Exit status: 0 done, 1 refused (the line `radio: fault N`; `radio explain N` tells why), 2 the command line does not parse.
+Exit status: 0 done; 1 failed (`radio: fault N`, see `radio explain N`); 2 wrong command line.
 """
 case("help", ["--help"], stdout=HELP)
 case("help_in_short", ["-h"], stdout=HELP)
 case("help_command", ["help"], stdout=HELP)
 # the options of each command that tells lines in forms
-FORMS = """      --time      Tell positions and lengths as H:MM:SS.mmm, at --rate frames a second
-      --rate <N>  Frames a second, for --time, 1 to 384000 (48000)
-      --json      Tell each line as a JSON object
-      --why       Behind a refusal tell in one more line what it is about
+FORMS = """      --time      Print positions and lengths as H:MM:SS.mmm, at --rate frames a second
+      --rate <N>  Frames a second for --time, 1 to 384000 (default: 48000)
+      --json      Print each line as a JSON object
+      --why       After an error, print its cause on one more line
   -h, --help      Print help
 """
-VIEW = """Prints the session of the union of the logs
+VIEW = """Prints the session: tracks, clips and markers of one or more logs
 
 Usage: radio view [OPTIONS] [LOG]...
 
 Arguments:
-  [LOG]...  Logs, in any order; with none, one log from standard input
+  [LOG]...  Logs, in any order; without any, one log from standard input
 
 Options:
 """ + FORMS + """
@@ -84,30 +84,30 @@ Example: radio view desk.log home.log
 """ + STATUS
 case("help_of_view", ["view", "--help"], stdout=VIEW)
 # the flags of each command that writes a file
-FLAGS = """      --new      Be refused (37) where OUT is there
-      --no-sync  Do not wait until OUT is on the disk: faster, and lost where the machine stops
-      --why      Behind a refusal tell in one more line what it is about
+FLAGS = """      --new      Fail (37) if OUT exists
+      --no-sync  Do not wait until OUT is on the disk: faster, but lost if the machine stops
+      --why      After an error, print its cause on one more line
   -h, --help     Print help
 """
-MERGE = """Writes the union of the logs as one log
+MERGE = """Writes all operations of the logs into one new log
 
 Usage: radio merge [OPTIONS] <OUT> [LOG]...
 
 Arguments:
-  <OUT>     The log to write; one that is there is replaced
-  [LOG]...  Logs, in any order; with none, OUT becomes the log of no operation
+  <OUT>     The log to write; an existing file is replaced
+  [LOG]...  Logs, in any order; without any, OUT becomes an empty log
 
 Options:
 """ + FLAGS + """
 Example: radio merge both.log desk.log home.log
 
-OUT is not read unless it is one of the LOGs: `radio pull desk.log home.log` adds home.log to desk.log. `radio merge desk.log` alone makes desk.log the
-log of no operation, whatever was in it.
+OUT is overwritten, not added to: to add home.log to desk.log, use `radio pull desk.log home.log`. `radio merge desk.log`
+alone makes desk.log an empty log, whatever was in it.
 """ + STATUS
 case("help_of_merge", ["merge", "--help"], stdout=MERGE)
 case("merge_of_nothing", ["merge"], status=2, stderr="error: the following required arguments were not provided:\n  <OUT>\n\nUsage: radio merge <OUT> [LOG]...\n\nFor more information, try '--help'.\n")
 fault("help_to_a_full_disk", 37, ["--help"], output="full")
-INFO = """Prints what a wave file says of itself
+INFO = """Prints the format, texts and cue points of a wave file
 
 Usage: radio info [OPTIONS] <WAVE>
 
@@ -115,10 +115,10 @@ Arguments:
   <WAVE>  A wave file
 
 Options:
-      --time      Tell positions and lengths as H:MM:SS.mmm, at --rate frames a second
-      --rate <N>  Frames a second, for --time, 1 to 384000 (the file's own)
-      --json      Tell each line as a JSON object
-      --why       Behind a refusal tell in one more line what it is about
+      --time      Print positions and lengths as H:MM:SS.mmm, at --rate frames a second
+      --rate <N>  Frames a second for --time, 1 to 384000 (default: the file's own)
+      --json      Print each line as a JSON object
+      --why       After an error, print its cause on one more line
   -h, --help      Print help
 
 Example: radio info jingle.wav
@@ -127,7 +127,7 @@ case("help_of_info", ["info", "--help"], stdout=INFO)
 INFO_USAGE = "Usage: radio info <WAVE>\n\nFor more information, try '--help'.\n"
 case("info_of_nothing", ["info"], status=2, stderr="error: the following required arguments were not provided:\n  <WAVE>\n\n" + INFO_USAGE)
 case("info_of_two", ["info", "a", "b"], files={"a": SMALLEST, "b": SMALLEST}, status=2, stderr="error: unexpected argument 'b' found\n\n" + INFO_USAGE.replace("radio info", "radio info [OPTIONS]"))
-COMPLETIONS = """Prints a script by which a shell completes the words of radio
+COMPLETIONS = """Prints the completion script for a shell
 
 Usage: radio completions [OPTIONS] <SHELL>
 
@@ -135,14 +135,14 @@ Arguments:
   <SHELL>  The shell [possible values: bash, zsh, fish]
 
 Options:
-      --why   Behind a refusal tell in one more line what it is about
+      --why   After an error, print its cause on one more line
   -h, --help  Print help
 
 Example: radio completions bash
 
-It completes the names of commands, the options of each, and the names of which a word is one; elsewhere names of files. bash sources it, or finds it
-as ~/.local/share/bash-completion/completions/radio; zsh finds it as a file _radio in a folder of $fpath, and fish as
-~/.config/fish/completions/radio.fish.
+It completes commands, options, fixed values and file names. bash: source it, or save it as
+~/.local/share/bash-completion/completions/radio; zsh: save it as _radio in a folder of $fpath;
+fish: save it as ~/.config/fish/completions/radio.fish.
 """ + STATUS
 case("help_of_completions", ["completions", "--help"], stdout=COMPLETIONS)
 OF_ANOTHER_SHELL = "error: invalid value 'powershell' for '<SHELL>'\n  [possible values: bash, zsh, fish]\n\nFor more information, try '--help'.\n"
@@ -150,17 +150,17 @@ case("completions_of_another_shell", ["completions", "powershell"], status=2, st
 case("completions_of_no_shell", ["completions"], status=2, stderr="error: the following required arguments were not provided:\n  <SHELL>\n\nUsage: radio completions <SHELL>\n\nFor more information, try '--help'.\n")
 for shell in ("bash", "zsh", "fish"):
     fault("completions_of_%s_to_a_full_disk" % shell, 37, ["completions", shell], output="full")
-MAN = """Prints the page of the manual, radio(1), in roff
+MAN = """Prints the manual page radio(1) in roff
 
 Usage: radio man [OPTIONS]
 
 Options:
-      --why   Behind a refusal tell in one more line what it is about
+      --why   After an error, print its cause on one more line
   -h, --help  Print help
 
 Example: radio man
 
-`radio man > radio.1` and `man ./radio.1` show it; as ~/.local/share/man/man1/radio.1 `man radio` finds it.
+Show it with `radio man > radio.1` and `man ./radio.1`; saved as ~/.local/share/man/man1/radio.1, `man radio` finds it.
 """ + STATUS
 case("help_of_man", ["man", "--help"], stdout=MAN)
 case("man_of_a_command", ["man", "view"], status=2, stderr="error: unexpected argument 'view' found\n\nUsage: radio man [OPTIONS]\n\nFor more information, try '--help'.\n")

@@ -178,27 +178,27 @@ case("diff_of_one_word", ["diff", "desk"], status=2, files={"desk": ONE}, stderr
 case("diff_of_three_words", ["diff", "desk", "home", "third"], status=2, files={"desk": ONE}, stderr="error: unexpected argument 'third' found\n\nUsage: radio diff [OPTIONS] <LEFT> <RIGHT>\n" + USAGE)
 case("diff_of_two_forms", ["diff", "--fields", "--view", "desk", "home"], status=2, files={"desk": ONE, "home": ONE},
      stderr="error: the argument '--fields' cannot be used with '--view'\n\nUsage: radio diff --fields <LEFT> <RIGHT>\n" + USAGE)
-HELP = """Prints the operations that one of two logs alone has
+HELP = """Prints the operations that only one of two logs has
 
 Usage: radio diff [OPTIONS] <LEFT> <RIGHT>
 
 Arguments:
-  <LEFT>   A log, or operations, as `radio lack` wrote them
-  <RIGHT>  The log, or the operations, to compare with it
+  <LEFT>   A log, or operations written by `radio lack`
+  <RIGHT>  The log or operations to compare it with
 
 Options:
-      --fields    Print too, before the counts, `both ITEM FIELD STAMP STAMP` for each field that both alone write, with the last stamp of LEFT and of RIGHT
-      --view      Print instead the lines of the session that go, behind `- `, and those that come, behind `+ `
-      --time      Tell positions and lengths as H:MM:SS.mmm, at --rate frames a second
-      --rate <N>  Frames a second, for --time, 1 to 384000 (48000)
-      --json      Tell each line as a JSON object
-      --why       Behind a refusal tell in one more line what it is about
+      --fields    Also print `both ITEM FIELD STAMP STAMP` for each field that both changed, with the last change of LEFT and of RIGHT
+      --view      Print instead the lines of `radio view` that LEFT (`- `) or RIGHT (`+ `) alone shows
+      --time      Print positions and lengths as H:MM:SS.mmm, at --rate frames a second
+      --rate <N>  Frames a second for --time, 1 to 384000 (default: 48000)
+      --json      Print each line as a JSON object
+      --why       After an error, print its cause on one more line
   -h, --help      Print help
 
 Example: radio diff desk.log home.log
 
-Prints them by rising stamp: `- ` stands before what LEFT alone has, `+ ` before what RIGHT alone has, and `! ` before both of two that have one name. Last it counts them.
+Operations are sorted by stamp: `- ` marks those that only LEFT has, `+ ` those that only RIGHT has, and `! ` two\ndifferent operations with the same name. The last lines count them.
 
-Exit status: 0 done, also where they differ, 1 refused (the line `radio: fault N`; `radio explain N` tells why), 2 the command line does not parse.
+Exit status: 0 done, whether they differ or not; 1 failed (`radio: fault N`, see `radio explain N`); 2 wrong command line.
 """
 case("diff_help", ["diff", "--help"], stdout=HELP)

@@ -129,32 +129,33 @@ case(
     stderr="error: the following required arguments were not provided:\n  <REPLICA>\n  <LOG>\n  <SCRIPT>\n  <OUT>\n\nUsage: radio edit <REPLICA> <LOG> <SCRIPT> <OUT>\n\nFor more information, try '--help'.\n")
 case(
     "help_of_edit", ["edit", "--help"],
-    stdout="""Makes the changes of a script, all or none, and writes the new log
+    stdout="""Applies the changes of a script, all or none, and writes the new log
 
 Usage: radio edit [OPTIONS] <REPLICA> <LOG> <SCRIPT> <OUT>
 
 Arguments:
-  <REPLICA>  The UUID of the editor who makes the changes
+  <REPLICA>  The UUID of the editor who makes the changes (see `radio id`)
   <LOG>      The log to begin with
-  <SCRIPT>   The changes, a line each (see below)
-  <OUT>      The log to write, which may be LOG; one that is there is replaced, also where it is SCRIPT
+  <SCRIPT>   The changes, one per line (see below)
+  <OUT>      The log to write, usually LOG; an existing file is replaced, even SCRIPT
 
 Options:
-      --time      Take times (0:01:30.5, 1.5s) and decibels (-6dB) too, at --rate frames a second
-      --rate <N>  Frames a second, for --time, 1 to 384000 (48000)
-      --new       Be refused (37) where OUT is there
-      --no-sync   Do not wait until OUT is on the disk: faster, and lost where the machine stops
-      --why       Behind a refusal tell in one more line what it is about
+      --time      Also accept times (0:01:30.5, 1.5s) and decibels (-6dB), at --rate frames a second
+      --rate <N>  Frames a second for --time, 1 to 384000 (default: 48000)
+      --new       Fail (37) if OUT exists
+      --no-sync   Do not wait until OUT is on the disk: faster, but lost if the machine stops
+      --why       After an error, print its cause on one more line
   -h, --help      Print help
 
 Example: radio edit 00000000-0000-0000-0000-00000000000a desk.log changes.txt desk.log
 
-A line of SCRIPT is one of these, with one space between words (docs/formats.md, Scripts, says all of them):
+Each line of SCRIPT is one change, with one space between words:
   add-track AFTER TITLE, add-clip DIGEST TRACK AT OFFSET LEN, add-marker AT TITLE, retitle ITEM TITLE,
   move-track ITEM AFTER, move-clip CLIP TRACK AT, move-marker ITEM AT, trim-clip ITEM OFFSET LEN,
   gain ITEM NUM/DEN, mute ITEM on, mute ITEM off, fade ITEM IN OUT, marker-length ITEM LEN, remove ITEM, restore ITEM
-An ITEM, a TRACK or a CLIP is a stamp that `radio view` prints, or $k for what line k adds; AFTER is a track, or `head` for the top;
-AT, OFFSET, LEN, IN and OUT are frames, with --time also times; NUM/DEN is with --time also decibels; DIGEST is what `radio info` prints. Two lines:
+ITEM, TRACK and CLIP are stamps as `radio view` prints them, or $k for what line k adds; AFTER is a track, or `head`
+for the top. AT, OFFSET, LEN, IN and OUT are frames, or times with --time. NUM/DEN is a factor such as 1/2, or decibels
+with --time. DIGEST is what `radio info` prints. Two lines:
   add-marker 480 Headlines
   move-marker 1.1.00000000-0000-0000-0000-00000000000a 96000
 """

@@ -111,9 +111,9 @@ fault("meet_with_a_damaged_log", 13, ["meet", "127.0.0.1:1", "log", "out"], file
 fault("serve_with_a_damaged_log", 13, ["serve", "nowhere", "log", "out"], files={"log": ONE[:-1]})
 
 # help
-WAIT = "Wait at most N seconds for the other end: to come (46), and then each time for what it says (45) or takes (37)"
+WAIT = "Wait at most N seconds for the other end: to connect (46), and then for each read (45) and write (37)"
 WAITS = {
-    "serve": ["      --wait <N>      " + WAIT, "      --meetings <N>  Serve N editors, one after another, and with 0 all who come; LOG is read for each"],
+    "serve": ["      --wait <N>      " + WAIT, "      --meetings <N>  Serve N editors, one after another, or with 0 all who connect; LOG is read again for each"],
     "meet": ["      --wait <N>  " + WAIT],
 }
 
@@ -125,11 +125,11 @@ def widened(flags, others):
 
 
 HELPS = {
-    "have": ("Writes which operations a log has, for another editor to see what it lacks", [("LOG", "The log"), ("OUT", "The summary to write; one that is there is replaced, also where it is LOG")], "radio have home.log home.have"),
-    "lack": ("Writes the operations of a log that another editor lacks", [("LOG", "The log"), ("HAVE", "What the other editor has, as `radio have` wrote it"), ("OUT", "The operations to write; one that is there is replaced, also where it is LOG or HAVE")], "radio lack desk.log home.have for-home.ops"),
-    "take": ("Takes the operations that another editor sent, and writes the new log", [("LOG", "The log to begin with"), ("OPS", "The operations, as `radio lack` wrote them"), ("OUT", "The log to write, which may be LOG; one that is there is replaced, also where it is OPS")], "radio take home.log for-home.ops home.log"),
-    "serve": ("Waits for one editor who meets it, swaps operations, and writes the new log", [("ADDR", "The address to wait at, as 127.0.0.1:7000"), ("LOG", "The log to begin with"), ("OUT", "The log to write, which may be LOG")], "radio serve 127.0.0.1:7000 desk.log desk.log"),
-    "meet": ("Meets an editor who serves, swaps operations, and writes the new log", [("ADDR", "The address of the editor who serves, as 127.0.0.1:7000"), ("LOG", "The log to begin with"), ("OUT", "The log to write, which may be LOG")], "radio meet 127.0.0.1:7000 home.log home.log"),
+    "have": ("Writes a summary of a log, from which another editor sees what is missing", [("LOG", "The log"), ("OUT", "The summary to write; an existing file is replaced, even LOG")], "radio have home.log home.have"),
+    "lack": ("Writes the operations of a log that another editor is missing", [("LOG", "The log"), ("HAVE", "The other editor's summary, written by `radio have`"), ("OUT", "The operations to write; an existing file is replaced, even LOG or HAVE")], "radio lack desk.log home.have for-home.ops"),
+    "take": ("Adds the operations that another editor sent, and writes the new log", [("LOG", "The log to begin with"), ("OPS", "The operations, written by `radio lack`"), ("OUT", "The log to write, usually LOG; an existing file is replaced, even OPS")], "radio take home.log for-home.ops home.log"),
+    "serve": ("Waits for one editor who connects, exchanges operations, and writes the new log", [("ADDR", "The address to listen on, such as 127.0.0.1:7000"), ("LOG", "The log to begin with"), ("OUT", "The log to write, usually LOG")], "radio serve 127.0.0.1:7000 desk.log desk.log"),
+    "meet": ("Connects to an editor who serves, exchanges operations, and writes the new log", [("ADDR", "The address of the editor who serves, such as 127.0.0.1:7000"), ("LOG", "The log to begin with"), ("OUT", "The log to write, usually LOG")], "radio meet 127.0.0.1:7000 home.log home.log"),
 }
 for command, (about, words, example) in HELPS.items():
     wide = max(len(word) for word, _ in words) + 2

@@ -98,25 +98,25 @@ refused("told_to_a_closed_pipe", 37, ["log", "track", "Voice"], output="pipe")
 USAGE = "\nFor more information, try '--help'.\n"
 case("find_of_nothing", ["find"], status=2, stderr="error: the following required arguments were not provided:\n  <LOG>\n  <KIND>\n  <WHAT>\n\nUsage: radio find <LOG> <KIND> <WHAT>\n" + USAGE)
 case("find_of_another_kind", ["find", "log", "item", "Voice"], status=2, files={"log": ONE}, stderr="error: invalid value 'item' for '<KIND>'\n  [possible values: track, marker, clip]\n" + USAGE)
-HELP = """Prints the stamps of the items that have a title, or of the clips that play a recording
+HELP = """Finds items by title, or clips by their recording, and prints their stamps
 
 Usage: radio find [OPTIONS] <LOG> <KIND> <WHAT>
 
 Arguments:
   <LOG>   The log
-  <KIND>  What is looked for [possible values: track, marker, clip]
-  <WHAT>  The exact title of tracks or markers; of clips the digest of the recording that they play, as `radio info` prints it, or with --wave its file
+  <KIND>  What to look for [possible values: track, marker, clip]
+  <WHAT>  The exact title of a track or marker; for clips, the digest of their recording, or its file with --wave
 
 Options:
-      --one   Be refused (21) where it is not exactly one item
-      --wave  WHAT is the name of a file: find the clips that play this recording
-      --why   Behind a refusal tell in one more line what it is about
+      --one   Fail (21) unless there is exactly one
+      --wave  WHAT is a file: find the clips that play it
+      --why   After an error, print its cause on one more line
   -h, --help  Print help
 
 Example: radio find --one desk.log track Music
 
-Prints a line for each, in the session's order; where there is none it prints nothing, and is done.
+Prints one stamp per line, in the order of `radio view`, and nothing if there is no such item.
 
-Exit status: 0 done, 1 refused (the line `radio: fault N`; `radio explain N` tells why), 2 the command line does not parse.
+Exit status: 0 done; 1 failed (`radio: fault N`, see `radio explain N`); 2 wrong command line.
 """
 case("find_help", ["find", "--help"], stdout=HELP)

@@ -69,26 +69,26 @@ USAGE = "\nFor more information, try '--help'.\n"
 case("lay_of_nothing", ["lay"], status=2, stderr="error: the following required arguments were not provided:\n  <TRACK>\n  <WAVE>...\n\nUsage: radio lay <TRACK> <WAVE>...\n" + USAGE)
 case("lay_of_no_file", ["lay", STAMP], status=2, files={"log": ONE}, stderr="error: the following required arguments were not provided:\n  <WAVE>...\n\nUsage: radio lay <TRACK> <WAVE>...\n" + USAGE)
 case("lay_at_a_position_too_great", ["lay", "--at", "4294967296", STAMP, "r1"], status=2, stderr="error: invalid value '4294967296' for '--at <N>': 4294967296 is not in 0..=4294967295\n" + USAGE)
-HELP = """Prints lines of a script that lay recordings on a track, one behind another
+HELP = """Prints script lines that put recordings on a track, one after another
 
 Usage: radio lay [OPTIONS] <TRACK> <WAVE>...
 
 Arguments:
-  <TRACK>    The track: its stamp, as `radio view` prints it, or $k for what line k of the script makes
-  <WAVE>...  Wave files, in the order in which they are to sound
+  <TRACK>    The track: its stamp, or $k for the track that line k of the script adds
+  <WAVE>...  Wave files, in the order in which they play
 
 Options:
       --at <N>    Where the first begins, in frames [default: 0]
-      --gap <N>   Frames between the end of one and the beginning of the next [default: 0]
-      --rate <N>  Frames a second of the programme; a recording of another rate is refused (34) [default: 48000]
-      --why       Behind a refusal tell in one more line what it is about
+      --gap <N>   Frames between two recordings [default: 0]
+      --rate <N>  Frames a second of the programme; fails (34) for a recording of another rate [default: 48000]
+      --why       After an error, print its cause on one more line
   -h, --help      Print help
 
 Example: radio lay --at 48000 '$1' jingle.wav interview.wav
 
-Prints a line `add-clip DIGEST TRACK AT 0 FRAMES` for each WAVE, a clip of the whole recording: the first at frame N of --at, each other where the one
-before it ends, and the frames of --gap behind it. `radio edit` takes these lines, behind others that make the track where TRACK is $k.
+Prints `add-clip DIGEST TRACK AT 0 FRAMES` for each WAVE, a clip of the whole recording: the first at --at, each other
+at the end of the one before it plus --gap. The lines are for `radio edit`; if TRACK is $k, line k adds the track.
 
-Exit status: 0 done, 1 refused (the line `radio: fault N`; `radio explain N` tells why), 2 the command line does not parse.
+Exit status: 0 done; 1 failed (`radio: fault N`, see `radio explain N`); 2 wrong command line.
 """
 case("lay_help", ["lay", "--help"], stdout=HELP)

@@ -97,21 +97,21 @@ for name, (role, naming) in NAMES.items():
     case("log_each_act_as_" + name, ["log", "log"], files={"log": log(ops)}, stdout=log_text(ops, held))
 
 case("log_of_twelve_logs", ["log"] + [name for name, _ in MANY], files=dict(MANY), stdout=log_text([NEWS] + CUES))
-case("help_of_log", ["log", "--help"], stdout="""Prints the operations of the union of the logs, a line each by rising stamp
+case("help_of_log", ["log", "--help"], stdout="""Prints the operations of one or more logs, sorted by stamp
 
 Usage: radio log [OPTIONS] [LOG]...
 
 Arguments:
-  [LOG]...  Logs, in any order; with none, one log from standard input
+  [LOG]...  Logs, in any order; without any, one log from standard input
 
 Options:
-      --time      Tell positions and lengths as H:MM:SS.mmm, at --rate frames a second
-      --rate <N>  Frames a second, for --time, 1 to 384000 (48000)
-      --json      Tell each line as a JSON object
-      --why       Behind a refusal tell in one more line what it is about
+      --time      Print positions and lengths as H:MM:SS.mmm, at --rate frames a second
+      --rate <N>  Frames a second for --time, 1 to 384000 (default: 48000)
+      --json      Print each line as a JSON object
+      --why       After an error, print its cause on one more line
   -h, --help      Print help
 
 Example: radio log desk.log home.log
 
-Exit status: 0 done, 1 refused (the line `radio: fault N`; `radio explain N` tells why), 2 the command line does not parse.
+Exit status: 0 done; 1 failed (`radio: fault N`, see `radio explain N`); 2 wrong command line.
 """)

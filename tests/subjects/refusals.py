@@ -1,21 +1,21 @@
-"""Cases of `radio explain`. Its numbers and names are also compared with docs/refusals.md (refusals.sh)."""
+"""Cases of `radio explain`. Its numbers and names are also compared with docs/use/errors.md (refusals.sh)."""
 from subjects.case import case
 from subjects.command_lines import STATUS
 
-READ = "45 Read: an input cannot be opened, or reading it failed\nSee that each named file is there, is no folder, and may be read; `--why` tells which. Of `serve` and `meet` also: a conversation that broke off or waited too long is 45, 37 or 49; meet again.\n"
+READ = "45 Read: an input cannot be opened or read\nCheck that each file exists, is not a folder, and may be read; `--why` names the file. `radio merge --new LOG` creates an empty log. `serve` and `meet`: a conversation that broke off or timed out is 45, 37 or 49; meet again.\n"
 case("explain_a_number", ["explain", "45"], stdout=READ)
-case("explain_the_least", ["explain", "0"], stdout="0 Memory: memory ran out\nClose other programs, or give it fewer or smaller files.\n")
-OF_A_WORLD = "48 SameName: two editors of a world have one name\nNo file causes it alone: a program that makes operations by the library has to mend its call.\n"
+case("explain_the_least", ["explain", "0"], stdout="0 Memory: memory ran out\nClose other programs, or use fewer or smaller files.\n")
+OF_A_WORLD = "48 SameName: two editors of a world have one name\nNo file or script causes this error; a program that uses the library has to correct its call.\n"
 case("explain_of_a_world", ["explain", "48"], stdout=OF_A_WORLD)
 # of a wave file's: a program that shows the cause
 WAVES = {
-    26: "NotRiff: a file is no RIFF file\nSee that each recording is a WAVE file; RF64, RIFX, FLAC and MP3 are not read (`file NAME` and `ffprobe NAME` tell).\n",
-    27: "NotWave: a RIFF file is no WAVE, or its size is 0, as an unfinished recording has it\nFinish or repair the recording (`sox --ignore-length IN OUT` writes the sizes anew); `xxd -l 12 NAME` shows its size and its kind.\n",
-    28: "Truncated: a chunk of a wave file is longer than the file\nThe copy was cut short or the recording not finished (`sndfile-info NAME` shows which size is wrong): copy it again, or repair it (`sox --ignore-length IN OUT`).\n",
-    29: "NoFmt: a wave file has no `fmt ` chunk\nThe file is damaged (`soxi NAME` tells): take the recording from its source again.\n",
-    30: "BadFmt: the `fmt ` chunk of a wave file is short, or contradicts itself\nWrite the recording anew (`sox IN OUT`, `ffmpeg -i IN OUT`); `sndfile-info NAME` shows what the chunk says.\n",
-    31: "Unsupported: a wave file is no PCM of 8, 16, 24 or 32 bits\nConvert it: `sox IN -e signed-integer -b 24 OUT` (`mediainfo NAME` shows its format).\n",
-    32: "NoData: a wave file has no `data` chunk\nThe recording holds no sound (`soxi NAME` tells): take it from its source again.\n",
+    26: "NotRiff: a file is not a RIFF file\nCheck that each recording is a WAVE file (`file NAME`); RF64, RIFX, FLAC and MP3 are not read.\n",
+    27: "NotWave: a RIFF file is not WAVE, or has size 0, as an unfinished recording does\nFinish or repair the recording: `sox --ignore-length IN OUT` writes the sizes again; `xxd -l 12 NAME` shows size and kind.\n",
+    28: "Truncated: a chunk of a wave file is longer than the file\nThe copy was cut short, or the recording was not finished: copy it again, or repair it with `sox --ignore-length IN OUT`. `sndfile-info NAME` shows which size is wrong.\n",
+    29: "NoFmt: a wave file has no `fmt ` chunk\nThe file is damaged (`soxi NAME`): copy the recording from its source again.\n",
+    30: "BadFmt: the `fmt ` chunk of a wave file is too short or contradicts itself\nConvert the recording with `sox IN OUT` or `ffmpeg -i IN OUT`; `sndfile-info NAME` shows the chunk.\n",
+    31: "Unsupported: a wave file is not PCM of 8, 16, 24 or 32 bits\nConvert it: `sox IN -e signed-integer -b 24 OUT`. `mediainfo NAME` shows its format.\n",
+    32: "NoData: a wave file has no `data` chunk\nThe recording has no sound (`soxi NAME`): copy it from its source again.\n",
 }
 for number, text in WAVES.items():
     case("explain_wave_%d" % number, ["explain", str(number)], stdout="%d %s" % (number, text))
@@ -29,20 +29,20 @@ case("explain_to_a_full_disk", ["explain"], status=1, stderr="radio: fault 37\n"
 case(
     "help_of_explain",
     ["explain", "--help"],
-    stdout="""Prints what refusal N means, and what can be done about it; with no N all refusals
+    stdout="""Explains error N and what to do about it; without N, lists all errors
 
 Usage: radio explain [OPTIONS] [N]
 
 Arguments:
-  [N]  The number of a refusal, as `radio: fault N` tells it; with none, all refusals
+  [N]  The number in `radio: fault N`; all errors if it is left out
 
 Options:
-      --why   Behind a refusal tell in one more line what it is about
+      --why   After an error, print its cause on one more line
   -h, --help  Print help
 
 Example: radio explain 45
 
-With --why a command tells in one more line which input, record, line, option or output its refusal is about.
+With --why, a command that fails prints one more line: which input, record, line, option or output caused it.
 """
     + STATUS,
 )

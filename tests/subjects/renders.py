@@ -167,32 +167,32 @@ USAGE = "Usage: radio render <OUT> <LOG> [SOURCE]...\n\nFor more information, tr
 case("render_of_nothing", ["render"], status=2, stderr="error: the following required arguments were not provided:\n  <OUT>\n  <LOG>\n\n" + USAGE)
 case("render_at_no_number", ["render", "out", "log", "--rate", "fast"], status=2, stderr="error: invalid value 'fast' for '--rate <N>': invalid digit found in string\n\nFor more information, try '--help'.\n")
 case("render_in_too_many_bits", ["render", "out", "log", "--bits", "70000"], status=2, stderr="error: invalid value '70000' for '--bits <N>': 70000 is not in 0..=65535\n\nFor more information, try '--help'.\n")
-HELP = """Writes the session of a log as a broadcast wave file, its markers as cue points
+HELP = """Renders a log as a Broadcast Wave file, with markers as cue points
 
 Usage: radio render [OPTIONS] <OUT> <LOG> [SOURCE]...
 
 Arguments:
-  <OUT>        The wave file to write; one that is there is replaced, also where it is LOG or a SOURCE
+  <OUT>        The wave file to write; an existing file is replaced, even LOG or a SOURCE
   <LOG>        The log
-  [SOURCE]...  The recordings that clips name by their digests, in any order
+  [SOURCE]...  The recordings that the clips play, in any order
 
 Options:
       --rate <N>            Frames a second, 1 to 384000 [default: 48000]
       --bits <N>            Bits of a sample, 16 or 24 [default: 24]
-      --channels <N>        Channels, 1 or 2 [default: 1]
-      --description <TEXT>  What it is, at most 256 bytes of printing ASCII (0x20 to 0x7E) [default: ""]
-      --originator <TEXT>   Who made it, at most 32 bytes of printing ASCII [default: ""]
-      --reference <TEXT>    Its reference there, at most 32 bytes of printing ASCII [default: ""]
+      --channels <N>        Channels, 1 or 2; with 1, only the first channel of a stereo recording is heard [default: 1]
+      --description <TEXT>  Description of the programme, at most 256 bytes of printable ASCII (0x20 to 0x7E) [default: ""]
+      --originator <TEXT>   Who made it, at most 32 bytes of printable ASCII [default: ""]
+      --reference <TEXT>    Its reference at the originator, at most 32 bytes of printable ASCII [default: ""]
       --date <TEXT>         The date, as dddd-dd-dd [default: 2000-01-01]
       --time <TEXT>         The time, as dd:dd:dd [default: 00:00:00]
-      --time-reference <N>  Frames from midnight to the first [default: 0]
-      --new                 Be refused (37) where OUT is there
-      --no-sync             Do not wait until OUT is on the disk: faster, and lost where the machine stops
-      --why                 Behind a refusal tell in one more line what it is about
+      --time-reference <N>  Time reference: frames from midnight to the first frame [default: 0]
+      --new                 Fail (37) if OUT exists
+      --no-sync             Do not wait until OUT is on the disk: faster, but lost if the machine stops
+      --why                 After an error, print its cause on one more line
   -h, --help                Print help
 
 Example: radio render news.wav desk.log jingle.wav interview.wav --bits 16 --description 'Morning news'
 
-Exit status: 0 done, 1 refused (the line `radio: fault N`; `radio explain N` tells why), 2 the command line does not parse.
+Exit status: 0 done; 1 failed (`radio: fault N`, see `radio explain N`); 2 wrong command line.
 """
 case("help_of_render", ["render", "--help"], stdout=HELP)

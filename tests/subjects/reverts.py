@@ -122,23 +122,23 @@ fault("revert_of_a_stamp_in_capitals", 4, ["revert", "log", SOME.upper()], files
 USAGE = "\nFor more information, try '--help'.\n"
 case("revert_of_nothing", ["revert"], status=2, stderr="error: the following required arguments were not provided:\n  <LOG>\n  <STAMP>...\n\nUsage: radio revert <LOG> <STAMP>...\n" + USAGE)
 case("revert_of_no_operation", ["revert", "log"], status=2, files={"log": ONE}, stderr="error: the following required arguments were not provided:\n  <STAMP>...\n\nUsage: radio revert <LOG> <STAMP>...\n" + USAGE)
-HELP = """Prints the script that takes operations of a log back
+HELP = """Prints a script that undoes operations of a log
 
 Usage: radio revert [OPTIONS] <LOG> <STAMP>...
 
 Arguments:
   <LOG>       The log
-  <STAMP>...  Operations, by their stamps, as `radio log` prints them, in any order
+  <STAMP>...  Operations: their stamps as `radio log` prints them, in any order
 
 Options:
-      --why   Behind a refusal tell in one more line what it is about
+      --why   After an error, print its cause on one more line
   -h, --help  Print help
 
 Example: radio revert desk.log 5.2.00000000-0000-0000-0000-00000000000a > back.txt
 
-Prints a line for each, the newest first, that writes what stood before it, for `radio edit`. A remark, `# ...`, stands where no line takes it back: where it
-waits, where its item is as it was before it, or where a later operation has changed the same.
+The script, for `radio edit`, has one line per operation, newest first, that sets back what it changed. A comment `# ...`
+stands in for operations with nothing to undo: they wait for another, changed nothing, or were overwritten since.
 
-Exit status: 0 done, 1 refused (the line `radio: fault N`; `radio explain N` tells why), 2 the command line does not parse.
+Exit status: 0 done; 1 failed (`radio: fault N`, see `radio explain N`); 2 wrong command line.
 """
 case("revert_help", ["revert", "--help"], stdout=HELP)

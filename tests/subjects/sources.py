@@ -91,7 +91,7 @@ USAGE = "\nFor more information, try '--help'.\n"
 case("sources_of_nothing", ["sources"], status=2, stderr="error: the following required arguments were not provided:\n  <LOG>\n\nUsage: radio sources <LOG> [WAVE]...\n" + USAGE)
 case("sources_missing_and_files", ["sources", "--missing", "--files", "log"], status=2, files={"log": ONE},
      stderr="error: the argument '--missing' cannot be used with '--files'\n\nUsage: radio sources --missing <LOG> [WAVE]...\n" + USAGE)
-HELP = """Tells which recordings a session plays, and which of the files these are
+HELP = """Lists the recordings that a session plays, and which of the files they are
 
 Usage: radio sources [OPTIONS] <LOG> [WAVE]...
 
@@ -100,19 +100,20 @@ Arguments:
   [WAVE]...  Wave files, in any order
 
 Options:
-      --missing  Print the digests of the recordings that are missing, a line each, and nothing else
-      --files    Print the names of the files that are played, the first of each recording, a line each, and nothing else
-      --json     Tell each line as a JSON object
-      --why      Behind a refusal tell in one more line what it is about
+      --missing  Print only the digests of missing recordings, one per line
+      --files    Print only the names of the files that are played, one per line, one for each recording
+      --json     Print each line as a JSON object
+      --why      After an error, print its cause on one more line
   -h, --help     Print help
 
 Example: radio sources desk.log jingle.wav interview.wav
 
-Prints a line for each recording that a clip plays, by rising digest: `source DIGEST clips N audible N end N`, and then what is known of the first WAVE
-that it is, `rate N channels N frames N file NAME`, or `missing`. N audible clips are not muted, nor is their track; `end N` tells how far into it they play, in frames. Then
-`unused DIGEST file NAME` for each WAVE that no clip plays, `refused N file NAME` for each that is no wave file (`radio explain N` tells why), and last
-`missing N`.
+For each recording that clips play, sorted by digest: `source DIGEST clips N audible N end N`, followed by
+`rate N channels N frames N file NAME` of the first WAVE with that digest, or by `missing`. Audible clips are those that
+are not muted, on tracks that are not muted; `end N` is the frame of the recording at which the last of them ends.
+Then `unused DIGEST file NAME` for each WAVE that no clip plays, `refused N file NAME` for each that is no wave file
+(see `radio explain N`), and at the end `missing N`.
 
-Exit status: 0 done, 1 refused (the line `radio: fault N`; `radio explain N` tells why), 2 the command line does not parse.
+Exit status: 0 done; 1 failed (`radio: fault N`, see `radio explain N`); 2 wrong command line.
 """
 case("sources_help", ["sources", "--help"], stdout=HELP)

@@ -125,27 +125,27 @@ mistaken("of_too_many_columns", "width", "1001", "1001 is not in 1..=1000")
 mistaken("of_half_a_column", "width", "0.5", "invalid digit found in string")
 mistaken("at_no_rate", "rate", "0", "0 is not in 1..=384000")
 mistaken("at_too_high_a_rate", "rate", "384001", "384001 is not in 1..=384000")
-HELP = """Draws the session of the union of the logs: its markers and tracks, a line each
+HELP = """Draws the session of one or more logs as text, or as a picture
 
 Usage: radio timeline [OPTIONS] [LOG]...
 
 Arguments:
-  [LOG]...  Logs, in any order; with none, one log from standard input
+  [LOG]...  Logs, in any order; without any, one log from standard input
 
 Options:
-      --width <N>      How many columns, 1 to 1000 (60)
-      --rate <N>       Frames a second, for the times that are told, 1 to 384000 (48000)
-      --time           Tell in the last line times alone, and no frames
-      --svg            Draw a picture: the text of an SVG file, for a browser
-      --source <WAVE>  A recording, whose peaks the boxes of its clips show; as often as there are recordings
-      --why            Behind a refusal tell in one more line what it is about
+      --width <N>      Number of columns, 1 to 1000 (default: 60)
+      --rate <N>       Frames a second for the times, 1 to 384000 (default: 48000)
+      --time           Print only times in the last line, and no frames
+      --svg            Draw a picture: print an SVG file for a browser
+      --source <WAVE>  A recording whose peaks are drawn; may be repeated
+      --why            After an error, print its cause on one more line
   -h, --help           Print help
 
 Example: radio timeline --width 100 desk.log home.log
 
-Markers: * several begin in the column, ^ one, ~ one lies there. Clips: [ one begins, = sounds, / fades in, \\ fades out, - muted.
+Markers: ^ one begins, * several begin, ~ one continues. Clips: [ begins, = plays, / fades in, \\ fades out, - muted.
 `radio timeline --svg desk.log > desk.svg` makes a picture for a browser.
 
-Exit status: 0 done, 1 refused (the line `radio: fault N`; `radio explain N` tells why), 2 the command line does not parse.
+Exit status: 0 done; 1 failed (`radio: fault N`, see `radio explain N`); 2 wrong command line.
 """
 case("timeline_help", ["timeline", "--help"], stdout=HELP)

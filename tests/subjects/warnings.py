@@ -114,35 +114,38 @@ refused("told_to_a_full_disk", 37, ["log", "r1"], {"log": log(ONE_CLIP), "r1": T
 refused("told_nowhere", 37, ["log", "r1"], {"log": log(ONE_CLIP), "r1": THREE}, output="closed")
 case("check_of_nothing", ["check"], status=2, stderr="error: the following required arguments were not provided:\n  <LOG>\n\nUsage: radio check <LOG> [SOURCE]...\n\nFor more information, try '--help'.\n")
 case("check_into_a_file", ["check", "--new", "log"], status=2, files={"log": ONE}, stderr="error: unexpected argument '--new' found\n\n  tip: to pass '--new' as a value, use '-- --new'\n\nUsage: radio check [OPTIONS] <LOG> [SOURCE]...\n\nFor more information, try '--help'.\n")
-HELP = """Tells what a render would come to: how it is refused, or what sounds otherwise than one may think
+HELP = """Checks a programme before rendering: fails as render would, and lists what may sound unexpected
 
 Usage: radio check [OPTIONS] <LOG> [SOURCE]...
 
 Arguments:
   <LOG>        The log
-  [SOURCE]...  The recordings that clips name by their digests, in any order
+  [SOURCE]...  The recordings that the clips play, in any order
 
 Options:
       --rate <N>            Frames a second, 1 to 384000 [default: 48000]
       --bits <N>            Bits of a sample, 16 or 24 [default: 24]
-      --channels <N>        Channels, 1 or 2 [default: 1]
-      --description <TEXT>  What it is, at most 256 bytes of printing ASCII (0x20 to 0x7E) [default: ""]
-      --originator <TEXT>   Who made it, at most 32 bytes of printing ASCII [default: ""]
-      --reference <TEXT>    Its reference there, at most 32 bytes of printing ASCII [default: ""]
+      --channels <N>        Channels, 1 or 2; with 1, only the first channel of a stereo recording is heard [default: 1]
+      --description <TEXT>  Description of the programme, at most 256 bytes of printable ASCII (0x20 to 0x7E) [default: ""]
+      --originator <TEXT>   Who made it, at most 32 bytes of printable ASCII [default: ""]
+      --reference <TEXT>    Its reference at the originator, at most 32 bytes of printable ASCII [default: ""]
       --date <TEXT>         The date, as dddd-dd-dd [default: 2000-01-01]
       --time <TEXT>         The time, as dd:dd:dd [default: 00:00:00]
-      --time-reference <N>  Frames from midnight to the first [default: 0]
-      --times               Tell positions and lengths as H:MM:SS.mmm, at --rate frames a second
-      --why                 Behind a refusal tell in one more line what it is about
+      --time-reference <N>  Time reference: frames from midnight to the first frame [default: 0]
+      --times               Print positions and lengths as H:MM:SS.mmm, at --rate frames a second
+      --why                 After an error, print its cause on one more line
   -h, --help                Print help
 
 Example: radio check desk.log jingle.wav interview.wav --channels 2
 
-It is refused as `radio render` with these words would be, and writes no file. Else it prints a line for each clip that goes on behind the end of its recording,
-`past-end CLIP end N frames N`; for each that others cover all the time, `covered CLIP`; for each recording with channels that are not played,
-`one-channel DIGEST channels N`; for each marker that stands behind the end of the programme, `behind MARKER at N`; for each operation that waits,
-`held STAMP needs STAMP`; and last `warnings N`, the number of these lines.
+Fails whenever `radio render` with these words would, and writes no file. Otherwise it prints one line for each
+clip that continues after the end of its recording, `past-end CLIP end N frames N`;
+clip that other clips cover completely, `covered CLIP`;
+recording of which some channels are not played, `one-channel DIGEST channels N`;
+marker after the end of the programme, `behind MARKER at N`;
+operation that waits for another, `held STAMP needs STAMP`;
+and at the end `warnings N`, the number of these lines.
 
-Exit status: 0 done, 1 refused (the line `radio: fault N`; `radio explain N` tells why), 2 the command line does not parse.
+Exit status: 0 done; 1 failed (`radio: fault N`, see `radio explain N`); 2 wrong command line.
 """
 case("check_help", ["check", "--help"], stdout=HELP)
