@@ -12,7 +12,7 @@ use Rattle.mt_script.specs.Script.{scripted, scripted_in, with_ops, counted, kep
 use Rattle.mt_cli.specs.declared.fault.CliFault.{CliFault}
 use Rattle.mt_cli.specs.declared.fault.CliFault.TheVariants.{Memory, Write, Print}
 use Rattle.mt_cli.specs.Faults.{script_fault}
-use Rattle.mt_cli.specs.Reading.{text_of, Gave, IsRead}
+use Rattle.mt_cli.specs.Reading.{text_of, Gave, GaveLog, IsRead}
 use Rattle.mt_cli.specs.OneLog.{HasWritten, HasFailed}
 use Rattle.mt_cli.specs.Editing.{EditLent, asked, ops_line, MadeEdit, EditNotMade, EditWritten, EditFails}
 use Rattle.mt_cli.specs.Working.{HeldWritten, HeldFails, EditedWritten, EditedFails}
@@ -102,12 +102,12 @@ module _ {W T : Type 0} (contents : W → Option (List ℕ)) (prints : T → Opt
       (((λ same. cc same), counted_err (scripted log name text) (script.Refused line cause) (subst (λ (k : Kept). RunGives k text (Err (script.Refused line cause))) is gives)), (refl, refl))
 
 module _ {R W T : Type 0} (remaining : R → Option (List ℕ)) (contents : W → Option (List ℕ)) (prints : T → Option (List ℕ)) (name : Replica) (rate : Option ℕ) (before after : EditLent R W T) (log : LogMap) (text : List ℕ) where
-  pub edit_written : (result : Result (Unit {0}) CliFault) → Gave remaining before.log (text_of log) → Gave remaining before.script text
+  pub edit_written : (result : Result (Unit {0}) CliFault) → GaveLog remaining before.log log → Gave remaining before.script text
       → OnOk result (MadeEdit contents prints name log (asked rate text) before.output after.output before.told after.told) → OnOk result (EditWritten remaining contents prints name rate before after)
   edit_written (Ok unit) gave more made = (log, (text, ((gave, more), made)))
   edit_written (Err fault) gave more made = made
 
-  pub edit_failed : (result : Result (Unit {0}) CliFault) → Gave remaining before.log (text_of log) → Gave remaining before.script text → IsRead remaining after.log → IsRead remaining after.script
+  pub edit_failed : (result : Result (Unit {0}) CliFault) → GaveLog remaining before.log log → Gave remaining before.script text → IsRead remaining after.log → IsRead remaining after.script
       → IfErr result (EditNotMade contents prints name log (asked rate text) before.output after.output before.told after.told) → IfErr result (EditFails remaining contents prints name rate before after)
   edit_failed (Ok unit) gave more read read_more fails = fails
   edit_failed (Err fault) gave more read read_more fails = inr (log, (text, ((gave, more), ((read, read_more), fails))))

@@ -16,7 +16,7 @@ use Rattle.mt_sync.specs.Conversing.{HasBytes, Lacks, TakesAll, AreSound, Blames
 use Rattle.mt_cli.specs.declared.fault.CliFault.{CliFault}
 use Rattle.mt_cli.specs.declared.fault.CliFault.TheVariants.{Memory, Write}
 use Rattle.mt_cli.specs.Faults.{message_fault, sync_fault}
-use Rattle.mt_cli.specs.Reading.{text_of, Gave, IsRead}
+use Rattle.mt_cli.specs.Reading.{text_of, Gave, GaveLog, IsRead}
 use Rattle.mt_cli.specs.Writing.{WriteFails}
 use Rattle.mt_cli.specs.OneLog.{HasWritten, HasFailed, MadeWritten, MadeFails, OneLent, TwoLent, OneWritten, OneFails, TwoWritten, TwoFail}
 use Rattle.mt_cli.specs.Swapping.{Having, Lacking, TakingIn, TalkLent, HasConversedTo, HasConversed, SwapWritten, SwapFails}
@@ -95,23 +95,23 @@ module _ {W : Type 0} (contents : W → Option (List ℕ)) (output : Latched W) 
 -- ---- after reading
 
 module _ {R W : Type 0} (remaining : R → Option (List ℕ)) (contents : W → Option (List ℕ)) where
-  pub one_written : (Makes : LogMap → Result (List ℕ) CliFault → Type 0) (before after : OneLent R W) (log : LogMap) (result : Result (Unit {0}) CliFault) → Gave remaining before.log (text_of log)
+  pub one_written : (Makes : LogMap → Result (List ℕ) CliFault → Type 0) (before after : OneLent R W) (log : LogMap) (result : Result (Unit {0}) CliFault) → GaveLog remaining before.log log
       → OnOk result (MadeWritten contents (Makes log) before.output after.output) → OnOk result (OneWritten remaining contents Makes before after)
   one_written Makes before after log (Ok unit) gave made = (log, (gave, made))
   one_written Makes before after log (Err fault) gave made = made
 
-  pub one_failed : (Makes : LogMap → Result (List ℕ) CliFault → Type 0) (before after : OneLent R W) (log : LogMap) (result : Result (Unit {0}) CliFault) → Gave remaining before.log (text_of log) → IsRead remaining after.log
+  pub one_failed : (Makes : LogMap → Result (List ℕ) CliFault → Type 0) (before after : OneLent R W) (log : LogMap) (result : Result (Unit {0}) CliFault) → GaveLog remaining before.log log → IsRead remaining after.log
       → IfErr result (MadeFails contents (Makes log) before.output after.output) → IfErr result (OneFails remaining contents Makes before after)
   one_failed Makes before after log (Ok unit) gave read fails = fails
   one_failed Makes before after log (Err fault) gave read fails = inr (log, (gave, (read, fails)))
 
   pub two_written : (Makes : LogMap → List ℕ → Result (List ℕ) CliFault → Type 0) (before after : TwoLent R W) (log : LogMap) (bytes : List ℕ) (result : Result (Unit {0}) CliFault)
-      → Gave remaining before.log (text_of log) → Gave remaining before.other bytes → OnOk result (MadeWritten contents (Makes log bytes) before.output after.output) → OnOk result (TwoWritten remaining contents Makes before after)
+      → GaveLog remaining before.log log → Gave remaining before.other bytes → OnOk result (MadeWritten contents (Makes log bytes) before.output after.output) → OnOk result (TwoWritten remaining contents Makes before after)
   two_written Makes before after log bytes (Ok unit) gave more made = (log, (bytes, ((gave, more), made)))
   two_written Makes before after log bytes (Err fault) gave more made = made
 
   pub two_failed : (Makes : LogMap → List ℕ → Result (List ℕ) CliFault → Type 0) (before after : TwoLent R W) (log : LogMap) (bytes : List ℕ) (result : Result (Unit {0}) CliFault)
-      → Gave remaining before.log (text_of log) → Gave remaining before.other bytes → IsRead remaining after.log → IsRead remaining after.other
+      → GaveLog remaining before.log log → Gave remaining before.other bytes → IsRead remaining after.log → IsRead remaining after.other
       → IfErr result (MadeFails contents (Makes log bytes) before.output after.output) → IfErr result (TwoFail remaining contents Makes before after)
   two_failed Makes before after log bytes (Ok unit) gave more read read_more fails = fails
   two_failed Makes before after log bytes (Err fault) gave more read read_more fails = inr (log, (bytes, ((gave, more), ((read, read_more), fails))))

@@ -1,6 +1,6 @@
 -- What is told of a wave file by its outline.
 use Rattle.std.proofs.Common.{◌≡◌, ℕ, List, refl, sym, ap, ◌∙◌}
-use Rattle.std.specs.Prelude.{Option, Result, Ok, Err, IfSome, IfErr, OnOk}
+use Rattle.std.specs.Prelude.{Option, Some, Result, Ok, Err, IfSome, IfErr, OnOk}
 use Rattle.std.specs.Io.KnownBytes.{Appends}
 use Rattle.hex.specs.Hex.{encode_lower}
 use Rattle.sha2.specs.Sha256.{sha256}
@@ -56,6 +56,13 @@ module _ {A : Type 0} where
       let all = wave_of text kept o gives.outline wave is in
       let same = gives.outline.says all in
       (text, ((gives.all, all), rw (ed text gives.outline, er, en text gives.outline all, is, same.fmt) refl))
+
+  -- the rate of the file of an outline is the one that is kept
+  pub own_rate : (text kept : List ℕ) (o : Outline A) (rate : ℕ) → IsOutline text o → IsWave text → kept ≡ o.kept.items → rate ≡ rate_of kept → Some rate ≡ Some (rate_of text)
+  unfolding format_of rate_of
+  own_rate text kept o rate outline wave is er =
+      let same = outline.says wave in
+      rw (er, is, same.fmt) refl
 
   -- ---- a text that is told, and why it is not
 

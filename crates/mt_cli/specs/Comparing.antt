@@ -5,6 +5,7 @@ use Rattle.mt_latch.specs.Latch.{Latched}
 use Rattle.mt_opcodec.specs.declared.fault.LogFault.TheVariants as log
 use Rattle.mt_opcodec.specs.LogReading.{log_at, LogFails}
 use Rattle.mt_opcodec.specs.LogValue.{LogMap}
+use Rattle.mt_opcodec.specs.IsLog.{IsLog}
 use Rattle.mt_logdiff.specs.DiffText.{diff_text, diff_text_with_fields}
 use Rattle.mt_logdiff.specs.ViewDiff.{view_diff_text}
 use Rattle.mt_sync.specs.declared.fault.TalkFault.TheVariants as talk
@@ -41,7 +42,7 @@ without_operations = end_at (awaits_ops None) [] (Some map.empty)
 -- the log of bytes: of what `lack` wrote all its operations, up to Bye; of others that of which they are the text
 abbrev pub IsLogAs : Bool → List ℕ → LogMap → Type 0
 IsLogAs true bytes m = TakesAll (hears without_operations bytes) (Ok tt) (Some m)
-IsLogAs false bytes m = bytes ≡ text_of m
+IsLogAs false bytes m = (bytes ≡ text_of m) × IsLog m
 
 abbrev pub IsLogOf : List ℕ → LogMap → Type 0
 IsLogOf bytes m = IsLogAs (begins_as_frame bytes) bytes m

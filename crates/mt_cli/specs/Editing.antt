@@ -11,7 +11,7 @@ use Rattle.mt_script.specs.declared.fault.ScriptFault.TheVariants as script
 use Rattle.mt_script.specs.Script.{scripted, with_ops}
 use Rattle.mt_cli.specs.declared.fault.CliFault.{CliFault}
 use Rattle.mt_cli.specs.declared.fault.CliFault.TheVariants.{Memory, Write, Print, Script}
-use Rattle.mt_cli.specs.Reading.{text_of, Gave, IsRead}
+use Rattle.mt_cli.specs.Reading.{text_of, Gave, GaveLog, IsRead}
 use Rattle.mt_cli.specs.OneLog.{HasWritten, HasFailed, BothCause}
 
 -- what is lent to it, before or after: the inputs of the log and the script, the output of the new log, and that on which it tells
@@ -58,7 +58,7 @@ module _ {R W T : Type 0} (remaining : R → Option (List ℕ)) (contents : W �
   EditWritten =
       (log : LogMap)
       × ((text : List ℕ)
-      × ((Gave remaining before.log (text_of log) × Gave remaining before.script text) × MadeEdit contents prints name log (asked rate text) before.output after.output before.told after.told))
+      × ((GaveLog remaining before.log log × Gave remaining before.script text) × MadeEdit contents prints name log (asked rate text) before.output after.output before.told after.told))
 
   -- They were not read, with both outputs as they were; or they were, and what they make was not written or not told.
   abbrev pub EditFails : CliFault → Type 0
@@ -66,5 +66,5 @@ module _ {R W T : Type 0} (remaining : R → Option (List ℕ)) (contents : W �
       (BothCause remaining before.log after.log before.script after.script fault × ((after.output ≡ before.output) × (after.told ≡ before.told)))
       ⊎ ((log : LogMap)
       × ((text : List ℕ)
-      × ((Gave remaining before.log (text_of log) × Gave remaining before.script text)
+      × ((GaveLog remaining before.log log × Gave remaining before.script text)
       × ((IsRead remaining after.log × IsRead remaining after.script) × EditNotMade contents prints name log (asked rate text) before.output after.output before.told after.told fault))))

@@ -18,6 +18,7 @@ pub mod Bouncing
 pub mod Checking
 pub mod Headline
 pub mod OneLog
+pub mod InfoFile
 pub mod Swapping
 pub mod Editing
 pub mod Telling

@@ -6,7 +6,7 @@ use Rattle.mt_latch.specs.Latch.{Latched, AppendsPrefix}
 use Rattle.mt_opcodec.specs.LogValue.{LogMap}
 use Rattle.mt_cli.specs.declared.fault.CliFault.{CliFault}
 use Rattle.mt_cli.specs.declared.fault.CliFault.TheVariants.{Memory, Write}
-use Rattle.mt_cli.specs.Reading.{text_of, Gave, IsRead, IsCause, IsReadCause}
+use Rattle.mt_cli.specs.Reading.{Gave, GaveLog, IsRead, IsRest, IsCause, IsReadCause}
 
 -- ---- what is lent to a command, before or after it
 
@@ -51,33 +51,34 @@ module _ {W : Type 0} (contents : W → Option (List ℕ)) where
 -- ---- reading before it
 
 module _ {R : Type 0} (remaining : R → Option (List ℕ)) where
-  -- why a log and other bytes were not read: the log was not, and the other input was not asked; or the log was, and the other was not
+  -- Why a log and other bytes were not read: the log was not, and the other input was not asked; or the log was, and the other was not. What is
+  -- left of either is a rest of what it had.
   abbrev pub BothCause : Latched R → Latched R → Latched R → Latched R → CliFault → Type 0
   BothCause log log' other other' fault =
-      (IsCause remaining 0 log log' fault × (other' ≡ other)) ⊎ ((m : LogMap) × (Gave remaining log (text_of m) × (IsRead remaining log' × IsReadCause 1 other' fault)))
+      (IsCause remaining 0 log log' fault × (other' ≡ other)) ⊎ ((m : LogMap) × (GaveLog remaining log m × (IsRead remaining log' × (IsReadCause 1 other' fault × IsRest remaining other other'))))
 
   module _ {W : Type 0} (contents : W → Option (List ℕ)) where
     -- the file that is made of the log was written
     abbrev pub OneWritten : (LogMap → Result (List ℕ) CliFault → Type 0) → OneLent R W → OneLent R W → Type 0
-    OneWritten Makes before after = (log : LogMap) × (Gave remaining before.log (text_of log) × MadeWritten contents (Makes log) before.output after.output)
+    OneWritten Makes before after = (log : LogMap) × (GaveLog remaining before.log log × MadeWritten contents (Makes log) before.output after.output)
 
     -- the log was not read, with the output as it was; or it was, and the file was not written
     abbrev pub OneFails : (LogMap → Result (List ℕ) CliFault → Type 0) → OneLent R W → OneLent R W → CliFault → Type 0
     OneFails Makes before after fault =
         (IsCause remaining 0 before.log after.log fault × (after.output ≡ before.output))
-        ⊎ ((log : LogMap) × (Gave remaining before.log (text_of log) × (IsRead remaining after.log × MadeFails contents (Makes log) before.output after.output fault)))
+        ⊎ ((log : LogMap) × (GaveLog remaining before.log log × (IsRead remaining after.log × MadeFails contents (Makes log) before.output after.output fault)))
 
     -- the same of the log and other bytes
     abbrev pub TwoWritten : (LogMap → List ℕ → Result (List ℕ) CliFault → Type 0) → TwoLent R W → TwoLent R W → Type 0
     TwoWritten Makes before after =
-        (log : LogMap) × ((bytes : List ℕ) × ((Gave remaining before.log (text_of log) × Gave remaining before.other bytes) × MadeWritten contents (Makes log bytes) before.output after.output))
+        (log : LogMap) × ((bytes : List ℕ) × ((GaveLog remaining before.log log × Gave remaining before.other bytes) × MadeWritten contents (Makes log bytes) before.output after.output))
 
     -- both were read, and the file was not written
     abbrev pub BothFail : (LogMap → List ℕ → Result (List ℕ) CliFault → Type 0) → TwoLent R W → TwoLent R W → CliFault → Type 0
     BothFail Makes before after fault =
         (log : LogMap)
         × ((bytes : List ℕ)
-        × ((Gave remaining before.log (text_of log) × Gave remaining before.other bytes) × ((IsRead remaining after.log × IsRead remaining after.other) × MadeFails contents (Makes log bytes) before.output after.output fault)))
+        × ((GaveLog remaining before.log log × Gave remaining before.other bytes) × ((IsRead remaining after.log × IsRead remaining after.other) × MadeFails contents (Makes log bytes) before.output after.output fault)))
 
     abbrev pub TwoFail : (LogMap → List ℕ → Result (List ℕ) CliFault → Type 0) → TwoLent R W → TwoLent R W → CliFault → Type 0
     TwoFail Makes before after fault = (BothCause before.log after.log before.other after.other fault × (after.output ≡ before.output)) ⊎ BothFail Makes before after fault

@@ -9,7 +9,7 @@ use Rattle.mt_op.specs.declared.digest.Digest.{Digest}
 use Rattle.mt_opcodec.specs.LogText.{log_text}
 use Rattle.mt_opcodec.specs.LogReading.{log_at, LogFails}
 use Rattle.mt_opcodec.specs.LogValue.{LogMap, operations}
-use Rattle.mt_opcodec.specs.Sets.{IsSet}
+use Rattle.mt_opcodec.specs.IsLog.{IsLog}
 use Rattle.mt_cli.specs.declared.fault.CliFault.{CliFault}
 use Rattle.mt_cli.specs.declared.fault.CliFault.TheVariants.{Memory, Read, Log}
 
@@ -51,9 +51,9 @@ module _ {R : Type 0} (remaining : R → Option (List ℕ)) where
   abbrev pub IsRead : Latched R → Type 0
   IsRead latch = (latch.failed ≡ false) × IsAtEnd (remaining latch.inner)
 
-  -- the reader gave the text of a log, which is the set of its operations
+  -- The reader gave the text of this log. A text is that of one log alone (`mt_opcodec::laws::one_log`).
   abbrev pub GaveLog : Latched R → LogMap → Type 0
-  GaveLog latch m = Gave latch (text_of m) × IsSet m
+  GaveLog latch m = Gave latch (text_of m) × IsLog m
 
   -- each reader gave the text of the log at its place
   abbrev pub GaveLogs : List (Latched R) → List LogMap → Type 0

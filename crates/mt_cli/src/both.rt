@@ -2,7 +2,7 @@
 
 ghost use Rattle.std.specs.Prelude.{◌≡◌, true, IfOk, IfErr, OnOk, Some};
 ghost use Rattle.mt_opcodec.specs.LogValue.{LogMap};
-ghost use Rattle.mt_cli.specs.Reading.{text_of, Gave, IsRead, IsCause};
+ghost use Rattle.mt_cli.specs.Reading.{Gave, GaveLog, IsRead, IsCause};
 ghost use Rattle.mt_cli.specs.OneLog.{BothCause};
 
 use crate::fault::CliFault;
@@ -25,7 +25,7 @@ pub(crate) fn read_both<A: Allocator + Clone, R: Read>(
     log: &mut Latch<R>,
     other: &mut Latch<R>,
 ) -> Result<Both<A>, CliFault>
-    ensures ok { IfOk result (λ both. Gave R.remaining log.old (text_of both.log)
+    ensures ok { IfOk result (λ both. GaveLog R.remaining log.old both.log
         × Gave R.remaining other.old both.bytes.items) }
     ensures read_log { OnOk result (IsRead R.remaining log.new) }
     ensures read_other { OnOk result (IsRead R.remaining other.new) }
@@ -49,7 +49,7 @@ pub fn read_growing<A: Allocator + Clone, R: Read>(
     alloc: A,
     input: &mut Latch<R>,
 ) -> Result<GrowingLog<A>, CliFault>
-    ensures ok { IfOk result (λ growing. (log : LogMap) × (Gave R.remaining input.old (text_of log)
+    ensures ok { IfOk result (λ growing. (log : LogMap) × (GaveLog R.remaining input.old log
         × (growing ≡ record { set = Some log; whole = true }))) }
     ensures read { OnOk result (IsRead R.remaining input.new) }
     ensures err { IfErr result (IsCause R.remaining 0 input.old input.new) }

@@ -12,6 +12,7 @@ ghost use Rattle.mt_cli.specs.Reading.{IsRead};
 
 use crate::fault::CliFault;
 use crate::form::{LineForm, put_in_form};
+use crate::laws::log_in_memory;
 use crate::read::{read_all, refused};
 use crate::take::refused_sync;
 use mt_logdiff::{write_diff, write_diff_with_fields, write_view_diff};
@@ -139,7 +140,10 @@ fn log_of<A: Allocator + Clone>(
         return log_of_ops(alloc, frames, bytes);
     }
     match Log::read(alloc, bytes) {
-        Ok(log) => Ok(log),
+        Ok(log) => {
+            log_in_memory(&log);
+            Ok(log)
+        }
         Err(fault) => Err(refused(index, fault)),
     }
 }

@@ -1,5 +1,7 @@
 //! Input files by their names.
 
+ghost use Rattle.std.specs.Prelude.{◌≡◌, length, IfOk};
+
 use crate::base::Base;
 use crate::fault::CliFault;
 use mt_opcodec::Latch;
@@ -77,10 +79,12 @@ impl<F: Files> Read for LateFile<'_, '_, F> {
 pub(crate) fn late_files<'r, 'n, F: Files + AllocGlobal>(
     rt: &'r F,
     names: &[&'n str],
-) -> Result<Vec<Latch<LateFile<'r, 'n, F>>>, CliFault> {
+) -> Result<Vec<Latch<LateFile<'r, 'n, F>>>, CliFault>
+    ensures { IfOk result (λ files. length files.items ≡ length names.now) }
+{
     let mut files = Vec::new(rt.alloc());
-    for name in names {
-        files.push(Latch::new(LateFile::new(rt, name)))?;
+    for place in 0..names.len() {
+        files.push(Latch::new(LateFile::new(rt, names[place])))?;
     }
     Ok(files)
 }
@@ -121,11 +125,13 @@ pub(crate) fn open_logs<F: Files<File = File> + AllocGlobal>(
     rt: &F,
     names: &[&str],
     out: &str,
-) -> Result<OpenLogs, CliFault> {
+) -> Result<OpenLogs, CliFault>
+    ensures { IfOk result (λ opened. length opened.logs.items ≡ length names.now) }
+{
     let mut logs = Vec::new(rt.alloc());
     let mut base = None;
-    for (index, name) in names.iter().enumerate() {
-        let opened = open_log(rt, index, name, out)?;
+    for index in 0..names.len() {
+        let opened = open_log(rt, index, names[index], out)?;
         logs.push(opened.log)?;
         if base.is_none() {
             base = opened.base;

@@ -1,12 +1,14 @@
 //! The headline, and when refusals are equal: each law is the contract of a small function, which does nothing or only compares.
 
 ghost use Rattle.std.specs.Prelude.{◌≡◌, ◌↔◌, IsTrue};
+ghost use Rattle.mt_opcodec.specs.IsLog.{IsLog};
 ghost use Rattle.mt_opcodec.specs.Sets.{IsSet};
 ghost use Rattle.mt_cli.specs.Laying.{LaidIsTold};
 ghost use Rattle.mt_cli.specs.Headline.{SameAgree, SameIsTold, SameIsRendered, SameIsShown, OneIsItsUnion, MergedIsSame};
 
 use crate::fault::CliFault;
 use mt_opcodec::Log;
+use mt_opcodec::laws::logs_in_memory;
 use std::alloc::Allocator;
 
 /// Replicas with the same operations, spread over logs, ordered and repeated as may be: the logs of both agree, or clash on both sides. Where they
@@ -15,7 +17,8 @@ use std::alloc::Allocator;
 /// refused for the same. Editors whose logs have the same operations lend one session, and of one log the same is told as of an editor that has it;
 /// and a log that is merged of others has their operations, and can stand for them.
 ///
-/// That each log is the set of its operations is asked for; of a log in memory `log_in_memory` says it.
+/// That each log is the set of its operations is asked for; of a log in memory `log_in_memory` says it, and so of each log that a
+/// command has read, whose bytes are those of this log alone (`mt_opcodec::laws::one_log`).
 pub fn headline()
     ensures agree { SameAgree }
     ensures told { SameIsTold }
@@ -25,12 +28,13 @@ pub fn headline()
     ensures merged { MergedIsSame }
 {}
 
-/// A log in memory is the set of its operations: each stands under its own dot and names older ones.
+/// A log in memory is one that bytes can encode, and so the set of its operations: each is valid, stands
+/// under its own dot and names older ones.
 pub fn log_in_memory<A: Allocator>(log: &Log<A>)
-    ensures { IsSet log.now }
+    ensures is_log { IsLog log.now }
+    ensures is_set { IsSet log.now }
 {
-    // for the proof: that its operations are a log's
-    let _ = log.runs();
+    logs_in_memory(log);
 }
 
 /// The line of a recording that is laid on a track that a stamp names is what a log tells of an operation that adds a clip of the whole recording: so it is

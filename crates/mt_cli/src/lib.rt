@@ -1,10 +1,10 @@
 //! The commands of `radio`.
 //!
-//! `view_logs`, `list_logs`, `draw_logs`, `merge_logs`, `pull_logs`, `list_sources`, `find_items`, `diff_logs`, `lay_files`, `revert_log`, `check_log`, `bounce_logs`, `write_info`, `write_outline`, `edit_log`, `have_log`, `lack_log`, `take_log` and
+//! `view_logs`, `list_logs`, `draw_logs`, `merge_logs`, `pull_logs`, `list_sources`, `find_items`, `diff_logs`, `lay_files`, `revert_log`, `check_log`, `bounce_logs`, `info_file`, `write_info`, `write_outline`, `edit_log`, `have_log`, `lack_log`, `take_log` and
 //! `swap_log` do the work of commands over any readers and writers, of which each is in a latch:
 //!
 //! ```rust
-//! use mt_cli::{LineForm, merge_logs, view_logs};
+//! use mt_cli::{merge_logs, view_logs};
 //! use mt_op::{Body, Op, Title};
 //! use mt_opcodec::{Latch, Log};
 //! use mt_stamp::{Replica, Stamp};
@@ -33,7 +33,7 @@
 //!     merge_logs(rt.alloc(), &mut inputs, &mut merged)?;
 //!     let both = merged.into_inner();
 //!     let mut text = Latch::new(Vec::new(rt.alloc()));
-//!     view_logs(rt.alloc(), LineForm::PLAIN, &mut [Latch::new(both.as_slice())], &mut text)?;
+//!     view_logs(rt.alloc(), &mut [Latch::new(both.as_slice())], &mut text)?;
 //!     assert!(rt; text.into_inner().as_slice() == TEXT);
 //!     Ok(())
 //! }
@@ -50,6 +50,7 @@ mod draw;
 mod edit;
 mod escape;
 mod fault;
+mod file_info;
 mod files;
 mod find;
 mod form;
@@ -87,6 +88,7 @@ pub use diff::{DiffForm, diff_logs};
 pub use draw::{Drawing, SessionDrawing, draw_log, draw_logs};
 pub use edit::edit_log;
 pub use fault::{CliFault, LayFault, PartFault};
+pub use file_info::{InfoForm, InfoUnit, info_file};
 pub use find::{Wanted, find_items};
 pub use form::LineForm;
 pub use have::have_log;
@@ -103,4 +105,4 @@ pub use revert::revert_log;
 pub use source_list::list_sources;
 pub use swap::swap_log;
 pub use take::take_log;
-pub use view::{view_log, view_logs};
+pub use view::{view_log_in, view_logs, view_logs_in};

@@ -13,12 +13,12 @@ const SYNOPSIS: &[u8] = b"
 .I COMMAND
 .RI [ WORD ]...
 .SH DESCRIPTION
-Editors of one programme work offline, each on a log of edits, and swap these logs by any way that copies a file. Whoever has the same edits
+Editors of one programme work offline, each on a log of edits, and exchange these logs as ordinary files. Everyone who has the same edits
 sees the same session and renders the same file, byte for byte, in whatever order the edits came.
 .PP
-A LOG is a file name, also where it is \\-; before names that begin with \\- write \\-\\-.
+A LOG is a file name, even \\-; write \\-\\- before names that begin with \\-.
 .SH OPTIONS
-All commands have these; the first may also stand before the command, and the last stands there alone. \\-h and \\-V are short for the last two.
+All commands have these. The first may also come before the command, and the last only there. \\-h and \\-V are short for the last two.
 ";
 
 const EXIT_STATUS: &[u8] = b"\
@@ -28,10 +28,10 @@ const EXIT_STATUS: &[u8] = b"\
 Done.
 .TP
 .B 1
-Refused: standard error has the one line \\(garadio: fault N\\(ga; \\(garadio explain N\\(ga says what that means and what can be done about it.
+Failed: standard error has the one line \\(garadio: fault N\\(ga; \\(garadio explain N\\(ga says what that means and what to do about it.
 .TP
 .B 2
-The command line does not parse: standard error has the parser\\(aqs text.
+Wrong command line: standard error has the parser\\(aqs text.
 .SH EXAMPLES
 ";
 

@@ -314,4 +314,4 @@ fn named<'a>(alloc: Global) -> Result<Command<'a>, AllocError> {
 }
 
 const AFTER_HELP: &str =
-    "Example: radio pull desk.log home.log\n\nExit status: 0 done, 1 refused (the line `radio: fault N`; `radio explain N` tells why), 2 the command line does not parse.";
+    "Example: radio pull desk.log home.log\n\nExit status: 0 done; 1 failed (`radio: fault N`, see `radio explain N`); 2 wrong command line.";

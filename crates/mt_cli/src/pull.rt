@@ -1,6 +1,6 @@
 //! Pulling the operations of logs into one.
 
-ghost use Rattle.std.specs.Prelude.{◌≡◌, ◌≤◌, length, true, IfErr, IfOk, OnOk, map, drop};
+ghost use Rattle.std.specs.Prelude.{◌≡◌, ◌≤◌, ◌+◌, length, true, IfErr, IfOk, OnOk, map, drop};
 ghost use Rattle.std.specs.List.{zip};
 ghost use Rattle.mt_latch.specs.Buffered.{Puts};
 ghost use Rattle.mt_opcodec.specs.Union.{Agree, AllAgree, union, union_all};
@@ -192,7 +192,7 @@ fn pull_all<A: Allocator + Clone, W: Write, T: Write>(
 
 /// Writes the log of the union of the inputs' logs into `output`, as `merge_logs` does, and then tells on `told` what each input behind the first
 /// adds to those before it, in their order: a line `from NAME new N shared N` under its name, of the operations that those before it lack, and of those
-/// that they have too; and last the line `ops N`, of all operations of the union. `names` are those of the inputs behind the first, as many as these are.
+/// that they have too; and last the line `ops N`, of all operations of the union. `names` are those of the inputs after the first, one for each.
 ///
 /// Refused, in this order: `Read` with the index of an input whose latch has failed, or `Log` with the index of one whose bytes are no log's text,
 /// from left to right; `Merge` where a log has another operation under a dot than the logs before it, with the least such dot of the first such
@@ -207,6 +207,7 @@ pub fn pull_logs<A: Allocator + Clone, R: Read, W: Write, T: Write>(
     output: &mut Latch<W>,
     told: &mut Latch<T>,
 ) -> Result<(), CliFault>
+    requires named { length inputs.old ≡ 1 + length names.now }
     ensures ok { OnOk result (HasPulled W.contents T.contents (map (λ n. n.now) names.now)
         (outputs output.old told.old) (outputs output.new told.new) R.remaining inputs.old inputs.new) }
     ensures read { OnOk result (AreRead R.remaining inputs.new) }

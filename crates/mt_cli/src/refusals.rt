@@ -1,5 +1,9 @@
 //! The refusals, each with its number: what `radio explain` prints.
 
+ghost use Rattle.std.specs.Prelude.{◌≡◌, ◌≢◌, ◌↔◌, ◌<◌, None, IfSome};
+ghost use Rattle.std.specs.List.{AllByRecursion};
+ghost use Rattle.mt_cli.specs.declared.refusals.Refusal.{Refusal as RefusalOf};
+
 /// A refusal.
 #[derive(Debug, Drop)]
 pub struct Refusal {
@@ -14,10 +18,10 @@ pub struct Refusal {
 }
 
 const FROM_A_PROGRAM: &str =
-    "No file causes it alone: a program that makes operations by the library has to mend its call.";
+    "No file or script causes this error; a program that uses the library has to correct its call.";
 
 const DAMAGED_LOG: &str =
-    "The file was damaged or made by another program: take the copy of another editor, or an older one.";
+    "The file is damaged or comes from another program: use another editor's copy, or an older one.";
 
 /// The refusals of stamps, operations and their bytes.
 const OF_OPERATIONS: [Refusal; 11] = [
@@ -25,7 +29,7 @@ const OF_OPERATIONS: [Refusal; 11] = [
         number: 0,
         name: "Memory",
         meaning: "memory ran out",
-        advice: "Close other programs, or give it fewer or smaller files.",
+        advice: "Close other programs, or use fewer or smaller files.",
     },
     Refusal {
         number: 1,
@@ -48,8 +52,8 @@ const OF_OPERATIONS: [Refusal; 11] = [
     Refusal {
         number: 4,
         name: "BadText",
-        meaning: "a text is no stamp, or no replica",
-        advice: "Write a replica as a UUID, and a stamp as clock.number.replica as `radio view` prints it. A track of `radio lay` may also be $ and the number of a line.",
+        meaning: "a word is not a stamp, or not a replica",
+        advice: "A replica is a UUID; a stamp is clock.number.replica, as `radio view` prints it. The track of `radio lay` may also be $ and a line number.",
     },
     Refusal {
         number: 5,
@@ -60,26 +64,26 @@ const OF_OPERATIONS: [Refusal; 11] = [
     Refusal {
         number: 6,
         name: "ZeroLength",
-        meaning: "a clip would have no frame",
-        advice: "Give the clip a length of at least 1 frame. Leave a recording without a frame out of `radio lay`: `--why` tells which it is.",
+        meaning: "a clip would have no frames",
+        advice: "Give the clip a length of at least 1 frame. Leave recordings without frames out of `radio lay`; `--why` names them.",
     },
     Refusal {
         number: 7,
         name: "BadTags",
-        meaning: "the tags of a Remove are none, over 65,535, or not rising",
+        meaning: "a Remove lists no tag, over 65,535, or tags that do not rise",
         advice: FROM_A_PROGRAM,
     },
     Refusal {
         number: 8,
         name: "Truncated",
-        meaning: "an operation's bytes end before it does",
+        meaning: "an operation is cut short",
         advice: DAMAGED_LOG,
     },
     Refusal {
         number: 9,
         name: "BadTag",
-        meaning: "an operation is of no known kind",
-        advice: "The log may be of a newer version of radio: use that version.",
+        meaning: "an operation is of an unknown kind",
+        advice: "The log may come from a newer version of radio: use that version.",
     },
     Refusal {
         number: 10,
@@ -94,61 +98,61 @@ const OF_LOGS: [Refusal; 10] = [
     Refusal {
         number: 11,
         name: "BadMagic",
-        meaning: "a file is no log: it does not begin with RMTS",
-        advice: "See that each LOG is a log that radio wrote, and no recording or script; `--why` tells which is not.",
+        meaning: "a file is not a log: it does not begin with RMTS",
+        advice: "Check that each LOG is a log and not a recording or a script; `--why` names the file.",
     },
     Refusal {
         number: 12,
         name: "BadVersion",
-        meaning: "a log is of another version",
+        meaning: "a log has an unknown version",
         advice: "Use the version of radio that wrote it, or a newer one.",
     },
     Refusal {
         number: 13,
         name: "Damaged",
-        meaning: "a log was cut short or changed: its digest does not agree",
+        meaning: "a log was cut short or changed: its digest does not match",
         advice: DAMAGED_LOG,
     },
     Refusal {
         number: 14,
         name: "BadRecord",
-        meaning: "a record of a log is no operation",
-        advice: "The log may be of a newer version of radio: use that version. Else take another editor's copy.",
+        meaning: "a record of a log is not an operation",
+        advice: "The log may come from a newer version of radio: use that version, or another editor's copy.",
     },
     Refusal {
         number: 15,
         name: "OutOfOrder",
-        meaning: "the operations of a log are not in their order",
+        meaning: "the operations of a log are out of order",
         advice: DAMAGED_LOG,
     },
     Refusal {
         number: 16,
         name: "Trailing",
-        meaning: "bytes stand behind the last operation of a log",
+        meaning: "there are bytes after the last operation of a log",
         advice: DAMAGED_LOG,
     },
     Refusal {
         number: 17,
         name: "Conflict, Merge",
-        meaning: "two different operations have one name",
-        advice: "Two editors used one replica, or one was set back to an older copy: keep one of the two logs, and make the other's edits again under a replica of its own. `--why` tells the log and the operation.",
+        meaning: "two different operations have the same name",
+        advice: "Two editors used the same UUID, or an older copy was edited again. Keep one of the two logs, and repeat the other's edits under a new UUID. `--why` names the log and the operation.",
     },
     Refusal {
         number: 18,
         name: "NoSuchPlace",
-        meaning: "a place of a track is to be put after one that is not in the list",
+        meaning: "a track is placed after a place that is not in the list",
         advice: FROM_A_PROGRAM,
     },
     Refusal {
         number: 19,
         name: "PlaceThere",
-        meaning: "a place of a track is in the list already",
+        meaning: "a place is already in the list",
         advice: FROM_A_PROGRAM,
     },
     Refusal {
         number: 20,
         name: "Failed",
-        meaning: "memory was refused earlier to what keeps waiting operations, which is empty since then",
+        meaning: "an editor or hold-back ran out of memory earlier and has failed since",
         advice: FROM_A_PROGRAM,
     },
 ];
@@ -158,32 +162,32 @@ const OF_EDITS: [Refusal; 5] = [
     Refusal {
         number: 21,
         name: "NoSuchItem",
-        meaning: "a change names a stamp that no ready operation gives to such an item, not exactly one item has what `find --one` looks for, or no operation has a stamp that `revert` names",
-        advice: "Look the item up with `radio view`: its stamp stands after `track`, `clip` or `marker`. A marker has no gain, and a clip no title. Of `find --one` tells `--why` how many items there are, and `radio find` without it prints them. `radio log` prints the stamps of all operations.",
+        meaning: "there is no such item; or `find --one` found none or several; or `revert` names an operation that is not in the log",
+        advice: "Look up the stamp with `radio view`: it follows `track`, `clip` or `marker`. A marker has no gain, and a clip no title. For `find --one`, `--why` prints how many items there are. `radio log` prints the stamps of all operations.",
     },
     Refusal {
         number: 22,
         name: "Absent",
         meaning: "a change names an item that was removed",
-        advice: "Restore it first: `restore ITEM` in the script.",
+        advice: "Restore it first, with `restore ITEM` in the script.",
     },
     Refusal {
         number: 23,
         name: "ClockFull",
-        meaning: "an operation of the log has the greatest clock, 2^62",
-        advice: "A faulty program made that operation: go on from a log without it.",
+        meaning: "an operation in the log has the greatest clock, 2^62",
+        advice: "A faulty program made that operation: continue with a log that does not have it.",
     },
     Refusal {
         number: 24,
         name: "SeqFull",
-        meaning: "the replica has an operation with the greatest number, 2^62",
-        advice: "Go on under another replica's UUID.",
+        meaning: "the editor has an operation with the greatest number, 2^62",
+        advice: "Continue under a new UUID (`radio id`).",
     },
     Refusal {
         number: 25,
         name: "TooManyTags",
-        meaning: "an item was restored more than 65,534 times and cannot be removed at once",
-        advice: "Mute a track or clip instead, or move a marker behind the programme's end.",
+        meaning: "an item was restored over 65,534 times and cannot be removed in one operation",
+        advice: "Mute the track or clip instead, or move the marker after the end of the programme.",
     },
 ];
 
@@ -192,44 +196,44 @@ const OF_WAVES: [Refusal; 7] = [
     Refusal {
         number: 26,
         name: "NotRiff",
-        meaning: "a file is no RIFF file",
-        advice: "See that each recording is a WAVE file; RF64, RIFX, FLAC and MP3 are not read (`file NAME` and `ffprobe NAME` tell).",
+        meaning: "a file is not a RIFF file",
+        advice: "Check that each recording is a WAVE file (`file NAME`); RF64, RIFX, FLAC and MP3 are not read.",
     },
     Refusal {
         number: 27,
         name: "NotWave",
-        meaning: "a RIFF file is no WAVE, or its size is 0, as an unfinished recording has it",
-        advice: "Finish or repair the recording (`sox --ignore-length IN OUT` writes the sizes anew); `xxd -l 12 NAME` shows its size and its kind.",
+        meaning: "a RIFF file is not WAVE, or has size 0, as an unfinished recording does",
+        advice: "Finish or repair the recording: `sox --ignore-length IN OUT` writes the sizes again; `xxd -l 12 NAME` shows size and kind.",
     },
     Refusal {
         number: 28,
         name: "Truncated",
         meaning: "a chunk of a wave file is longer than the file",
-        advice: "The copy was cut short or the recording not finished (`sndfile-info NAME` shows which size is wrong): copy it again, or repair it (`sox --ignore-length IN OUT`).",
+        advice: "The copy was cut short, or the recording was not finished: copy it again, or repair it with `sox --ignore-length IN OUT`. `sndfile-info NAME` shows which size is wrong.",
     },
     Refusal {
         number: 29,
         name: "NoFmt",
         meaning: "a wave file has no `fmt ` chunk",
-        advice: "The file is damaged (`soxi NAME` tells): take the recording from its source again.",
+        advice: "The file is damaged (`soxi NAME`): copy the recording from its source again.",
     },
     Refusal {
         number: 30,
         name: "BadFmt",
-        meaning: "the `fmt ` chunk of a wave file is short, or contradicts itself",
-        advice: "Write the recording anew (`sox IN OUT`, `ffmpeg -i IN OUT`); `sndfile-info NAME` shows what the chunk says.",
+        meaning: "the `fmt ` chunk of a wave file is too short or contradicts itself",
+        advice: "Convert the recording with `sox IN OUT` or `ffmpeg -i IN OUT`; `sndfile-info NAME` shows the chunk.",
     },
     Refusal {
         number: 31,
         name: "Unsupported",
-        meaning: "a wave file is no PCM of 8, 16, 24 or 32 bits",
-        advice: "Convert it: `sox IN -e signed-integer -b 24 OUT` (`mediainfo NAME` shows its format).",
+        meaning: "a wave file is not PCM of 8, 16, 24 or 32 bits",
+        advice: "Convert it: `sox IN -e signed-integer -b 24 OUT`. `mediainfo NAME` shows its format.",
     },
     Refusal {
         number: 32,
         name: "NoData",
         meaning: "a wave file has no `data` chunk",
-        advice: "The recording holds no sound (`soxi NAME` tells): take it from its source again.",
+        advice: "The recording has no sound (`soxi NAME`): copy it from its source again.",
     },
 ];
 
@@ -238,26 +242,26 @@ const OF_RENDERING: [Refusal; 4] = [
     Refusal {
         number: 33,
         name: "MissingSource",
-        meaning: "the recording of a clip that would sound is not given",
-        advice: "Name the recording too: `--why` tells its digest, and `radio sources LOG FILE...` which recordings of the session are missing, and which of the files the others are.",
+        meaning: "the recording of an audible clip is missing",
+        advice: "Add the recording to the command line: `--why` prints its digest, and `radio sources LOG FILE...` lists all recordings with their files, and those that are missing.",
     },
     Refusal {
         number: 34,
         name: "RateDiffers",
-        meaning: "a recording is of another rate than the programme",
-        advice: "`--why` tells which. Give the programme that rate (`--rate`), or convert the recording (`sox IN -r RATE OUT`) and place it anew: its digest is another then.",
+        meaning: "a recording has another sample rate than the programme",
+        advice: "`--why` names it. Render at that rate (`--rate`), or convert the recording (`sox IN -r RATE OUT`) and place it again: its digest has changed.",
     },
     Refusal {
         number: 35,
         name: "TooLong",
-        meaning: "the programme is too long for a wave file, or a clip would begin behind frame 4294967295",
-        advice: "Look for a clip that was placed by mistake far behind the others, or render fewer channels or bits. Of `radio lay` tells `--why` the recording that would begin too far behind: name fewer, or take a smaller --at or --gap.",
+        meaning: "the programme is too long for a wave file, or a clip would begin after frame 4294967295",
+        advice: "Look for a clip that was placed far after the others by mistake, or render fewer channels or bits. For `radio lay`, `--why` names the recording that would begin too late: use fewer recordings, or a smaller --at or --gap.",
     },
     Refusal {
         number: 36,
         name: "BadHead",
-        meaning: "a text of the head of a wave file cannot be written",
-        advice: "`--why` tells which option. Use printing ASCII, at most 256 bytes for --description and 32 for --originator and --reference, and write --date as dddd-dd-dd and --time as dd:dd:dd.",
+        meaning: "a text for the header of the wave file is not allowed",
+        advice: "`--why` names the option. Use printable ASCII, at most 256 bytes for --description and 32 for --originator and --reference; --date is dddd-dd-dd and --time is dd:dd:dd.",
     },
 ];
 
@@ -266,44 +270,44 @@ const OF_FILES_AND_PARTS: [Refusal; 16] = [
     Refusal {
         number: 37,
         name: "Write",
-        meaning: "the output failed, or cannot be made or get its name; or there is an OUT.part already; or OUT is there and --new was asked; or OUT is a log that another program has replaced since it was read",
-        advice: "See that there is room and that the folder may be written. If another program was at work on the same log, run the command again. An OUT.part that no program is writing any more may be deleted. `--why` tells which of these it is. A conversation that broke off may be 37 too: meet again.",
+        meaning: "the output cannot be created, written or renamed; or OUT.part exists; or OUT exists and --new was given; or another program has replaced the log OUT since it was read",
+        advice: "`--why` says which. Check free space and the permissions of the folder. If another program was changing the same log, run the command again. Delete OUT.part if no program is writing it. A broken conversation may also be 37: meet again.",
     },
     Refusal {
         number: 38,
         name: "BadMessage",
-        meaning: "what another editor sent is no message, or not of the kind that was asked for",
-        advice: "Name the files in the order that `radio help` tells. A file that was cut or damaged on the way has to be sent again.",
+        meaning: "what another editor sent is not a message, or not of the expected kind",
+        advice: "Check the order of the files (`radio help COMMAND`). A file that was damaged on the way has to be sent again.",
     },
     Refusal {
         number: 39,
         name: "OutOfTurn",
-        meaning: "another editor sent a message when it was not its turn, or went on after the end",
-        advice: "Of files: OPS is what `radio lack` wrote. Of a conversation: see that one editor serves and the other meets, and that nothing else is at that address.",
+        meaning: "another editor sent a message out of turn, or continued after the end",
+        advice: "Files: OPS is written by `radio lack`. Conversations: one editor serves and the other meets, and nothing else uses that address.",
     },
     Refusal {
         number: 40,
         name: "FrameTooLong",
         meaning: "a message is longer than 8,388,608 bytes",
-        advice: "See that the file is one that `radio have` or `radio lack` wrote, or that the address is that of an editor who serves.",
+        advice: "Check that the file was written by `radio have` or `radio lack`, or that an editor serves at the address.",
     },
     Refusal {
         number: 41,
         name: "BadLine",
-        meaning: "a line of a script is none of the forms of a change",
-        advice: "`--why` tells the line. Look for a misspelt word, a digest that is none, a gain that is not NUM/DEN (-6 dB is 501/1000), a time in place of frames (with `--time` a script may have 0:01:30.5, 1.5s and -6dB), a number with a leading zero, a line end with CR, a byte order mark, or a `$k` of a line that adds nothing.",
+        meaning: "a line of a script is not a change",
+        advice: "`--why` prints the line number. Look for a misspelt word, a wrong digest, a gain that is not NUM/DEN (-6 dB is 501/1000), a time where frames are expected (only `--time` accepts 0:01:30.5, 1.5s and -6dB), a number with a leading zero, two spaces or a tab, CR line ends, a byte order mark, a fade over 1,048,576 frames, or a `$k` of a line that adds nothing.",
     },
     Refusal {
         number: 42,
         name: "Refused",
-        meaning: "a line of a script asks for a change that cannot be made (6, or 21 to 25)",
-        advice: "`--why` tells the line and the refusal of its change. See that the items of that line are there and present, and that a clip has at least one frame.",
+        meaning: "a change in a script cannot be made (6, or 21 to 25)",
+        advice: "`--why` prints the line and the error of its change. Check that the items of the line exist and were not removed, and that a clip has at least one frame.",
     },
     Refusal {
         number: 43,
         name: "BadTitle",
-        meaning: "a title has over 255 bytes, or a control character",
-        advice: "Shorten the title, and leave out line ends and tabs.",
+        meaning: "a title is longer than 255 bytes or has a control character",
+        advice: "Shorten the title, and remove line ends and tabs.",
     },
     Refusal {
         number: 44,
@@ -314,20 +318,20 @@ const OF_FILES_AND_PARTS: [Refusal; 16] = [
     Refusal {
         number: 45,
         name: "Read",
-        meaning: "an input cannot be opened, or reading it failed",
-        advice: "See that each named file is there, is no folder, and may be read; `--why` tells which. Of `serve` and `meet` also: a conversation that broke off or waited too long is 45, 37 or 49; meet again.",
+        meaning: "an input cannot be opened or read",
+        advice: "Check that each file exists, is not a folder, and may be read; `--why` names the file. `radio merge --new LOG` creates an empty log. `serve` and `meet`: a conversation that broke off or timed out is 45, 37 or 49; meet again.",
     },
     Refusal {
         number: 46,
         name: "Net",
         meaning: "an address cannot be bound, or nobody answers there",
-        advice: "See that the address is HOST:PORT, that the one who serves began first, and that no other program has the port.",
+        advice: "Check that the address is HOST:PORT, that the server was started first, and that no other program uses the port.",
     },
     Refusal {
         number: 47,
         name: "BadFormat",
-        meaning: "the format of a programme is not one that is written",
-        advice: "Take a rate from 1 to 384000, 16 or 24 bits, and 1 or 2 channels.",
+        meaning: "a rate, sample size or number of channels is not supported",
+        advice: "Use a rate from 1 to 384000, 16 or 24 bits, and 1 or 2 channels.",
     },
     Refusal {
         number: 48,
@@ -338,43 +342,53 @@ const OF_FILES_AND_PARTS: [Refusal; 16] = [
     Refusal {
         number: 49,
         name: "Ended",
-        meaning: "what another editor sent ends before the end of the exchange",
-        advice: "Nothing was taken into a file: have it sent again, or meet again. A conversation that breaks off may also be 45 or 37.",
+        meaning: "what another editor sent ends too early",
+        advice: "No file was changed: ask for it to be sent again, or meet again. A broken conversation may also be 45 or 37.",
     },
     Refusal {
         number: 50,
         name: "BadDigest",
-        meaning: "a text is no digest",
-        advice: "Write a digest as the 64 hex digits that `radio info` prints. `radio find LOG clip` takes a digest, and a file's name with --wave.",
+        meaning: "a word is not a digest",
+        advice: "A digest is the 64 hex digits that `radio info` prints. `radio find LOG clip` expects a digest, or a file name with --wave.",
     },
     Refusal {
         number: 51,
         name: "FadeTooLong",
-        meaning: "a fade of a clip lasts over 1,048,576 frames",
+        meaning: "a fade is longer than 1,048,576 frames",
         advice: FROM_A_PROGRAM,
     },
     Refusal {
         number: 52,
         name: "VersionTooHigh",
-        meaning: "a log names a later version than its operations ask for",
-        advice: "The program that wrote it names a later version than it needs and has to be mended: take another editor's copy.",
+        meaning: "a log claims a later version than its operations need",
+        advice: "The program that wrote the log is faulty: use another editor's copy.",
     },
 ];
 
-/// The refusal of this number.
-pub fn find_refusal(number: u8) -> Option<&'static Refusal> {
-    for table in [
-        OF_OPERATIONS.as_slice(),
-        OF_LOGS.as_slice(),
-        OF_EDITS.as_slice(),
-        OF_WAVES.as_slice(),
-        OF_RENDERING.as_slice(),
-        OF_FILES_AND_PARTS.as_slice(),
-    ] {
-        for one in table {
-            if one.number == number {
-                return Some(one);
-            }
+/// The refusal of this number: there is one for each from 0 to 52, and none for any other number.
+pub fn find_refusal(number: u8) -> Option<&'static Refusal>
+    ensures found { IfSome result (λ r. r.now.number ≡ number) }
+    ensures none { result ≡ None ↔ 52 < number }
+{
+    match number {
+        0..=10 => find_in(&OF_OPERATIONS, number),
+        11..=20 => find_in(&OF_LOGS, number),
+        21..=25 => find_in(&OF_EDITS, number),
+        26..=32 => find_in(&OF_WAVES, number),
+        33..=36 => find_in(&OF_RENDERING, number),
+        37..=52 => find_in(&OF_FILES_AND_PARTS, number),
+        _ => None,
+    }
+}
+
+// The refusal of this number in a table.
+fn find_in(table: &'static [Refusal], number: u8) -> Option<&'static Refusal>
+    ensures found { IfSome result (λ r. r.now.number ≡ number) }
+    ensures none { result ≡ None → AllByRecursion (λ (r : RefusalOf). r.number ≢ number) table.now }
+{
+    for one in table {
+        if one.number == number {
+            return Some(one);
         }
     }
     None

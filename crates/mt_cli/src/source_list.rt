@@ -1,6 +1,6 @@
 //! Telling which recordings a log's session names.
 
-ghost use Rattle.std.specs.Prelude.{◌≡◌, ℕ, ◌+◌, ◌<◌, ◌^◌, true, false, List, map, IfOk, IfErr, OnOk};
+ghost use Rattle.std.specs.Prelude.{◌≡◌, ℕ, ◌+◌, ◌<◌, ◌^◌, true, false, List, map, length, IfOk, IfErr, OnOk};
 ghost use Rattle.mt_outline.specs.Outline.{IsOutline};
 ghost use Rattle.std.specs.Io.KnownBytes.{Appends};
 ghost use Rattle.mt_bwfread.specs.Wave.{fault_of};
@@ -162,7 +162,7 @@ fn list_files<A: Allocator + Clone, R: Read, W: Write>(
 }
 
 /// Writes which recordings the clips of the session of the log of an input name, and which of the files these are, in one of the ways of `mt_preflight`,
-/// and nothing else. `names` are those of the files, as they are printed, as many as these are.
+/// and nothing else. `names` are those of the files, as they are printed, one for each.
 ///
 /// Refused, in this order: `Read` with index 0 where the latch of the log's input has failed, or `Log` with index 0 where its bytes are no log's text;
 /// `Read` with the index of a file whose latch has failed, counted behind the log; `Write` where the output's latch has failed, which then holds a prefix
@@ -179,6 +179,7 @@ pub fn list_sources<A: Allocator + Clone, R: Read, W: Write>(
     files: &mut [Latch<R>],
     output: &mut Latch<W>,
 ) -> Result<(), CliFault>
+    requires named { length files.old ≡ length names.now }
     ensures ok { OnOk result (LogDone R.remaining (FilesListed R.remaining W.contents which
         (map (λ n. n.now) names.now))
         (lent_log_and_files log.old files.old output.old) (lent_log_and_files log.new files.new output.new)) }

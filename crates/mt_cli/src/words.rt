@@ -197,19 +197,19 @@ impl Word {
 /// OUT may not be there yet.
 pub(crate) const NEW: Word = Word::Flag {
     name: "new",
-    help: "Be refused (37) where OUT is there",
+    help: "Fail (37) if OUT exists",
 };
 
 /// OUT need not be on the disk when the command is done.
 pub(crate) const NO_SYNC: Word = Word::Flag {
     name: "no-sync",
-    help: "Do not wait until OUT is on the disk: faster, and lost where the machine stops",
+    help: "Do not wait until OUT is on the disk: faster, but lost if the machine stops",
 };
 
 /// The option of all commands, before or behind their names.
 pub(crate) const WHY: Word = Word::Flag {
     name: "why",
-    help: "Behind a refusal tell in one more line what it is about",
+    help: "After an error, print its cause on one more line",
 };
 
 /// The options that the parser adds: to all commands, and to the program alone.
@@ -237,7 +237,7 @@ pub(crate) const HELP_COMMAND: Words = Words {
 /// Positions and lengths are told as times.
 pub(crate) const AS_TIMES: Word = Word::Flag {
     name: "time",
-    help: "Tell positions and lengths as H:MM:SS.mmm, at --rate frames a second",
+    help: "Print positions and lengths as H:MM:SS.mmm, at --rate frames a second",
 };
 
 /// At how many frames a second times are told or read.
@@ -245,13 +245,13 @@ pub(crate) const TIMES_RATE: Word = Word::Limit {
     name: "rate",
     least: 1,
     greatest: 384_000,
-    help: "Frames a second, for --time, 1 to 384000 (48000)",
+    help: "Frames a second for --time, 1 to 384000 (default: 48000)",
 };
 
 /// Lines are told as JSON.
 pub(crate) const AS_JSON: Word = Word::Flag {
     name: "json",
-    help: "Tell each line as a JSON object",
+    help: "Print each line as a JSON object",
 };
 
 /// How long is waited for the other end.
@@ -259,7 +259,7 @@ pub(crate) const WAIT: Word = Word::Limit {
     name: "wait",
     least: 1,
     greatest: u32::MAX as u64,
-    help: "Wait at most N seconds for the other end: to come (46), and then each time for what it says (45) or takes (37)",
+    help: "Wait at most N seconds for the other end: to connect (46), and then for each read (45) and write (37)",
 };
 
 fn command_of<'a>(alloc: Global, words: &Words) -> Result<Command<'a>, AllocError> {

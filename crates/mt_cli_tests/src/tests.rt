@@ -1,7 +1,9 @@
 //! What no clause says: texts that were written out by hand, which device fails where, each growth refused in turn, and that editors agree.
 mod calls;
+mod commands;
 mod devices;
 mod growth;
 mod headline;
 mod running;
+mod several;
 mod texts;

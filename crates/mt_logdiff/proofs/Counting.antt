@@ -16,7 +16,7 @@ use Rattle.mt_opcodec.specs.OpText.{op_text}
 use Rattle.mt_opcodec.proofs.Sets.{logs_are_sets}
 use Rattle.mt_logdiff.specs.Beside.{lacks, has, has_another, is_it, is_other, alone, shared, clashing, told}
 use Rattle.mt_logdiff.specs.Parts.{PartsOf}
-use Rattle.mt_logdiff.specs.Laws.{IsLog, SameTellsNothing, EachIsCounted}
+use Rattle.mt_logdiff.specs.Laws.{IsFiled, SameTellsNothing, EachIsCounted}
 
 -- one operation, from what stands under its dot
 one_counted : (o : Operation) (there : Option Operation) (a b c n : ℕ) (x y z : List Operation) → length x ≡ a → length y ≡ b → length z ≡ c → a + (b + c) ≡ n
@@ -56,7 +56,7 @@ all_stay p (x ∷ xs) all = rw (all x (inl refl)) (ap (λ (l : List _). x ∷ l)
 pub itself : (o : Operation) → bytes_eq (op_text o) (op_text o) ≡ true
 itself o = (bytes_eq-Decides (op_text o) (op_text o)).1 refl
 
-module _ (log : LogMap) (is_log : IsLog log) where
+module _ (log : LogMap) (is_log : IsFiled log) where
   -- under the dot of each of its operations stands this one
   pub there : (o : Operation) → IsMember o (operations log) → fin.get log (op_dot o) ≡ Some o
   there o m = (logs_are_sets.listed log (logs_are_sets.logged log is_log.0 is_log.1) o).0 (is_contained (operations log) o m)

@@ -24,7 +24,7 @@ use Rattle.mt_opcodec.specs.OpText.{op_text}
 use Rattle.mt_opcodec.proofs.Operations.{op_text-apart}
 use Rattle.mt_sessionview.proofs.Lists.{all_members, member_all, rises_kept}
 use Rattle.mt_logdiff.specs.Beside.{has, has_another, is_it, is_other, alone, shared, clashing, Told, told_as, told_of, told_cmp, told}
-use Rattle.mt_logdiff.specs.Laws.{IsLog, turned, ExchangeTurns}
+use Rattle.mt_logdiff.specs.Laws.{IsFiled, turned, ExchangeTurns}
 use Rattle.mt_logdiff.proofs.Counting.{itself, there, stands}
 use Rattle.mt_logdiff.proofs.Telling.{told_total, map_member}
 
@@ -87,7 +87,7 @@ rises_mapped (o ∷ ops) rise = (each ops rise.0, rises_mapped ops rise.1)
     each [] all = tt
     each (p ∷ ps) all = (all.0, each ps all.1)
 
-module _ (one other : LogMap) (one_is : IsLog one) (other_is : IsLog other) where
+module _ (one other : LogMap) (one_is : IsFiled one) (other_is : IsFiled other) where
   valid : (o : Operation) → IsMember o (operations one) → IsOperation o
   valid o m = member_all IsOperation (operations one) o one_is.0.valid m
 
@@ -130,13 +130,13 @@ module _ (one other : LogMap) (one_is : IsLog one) (other_is : IsLog other) wher
       let kept = member_of_kept (has_another other) (operations one) found.0 found.1.0 in
       subst (λ (e : Dot). IsMember e (map op_dot (clashing other one))) found.1.1 (clash_of found.0 kept.0 (fin.get other (op_dot found.0)) refl kept.1)
 
-exchange_shares : (left right : LogMap) → IsLog left → IsLog right → shared left right ≡ shared right left
+exchange_shares : (left right : LogMap) → IsFiled left → IsFiled right → shared left right ≡ shared right left
 exchange_shares left right left_is right_is =
     one_list by_dot by_dot_total (shared left right) (shared right left)
     (rises_kept by_dot (has right) (operations left) (dots_rise_strictly (operations left) left_is.0.rise)) (rises_kept by_dot (has left) (operations right) (dots_rise_strictly (operations right) right_is.0.rise))
     (shared_too left right left_is right_is) (shared_too right left right_is left_is)
 
-exchange_clashes : (left right : LogMap) → IsLog left → IsLog right → map op_dot (clashing left right) ≡ map op_dot (clashing right left)
+exchange_clashes : (left right : LogMap) → IsFiled left → IsFiled right → map op_dot (clashing left right) ≡ map op_dot (clashing right left)
 exchange_clashes left right left_is right_is =
     one_list dot_cmp dot_cmp_total (map op_dot (clashing left right)) (map op_dot (clashing right left))
     (rises_mapped (clashing left right) (rises_kept by_dot (has_another right) (operations left) (dots_rise_strictly (operations left) left_is.0.rise)))

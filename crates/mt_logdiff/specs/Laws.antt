@@ -15,13 +15,13 @@ use Rattle.mt_logdiff.specs.declared.both.BothWrote.{BothWrote}
 use Rattle.mt_logdiff.specs.Beside.{alone, shared, clashing, Told, told}
 use Rattle.mt_logdiff.specs.Fields.{rank, field_write, writes_in, both_wrote}
 
--- a log in memory: operations that it can have, and nothing beside these
-abbrev pub IsLog : LogMap → Type 0
-IsLog log = AreLogged (operations log) × (log_of (operations log) ≡ log)
+-- each operation is valid and stored under its own dot: a log, however many operations it has
+abbrev pub IsFiled : LogMap → Type 0
+IsFiled log = AreLogged (operations log) × (log_of (operations log) ≡ log)
 
 -- A log beside itself: nothing is told, and all its operations are shared.
 abbrev pub SameTellsNothing : Type 0
-SameTellsNothing = (log : LogMap) → IsLog log → (told log log ≡ []) × (shared log log ≡ operations log)
+SameTellsNothing = (log : LogMap) → IsFiled log → (told log log ≡ []) × (shared log log ≡ operations log)
 
 -- Each operation of a log is alone, shared, or one of two under its dot, and only one of these.
 abbrev pub EachIsCounted : Type 0
@@ -34,8 +34,8 @@ turned t = record { right = not t.right; clashes = t.clashes; op = t.op }
 -- The other way round the same operations are told, each of the other log; the same ones are shared; and the same dots name two operations.
 pub record ExchangeTurns : Type 0 where
   pub tells : (left right : LogMap) (t : Told) → Contains (told left right) t → Contains (told right left) (turned t)
-  pub shares : (left right : LogMap) → IsLog left → IsLog right → shared left right ≡ shared right left
-  pub clashes : (left right : LogMap) → IsLog left → IsLog right → map op_dot (clashing left right) ≡ map op_dot (clashing right left)
+  pub shares : (left right : LogMap) → IsFiled left → IsFiled right → shared left right ≡ shared right left
+  pub clashes : (left right : LogMap) → IsFiled left → IsFiled right → map op_dot (clashing left right) ≡ map op_dot (clashing right left)
 
 -- one of these operations writes the field of the item under this stamp, and none of them does so under a greater one
 pub record IsLastWrite (ops : List Operation) (item : Moment) (which : Field) (by : Moment) : Type 0 where

@@ -17,6 +17,7 @@ ghost use Rattle.mt_op.specs.Laws.{IsFieldOf, LastWriteIsGreatest, LatestIsGreat
 use crate::body::Body;
 use crate::digest::Digest;
 use crate::gain::Gain;
+use crate::need::{Need, Role};
 use crate::op::Op;
 use crate::title::Title;
 use std::alloc::Allocator;
@@ -128,4 +129,18 @@ pub fn equal_ops<A: Allocator>(a: &Op<A>, b: &Op<A>) -> bool
     ensures { IsTrue result ↔ (a.now ≡ b.now) }
 {
     a == b
+}
+
+/// Roles are equal where they are of one case, and as tags where they name one item.
+pub fn equal_roles(role: &Role, other: &Role) -> bool
+    ensures { IsTrue result ↔ (role.now ≡ other.now) }
+{
+    role == other
+}
+
+/// Needs are equal where their stamps and their roles are.
+pub fn equal_needs(need: &Need, other: &Need) -> bool
+    ensures { IsTrue result ↔ (need.now ≡ other.now) }
+{
+    need == other
 }

@@ -15,6 +15,7 @@ pub mod Logs
 pub mod Appends
 pub mod Records
 pub mod LogTexts
+pub mod OneLog
 pub mod Union
 pub mod Sets
 pub mod Merging

@@ -11,6 +11,7 @@ use Rattle.mt_opcodec.specs.OpText.{op_text}
 use Rattle.mt_opcodec.specs.Versions.{version_of_act, version_of}
 use Rattle.mt_opcodec.specs.LogText.{log_text}
 use Rattle.mt_opcodec.specs.LogValue.{LogMap, operations, log_of, AreLogged}
+use Rattle.mt_opcodec.specs.IsLog.{IsLog}
 use Rattle.mt_opcodec.specs.Sets.{Has, IsSet, HasJoined, IsReadyIn}
 use Rattle.mt_opcodec.specs.Union.{Agree, union, AllAgree}
 
@@ -21,6 +22,10 @@ OpTextsAreApart = (o p : Operation) (rest after : List ℕ) → IsOperation o �
 -- A log's text determines its operations.
 abbrev pub LogTextsAreApart : Type 0
 LogTextsAreApart = (a b : List Operation) → AreLogged a → AreLogged b → length a < 2 ^ 64 → length b < 2 ^ 64 → log_text a ≡ log_text b → a ≡ b
+
+-- Two logs with the same text are the same log.
+abbrev pub OneLogOfEachText : Type 0
+OneLogOfEachText = (a b : LogMap) → IsLog a → IsLog b → log_text (operations a) ≡ log_text (operations b) → a ≡ b
 
 -- The version of a log is the greatest that one of its operations asks for: none asks for a later one, and where it is not 1, some
 -- operation asks for it.

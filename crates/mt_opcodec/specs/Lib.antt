@@ -4,6 +4,7 @@ pub mod OpReading
 pub mod LogText
 pub mod LogReading
 pub mod LogValue
+pub mod IsLog
 pub mod Sets
 pub mod Union
 pub mod Merging

@@ -2,7 +2,8 @@
 //! compares.
 
 ghost use Rattle.std.specs.Prelude.{◌≡◌, ◌↔◌, IsTrue};
-ghost use Rattle.mt_opcodec.specs.Laws.{OpTextsAreApart, LogTextsAreApart, VersionIsGreatest, IsUnion, AgreePairwise, AgreeGrouped, LogsAreSets, ReadyStays};
+ghost use Rattle.mt_opcodec.specs.IsLog.{IsLog};
+ghost use Rattle.mt_opcodec.specs.Laws.{OpTextsAreApart, LogTextsAreApart, OneLogOfEachText, VersionIsGreatest, IsUnion, AgreePairwise, AgreeGrouped, LogsAreSets, ReadyStays};
 
 use crate::fault::LogFault;
 use crate::log::Log;
@@ -17,6 +18,21 @@ pub fn op_texts()
 pub fn log_texts()
     ensures { LogTextsAreApart }
 {}
+
+/// Two logs with the same text are the same log: the bytes of a log determine it.
+pub fn one_log()
+    ensures { OneLogOfEachText }
+{}
+
+/// A log in memory is one that bytes can encode: each operation is valid and stored under its own dot,
+/// and there are fewer than 2^64.
+pub fn logs_in_memory<A: Allocator>(log: &Log<A>)
+    ensures { IsLog log.now }
+{
+    // for the proof: that its operations are a log's, and how many there are
+    let _ = log.runs();
+    let _ = log.len();
+}
 
 /// The version of a log is the greatest that one of its operations asks for, and 1 where none asks for a later one.
 pub fn versions()

@@ -2,6 +2,7 @@ pub mod Walking
 pub mod Searching
 pub mod Order
 pub mod Rising
+pub mod Rises
 pub mod Missing
 pub mod Covering
 pub mod Unique

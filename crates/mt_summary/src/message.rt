@@ -1,7 +1,12 @@
 //! Messages.
 
-ghost use Rattle.std.specs.Prelude.{◌≡◌, ◌++◌, OnOk};
+ghost use Rattle.std.specs.Prelude.{◌≡◌, ◌↔◌, ◌++◌, OnOk, IsTrue};
+ghost use Rattle.std.specs.List.{AllByRecursion};
 ghost use Rattle.std.specs.Int.{w32};
+ghost use Rattle.mt_stamp.specs.Moment.{dot_cmp};
+ghost use Rattle.mt_op.specs.Dots.{dots_rise};
+ghost use Rattle.mt_op.specs.Rising.{is_after};
+ghost use Rattle.mt_op.specs.Valid.{IsOperation};
 ghost use Rattle.mt_opcodec.specs.OpReading.{number_at};
 ghost use Rattle.mt_summary.specs.Messages.{whole_have, counted_at, counted_ops, tagged_at, message_at, message_text, IsMessage};
 ghost use Rattle.mt_summary.specs.Reading.{ReadsAs, WritesAs, message_of};
@@ -12,7 +17,7 @@ use crate::summary::Summary;
 use crate::writer::{put_have, put_ops};
 use mt_op::Op;
 use mt_opcodec::{LogFault, ReadFault, read_ops, u32_at};
-use mt_stamp::List;
+use mt_stamp::{Dot, List};
 use std::alloc::{AllocError, Allocator, Global};
 
 /// What one end of a conversation tells the other: the summary of its log, operations, or that it has told all.
@@ -51,7 +56,23 @@ impl<A: Allocator + Clone> Message<A> {
         tagged_of(alloc, *tag, rest)
     }
 
-    /// The body of a frame. Refused as `FrameTooLong` (40) where it is longer than 8,388,608 bytes, so too where a number of items
+    /// Whether the message may be written: one of operations has at least one, and their dots rise. Takes
+    /// no memory; its time is linear in the operations.
+    pub fn is_well_formed(&self) -> bool
+        ensures { IsTrue result ↔ IsMessage (message_of self.now) }
+    {
+        match self {
+            Message::Have(summary) => {
+                // for the proof: that it is a summary
+                let _ = summary.replicas();
+                true
+            }
+            Message::Ops(list) => !list.items().is_empty() && rise(list.items()),
+            Message::Bye => true,
+        }
+    }
+
+    /// The body of a frame, of a message that is well-formed (`is_well_formed`). Refused as `FrameTooLong` (40) where it is longer than 8,388,608 bytes, so too where a number of items
     /// does not fit its 4 bytes, and as `Memory` (0) where a growth was refused.
     pub fn write(&self, alloc: A) -> Result<Vec<u8, A>, MessageFault>
         requires { IsMessage (message_of self.now) }
@@ -64,6 +85,31 @@ impl<A: Allocator + Clone> Message<A> {
         }
         Ok(body)
     }
+}
+
+// Whether a dot is greater than the one before it, where there is one.
+fn is_after(last: Option<Dot>, dot: Dot) -> bool
+    ensures { result ≡ is_after dot_cmp last dot }
+{
+    match last {
+        Some(last) => last < dot,
+        None => true,
+    }
+}
+
+// Whether the dot of each operation is greater than the one before it.
+fn rise<A: Allocator>(ops: &[Op<A>]) -> bool
+    ensures rise { IsTrue result ↔ IsTrue (dots_rise ops.now) }
+    ensures valid { IsTrue result → AllByRecursion IsOperation ops.now }
+{
+    let mut last = None;
+    for op in ops {
+        if !is_after(last, op.dot()) {
+            return false;
+        }
+        last = Some(op.dot());
+    }
+    true
 }
 
 fn tagged_of<A: Allocator + Clone>(

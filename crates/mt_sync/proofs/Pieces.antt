@@ -22,6 +22,13 @@ open_goes (awaits_ops owed) h = tt
 open_goes ended h = absurd h
 open_goes (stopped fault) h = absurd h
 
+-- what goes on and has not ended is open
+pub going_open : (turn : Turn) → IsGoing turn → (turn ≡ ended → ⊥) → IsOpen turn
+going_open (awaits_have side) h k = tt
+going_open (awaits_ops owed) h k = tt
+going_open ended h k = absurd (k refl)
+going_open (stopped fault) h k = absurd h
+
 -- so far
 pub record Goes (start : End) (read read' written written' : Option (List ℕ)) (end : End) : Type 0 where
   pub bytes : List ℕ
@@ -87,22 +94,22 @@ is_done start a b c d end g is = record {
 }
 
 -- the reader failed
-pub is_unread : (start : End) (a b b' c d : Option (List ℕ)) (end : End) → Goes start a b c d end → Keeps b b' → Converses start (conversant start.set a c) (conversant end.set b' d) (Err fault.Read)
-is_unread start a b b' c d end g kept = record {
+pub is_unread : (start : End) (a b b' c d : Option (List ℕ)) (end : End) → Goes start a b c d end → Keeps b b' → IsOpen end.turn → Converses start (conversant start.set a c) (conversant end.set b' d) (Err fault.Read)
+is_unread start a b b' c d end g kept reads = record {
   bytes = g.bytes;
   consumed = Consumes-kept a b b' g.bytes g.consumed kept;
   prefix = subst (AppendsPrefix c d) (sym (ap (λ (t : Heard). t.1) g.told_so)) (whole_prefix c d g.reply g.appended);
-  outcome = ap (λ (t : Heard). t.0.set) g.told_so;
+  outcome = subst (λ (t : Heard). Outcome t c d end.set (Err fault.Read)) (sym g.told_so) (reads, refl);
   left = λ e. absurd (no_read e);
 }
 
 -- the input ended first
-pub is_unfinished : (start : End) (a b b' c d : Option (List ℕ)) (end : End) → Goes start a b c d end → Consumes b b' [] → (end.turn ≡ ended → ⊥) → Converses start (conversant start.set a c) (conversant end.set b' d) (Err fault.Ended)
-is_unfinished start a b b' c d end g none not_ended = record {
+pub is_unfinished : (start : End) (a b b' c d : Option (List ℕ)) (end : End) → Goes start a b c d end → Consumes b b' [] → IsOpen end.turn → Converses start (conversant start.set a c) (conversant end.set b' d) (Err fault.Ended)
+is_unfinished start a b b' c d end g none reads = record {
   bytes = g.bytes;
   consumed = subst (Consumes a b') (append-nil g.bytes) (Consumes-trans a b b' g.bytes [] g.consumed none);
   prefix = subst (AppendsPrefix c d) (sym (ap (λ (t : Heard). t.1) g.told_so)) (whole_prefix c d g.reply g.appended);
-  outcome = subst (λ (t : Heard). Outcome t c d end.set (Err fault.Ended)) (sym g.told_so) (not_ended, refl);
+  outcome = subst (λ (t : Heard). Outcome t c d end.set (Err fault.Ended)) (sym g.told_so) (reads, refl);
   left = λ e. absurd (no_end e);
 }
 
@@ -115,14 +122,14 @@ longer_prefix a b c xs ys h k =
     taken xs ys n = ap₂ (λ (u v : List ℕ). u ++ take n v) (sym (take_at xs ys (length xs) refl)) (sym (drop_at xs ys (length xs) refl)) ∙ sym (take-add (length xs) n (xs ++ ys))
 
 -- the writer failed at the reply to a piece
-pub is_unwritten : (start : End) (a b b' c d d' : Option (List ℕ)) (end new : End) (piece more : List ℕ) → Goes start a b c d end → Consumes b b' piece → hears end piece ≡ (new, more) → AppendsPrefix d d' more → Converses start (conversant start.set a c) (conversant new.set b' d') (Err fault.Write)
-is_unwritten start a b b' c d d' end new piece more g took fed put =
+pub is_unwritten : (start : End) (a b b' c d d' : Option (List ℕ)) (end new : End) (piece more : List ℕ) → Goes start a b c d end → Consumes b b' piece → hears end piece ≡ (new, more) → AppendsPrefix d d' more → IsGoing new.turn → Converses start (conversant start.set a c) (conversant new.set b' d') (Err fault.Write)
+is_unwritten start a b b' c d d' end new piece more g took fed put going =
     let all = told_more start g.bytes piece end g.reply g.told_so ∙ ap (λ (t : Heard). (t.0, g.reply ++ t.1)) fed in
     record {
       bytes = g.bytes ++ piece;
       consumed = Consumes-trans a b b' g.bytes piece g.consumed took;
       prefix = subst (AppendsPrefix c d') (sym (ap (λ (t : Heard). t.1) all)) (longer_prefix c d d' g.reply more g.appended put);
-      outcome = ap (λ (t : Heard). t.0.set) all;
+      outcome = subst (λ (t : Heard). Outcome t c d' new.set (Err fault.Write)) (sym all) (going, refl);
       left = λ e. absurd (no_write e);
     }
 

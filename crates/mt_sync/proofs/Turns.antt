@@ -27,7 +27,7 @@ use Rattle.mt_sync.proofs.Fronting.{told_whole}
 use Rattle.mt_sync.proofs.Exchanged.{is_missing}
 use Rattle.mt_frames.proofs.FramesRead.{front_again}
 use Rattle.mt_sync.proofs.Honest.{packs_logged, IsLoggedPack}
-use Rattle.mt_sync.proofs.Unions.{IsLog, union_is_log}
+use Rattle.mt_sync.proofs.Unions.{AllStand, union_is_log}
 
 -- ---- one frame
 
@@ -114,7 +114,7 @@ sent_back a b = same_log (union b (union a b)) (union b a) (λ d.
     by None (Some p) = refl
     by None None = refl
 
-pub conversations_end : (a b : LogMap) → IsLog a → IsLog b → ConversationsEnd a b
+pub conversations_end : (a b : LogMap) → AllStand a → AllStand b → ConversationsEnd a b
 conversations_end a b is also a_says b_says =
     let sa = summary_of a in
     let sb = summary_of b in

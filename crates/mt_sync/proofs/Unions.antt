@@ -21,7 +21,7 @@ holds true e = tt
 holds false e = absurd cc
 
 -- a log
-pub record IsLog (m : LogMap) : Type 0 where
+pub record AllStand (m : LogMap) : Type 0 where
   pub logged : AreLogged (operations m)
   pub all_of : log_of (operations m) ≡ m
 
@@ -38,7 +38,7 @@ valued : (es : List (Dot × Operation)) → AllByRecursion (λ (e : Dot × Opera
 valued [] h = tt
 valued (e ∷ es) h = (h.0.1, valued es h.1)
 
-is_log : (m : LogMap) → ((d : Dot) (o : Operation) → fin.get m d ≡ Some o → StandsAt d o) → IsLog m
+is_log : (m : LogMap) → ((d : Dot) (o : Operation) → fin.get m d ≡ Some o → StandsAt d o) → AllStand m
 is_log m stands =
     let es : List (Dot × Operation) = fin.entries m in
     let sorted : is_sorted dot_cmp es ≡ true = from_holds _ (fin.entries_sorted m) in
@@ -49,10 +49,10 @@ is_log m stands =
       all_of = ap (λ (l : List (Dot × Operation)). fin.from_sorted {R = dot_cmp} l) same ∙ fin.same_entries_map (fin.from_sorted {R = dot_cmp} es) m (fin.entries-from_sorted dot_cmp es (holds _ sorted));
     }
 
-log_stands : (m : LogMap) → IsLog m → (d : Dot) (o : Operation) → fin.get m d ≡ Some o → StandsAt d o
+log_stands : (m : LogMap) → AllStand m → (d : Dot) (o : Operation) → fin.get m d ≡ Some o → StandsAt d o
 log_stands m is d o at = found_in IsOperation d o (operations m) is.logged.valid (sym (get-log_of (operations m) d is.logged.rise) ∙ ap (λ (n : LogMap). fin.get n d) is.all_of ∙ at)
 
-pub union_is_log : (a b : LogMap) → IsLog a → IsLog b → IsLog (union a b)
+pub union_is_log : (a b : LogMap) → AllStand a → AllStand b → AllStand (union a b)
 union_is_log a b is also = is_log (union a b) (λ d o at. by d o (fin.get a d) refl (sym (get-union a b d) ∙ at))
   where
     by : (d : Dot) (o : Operation) (x : Option Operation) → fin.get a d ≡ x → cond (is_some (fin.get a d)) (fin.get a d) (fin.get b d) ≡ Some o → StandsAt d o

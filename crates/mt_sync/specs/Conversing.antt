@@ -15,7 +15,7 @@ use Rattle.mt_summary.specs.declared.fault.MessageFault.{MessageFault}
 use Rattle.mt_summary.specs.declared.fault.MessageFault.TheVariants as message
 use Rattle.mt_sync.specs.declared.fault.Side.{Side}
 use Rattle.mt_sync.specs.declared.fault.Side.TheVariants.{Caller, Answerer}
-use Rattle.mt_sync.specs.Feeding.{Talking, IsOpen, end_at}
+use Rattle.mt_sync.specs.Feeding.{Talking, IsOpen, IsGoing, end_at}
 use Rattle.mt_sync.specs.Leaving.{IsLeft}
 use Rattle.mt_sync.specs.Conversation.{can_say, answer, awaits_have, ended, stopped, End, Heard, hears}
 
@@ -32,9 +32,9 @@ StopsBy end set FrameTooLong = (end.turn ≡ stopped FrameTooLong) × (end.set �
 abbrev pub Outcome : Heard → Option (List ℕ) → Option (List ℕ) → Option LogMap → Result (Unit {0}) SyncFault → Type 0
 Outcome t written written' set (Ok _) = (t.0.turn ≡ ended) × (t.0.set ≡ set) × Appends written written' t.1
 Outcome t written written' set (Err (fault.Talk by)) = StopsBy t.0 set by
-Outcome t written written' set (Err fault.Ended) = (t.0.turn ≡ ended → ⊥) × (t.0.set ≡ set)
-Outcome t written written' set (Err fault.Read) = t.0.set ≡ set
-Outcome t written written' set (Err fault.Write) = t.0.set ≡ set
+Outcome t written written' set (Err fault.Ended) = IsOpen t.0.turn × (t.0.set ≡ set)
+Outcome t written written' set (Err fault.Read) = IsOpen t.0.turn × (t.0.set ≡ set)
+Outcome t written written' set (Err fault.Write) = IsGoing t.0.turn × (t.0.set ≡ set)
 
 -- what takes part in a conversation, before or after: a holder's set, what is left to be read, and what was written
 pub record Conversant : Type 0 where

@@ -3,7 +3,7 @@
 ghost use Rattle.std.specs.Prelude.{◌≡◌, ◌↔◌, IsTrue};
 ghost use Rattle.mt_sync.specs.Laws.{FramesAreHeard, EndsStop, CutsDoNotMatter, FrontsAreHonest, ConversationsEnd};
 
-use crate::fault::{SyncFault, TalkFault};
+use crate::fault::{Side, SyncFault, TalkFault};
 use mt_opcodec::Log;
 use std::alloc::Allocator;
 
@@ -57,4 +57,11 @@ pub fn equal_sync_faults(fault: &SyncFault, other: &SyncFault) -> bool
     ensures { IsTrue result ↔ (fault.now ≡ other.now) }
 {
     fault == other
+}
+
+/// Sides are equal where both are the caller, or both the answerer.
+pub fn equal_sides(side: &Side, other: &Side) -> bool
+    ensures { IsTrue result ↔ (side.now ≡ other.now) }
+{
+    side == other
 }

@@ -3,7 +3,7 @@
 ghost use Rattle.std.specs.Prelude.{◌≡◌, ◌↔◌, IsTrue};
 ghost use Rattle.mt_tracklist.specs.Skipping.{SkippingKeepsTheOrder, ElementsTellTheList};
 
-use crate::track_list::TrackList;
+use crate::track_list::{Placed, TrackList};
 use std::alloc::Allocator;
 
 /// Skipping to the first element with a smaller stamp is the order of the tree. Where a list stands in the order of its tree,
@@ -24,4 +24,11 @@ pub fn equal_lists<A: Allocator>(first: &TrackList<A>, second: &TrackList<A>) ->
     ensures { IsTrue result ↔ (first.now ≡ second.now) }
 {
     first == second
+}
+
+/// Elements of a list are equal where their places, their references and their tracks are.
+pub fn equal_placed(placed: &Placed, other: &Placed) -> bool
+    ensures { IsTrue result ↔ (placed.now ≡ other.now) }
+{
+    placed == other
 }

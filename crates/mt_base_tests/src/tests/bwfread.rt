@@ -59,7 +59,7 @@ fn is_plain(wave: &Wave<'_>) -> bool {
     wave.bext().is_none() && !has_cue && !has_label && !has_length
 }
 
-// smallest_wave
+// row: smallest_wave
 #[test]
 fn smallest(rt: HostRuntime) -> Result<(), Fail> {
     let wave = Wave::read(&SMALLEST).ok().ok_or("a wave file")?;
@@ -68,6 +68,35 @@ fn smallest(rt: HostRuntime) -> Result<(), Fail> {
     assert!(rt; sample(&wave, 0, 0) == Some(-2147483648));
     assert!(rt; is_plain(&wave));
     Ok(())
+}
+
+// The same with an extensible format of 40 bytes, whose subformat is PCM.
+const EXTENSIBLE: &[u8] =
+    b"RIFF\x3d\0\0\0WAVEfmt \x28\0\0\0\xfe\xff\x01\0\x44\xac\0\0\x44\xac\0\0\x01\0\x08\0\x16\0\x08\0\0\0\0\0\x01\0\0\0\0\0\x10\0\x80\0\0\xaa\0\x38\x9b\x71data\x01\0\0\0\0";
+
+// The same with a chunk `JUNK` of three bytes and its pad byte before the format.
+const WITH_JUNK: &[u8] =
+    b"RIFF\x31\0\0\0WAVEJUNK\x03\0\0\0abc\0fmt \x10\0\0\0\x01\0\x01\0\x44\xac\0\0\x44\xac\0\0\x01\0\x08\0data\x01\0\0\0\0";
+
+// Whether bytes are read as the smallest file is.
+fn is_smallest(bytes: &[u8]) -> bool {
+    match Wave::read(bytes) {
+        Ok(wave) => {
+            let layout = (wave.rate(), wave.channels(), wave.bits(), wave.frames());
+            let is_silent = sample(&wave, 0, 0) == Some(-2147483648);
+            layout == (44100, 1, 8, 1) && is_silent && is_plain(&wave)
+        }
+        Err(_) => false,
+    }
+}
+
+// row: smallest_wave, smallest_wave_with_junk, smallest_wave_sizes
+#[test]
+fn reads_other_forms_of_the_smallest(rt: HostRuntime) {
+    assert!(rt; is_smallest(EXTENSIBLE));
+    assert!(rt; is_smallest(WITH_JUNK));
+    assert!(rt; is_smallest(&with_byte(4, 100)));
+    assert!(rt; refusal(&with_byte(4, 36)) == 28);
 }
 
 // The number under which bytes are refused as a wave file; 255 where they are one.
@@ -87,6 +116,7 @@ fn with_byte(place: usize, byte: u8) -> [u8; 45] {
     bytes
 }
 
+// row: smallest_wave
 // a size of `data` past the end, a format that is not PCM, frames of two bytes
 #[test]
 fn refuses_the_smallest_with_another_byte(rt: HostRuntime) {
@@ -120,6 +150,7 @@ fn refusal_of_a_cut(len: usize) -> u8 {
     }
 }
 
+// row: smallest_wave, smallest_wave_prefixes
 #[test]
 fn refuses_each_cut_file(rt: HostRuntime) {
     for len in 0..SMALLEST.len() + 1 {

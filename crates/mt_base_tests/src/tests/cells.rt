@@ -3,7 +3,7 @@
 
 mod presences;
 
-use mt_cells::{CellFault, Register, join_all};
+use mt_cells::{CellFault, Join, Register, join_all};
 use mt_stamp::{Replica, Stamp};
 use std::alloc::Global;
 use std::test::Fail;
@@ -23,7 +23,22 @@ fn last_of(alloc: Global, [low, middle, high]: [Stamp; 3]) -> Option<char> {
     }
 }
 
-// two_retitles
+// What a write has once another one is joined to it.
+fn joined(mut register: Register<char>, other: Register<char>) -> Option<char> {
+    register.join(other).ok()?;
+    Some(register.into_value())
+}
+
+// row: two_retitles
+#[test]
+fn joins_two_titles_either_way(rt: HostRuntime) -> Result<(), Fail> {
+    let (x, y) = (Stamp::new(2, A, 2)?, Stamp::new(2, B, 1)?);
+    assert!(rt; joined(Register::new(x, 'X'), Register::new(y, 'Y')) == Some('Y'));
+    assert!(rt; joined(Register::new(y, 'Y'), Register::new(x, 'X')) == Some('Y'));
+    Ok(())
+}
+
+// row: two_retitles
 #[test]
 fn keeps_the_greatest_write(rt: HostRuntime) -> Result<(), Fail> {
     let stamps = [

@@ -3,6 +3,8 @@
 ghost use Rattle.std.specs.Prelude.{◌≡◌, ◌≢◌, ◌<◌, ℕ, length, IsTrue};
 ghost use Rattle.mt_overlap.specs.Overlap.{span_at, PlacesDiffer};
 
+mod nested;
+
 use mt_overlap::{OverlapFault, Segment, Span, segments};
 use mt_stamp::{Replica, Stamp};
 use mt_testalloc::Refusing;
@@ -78,7 +80,8 @@ fn segment(start: u64, end: u64, which: usize) -> Segment {
     Segment { start, end, which }
 }
 
-// covering_spans: one that lies over another; one on top throughout, one alone, and none
+// row: covering_spans
+// one that lies over another; one on top throughout, one alone, and none
 #[test]
 fn finds_the_span_on_top(rt: HostRuntime) -> Result<(), Fail> {
     let (low, high) = (span(5, 0, 10)?, span(6, 4, 3)?);
@@ -114,6 +117,7 @@ fn count_at(alloc: Global, at: u64, spans: &[Span]) -> (Result<usize, OverlapFau
     (count, memory.has_refused())
 }
 
+// row: refused_growths
 #[test]
 fn refuses_each_growth(rt: HostRuntime) -> Result<(), Fail> {
     let spans = [span(5, 0, 10)?, span(6, 4, 3)?];

@@ -13,6 +13,17 @@ const TEN_TEXT: &str = "00000000-0000-0000-0000-00000000000a";
 
 const STAMP_TEXT: &str = "1.1.00000000-0000-0000-0000-00000000000a";
 
+// row: stamps
+#[test]
+fn makes_stamps_within_the_limits(rt: HostRuntime) {
+    assert!(rt; Stamp::new(0, TEN, 0) == Err(StampFault::ZeroClock));
+    assert!(rt; Stamp::new(1, TEN, 0) == Err(StampFault::ZeroSeq));
+    let past = 4_611_686_018_427_387_905;
+    assert!(rt; Stamp::new(past, TEN, 1) == Err(StampFault::TooGreat));
+    assert!(rt; Stamp::new(1, TEN, past) == Err(StampFault::TooGreat));
+    assert!(rt; Stamp::new(past - 1, TEN, past - 1).is_ok());
+}
+
 #[test]
 fn numbers_its_refusals(rt: HostRuntime) {
     for (fault, number) in [
@@ -27,7 +38,7 @@ fn numbers_its_refusals(rt: HostRuntime) {
     assert!(rt; Stamp::GREATEST == 4_611_686_018_427_387_904);
 }
 
-// stamps: their texts
+// row: stamps
 #[test]
 fn reads_one_spelling_of_a_stamp(rt: HostRuntime) -> Result<(), Fail> {
     let (stamp, other) = (Stamp::new(1, TEN, 1)?, Stamp::new(1, TEN, 2)?);
@@ -50,7 +61,7 @@ fn reads_one_spelling_of_a_stamp(rt: HostRuntime) -> Result<(), Fail> {
     Ok(())
 }
 
-// stamps: replicas
+// row: stamps
 #[test]
 fn reads_any_form_of_a_replica(rt: HostRuntime) {
     for text in [
@@ -100,13 +111,13 @@ fn refuses_the_growth_of_a_copied_list(rt: HostRuntime) -> Result<(), Fail> {
 }
 
 // Whether the texts of a stamp and of a replica are these.
-fn is_stamp_text<M: Allocator>(memory: M, stamp: Stamp) -> Result<bool, StampFault> {
+fn is_text_of<M: Allocator>(memory: M, stamp: Stamp, wanted: &str) -> Result<bool, StampFault> {
     let text = stamp.text(memory)?;
-    Ok(
-        text.as_str()
-            == "4611686018427387904.4611686018427387904.00000000-0000-0000-0000-00000000000a",
-    )
+    Ok(text.as_str() == wanted)
 }
+
+const GREATEST_TEXT: &str =
+    "4611686018427387904.4611686018427387904.00000000-0000-0000-0000-00000000000a";
 
 fn is_replica_text<M: Allocator>(memory: M) -> Result<bool, StampFault> {
     let text = TEN.text(memory)?;
@@ -116,7 +127,7 @@ fn is_replica_text<M: Allocator>(memory: M) -> Result<bool, StampFault> {
 // Whether both are where one growth of each is refused, and whether one was.
 fn stamp_text_at(alloc: Global, at: u64, stamp: Stamp) -> (Result<bool, StampFault>, bool) {
     let memory = Refusing::new(alloc, at);
-    let is_text = is_stamp_text(&memory, stamp);
+    let is_text = is_text_of(&memory, stamp, GREATEST_TEXT);
     (is_text, memory.has_refused())
 }
 
@@ -126,6 +137,16 @@ fn replica_text_at(alloc: Global, at: u64) -> (Result<bool, StampFault>, bool) {
     (is_text, memory.has_refused())
 }
 
+// row: stamps
+#[test]
+fn writes_the_text_that_it_reads(rt: HostRuntime) -> Result<(), Fail> {
+    let stamp = Stamp::new(1, TEN, 1)?;
+    assert!(rt; is_text_of(rt.alloc(), stamp, STAMP_TEXT) == Ok(true));
+    assert!(rt; is_replica_text(rt.alloc()) == Ok(true));
+    Ok(())
+}
+
+// row: refused_growths
 #[test]
 fn refuses_each_growth_of_a_text(rt: HostRuntime) -> Result<(), Fail> {
     let stamp = Stamp::new(Stamp::GREATEST, TEN, Stamp::GREATEST)?;
@@ -141,6 +162,7 @@ fn refuses_each_growth_of_a_text(rt: HostRuntime) -> Result<(), Fail> {
     Err(Fail::from("each run met a refusal"))
 }
 
+// row: refused_growths
 #[test]
 fn refuses_each_growth_of_a_replica_text(rt: HostRuntime) -> Result<(), Fail> {
     for at in 0..20 {

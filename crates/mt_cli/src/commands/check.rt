@@ -16,8 +16,8 @@ use std::rt::Files;
 
 pub(crate) const WORDS: Words = Words {
     name: "check",
-    about: "Tells what a render would come to: how it is refused, or what sounds otherwise than one may think",
-    after: "Example: radio check desk.log jingle.wav interview.wav --channels 2\n\nIt is refused as `radio render` with these words would be, and writes no file. Else it prints a line for each clip that goes on behind the end of its recording,\n`past-end CLIP end N frames N`; for each that others cover all the time, `covered CLIP`; for each recording with channels that are not played,\n`one-channel DIGEST channels N`; for each marker that stands behind the end of the programme, `behind MARKER at N`; for each operation that waits,\n`held STAMP needs STAMP`; and last `warnings N`, the number of these lines.\n\nExit status: 0 done, 1 refused (the line `radio: fault N`; `radio explain N` tells why), 2 the command line does not parse.",
+    about: "Checks a programme before rendering: fails as render would, and lists what may sound unexpected",
+    after: "Example: radio check desk.log jingle.wav interview.wav --channels 2\n\nFails whenever `radio render` with these words would, and writes no file. Otherwise it prints one line for each\nclip that continues after the end of its recording, `past-end CLIP end N frames N`;\nclip that other clips cover completely, `covered CLIP`;\nrecording of which some channels are not played, `one-channel DIGEST channels N`;\nmarker after the end of the programme, `behind MARKER at N`;\noperation that waits for another, `held STAMP needs STAMP`;\nand at the end `warnings N`, the number of these lines.\n\nExit status: 0 done; 1 failed (`radio: fault N`, see `radio explain N`); 2 wrong command line.",
     words: &[
         Word::Needed {
             name: "LOG",
@@ -25,7 +25,7 @@ pub(crate) const WORDS: Words = Words {
         },
         Word::Any {
             name: "SOURCE",
-            help: "The recordings that clips name by their digests, in any order",
+            help: "The recordings that the clips play, in any order",
         },
         RATE,
         BITS,
@@ -38,7 +38,7 @@ pub(crate) const WORDS: Words = Words {
         TIME_REFERENCE,
         Word::Flag {
             name: "times",
-            help: "Tell positions and lengths as H:MM:SS.mmm, at --rate frames a second",
+            help: "Print positions and lengths as H:MM:SS.mmm, at --rate frames a second",
         },
     ],
 };

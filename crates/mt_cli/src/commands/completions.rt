@@ -9,8 +9,8 @@ use std::io::Write;
 
 pub(crate) const WORDS: Words = Words {
     name: "completions",
-    about: "Prints a script by which a shell completes the words of radio",
-    after: "Example: radio completions bash\n\nIt completes the names of commands, the options of each, and the names of which a word is one; elsewhere names of files. bash sources it, or finds it\nas ~/.local/share/bash-completion/completions/radio; zsh finds it as a file _radio in a folder of $fpath, and fish as\n~/.config/fish/completions/radio.fish.\n\nExit status: 0 done, 1 refused (the line `radio: fault N`; `radio explain N` tells why), 2 the command line does not parse.",
+    about: "Prints the completion script for a shell",
+    after: "Example: radio completions bash\n\nIt completes commands, options, fixed values and file names. bash: source it, or save it as\n~/.local/share/bash-completion/completions/radio; zsh: save it as _radio in a folder of $fpath;\nfish: save it as ~/.config/fish/completions/radio.fish.\n\nExit status: 0 done; 1 failed (`radio: fault N`, see `radio explain N`); 2 wrong command line.",
     words: &[Word::OneOf {
         name: "SHELL",
         names: &["bash", "zsh", "fish"],

@@ -12,26 +12,26 @@ use std::rt::Files;
 
 pub(crate) const WORDS: Words = Words {
     name: "diff",
-    about: "Prints the operations that one of two logs alone has",
-    after: "Example: radio diff desk.log home.log\n\nPrints them by rising stamp: `- ` stands before what LEFT alone has, `+ ` before what RIGHT alone has, and `! ` before both of two that have one name. Last it counts them.\n\nExit status: 0 done, also where they differ, 1 refused (the line `radio: fault N`; `radio explain N` tells why), 2 the command line does not parse.",
+    about: "Prints the operations that only one of two logs has",
+    after: "Example: radio diff desk.log home.log\n\nOperations are sorted by stamp: `- ` marks those that only LEFT has, `+ ` those that only RIGHT has, and `! ` two\ndifferent operations with the same name. The last lines count them.\n\nExit status: 0 done, whether they differ or not; 1 failed (`radio: fault N`, see `radio explain N`); 2 wrong command line.",
     words: &[
         Word::Needed {
             name: "LEFT",
-            help: "A log, or operations, as `radio lack` wrote them",
+            help: "A log, or operations written by `radio lack`",
         },
         Word::Needed {
             name: "RIGHT",
-            help: "The log, or the operations, to compare with it",
+            help: "The log or operations to compare it with",
         },
         Word::Choice {
             name: "fields",
             others: &["view"],
-            help: "Print too, before the counts, `both ITEM FIELD STAMP STAMP` for each field that both alone write, with the last stamp of LEFT and of RIGHT",
+            help: "Also print `both ITEM FIELD STAMP STAMP` for each field that both changed, with the last change of LEFT and of RIGHT",
         },
         Word::Choice {
             name: "view",
             others: &["fields"],
-            help: "Print instead the lines of the session that go, behind `- `, and those that come, behind `+ `",
+            help: "Print instead the lines of `radio view` that LEFT (`- `) or RIGHT (`+ `) alone shows",
         },
         AS_TIMES,
         TIMES_RATE,

@@ -15,12 +15,12 @@ use std::rt::Files;
 
 pub(crate) const WORDS: Words = Words {
     name: "edit",
-    about: "Makes the changes of a script, all or none, and writes the new log",
-    after: "Example: radio edit 00000000-0000-0000-0000-00000000000a desk.log changes.txt desk.log\n\nA line of SCRIPT is one of these, with one space between words (docs/formats.md, Scripts, says all of them):\n  add-track AFTER TITLE, add-clip DIGEST TRACK AT OFFSET LEN, add-marker AT TITLE, retitle ITEM TITLE,\n  move-track ITEM AFTER, move-clip CLIP TRACK AT, move-marker ITEM AT, trim-clip ITEM OFFSET LEN,\n  gain ITEM NUM/DEN, mute ITEM on, mute ITEM off, fade ITEM IN OUT, marker-length ITEM LEN, remove ITEM, restore ITEM\nAn ITEM, a TRACK or a CLIP is a stamp that `radio view` prints, or $k for what line k adds; AFTER is a track, or `head` for the top;\nAT, OFFSET, LEN, IN and OUT are frames, with --time also times; NUM/DEN is with --time also decibels; DIGEST is what `radio info` prints. Two lines:\n  add-marker 480 Headlines\n  move-marker 1.1.00000000-0000-0000-0000-00000000000a 96000\n\nExit status: 0 done, 1 refused (the line `radio: fault N`; `radio explain N` tells why), 2 the command line does not parse.",
+    about: "Applies the changes of a script, all or none, and writes the new log",
+    after: "Example: radio edit 00000000-0000-0000-0000-00000000000a desk.log changes.txt desk.log\n\nEach line of SCRIPT is one change, with one space between words:\n  add-track AFTER TITLE, add-clip DIGEST TRACK AT OFFSET LEN, add-marker AT TITLE, retitle ITEM TITLE,\n  move-track ITEM AFTER, move-clip CLIP TRACK AT, move-marker ITEM AT, trim-clip ITEM OFFSET LEN,\n  gain ITEM NUM/DEN, mute ITEM on, mute ITEM off, fade ITEM IN OUT, marker-length ITEM LEN, remove ITEM, restore ITEM\nITEM, TRACK and CLIP are stamps as `radio view` prints them, or $k for what line k adds; AFTER is a track, or `head`\nfor the top. AT, OFFSET, LEN, IN and OUT are frames, or times with --time. NUM/DEN is a factor such as 1/2, or decibels\nwith --time. DIGEST is what `radio info` prints. Two lines:\n  add-marker 480 Headlines\n  move-marker 1.1.00000000-0000-0000-0000-00000000000a 96000\n\nExit status: 0 done; 1 failed (`radio: fault N`, see `radio explain N`); 2 wrong command line.",
     words: &[
         Word::Needed {
             name: "REPLICA",
-            help: "The UUID of the editor who makes the changes",
+            help: "The UUID of the editor who makes the changes (see `radio id`)",
         },
         Word::Needed {
             name: "LOG",
@@ -28,15 +28,15 @@ pub(crate) const WORDS: Words = Words {
         },
         Word::Needed {
             name: "SCRIPT",
-            help: "The changes, a line each (see below)",
+            help: "The changes, one per line (see below)",
         },
         Word::Needed {
             name: "OUT",
-            help: "The log to write, which may be LOG; one that is there is replaced, also where it is SCRIPT",
+            help: "The log to write, usually LOG; an existing file is replaced, even SCRIPT",
         },
         Word::Flag {
             name: "time",
-            help: "Take times (0:01:30.5, 1.5s) and decibels (-6dB) too, at --rate frames a second",
+            help: "Also accept times (0:01:30.5, 1.5s) and decibels (-6dB), at --rate frames a second",
         },
         TIMES_RATE,
         NEW,

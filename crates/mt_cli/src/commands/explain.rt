@@ -14,12 +14,12 @@ use std::io::Write;
 
 pub(crate) const WORDS: Words = Words {
     name: "explain",
-    about: "Prints what refusal N means, and what can be done about it; with no N all refusals",
-    after: "Example: radio explain 45\n\nWith --why a command tells in one more line which input, record, line, option or output its refusal is about.\n\nExit status: 0 done, 1 refused (the line `radio: fault N`; `radio explain N` tells why), 2 the command line does not parse.",
+    about: "Explains error N and what to do about it; without N, lists all errors",
+    after: "Example: radio explain 45\n\nWith --why, a command that fails prints one more line: which input, record, line, option or output caused it.\n\nExit status: 0 done; 1 failed (`radio: fault N`, see `radio explain N`); 2 wrong command line.",
     words: &[Word::Number {
         name: "N",
         greatest: u8::MAX as u64,
-        help: "The number of a refusal, as `radio: fault N` tells it; with none, all refusals",
+        help: "The number in `radio: fault N`; all errors if it is left out",
     }],
 };
 

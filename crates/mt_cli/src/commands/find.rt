@@ -18,8 +18,8 @@ use std::rt::Files;
 
 pub(crate) const WORDS: Words = Words {
     name: "find",
-    about: "Prints the stamps of the items that have a title, or of the clips that play a recording",
-    after: "Example: radio find --one desk.log track Music\n\nPrints a line for each, in the session's order; where there is none it prints nothing, and is done.\n\nExit status: 0 done, 1 refused (the line `radio: fault N`; `radio explain N` tells why), 2 the command line does not parse.",
+    about: "Finds items by title, or clips by their recording, and prints their stamps",
+    after: "Example: radio find --one desk.log track Music\n\nPrints one stamp per line, in the order of `radio view`, and nothing if there is no such item.\n\nExit status: 0 done; 1 failed (`radio: fault N`, see `radio explain N`); 2 wrong command line.",
     words: &[
         Word::Needed {
             name: "LOG",
@@ -28,19 +28,19 @@ pub(crate) const WORDS: Words = Words {
         Word::OneOf {
             name: "KIND",
             names: &["track", "marker", "clip"],
-            help: "What is looked for",
+            help: "What to look for",
         },
         Word::Needed {
             name: "WHAT",
-            help: "The exact title of tracks or markers; of clips the digest of the recording that they play, as `radio info` prints it, or with --wave its file",
+            help: "The exact title of a track or marker; for clips, the digest of their recording, or its file with --wave",
         },
         Word::Flag {
             name: "one",
-            help: "Be refused (21) where it is not exactly one item",
+            help: "Fail (21) unless there is exactly one",
         },
         Word::Flag {
             name: "wave",
-            help: "WHAT is the name of a file: find the clips that play this recording",
+            help: "WHAT is a file: find the clips that play it",
         },
     ],
 };

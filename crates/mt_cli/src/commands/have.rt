@@ -11,8 +11,8 @@ use std::rt::Files;
 
 pub(crate) const WORDS: Words = Words {
     name: "have",
-    about: "Writes which operations a log has, for another editor to see what it lacks",
-    after: "Example: radio have home.log home.have\n\nExit status: 0 done, 1 refused (the line `radio: fault N`; `radio explain N` tells why), 2 the command line does not parse.",
+    about: "Writes a summary of a log, from which another editor sees what is missing",
+    after: "Example: radio have home.log home.have\n\nExit status: 0 done; 1 failed (`radio: fault N`, see `radio explain N`); 2 wrong command line.",
     words: &[
         Word::Needed {
             name: "LOG",
@@ -20,7 +20,7 @@ pub(crate) const WORDS: Words = Words {
         },
         Word::Needed {
             name: "OUT",
-            help: "The summary to write; one that is there is replaced, also where it is LOG",
+            help: "The summary to write; an existing file is replaced, even LOG",
         },
         NEW,
         NO_SYNC,

@@ -12,7 +12,7 @@ use uuid::Uuid;
 pub(crate) const WORDS: Words = Words {
     name: "id",
     about: "Prints a new name for an editor: a random UUID",
-    after: "Example: radio id\n\nEach editor has a name of its own, which no other uses, and keeps it: what `radio edit` is called with.\n\nExit status: 0 done, 1 refused (the line `radio: fault N`; `radio explain N` tells why), 2 the command line does not parse.",
+    after: "Example: radio id\n\nMake one for each editor and keep it: `radio edit` asks for it. No two editors may share one.\n\nExit status: 0 done; 1 failed (`radio: fault N`, see `radio explain N`); 2 wrong command line.",
     words: &[],
 };
 

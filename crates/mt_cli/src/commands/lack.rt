@@ -11,8 +11,8 @@ use std::rt::Files;
 
 pub(crate) const WORDS: Words = Words {
     name: "lack",
-    about: "Writes the operations of a log that another editor lacks",
-    after: "Example: radio lack desk.log home.have for-home.ops\n\nExit status: 0 done, 1 refused (the line `radio: fault N`; `radio explain N` tells why), 2 the command line does not parse.",
+    about: "Writes the operations of a log that another editor is missing",
+    after: "Example: radio lack desk.log home.have for-home.ops\n\nExit status: 0 done; 1 failed (`radio: fault N`, see `radio explain N`); 2 wrong command line.",
     words: &[
         Word::Needed {
             name: "LOG",
@@ -20,11 +20,11 @@ pub(crate) const WORDS: Words = Words {
         },
         Word::Needed {
             name: "HAVE",
-            help: "What the other editor has, as `radio have` wrote it",
+            help: "The other editor's summary, written by `radio have`",
         },
         Word::Needed {
             name: "OUT",
-            help: "The operations to write; one that is there is replaced, also where it is LOG or HAVE",
+            help: "The operations to write; an existing file is replaced, even LOG or HAVE",
         },
         NEW,
         NO_SYNC,

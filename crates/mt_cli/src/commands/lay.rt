@@ -12,16 +12,16 @@ use std::rt::Files;
 
 pub(crate) const WORDS: Words = Words {
     name: "lay",
-    about: "Prints lines of a script that lay recordings on a track, one behind another",
-    after: "Example: radio lay --at 48000 '$1' jingle.wav interview.wav\n\nPrints a line `add-clip DIGEST TRACK AT 0 FRAMES` for each WAVE, a clip of the whole recording: the first at frame N of --at, each other where the one\nbefore it ends, and the frames of --gap behind it. `radio edit` takes these lines, behind others that make the track where TRACK is $k.\n\nExit status: 0 done, 1 refused (the line `radio: fault N`; `radio explain N` tells why), 2 the command line does not parse.",
+    about: "Prints script lines that put recordings on a track, one after another",
+    after: "Example: radio lay --at 48000 '$1' jingle.wav interview.wav\n\nPrints `add-clip DIGEST TRACK AT 0 FRAMES` for each WAVE, a clip of the whole recording: the first at --at, each other\nat the end of the one before it plus --gap. The lines are for `radio edit`; if TRACK is $k, line k adds the track.\n\nExit status: 0 done; 1 failed (`radio: fault N`, see `radio explain N`); 2 wrong command line.",
     words: &[
         Word::Needed {
             name: "TRACK",
-            help: "The track: its stamp, as `radio view` prints it, or $k for what line k of the script makes",
+            help: "The track: its stamp, or $k for the track that line k of the script adds",
         },
         Word::Many {
             name: "WAVE",
-            help: "Wave files, in the order in which they are to sound",
+            help: "Wave files, in the order in which they play",
         },
         Word::Count {
             name: "at",
@@ -33,13 +33,13 @@ pub(crate) const WORDS: Words = Words {
             name: "gap",
             default: "0",
             greatest: u32::MAX as u64,
-            help: "Frames between the end of one and the beginning of the next",
+            help: "Frames between two recordings",
         },
         Word::Count {
             name: "rate",
             default: "48000",
             greatest: u32::MAX as u64,
-            help: "Frames a second of the programme; a recording of another rate is refused (34)",
+            help: "Frames a second of the programme; fails (34) for a recording of another rate",
         },
     ],
 };

@@ -12,12 +12,12 @@ use std::rt::Files;
 
 pub(crate) const WORDS: Words = Words {
     name: "log",
-    about: "Prints the operations of the union of the logs, a line each by rising stamp",
-    after: "Example: radio log desk.log home.log\n\nExit status: 0 done, 1 refused (the line `radio: fault N`; `radio explain N` tells why), 2 the command line does not parse.",
+    about: "Prints the operations of one or more logs, sorted by stamp",
+    after: "Example: radio log desk.log home.log\n\nExit status: 0 done; 1 failed (`radio: fault N`, see `radio explain N`); 2 wrong command line.",
     words: &[
         Word::Any {
             name: "LOG",
-            help: "Logs, in any order; with none, one log from standard input",
+            help: "Logs, in any order; without any, one log from standard input",
         },
         AS_TIMES,
         TIMES_RATE,

@@ -13,12 +13,12 @@ use std::time::Duration;
 
 pub(crate) const WORDS: Words = Words {
     name: "meet",
-    about: "Meets an editor who serves, swaps operations, and writes the new log",
-    after: "Example: radio meet 127.0.0.1:7000 home.log home.log\n\nExit status: 0 done, 1 refused (the line `radio: fault N`; `radio explain N` tells why), 2 the command line does not parse.",
+    about: "Connects to an editor who serves, exchanges operations, and writes the new log",
+    after: "Example: radio meet 127.0.0.1:7000 home.log home.log\n\nExit status: 0 done; 1 failed (`radio: fault N`, see `radio explain N`); 2 wrong command line.",
     words: &[
         Word::Needed {
             name: "ADDR",
-            help: "The address of the editor who serves, as 127.0.0.1:7000",
+            help: "The address of the editor who serves, such as 127.0.0.1:7000",
         },
         Word::Needed {
             name: "LOG",
@@ -26,7 +26,7 @@ pub(crate) const WORDS: Words = Words {
         },
         Word::Needed {
             name: "OUT",
-            help: "The log to write, which may be LOG",
+            help: "The log to write, usually LOG",
         },
         WAIT,
         NEW,

@@ -11,16 +11,16 @@ use std::rt::Files;
 
 pub(crate) const WORDS: Words = Words {
     name: "merge",
-    about: "Writes the union of the logs as one log",
-    after: "Example: radio merge both.log desk.log home.log\n\nOUT is not read unless it is one of the LOGs: `radio pull desk.log home.log` adds home.log to desk.log. `radio merge desk.log` alone makes desk.log the\nlog of no operation, whatever was in it.\n\nExit status: 0 done, 1 refused (the line `radio: fault N`; `radio explain N` tells why), 2 the command line does not parse.",
+    about: "Writes all operations of the logs into one new log",
+    after: "Example: radio merge both.log desk.log home.log\n\nOUT is overwritten, not added to: to add home.log to desk.log, use `radio pull desk.log home.log`. `radio merge desk.log`\nalone makes desk.log an empty log, whatever was in it.\n\nExit status: 0 done; 1 failed (`radio: fault N`, see `radio explain N`); 2 wrong command line.",
     words: &[
         Word::Needed {
             name: "OUT",
-            help: "The log to write; one that is there is replaced",
+            help: "The log to write; an existing file is replaced",
         },
         Word::Any {
             name: "LOG",
-            help: "Logs, in any order; with none, OUT becomes the log of no operation",
+            help: "Logs, in any order; without any, OUT becomes an empty log",
         },
         NEW,
         NO_SYNC,

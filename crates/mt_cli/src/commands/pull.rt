@@ -1,5 +1,7 @@
 //! `radio pull`.
 
+ghost use Rattle.std.specs.Prelude.{◌≡◌, ◌+◌, length};
+
 use crate::fault::CliFault;
 use crate::files::{OpenLogs, open_logs};
 use crate::part::{Naming, Part};
@@ -13,12 +15,12 @@ use std::rt::Files;
 
 pub(crate) const WORDS: Words = Words {
     name: "pull",
-    about: "Adds the operations of other logs to a log, and tells how many were new",
-    after: "Example: radio pull desk.log home.log\n\nPrints a line `from NAME new N shared N` for each FROM, in order, of its operations that LOG and the FROMs before it lacked and had, and last\n`ops N`, all that LOG has then. LOG has to be there; a FROM is left as it is.\n\nExit status: 0 done, 1 refused (the line `radio: fault N`; `radio explain N` tells why), 2 the command line does not parse.",
+    about: "Adds the operations of other logs to a log, and prints how many were new",
+    after: "Example: radio pull desk.log home.log\n\nFor each FROM, prints `from NAME new N shared N`: how many of its operations were new and how many were there already;\nand at the end `ops N`, the number of operations in LOG. LOG must exist; the FROMs stay as they are. Where two edits\nchange the same thing, the one with the higher stamp wins everywhere; `radio revert` brings the other back.\n\nExit status: 0 done; 1 failed (`radio: fault N`, see `radio explain N`); 2 wrong command line.",
     words: &[
         Word::Needed {
             name: "LOG",
-            help: "The log that is added to",
+            help: "The log to add to",
         },
         Word::Many {
             name: "FROM",
@@ -26,7 +28,7 @@ pub(crate) const WORDS: Words = Words {
         },
         Word::Flag {
             name: "dry",
-            help: "Tell what would be added, and write nothing",
+            help: "Print what would be added, and write nothing",
         },
         NO_SYNC,
     ],
@@ -40,7 +42,9 @@ fn pulled<F: Files<File = File> + AllocGlobal, W: Write>(
     from: &[&str],
     opened: OpenLogs,
     output: &mut Latch<W>,
-) -> Result<(), CliFault> {
+) -> Result<(), CliFault>
+    requires { length opened.logs.items ≡ 1 + length from.now }
+{
     let alloc = rt.alloc();
     let OpenLogs { mut logs, base } = opened;
     if words.get_flag("dry") {

@@ -13,12 +13,12 @@ use std::rt::Files;
 
 pub(crate) const WORDS: Words = Words {
     name: "render",
-    about: "Writes the session of a log as a broadcast wave file, its markers as cue points",
-    after: "Example: radio render news.wav desk.log jingle.wav interview.wav --bits 16 --description 'Morning news'\n\nExit status: 0 done, 1 refused (the line `radio: fault N`; `radio explain N` tells why), 2 the command line does not parse.",
+    about: "Renders a log as a Broadcast Wave file, with markers as cue points",
+    after: "Example: radio render news.wav desk.log jingle.wav interview.wav --bits 16 --description 'Morning news'\n\nExit status: 0 done; 1 failed (`radio: fault N`, see `radio explain N`); 2 wrong command line.",
     words: &[
         Word::Needed {
             name: "OUT",
-            help: "The wave file to write; one that is there is replaced, also where it is LOG or a SOURCE",
+            help: "The wave file to write; an existing file is replaced, even LOG or a SOURCE",
         },
         Word::Needed {
             name: "LOG",
@@ -26,7 +26,7 @@ pub(crate) const WORDS: Words = Words {
         },
         Word::Any {
             name: "SOURCE",
-            help: "The recordings that clips name by their digests, in any order",
+            help: "The recordings that the clips play, in any order",
         },
         RATE,
         BITS,
@@ -62,25 +62,25 @@ pub(super) const CHANNELS: Word = Word::Count {
     name: "channels",
     default: "1",
     greatest: u16::MAX as u64,
-    help: "Channels, 1 or 2",
+    help: "Channels, 1 or 2; with 1, only the first channel of a stereo recording is heard",
 };
 
 pub(super) const DESCRIPTION: Word = Word::Text {
     name: "description",
     default: "",
-    help: "What it is, at most 256 bytes of printing ASCII (0x20 to 0x7E)",
+    help: "Description of the programme, at most 256 bytes of printable ASCII (0x20 to 0x7E)",
 };
 
 pub(super) const ORIGINATOR: Word = Word::Text {
     name: "originator",
     default: "",
-    help: "Who made it, at most 32 bytes of printing ASCII",
+    help: "Who made it, at most 32 bytes of printable ASCII",
 };
 
 pub(super) const REFERENCE: Word = Word::Text {
     name: "reference",
     default: "",
-    help: "Its reference there, at most 32 bytes of printing ASCII",
+    help: "Its reference at the originator, at most 32 bytes of printable ASCII",
 };
 
 pub(super) const DATE: Word = Word::Text {
@@ -99,7 +99,7 @@ pub(super) const TIME_REFERENCE: Word = Word::Count {
     name: "time-reference",
     default: "0",
     greatest: u64::MAX,
-    help: "Frames from midnight to the first",
+    help: "Time reference: frames from midnight to the first frame",
 };
 
 // The text of an option.

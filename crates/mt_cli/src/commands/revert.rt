@@ -13,8 +13,8 @@ use std::rt::Files;
 
 pub(crate) const WORDS: Words = Words {
     name: "revert",
-    about: "Prints the script that takes operations of a log back",
-    after: "Example: radio revert desk.log 5.2.00000000-0000-0000-0000-00000000000a > back.txt\n\nPrints a line for each, the newest first, that writes what stood before it, for `radio edit`. A remark, `# ...`, stands where no line takes it back: where it\nwaits, where its item is as it was before it, or where a later operation has changed the same.\n\nExit status: 0 done, 1 refused (the line `radio: fault N`; `radio explain N` tells why), 2 the command line does not parse.",
+    about: "Prints a script that undoes operations of a log",
+    after: "Example: radio revert desk.log 5.2.00000000-0000-0000-0000-00000000000a > back.txt\n\nThe script, for `radio edit`, has one line per operation, newest first, that sets back what it changed. A comment `# ...`\nstands in for operations with nothing to undo: they wait for another, changed nothing, or were overwritten since.\n\nExit status: 0 done; 1 failed (`radio: fault N`, see `radio explain N`); 2 wrong command line.",
     words: &[
         Word::Needed {
             name: "LOG",
@@ -22,7 +22,7 @@ pub(crate) const WORDS: Words = Words {
         },
         Word::Many {
             name: "STAMP",
-            help: "Operations, by their stamps, as `radio log` prints them, in any order",
+            help: "Operations: their stamps as `radio log` prints them, in any order",
         },
     ],
 };

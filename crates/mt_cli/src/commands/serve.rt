@@ -20,12 +20,12 @@ use std::time::Duration;
 
 pub(crate) const WORDS: Words = Words {
     name: "serve",
-    about: "Waits for one editor who meets it, swaps operations, and writes the new log",
-    after: "Example: radio serve 127.0.0.1:7000 desk.log desk.log\n\nExit status: 0 done, 1 refused (the line `radio: fault N`; `radio explain N` tells why), 2 the command line does not parse.",
+    about: "Waits for one editor who connects, exchanges operations, and writes the new log",
+    after: "Example: radio serve 127.0.0.1:7000 desk.log desk.log\n\nExit status: 0 done; 1 failed (`radio: fault N`, see `radio explain N`); 2 wrong command line.",
     words: &[
         Word::Needed {
             name: "ADDR",
-            help: "The address to wait at, as 127.0.0.1:7000",
+            help: "The address to listen on, such as 127.0.0.1:7000",
         },
         Word::Needed {
             name: "LOG",
@@ -33,14 +33,14 @@ pub(crate) const WORDS: Words = Words {
         },
         Word::Needed {
             name: "OUT",
-            help: "The log to write, which may be LOG",
+            help: "The log to write, usually LOG",
         },
         WAIT,
         Word::Limit {
             name: "meetings",
             least: 0,
             greatest: u64::MAX,
-            help: "Serve N editors, one after another, and with 0 all who come; LOG is read for each",
+            help: "Serve N editors, one after another, or with 0 all who connect; LOG is read again for each",
         },
         NEW,
         NO_SYNC,

@@ -14,8 +14,8 @@ use std::rt::Files;
 
 pub(crate) const WORDS: Words = Words {
     name: "sources",
-    about: "Tells which recordings a session plays, and which of the files these are",
-    after: "Example: radio sources desk.log jingle.wav interview.wav\n\nPrints a line for each recording that a clip plays, by rising digest: `source DIGEST clips N audible N end N`, and then what is known of the first WAVE\nthat it is, `rate N channels N frames N file NAME`, or `missing`. N audible clips are not muted, nor is their track; `end N` tells how far into it they play, in frames. Then\n`unused DIGEST file NAME` for each WAVE that no clip plays, `refused N file NAME` for each that is no wave file (`radio explain N` tells why), and last\n`missing N`.\n\nExit status: 0 done, 1 refused (the line `radio: fault N`; `radio explain N` tells why), 2 the command line does not parse.",
+    about: "Lists the recordings that a session plays, and which of the files they are",
+    after: "Example: radio sources desk.log jingle.wav interview.wav\n\nFor each recording that clips play, sorted by digest: `source DIGEST clips N audible N end N`, followed by\n`rate N channels N frames N file NAME` of the first WAVE with that digest, or by `missing`. Audible clips are those that\nare not muted, on tracks that are not muted; `end N` is the frame of the recording at which the last of them ends.\nThen `unused DIGEST file NAME` for each WAVE that no clip plays, `refused N file NAME` for each that is no wave file\n(see `radio explain N`), and at the end `missing N`.\n\nExit status: 0 done; 1 failed (`radio: fault N`, see `radio explain N`); 2 wrong command line.",
     words: &[
         Word::Needed {
             name: "LOG",
@@ -28,17 +28,17 @@ pub(crate) const WORDS: Words = Words {
         Word::Choice {
             name: "missing",
             others: &["files"],
-            help: "Print the digests of the recordings that are missing, a line each, and nothing else",
+            help: "Print only the digests of missing recordings, one per line",
         },
         Word::Choice {
             name: "files",
             others: &["missing"],
-            help: "Print the names of the files that are played, the first of each recording, a line each, and nothing else",
+            help: "Print only the names of the files that are played, one per line, one for each recording",
         },
         Word::Choice {
             name: "json",
             others: &["missing", "files"],
-            help: "Tell each line as a JSON object",
+            help: "Print each line as a JSON object",
         },
     ],
 };

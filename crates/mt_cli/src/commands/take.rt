@@ -11,8 +11,8 @@ use std::rt::Files;
 
 pub(crate) const WORDS: Words = Words {
     name: "take",
-    about: "Takes the operations that another editor sent, and writes the new log",
-    after: "Example: radio take home.log for-home.ops home.log\n\nExit status: 0 done, 1 refused (the line `radio: fault N`; `radio explain N` tells why), 2 the command line does not parse.",
+    about: "Adds the operations that another editor sent, and writes the new log",
+    after: "Example: radio take home.log for-home.ops home.log\n\nExit status: 0 done; 1 failed (`radio: fault N`, see `radio explain N`); 2 wrong command line.",
     words: &[
         Word::Needed {
             name: "LOG",
@@ -20,11 +20,11 @@ pub(crate) const WORDS: Words = Words {
         },
         Word::Needed {
             name: "OPS",
-            help: "The operations, as `radio lack` wrote them",
+            help: "The operations, written by `radio lack`",
         },
         Word::Needed {
             name: "OUT",
-            help: "The log to write, which may be LOG; one that is there is replaced, also where it is OPS",
+            help: "The log to write, usually LOG; an existing file is replaced, even OPS",
         },
         NEW,
         NO_SYNC,

@@ -17,37 +17,37 @@ use std::rt::Files;
 
 pub(crate) const WORDS: Words = Words {
     name: "timeline",
-    about: "Draws the session of the union of the logs: its markers and tracks, a line each",
-    after: "Example: radio timeline --width 100 desk.log home.log\n\nMarkers: * several begin in the column, ^ one, ~ one lies there. Clips: [ one begins, = sounds, / fades in, \\ fades out, - muted.\n`radio timeline --svg desk.log > desk.svg` makes a picture for a browser.\n\nExit status: 0 done, 1 refused (the line `radio: fault N`; `radio explain N` tells why), 2 the command line does not parse.",
+    about: "Draws the session of one or more logs as text, or as a picture",
+    after: "Example: radio timeline --width 100 desk.log home.log\n\nMarkers: ^ one begins, * several begin, ~ one continues. Clips: [ begins, = plays, / fades in, \\ fades out, - muted.\n`radio timeline --svg desk.log > desk.svg` makes a picture for a browser.\n\nExit status: 0 done; 1 failed (`radio: fault N`, see `radio explain N`); 2 wrong command line.",
     words: &[
         Word::Any {
             name: "LOG",
-            help: "Logs, in any order; with none, one log from standard input",
+            help: "Logs, in any order; without any, one log from standard input",
         },
         Word::Limit {
             name: "width",
             least: 1,
             greatest: 1000,
-            help: "How many columns, 1 to 1000 (60)",
+            help: "Number of columns, 1 to 1000 (default: 60)",
         },
         Word::Limit {
             name: "rate",
             least: 1,
             greatest: 384_000,
-            help: "Frames a second, for the times that are told, 1 to 384000 (48000)",
+            help: "Frames a second for the times, 1 to 384000 (default: 48000)",
         },
         Word::Flag {
             name: "time",
-            help: "Tell in the last line times alone, and no frames",
+            help: "Print only times in the last line, and no frames",
         },
         Word::Flag {
             name: "svg",
-            help: "Draw a picture: the text of an SVG file, for a browser",
+            help: "Draw a picture: print an SVG file for a browser",
         },
         Word::Files {
             name: "source",
             needs: "svg",
-            help: "A recording, whose peaks the boxes of its clips show; as often as there are recordings",
+            help: "A recording whose peaks are drawn; may be repeated",
         },
     ],
 };

@@ -3,7 +3,7 @@
 use super::form_of;
 use crate::fault::CliFault;
 use crate::files::open_all;
-use crate::view::{view_log, view_logs};
+use crate::view::{view_log_in, view_logs_in};
 use crate::words::{AS_JSON, AS_TIMES, TIMES_RATE, Word, Words};
 use clap::ArgMatches;
 use mt_opcodec::Latch;
@@ -12,12 +12,12 @@ use std::rt::Files;
 
 pub(crate) const WORDS: Words = Words {
     name: "view",
-    about: "Prints the session of the union of the logs",
-    after: "Example: radio view desk.log home.log\n\nExit status: 0 done, 1 refused (the line `radio: fault N`; `radio explain N` tells why), 2 the command line does not parse.",
+    about: "Prints the session: tracks, clips and markers of one or more logs",
+    after: "Example: radio view desk.log home.log\n\nExit status: 0 done; 1 failed (`radio: fault N`, see `radio explain N`); 2 wrong command line.",
     words: &[
         Word::Any {
             name: "LOG",
-            help: "Logs, in any order; with none, one log from standard input",
+            help: "Logs, in any order; without any, one log from standard input",
         },
         AS_TIMES,
         TIMES_RATE,
@@ -35,8 +35,8 @@ pub(crate) fn run<F: Files + AllocGlobal, R: Read, W: Write>(
     match words.get_strs("LOG") {
         Some(names) if !names.is_empty() => {
             let mut files = open_all(rt, 0, names)?;
-            view_logs(rt.alloc(), form, &mut files, output)
+            view_logs_in(rt.alloc(), form, &mut files, output)
         }
-        _ => view_log(rt.alloc(), form, input, output),
+        _ => view_log_in(rt.alloc(), form, input, output),
     }
 }

@@ -42,6 +42,7 @@ fn is_unread_of_each(alloc: Global, call: Call) -> bool {
     of_first && of_second
 }
 
+// row: failing_devices, each_device_failing
 #[test]
 fn each_read_fails_in_turn(rt: HostRuntime) {
     for number in 0..CALLS.len() {
@@ -81,6 +82,7 @@ fn is_cut_at_each(alloc: Global, call: Call) -> bool {
     run(alloc, alloc, call, inputs_of(call), &mut choked) == Some(Err(refusal_of(call)))
 }
 
+// row: failing_devices, each_device_failing
 #[test]
 fn each_write_fails_in_turn(rt: HostRuntime) {
     for number in 0..CALLS.len() {

@@ -48,6 +48,7 @@ fn refusals(alloc: Global, call: Call) -> Option<u64> {
     None
 }
 
+// row: refused_growths
 #[test]
 fn refuses_each_growth(rt: HostRuntime) {
     for number in 0..CALLS.len() {

@@ -166,7 +166,7 @@ fn agreements(alloc: Global, scripts: [&[u8]; 3], orders: usize) -> Option<usize
 
 // Each script of B ends with three_sample_file's track and clip: they are the last two operations of the union.
 
-// four_places
+// row: same_set_same_file, four_places
 #[test]
 fn agree_on_four_places(rt: HostRuntime) {
     let scripts: [&[u8]; 3] = [
@@ -177,7 +177,7 @@ fn agree_on_four_places(rt: HostRuntime) {
     assert!(rt; agreements(rt.alloc(), scripts, 24) == Some(6));
 }
 
-// moved_tracks
+// row: same_set_same_file, moved_tracks
 #[test]
 fn agree_on_moved_tracks(rt: HostRuntime) {
     let scripts: [&[u8]; 3] = [
@@ -188,7 +188,7 @@ fn agree_on_moved_tracks(rt: HostRuntime) {
     assert!(rt; agreements(rt.alloc(), scripts, 120) == Some(7));
 }
 
-// removed_and_restored
+// row: same_set_same_file, removed_and_restored
 #[test]
 fn agree_on_a_removed_and_restored_marker(rt: HostRuntime) {
     let scripts: [&[u8]; 3] = [
@@ -199,7 +199,7 @@ fn agree_on_a_removed_and_restored_marker(rt: HostRuntime) {
     assert!(rt; agreements(rt.alloc(), scripts, 6) == Some(5));
 }
 
-// moved_and_removed_clip
+// row: same_set_same_file, moved_and_removed_clip
 #[test]
 fn agree_on_a_moved_and_removed_clip(rt: HostRuntime) {
     let scripts: [&[u8]; 3] = [
@@ -251,6 +251,7 @@ fn moves_as_scripted(alloc: Global, change: &Change) -> Option<bool> {
     edits_as_scripted(alloc, log, change, moved)
 }
 
+// row: same_set_same_file
 #[test]
 fn agree_on_an_edited_clip(rt: HostRuntime) -> Result<(), Fail> {
     let change = Change::MoveClip {

@@ -1,11 +1,13 @@
 //! The commands run, whatever the memory, the readers and the writer are.
+ghost use Rattle.std.specs.Prelude.{IfSome, length, ◌≡◌};
+
 use super::calls::Call;
 use super::texts::{BOTH, EDITED, HAS_NEWS, LABELLED, LOUD, NEWS, PULLED, SENT};
 use mt_cli::{
     CliFault, DiffForm, Drawing, Laying, LineForm, SessionDrawing, Wanted, bounce_logs, check_log,
     diff_logs, draw_log, draw_logs, edit_log, find_items, have_log, lack_log, lay_files, list_log,
     list_logs, list_sources, merge_logs, pull_logs, read_growing, revert_log, swap_log, take_log,
-    view_log, view_logs, write_info,
+    view_log_in, view_logs, write_info,
 };
 use mt_cuewrite::Head;
 use mt_op::Digest;
@@ -20,14 +22,19 @@ use std::alloc::{Allocator, Global};
 use std::io::{Read, Write};
 
 // One reader.
-fn one<R: Read + Drop>(alloc: Global, input: R) -> Option<Vec<Latch<R>>> {
+fn one<R: Read + Drop>(alloc: Global, input: R) -> Option<Vec<Latch<R>>>
+    ensures { IfSome result (λ inputs. length inputs.items ≡ 1) }
+{
     let mut inputs = Vec::new(alloc);
     inputs.push(Latch::new(input)).ok()?;
     Some(inputs)
 }
 
 // Two of them.
-fn two<R: Read + Drop>(alloc: Global, (first, second): (R, R)) -> Option<Vec<Latch<R>>> {
+fn two<R: Read + Drop>(alloc: Global, both: (R, R)) -> Option<Vec<Latch<R>>>
+    ensures { IfSome result (λ inputs. length inputs.items ≡ 2) }
+{
+    let (first, second) = both;
     let mut inputs = one(alloc, first)?;
     inputs.push(Latch::new(second)).ok()?;
     Some(inputs)
@@ -79,7 +86,7 @@ fn run_on_logs<M: Allocator + Clone, R: Read + Drop, W: Write>(
 ) -> Option<Result<(), CliFault>> {
     let mut inputs = two(alloc, inputs)?;
     Some(match call {
-        Call::ViewLogs => view_logs(memory, LineForm::PLAIN, &mut inputs, output),
+        Call::ViewLogs => view_logs(memory, &mut inputs, output),
         Call::ListLogs => list_logs(memory, LineForm::PLAIN, &mut inputs, output),
         Call::DrawLogs => draw_all(memory, &mut inputs, output),
         _ => merge_logs(memory, &mut inputs, output),
@@ -104,8 +111,8 @@ fn run_on_log<M: Allocator + Clone, R: Read + Drop, W: Write>(
 ) -> Result<(), CliFault> {
     let mut input = Latch::new(input);
     match call {
-        Call::ViewLog => view_log(memory, LineForm::PLAIN, &mut input, output),
-        Call::ViewObjects => view_log(memory, objects(alloc), &mut input, output),
+        Call::ViewLog => view_log_in(memory, LineForm::PLAIN, &mut input, output),
+        Call::ViewObjects => view_log_in(memory, objects(alloc), &mut input, output),
         Call::ListLog => list_log(memory, LineForm::PLAIN, &mut input, output),
         Call::DrawLog => draw_one(memory, &mut input, output),
         Call::FindMarker => {

@@ -93,15 +93,25 @@ fn feed_piece<'w, M: Allocator + Clone>(
     }
 }
 
-// Whether a talk that is told all in pieces of this size says what is wanted.
+// How a stream is cut: into a first piece of so many bytes, and others of a size.
+#[derive(Clone, Copy)]
+struct Cut {
+    first: usize,
+    size: usize,
+}
+
+// Whether a talk that is told all in such pieces says what is wanted.
 fn replies<M: Allocator + Clone>(
     talk: &mut Talk<M>,
     editor: &mut Editor<M>,
-    (stream, size): (&[u8], usize),
+    (stream, cut): (&[u8], Cut),
     wanted: &[u8],
 ) -> Result<bool, TalkFault> {
-    let mut rest = wanted;
-    for piece in stream.chunks(size.max(1)) {
+    let (first, others) = stream.split_at(cut.first.min(stream.len()));
+    let Some(mut rest) = feed_piece(talk, editor, first, wanted)? else {
+        return Ok(false);
+    };
+    for piece in others.chunks(cut.size.max(1)) {
         match feed_piece(talk, editor, piece, rest)? {
             Some(behind) => rest = behind,
             None => return Ok(false),
@@ -114,7 +124,7 @@ fn replies<M: Allocator + Clone>(
 fn ends<M: Allocator + Clone>(
     talk: &mut Talk<M>,
     editor: &mut Editor<M>,
-    stream: (&[u8], usize),
+    stream: (&[u8], Cut),
     wanted: &[u8],
 ) -> Result<bool, TalkFault> {
     let replied = replies(talk, editor, stream, wanted)?;
@@ -126,9 +136,9 @@ fn talks<M: Allocator + Copy>(
     memory: M,
     frames: Global,
     editor: &mut Editor<M>,
-    (side, size): (Side, usize),
+    (side, cut): (Side, Cut),
 ) -> Result<bool, TalkFault> {
-    let stream = (told_to(side), size);
+    let stream = (told_to(side), cut);
     if side == Side::Answerer {
         return ends(&mut Talk::answer(memory, frames), editor, stream, ANSWERER);
     }
@@ -141,11 +151,11 @@ fn talks<M: Allocator + Copy>(
     }
 }
 
-// An end of the conversation, told all in pieces of this size.
+// An end of the conversation, told all in such pieces.
 #[derive(Clone, Copy)]
 struct End {
     side: Side,
-    size: usize,
+    cut: Cut,
 }
 
 impl Work for End {
@@ -160,7 +170,7 @@ impl Work for End {
         alloc: Global,
         tally: &Refusing<Global>,
     ) -> Option<bool> {
-        let told = talks(memory, alloc, editor, (self.side, self.size));
+        let told = talks(memory, alloc, editor, (self.side, self.cut));
         Some(is_wanted(told, tally))
     }
 }
@@ -174,12 +184,22 @@ fn is_wanted(told: Result<bool, TalkFault>, tally: &Refusing<Global>) -> bool {
     }
 }
 
-// conversation, however it is cut
+// Whether an end ends that is told all in pieces of a size, and in two pieces of which the first has it.
+fn is_ended(alloc: Global, side: Side, first: usize) -> bool {
+    let pieces = Cut { first, size: first };
+    let two = Cut {
+        first,
+        size: usize::MAX,
+    };
+    is_done(alloc, &End { side, cut: pieces }) && is_done(alloc, &End { side, cut: two })
+}
+
+// row: conversation, conversation_in_pieces
 #[test]
 fn ends_however_it_is_cut(rt: HostRuntime) {
     for side in [Side::Caller, Side::Answerer] {
-        for size in 1..told_to(side).len() + 1 {
-            assert!(rt; is_done(rt.alloc(), &End { side, size }), "of {size}");
+        for first in 0..told_to(side).len() + 1 {
+            assert!(rt; is_ended(rt.alloc(), side, first), "of {first}");
         }
     }
 }

@@ -10,7 +10,7 @@ use mt_testkit::{A, B, Refusing};
 use mt_world::{Event, World, WorldFault};
 use std::alloc::{Allocator, Global};
 
-// An event of one of two editors: the first one's marker, its new title and its removal.
+// An event of one of two editors: a marker, and a new title and the removal of the first one's.
 #[derive(Clone, Copy)]
 enum Step {
     AddMarker(usize, u32, &'static str),
@@ -64,10 +64,14 @@ fn event_of<M: Allocator>(memory: M, item: Stamp, step: Step) -> Option<Event<M>
     }
 }
 
-fn events_of<M: Allocator + Copy>(memory: M, item: Stamp) -> Option<Vec<Event<M>, M>> {
+fn events_of<M: Allocator + Copy>(
+    memory: M,
+    item: Stamp,
+    steps: &[Step],
+) -> Option<Vec<Event<M>, M>> {
     let mut events = Vec::new(memory);
-    for step in STEPS {
-        events.push(event_of(memory, item, step)?).ok()?;
+    for step in steps {
+        events.push(event_of(memory, item, *step)?).ok()?;
     }
     Some(events)
 }
@@ -140,7 +144,7 @@ impl Work for Run {
         tally: &Refusing<Global>,
     ) -> Option<bool> {
         let item = Stamp::new(1, A, 1).ok()?;
-        let events = events_of(memory, item)?;
+        let events = events_of(memory, item, &STEPS)?;
         let answer = comes_to_it(memory, &events);
         Some(if tally.has_refused() {
             answer == Err(WorldFault::Memory)
@@ -155,11 +159,163 @@ fn is_no_world_where_a_growth_is_refused(rt: HostRuntime) {
     assert!(rt; refusals(rt.alloc(), &Run) > Some(50));
 }
 
+// What a history comes to: the operations that were sent, and the markers of each editor, with how many operations it holds back.
+#[derive(Clone, Copy)]
+struct History<'h> {
+    steps: &'h [Step],
+    sent: &'h [(Replica, u64)],
+    first: (&'h [(u32, &'static str)], u64),
+    second: (&'h [(u32, &'static str)], u64),
+}
+
+// Whether these are the operations that were sent.
+fn are_sent(world: &World, sent: &[(Replica, u64)]) -> bool {
+    for index in 0..sent.len() {
+        let (replica, seq) = sent[index];
+        if !is_sent(world, index, replica, seq) {
+            return false;
+        }
+    }
+    world.sent().len() == sent.len()
+}
+
+// Whether a session has these markers and holds back so many operations.
+fn shows_all(session: &Session, markers: &[(u32, &str)], held: u64) -> bool {
+    let shown = session.markers.items();
+    for index in 0..markers.len() {
+        let (at, text) = markers[index];
+        if !is_marker(shown.get(index), at, text) {
+            return false;
+        }
+    }
+    shown.len() == markers.len() && session.held == held
+}
+
+// The same of an editor.
+fn editor_shows_all(world: &World, index: usize, (markers, held): (&[(u32, &str)], u64)) -> bool {
+    match world.editor(index) {
+        Some(editor) => match editor.session() {
+            Some(session) => shows_all(session, markers, held),
+            None => false,
+        },
+        None => false,
+    }
+}
+
+// Whether a history comes to what it has to.
+fn is_history(alloc: Global, history: &History<'_>) -> Option<bool> {
+    let events = events_of(alloc, Stamp::new(1, A, 1).ok()?, history.steps)?;
+    match World::run(alloc, &[A, B], &events) {
+        Ok(world) => Some(
+            are_sent(&world, history.sent)
+                && editor_shows_all(&world, 0, history.first)
+                && editor_shows_all(&world, 1, history.second),
+        ),
+        Err(_) => None,
+    }
+}
+
+const X: (u32, &str) = (1, "X");
+
+const Y: (u32, &str) = (2, "Y");
+
+const Z: (u32, &str) = (1, "Z");
+
+// An unsaved marker is gone with a restart; a second take, and one of what was not sent, change nothing.
+const RESTARTED: [Step; 7] = [
+    Step::AddMarker(0, 1, "X"),
+    Step::Restart(0),
+    Step::AddMarker(0, 2, "Y"),
+    Step::Save(0),
+    Step::Take(1, 0),
+    Step::Take(1, 0),
+    Step::Take(1, 5),
+];
+
+// row: restarted_world
+#[test]
+fn forgets_what_was_not_saved(rt: HostRuntime) {
+    let history = History {
+        steps: &RESTARTED,
+        sent: &[(A, 1)],
+        first: (&[Y], 0),
+        second: (&[Y], 0),
+    };
+    assert!(rt; is_history(rt.alloc(), &history) == Some(true));
+}
+
+const LOSING: [Step; 8] = [
+    Step::AddMarker(0, 1, "X"),
+    Step::AddMarker(1, 2, "Y"),
+    Step::Save(0),
+    Step::Save(1),
+    Step::Take(0, 1),
+    Step::Take(1, 0),
+    Step::Remove(1),
+    Step::Restart(1),
+];
+
+// row: world_that_loses_a_take
+#[test]
+fn forgets_what_was_taken_and_removed(rt: HostRuntime) {
+    let history = History {
+        steps: &LOSING,
+        sent: &[(A, 1), (B, 1)],
+        first: (&[X, Y], 0),
+        second: (&[Y], 0),
+    };
+    assert!(rt; is_history(rt.alloc(), &history) == Some(true));
+}
+
+const RETITLING: [Step; 5] = [
+    Step::AddMarker(0, 1, "X"),
+    Step::Retitle(0, "Z"),
+    Step::Save(0),
+    Step::Take(1, 1),
+    Step::Take(1, 0),
+];
+
+// row: world_that_holds_a_title
+#[test]
+fn holds_a_title_until_its_marker(rt: HostRuntime) {
+    let mut history = History {
+        steps: &RETITLING[..4],
+        sent: &[(A, 1), (A, 2)],
+        first: (&[Z], 0),
+        second: (&[], 1),
+    };
+    assert!(rt; is_history(rt.alloc(), &history) == Some(true));
+    history.steps = &RETITLING;
+    history.second = (&[Z], 0);
+    assert!(rt; is_history(rt.alloc(), &history) == Some(true));
+}
+
+const SAVING_TWICE: [Step; 5] = [
+    Step::AddMarker(0, 1, "X"),
+    Step::Restart(0),
+    Step::AddMarker(0, 2, "Y"),
+    Step::Save(0),
+    Step::Save(0),
+];
+
+// row: world_that_saves_twice
+#[test]
+fn sends_once_what_is_saved_twice(rt: HostRuntime) {
+    let history = History {
+        steps: &SAVING_TWICE,
+        sent: &[(A, 1)],
+        first: (&[Y], 0),
+        second: (&[], 0),
+    };
+    assert!(rt; is_history(rt.alloc(), &history) == Some(true));
+}
+
 // What a world of one name twice is refused as.
 fn refused_names(alloc: Global) -> Option<WorldFault> {
     World::run(alloc, &[A, A], &[]).err()
 }
 
+// row: restarted_world
 #[test]
 fn refuses_a_name_that_stands_twice(rt: HostRuntime) {
     assert!(rt; refused_names(rt.alloc()) == Some(WorldFault::SameName(1)));

@@ -3,8 +3,9 @@
 //! growth is refused.
 
 use mt_holdback::{HoldBack, HoldBackFault, Offered, Waits};
+use mt_op::{Body, Gain, Op, OpFault};
 use mt_stamp::Stamp;
-use mt_testkit::{A, B, Refusing, marker, retitle};
+use mt_testkit::{A, B, Refusing, add_track, marker, retitle};
 use std::alloc::{Allocator, Global};
 use std::test::Fail;
 
@@ -46,7 +47,7 @@ fn left_of<T: Waits + Drop, M: Allocator + Clone>(memory: M, early: T, late: T) 
 }
 
 fn early_retitle<N: Allocator + Clone>(alloc: Global, over: N) -> Result<Left, Fail> {
-    let (item, own) = (Stamp::new(1, A, 1)?, Stamp::new(5, B, 5)?);
+    let (item, own) = (Stamp::new(1, A, 1)?, Stamp::new(2, B, 1)?);
     let early = retitle(alloc, own, item, "Late")?;
     Ok(left_of(over, early, marker(alloc, item, "News")?))
 }
@@ -78,6 +79,7 @@ fn is_failed(left: &Left) -> bool {
         && left.released == 0
 }
 
+// row: early_retitle, refused_growths
 // Each growth is refused in turn, until none is.
 #[test]
 fn fails_at_each_refused_growth(rt: HostRuntime) -> Result<(), Fail> {
@@ -91,6 +93,96 @@ fn fails_at_each_refused_growth(rt: HostRuntime) -> Result<(), Fail> {
         assert!(rt; is_failed(&left));
     }
     Err(Fail::from("each run met a refusal"))
+}
+
+// What an offer is answered, how many items are held after it, and how many are released.
+type Told = (Result<Offered, HoldBackFault>, u64, usize);
+
+fn tell<T: Waits + Drop, M: Allocator + Clone>(hold: &mut HoldBack<T, M>, item: T) -> Told {
+    let answer = offer_new(hold, item);
+    (answer, hold.held(), hold.released().len())
+}
+
+// Whether the items of these keys are released, in their order.
+fn are_released<T: Waits + Drop, M: Allocator>(hold: &HoldBack<T, M>, keys: &[Stamp]) -> bool {
+    let released = hold.released();
+    for index in 0..keys.len() {
+        match released.get(index) {
+            Some(item) if item.key() == keys[index] => {}
+            _ => return false,
+        }
+    }
+    released.len() == keys.len()
+}
+
+// What offers of two items are told, of which those of these keys are then released.
+fn told_of_two<T: Waits + Drop, M: Allocator + Clone>(
+    memory: M,
+    (first, second): (T, T),
+    keys: &[Stamp],
+) -> Option<[Told; 2]> {
+    let mut hold = HoldBack::new(memory);
+    let told = [tell(&mut hold, first), tell(&mut hold, second)];
+    if are_released(&hold, keys) {
+        Some(told)
+    } else {
+        None
+    }
+}
+
+// The same of three.
+fn told_of_three<T: Waits + Drop, M: Allocator + Clone>(
+    memory: M,
+    (first, second, third): (T, T, T),
+    keys: &[Stamp],
+) -> Option<[Told; 3]> {
+    let mut hold = HoldBack::new(memory);
+    let told = [
+        tell(&mut hold, first),
+        tell(&mut hold, second),
+        tell(&mut hold, third),
+    ];
+    if are_released(&hold, keys) {
+        Some(told)
+    } else {
+        None
+    }
+}
+
+// What offers of three tracks in a row are told, from the last to the first.
+fn told_of_tracks(alloc: Global, [p, q, r]: [Stamp; 3]) -> Result<Option<[Told; 3]>, OpFault> {
+    let last = add_track(alloc, r, Some(q))?;
+    let middle = add_track(alloc, q, Some(p))?;
+    let first = add_track(alloc, p, None)?;
+    Ok(told_of_three(alloc, (last, middle, first), &[p, q, r]))
+}
+
+// row: held_tracks
+#[test]
+fn releases_tracks_from_the_first(rt: HostRuntime) -> Result<(), Fail> {
+    let (p, q) = (Stamp::new(1, A, 1)?, Stamp::new(2, A, 2)?);
+    let told = told_of_tracks(rt.alloc(), [p, q, Stamp::new(3, A, 3)?]);
+    let (held, ready) = (Ok(Offered::Held), Ok(Offered::Ready(0)));
+    assert!(rt; told == Ok(Some([(held, 1, 0), (held, 2, 0), (ready, 0, 3)])));
+    Ok(())
+}
+
+// What offers of a gain of a marker, and then of the marker, are told.
+fn told_of_a_gain(alloc: Global, item: Stamp, own: Stamp) -> Result<Option<[Told; 2]>, OpFault> {
+    let gain = Gain::UNCHANGED;
+    let early = Op::new(own, Body::SetGain { item, gain })?;
+    let late = marker(alloc, item, "News")?;
+    Ok(told_of_two(alloc, (early, late), &[item]))
+}
+
+// row: wrong_role_in_hold_back
+#[test]
+fn holds_the_gain_of_a_marker(rt: HostRuntime) -> Result<(), Fail> {
+    let (item, own) = (Stamp::new(1, A, 1)?, Stamp::new(2, B, 1)?);
+    let told = told_of_a_gain(rt.alloc(), item, own);
+    let (held, ready) = (Ok(Offered::Held), Ok(Offered::Ready(0)));
+    assert!(rt; told == Ok(Some([(held, 1, 0), (ready, 1, 1)])));
+    Ok(())
 }
 
 #[test]

@@ -8,7 +8,7 @@ use mt_op::laws::{
 };
 use mt_op::{Body, Digest, Gain, LONGEST_FADE, Need, Op, OpFault, Role, Title, find_op};
 use mt_stamp::{Dot, Replica, Stamp};
-use mt_testkit::{A, B, Refusing, marker, removal};
+use mt_testkit::{A, B, Refusing, marker, removal, retitle};
 use std::alloc::{Allocator, Global};
 use std::slice;
 use std::test::Fail;
@@ -37,9 +37,11 @@ fn gain(num: u16, den: u16) -> Result<(u16, u16, bool), OpFault> {
     Ok((gain.num(), gain.den(), is_more))
 }
 
+// row: small_values
 #[test]
 fn makes_gains_with_a_divisor(rt: HostRuntime) {
     assert!(rt; gain(1, 1) == Ok((1, 1, false)));
+    assert!(rt; gain(2, 2) == Ok((2, 2, true)));
     assert!(rt; gain(1, 65_535) == Ok((1, 65_535, true)));
     assert!(rt; gain(1, 0) == Err(OpFault::BadGain));
 }
@@ -59,18 +61,76 @@ fn orders_titles_by_their_bytes(rt: HostRuntime) {
     assert!(rt; titles(rt.alloc(), "é", "\u{7f}") == Err(OpFault::BadTitle));
 }
 
+// A text of 256 letters.
+const LETTERS: &str =
+    "abcdefghijklmnopabcdefghijklmnopabcdefghijklmnopabcdefghijklmnopabcdefghijklmnopabcdefghijklmnopabcdefghijklmnopabcdefghijklmnopabcdefghijklmnopabcdefghijklmnopabcdefghijklmnopabcdefghijklmnopabcdefghijklmnopabcdefghijklmnopabcdefghijklmnopabcdefghijklmnon";
+
+// Whether a text is a title and its copy is equal, or why it is none.
+fn is_title(alloc: Global, text: &str) -> Result<bool, OpFault> {
+    let title = Title::new(alloc, text)?;
+    Ok(title.text() == text && title.try_clone()? == title)
+}
+
+// row: small_values, copies
+#[test]
+fn makes_titles_of_up_to_255_bytes(rt: HostRuntime) {
+    let longest = LETTERS.strip_suffix('n').unwrap_or("");
+    assert!(rt; longest.len() == 255 && is_title(rt.alloc(), longest) == Ok(true));
+    assert!(rt; is_title(rt.alloc(), LETTERS) == Err(OpFault::BadTitle));
+    assert!(rt; is_title(rt.alloc(), "Late\nNews") == Err(OpFault::BadTitle));
+    assert!(rt; is_title(rt.alloc(), "News") == Ok(true));
+    assert!(rt; is_title(rt.alloc(), "") == Ok(true));
+}
+
+// Why a new title, a trim of a clip or a removal is not made.
+fn retitle_fault(alloc: Global, own: Stamp, item: Stamp) -> Option<OpFault> {
+    retitle(alloc, own, item, "Late").err()
+}
+
+fn trim_fault(own: Stamp, clip: Stamp) -> Option<OpFault> {
+    let body: Body<Global> = Body::TrimClip {
+        clip,
+        offset: 0,
+        len: 0,
+    };
+    Op::new(own, body).err()
+}
+
+fn removal_fault(alloc: Global, own: Stamp, item: Stamp, tags: &[Stamp]) -> Option<OpFault> {
+    removal(alloc, own, item, tags).err()
+}
+
+// row: refused_operations
+#[test]
+fn refuses_what_is_no_operation(rt: HostRuntime) -> Result<(), Fail> {
+    let (first, last) = (Stamp::new(1, A, 1)?, Stamp::new(3, A, 3)?);
+    let (second, of_b) = (Stamp::new(2, A, 2)?, Stamp::new(2, B, 1)?);
+    let not_older = Some(OpFault::NameNotOlder);
+    assert!(rt; retitle_fault(rt.alloc(), second, of_b) == not_older);
+    assert!(rt; retitle_fault(rt.alloc(), last, of_b).is_none());
+    assert!(rt; trim_fault(last, first) == Some(OpFault::ZeroLength));
+    assert!(rt; trim_fault(last, Stamp::new(3, B, 1)?) == not_older);
+    let bad_tags = Some(OpFault::BadTags);
+    assert!(rt; removal_fault(rt.alloc(), last, first, &[]) == bad_tags);
+    assert!(rt; removal_fault(rt.alloc(), last, first, &[first, first]) == bad_tags);
+    Ok(())
+}
+
 // The digest of `abc` (FIPS 180-4).
 const ABC: &str = "ba7816bf8f01cfea414140de5dae2223b00361a396177a9cb410ff61f20015ad";
 
 const CAPITALS: &str = "BA7816BF8F01CFEA414140DE5DAE2223B00361A396177A9CB410FF61F20015AD";
 
-// small_values: digests
+// Digits of which 64 are a digest.
+const DIGITS_63: &str = "ba7816bf8f01cfea414140de5dae2223b00361a396177a9cb410ff61f20015a";
+
+// row: small_values
 #[test]
 fn reads_digests_of_64_digits(rt: HostRuntime) {
     let abc = Digest::of(b"abc");
     assert!(rt; Digest::read(ABC) == Ok(abc));
     assert!(rt; Digest::read(CAPITALS) == Ok(abc));
-    assert!(rt; Digest::read("ba") == Err(OpFault::BadDigest));
+    assert!(rt; Digest::read(DIGITS_63) == Err(OpFault::BadDigest));
     assert!(rt; compare_digests(&abc, &Digest([255; 32])).is_lt());
 }
 
@@ -86,7 +146,7 @@ fn written_abc(alloc: Global, at: u64) -> Result<bool, OpFault> {
     writes_abc(&memory)
 }
 
-// small_values: digests
+// row: small_values, refused_growths
 #[test]
 fn writes_digests_and_refuses_their_growth(rt: HostRuntime) {
     assert!(rt; written_abc(rt.alloc(), 0) == Err(OpFault::Memory));
@@ -124,6 +184,7 @@ fn fade_fault(own: Stamp, clip: Stamp, fade_in: u32, fade_out: u32) -> Option<Op
     Op::new(own, body).err()
 }
 
+// row: fade_limits
 #[test]
 fn makes_the_longest_fades(rt: HostRuntime) -> Result<(), Fail> {
     let (clip, own) = (Stamp::new(2, A, 2)?, Stamp::new(3, A, 3)?);
@@ -171,13 +232,13 @@ fn cloned_title<M: Allocator + Clone>(memory: M, text: &str) -> Result<Title<M>,
 // A body of a title that took memory three times: for the title, and for a clone of it and of the body.
 fn cloned_body<M: Allocator + Clone>(memory: M, text: &str) -> Result<Body<M>, OpFault> {
     let title = cloned_title(memory, text)?;
-    Body::AddMarker { at: 7, title }.try_clone()
+    Body::AddMarker { at: 480, title }.try_clone()
 }
 
-fn is_marker_at_7<M: Allocator>(op: &Op<M>, stamp: Stamp, text: &str) -> bool {
+fn is_marker_at_480<M: Allocator>(op: &Op<M>, stamp: Stamp, text: &str) -> bool {
     op.stamp() == stamp
         && op.dot() == stamp.dot()
-        && matches!(op.body(), Body::AddMarker { at: 7, title } if title.text() == text)
+        && matches!(op.body(), Body::AddMarker { at: 480, title } if title.text() == text)
 }
 
 // Whether the clone of an operation is it.
@@ -193,15 +254,16 @@ fn clones_a_marker<M: Allocator + Clone>(
     text: &str,
 ) -> Result<bool, OpFault> {
     let op = Op::new(stamp, cloned_body(memory, text)?)?;
-    Ok(is_cloned(&op)? && is_marker_at_7(&op, stamp, text))
+    Ok(is_cloned(&op)? && is_marker_at_480(&op, stamp, text))
 }
 
 // What that is answered as where the growth number `at` is refused.
 fn cloned_marker(alloc: Global, at: u64, stamp: Stamp) -> Result<bool, OpFault> {
     let memory = Refusing::new(alloc, at);
-    clones_a_marker(&memory, stamp, "News at nine o'clock")
+    clones_a_marker(&memory, stamp, "News")
 }
 
+// row: copies, refused_growths
 #[test]
 fn refuses_each_growth(rt: HostRuntime) -> Result<(), Fail> {
     let stamp = Stamp::new(1, A, 1)?;
@@ -228,6 +290,7 @@ fn cloned_list(alloc: Global, at: u64, item: Stamp, own: Stamp) -> Result<bool, 
     clones_a_list(&memory, own, item)
 }
 
+// row: refused_growths
 #[test]
 fn refuses_the_growth_of_what_is_copied_with_its_operation(rt: HostRuntime) -> Result<(), Fail> {
     let (item, own) = (Stamp::new(1, A, 1)?, Stamp::new(2, B, 1)?);

@@ -3,6 +3,7 @@
 //! `radio log`, `radio merge` and `radio edit` show it of each act and each refusal.
 mod latches;
 mod logs;
+mod merges;
 mod refused_growth;
 mod runs;
 mod tags;

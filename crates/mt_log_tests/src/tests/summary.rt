@@ -6,21 +6,22 @@ use mt_testkit::{A, B, Refusing, log_of};
 use std::alloc::{Allocator, Global};
 use std::test::Fail;
 
-// How many of a log's markers the summary of another one lacks, and the first of them.
+// How many of a log's markers the summary of another one lacks, and the first and the last of them.
+type Lacking = (usize, Option<Dot>, Option<Dot>);
+
 fn lacks<M: Allocator + Copy>(
     memory: M,
     own: &[Stamp],
     others: &[Stamp],
-) -> Result<(usize, Option<Dot>), MessageFault> {
+) -> Result<Lacking, MessageFault> {
     let (Ok(log), Ok(other)) = (log_of(&memory, own), log_of(&memory, others)) else {
         return Err(MessageFault::Memory);
     };
     let summary = Summary::of(memory, &other)?;
     let ops = lacking(memory, &log, &summary)?;
-    match ops.get(0) {
-        Some(op) => Ok((ops.len(), Some(op.dot()))),
-        None => Ok((0, None)),
-    }
+    let first = ops.first().map(|op| op.dot());
+    let last = ops.last().map(|op| op.dot());
+    Ok((ops.len(), first, last))
 }
 
 // The same where one growth is refused, and whether one was.
@@ -29,22 +30,28 @@ fn refused_lack(
     at: u64,
     own: &[Stamp],
     others: &[Stamp],
-) -> (Result<(usize, Option<Dot>), MessageFault>, bool) {
+) -> (Result<Lacking, MessageFault>, bool) {
     let memory = Refusing::new(alloc, at);
     let found = lacks(&memory, own, others);
     (found, memory.has_refused())
 }
 
+// row: lacking_operations, refused_growths
 #[test]
 fn finds_lacking_operations(rt: HostRuntime) -> Result<(), Fail> {
     let (first, second) = (Stamp::new(1, A, 1)?, Stamp::new(2, A, 2)?);
-    let (third, theirs) = (Stamp::new(3, A, 3)?, Stamp::new(5, B, 1)?);
-    let (own, others) = ([first, second, third, theirs], [first, third]);
+    let (third, fourth) = (Stamp::new(3, A, 3)?, Stamp::new(4, A, 4)?);
+    let theirs = Stamp::new(5, B, 1)?;
+    let (own, others) = (
+        [first, second, third, fourth, theirs],
+        [first, second, fourth],
+    );
+    let lacking = (2, Some(third.dot()), Some(theirs.dot()));
     for at in 0..100 {
         let (found, refused) = refused_lack(rt.alloc(), at, &own, &others);
         if !refused {
             assert!(rt; at > 5);
-            assert!(rt; found == Ok((2, Some(second.dot()))));
+            assert!(rt; found == Ok(lacking));
             return Ok(());
         }
         assert!(rt; found == Err(MessageFault::Memory));
@@ -86,10 +93,11 @@ fn refused_have(
     (made, memory.has_refused())
 }
 
+// row: lacking_operations, refused_growths
 #[test]
 fn refuses_each_growth_of_a_have(rt: HostRuntime) -> Result<(), Fail> {
     let first = Stamp::new(1, A, 1)?;
-    let own = [first, Stamp::new(4, A, 4)?];
+    let own = [first, Stamp::new(2, A, 2)?, Stamp::new(4, A, 4)?];
     for at in 0..100 {
         let (made, refused) = refused_have(rt.alloc(), at, &own, first.dot());
         if !refused {
@@ -121,6 +129,7 @@ fn is_empty_have(alloc: Global, body: &[u8]) -> Result<bool, MessageFault> {
     Ok(Message::read(alloc, body)? == empty)
 }
 
+// row: message_bodies
 // The worked bodies: a Have of nothing and a Bye; a byte alone, a replica of which nothing is said, no operation, a byte behind Bye.
 #[test]
 fn reads_the_worked_bodies(rt: HostRuntime) {
@@ -138,6 +147,7 @@ fn reads_the_worked_bodies(rt: HostRuntime) {
     }
 }
 
+// row: damaged_logs_counts
 // A count alone takes no memory: of replicas, of a replica's numbers beside its run, of operations.
 #[test]
 fn takes_no_memory_for_a_count(rt: HostRuntime) {

@@ -85,6 +85,7 @@ fn fails_after(alloc: Global, log: &Log, good: usize) -> bool {
     }
 }
 
+// row: file_in_pieces
 // the head, and three blocks
 #[test]
 fn writes_block_by_block(rt: HostRuntime) -> Result<(), Fail> {
@@ -109,6 +110,7 @@ fn refused_at(alloc: Global, log: &Log, at: u64) -> Option<(Result<(), BounceFau
     Some((written.answer, written.held, memory.has_refused()))
 }
 
+// row: refused_growths
 #[test]
 fn refuses_its_one_growth(rt: HostRuntime) -> Result<(), Fail> {
     let log = log_of_a_clip(rt.alloc(), 5000)?;

@@ -1,6 +1,6 @@
 //! Each growth refused in turn, until a run meets no refusal.
 
-use super::render::{are_added, is_mixed};
+use super::render::{are_added, is_added, is_mixed};
 use super::script::is_run;
 use mt_testkit::Refusing;
 use std::alloc::{Allocator, Global};
@@ -11,7 +11,9 @@ const GROWTHS: u64 = 400;
 // What is done over a memory that may refuse a growth.
 #[derive(Clone, Copy)]
 enum Work {
-    // recordings are added to a catalogue
+    // a recording is added to a catalogue
+    AddOne,
+    // recordings are added to it
     Add,
     // a session is mixed
     Mix,
@@ -22,6 +24,7 @@ enum Work {
 // Whether all is right: where no growth is refused, what comes of it; where one is refused in it, its answer and what it leaves. None where one is refused before.
 fn is_right<M: Allocator + Copy>(memory: M, work: Work, tally: &Refusing<Global>) -> Option<bool> {
     match work {
+        Work::AddOne => Some(is_added(memory, tally)),
         Work::Add => Some(are_added(memory, tally)),
         Work::Mix => is_mixed(memory, tally),
         Work::Run => is_run(memory, tally),
@@ -49,16 +52,20 @@ fn refusals(alloc: Global, work: Work) -> Option<u64> {
     None
 }
 
+// row: refused_growths
 #[test]
 fn of_recordings(rt: HostRuntime) {
+    assert!(rt; refusals(rt.alloc(), Work::AddOne) > Some(0));
     assert!(rt; refusals(rt.alloc(), Work::Add) > Some(1));
 }
 
+// row: refused_growths
 #[test]
 fn of_a_mix(rt: HostRuntime) {
     assert!(rt; refusals(rt.alloc(), Work::Mix) > Some(1));
 }
 
+// row: refused_growths
 #[test]
 fn of_a_script(rt: HostRuntime) {
     assert!(rt; refusals(rt.alloc(), Work::Run) > Some(5));

@@ -1,6 +1,10 @@
 //! What is taken to a mix. Each sample and each refusal is said by a clause of every mix, and the cases of `radio render` compare whole files.
 
+mod blocks;
 mod fades;
+mod recordings;
+mod refusals;
+mod samples;
 
 use mt_op::Digest;
 use mt_opcodec::Log;
@@ -26,6 +30,18 @@ fn count_of<M: Allocator>(catalogue: &Catalogue<'_, M>, files: &[&[u8]]) -> usiz
         }
     }
     there
+}
+
+/// Whether a recording is there once it is added; none where a growth is refused.
+pub(super) fn is_added<M: Allocator + Copy>(memory: M, tally: &Refusing<Global>) -> bool {
+    let mut catalogue = Catalogue::new(memory);
+    let answer = catalogue.add(RECORDING);
+    let count = count_of(&catalogue, &[RECORDING]);
+    if tally.has_refused() {
+        answer == Err(SourceFault::Memory) && count == 0
+    } else {
+        answer == Ok(Digest::of(RECORDING)) && count == 1
+    }
 }
 
 /// Whether five recordings of two digests are there once they are added; none where a growth is refused.
@@ -68,6 +84,20 @@ fn session_of<M: Allocator + Copy>(memory: M, text: &[u8]) -> Option<Session<M>>
         Ok(log) => from_scratch(memory, &log).ok(),
         Err(_) => None,
     }
+}
+
+// Fills a block where it lies in the programme, and tells whether it does.
+fn fill(mix: &Mix<'_, '_>, first: u64, samples: &mut [i32]) -> bool {
+    let channels = usize::from(mix.format().channels());
+    if channels == 0 || samples.len() % channels != 0 {
+        return false;
+    }
+    let frames = (samples.len() / channels) as u64;
+    if mix.length() < frames || mix.length() - frames < first {
+        return false;
+    }
+    mix.block(first, samples);
+    true
 }
 
 /// Whether that of the clip is as long as it is, or is refused where a growth is; none where a growth is refused to the session.

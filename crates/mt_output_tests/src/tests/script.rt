@@ -1,10 +1,12 @@
-//! A whole script. What each line makes, and which one is refused, the clauses say of every script, and the cases of `radio edit` show
+//! Whole scripts. What each line makes, and which one is refused, the clauses say of every script, and the cases of `radio edit` show
 //! of every form.
 use mt_opcodec::Log;
-use mt_replica::Editor;
+use mt_replica::{Editor, EditorFault};
 use mt_script::{ScriptFault, run};
+use mt_stamp::Stamp;
 use mt_testkit::{A, Refusing};
 use std::alloc::{Allocator, Global};
+use std::test::Fail;
 
 const SCRIPT: &[u8] = b"add-track head Voice
 add-clip e3b0c44298fc1c149afbf4c8996fb92427ae41e4649b934ca495991b7852b855 $1 0 10 20
@@ -35,4 +37,80 @@ pub(super) fn is_run<M: Allocator + Copy>(memory: M, tally: &Refusing<Global>) -
         Ok(mut editor) => Some(is_right(memory, &mut editor, tally)),
         Err(_) => None,
     }
+}
+
+// The log of a marker.
+const ONE_MARKER: &[u8] =
+    b"RMTS\x01\0\0\0\0\0\0\0\x01\0\0\0\0\0\0\0\x01\0\0\0\0\0\0\0\0\0\0\0\0\0\0\0\n\0\0\0\0\0\0\0\x01\n\0\0\x01\xe0\x04NewsV\xbc\xa5\xd5\x94\x11\xf1\x8b%\xd0Kj\xc5\xc7y=\x90f+\xb3z,\x84'+3\x07Ox\x0e\x8f\x0c";
+
+// The log of no operation.
+const EMPTY: &[u8] =
+    b"RMTS\x01\0\0\0\0\0\0\0\0\x11\x16\xdd\xab\xe2:a\xd2\xbd\xea\xf3\x06\x06\x0d\xd62;\xc4\xbc\xc6\xb9\xeb\xc9\x85\xe13n\x1a>\x85#Q";
+
+// What an editor answers to a script, where it has so many operations then.
+fn answer_of(
+    alloc: Global,
+    editor: &mut Editor,
+    script: &[u8],
+    left: usize,
+) -> Option<Result<usize, ScriptFault>> {
+    let answer = run(alloc, editor, script);
+    let log = editor.log()?;
+    if log.len() == left {
+        Some(answer)
+    } else {
+        None
+    }
+}
+
+// The same of the editor of a log, as A.
+fn answered(
+    alloc: Global,
+    log: &[u8],
+    script: &[u8],
+    left: usize,
+) -> Option<Result<usize, ScriptFault>> {
+    let log = Log::read(alloc, log).ok()?;
+    match Editor::from_log(alloc, A, log) {
+        Ok(mut editor) => answer_of(alloc, &mut editor, script, left),
+        Err(_) => None,
+    }
+}
+
+const FOUR_LINES: &[u8] = b"add-track head Voice
+add-clip ba7816bf8f01cfea414140de5dae2223b00361a396177a9cb410ff61f20015ad $1 0 10 20
+gain $2 1/2
+add-marker 480 News
+";
+
+const A_BAD_LINE: &[u8] = b"add-track head Voice
+mute $1 yes
+gain $2 1/2
+add-marker 480 News
+";
+
+const A_REFUSED_LINE: &[u8] = b"add-track head Voice
+trim-clip $1 0 5
+gain $2 1/2
+add-marker 480 News
+";
+
+const AFTER_A_REMOVAL: &[u8] = b"remove 1.1.00000000-0000-0000-0000-00000000000a
+
+retitle 1.1.00000000-0000-0000-0000-00000000000a x
+";
+
+// row: script, script_after_a_removal
+#[test]
+fn tells_the_line_at_fault(rt: HostRuntime) -> Result<(), Fail> {
+    let item = Stamp::new(1, A, 1)?;
+    assert!(rt; answered(rt.alloc(), EMPTY, FOUR_LINES, 4) == Some(Ok(4)));
+    let bad = Some(Err(ScriptFault::BadLine(2)));
+    assert!(rt; answered(rt.alloc(), EMPTY, A_BAD_LINE, 0) == bad);
+    let missing = EditorFault::NoSuchItem(item);
+    let refused = Some(Err(ScriptFault::Refused(2, missing)));
+    assert!(rt; answered(rt.alloc(), EMPTY, A_REFUSED_LINE, 0) == refused);
+    let absent = Some(Err(ScriptFault::Refused(3, EditorFault::Absent(item))));
+    assert!(rt; answered(rt.alloc(), ONE_MARKER, AFTER_A_REMOVAL, 1) == absent);
+    Ok(())
 }

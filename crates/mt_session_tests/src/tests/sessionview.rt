@@ -30,8 +30,8 @@ fn stamp_of(item: Item) -> Result<Stamp, StampFault> {
         Item::Voice => Stamp::new(2, A, 2),
         Item::Clip => Stamp::new(3, A, 3),
         Item::Moved => Stamp::new(4, A, 4),
-        Item::Early => Stamp::new(2, B, 1),
-        Item::Late => Stamp::new(3, B, 2),
+        Item::Early => Stamp::new(3, B, 2),
+        Item::Late => Stamp::new(2, B, 1),
         Item::Absent => Stamp::new(1, Replica(12), 1),
     }
 }
@@ -145,7 +145,16 @@ fn refused_ready(alloc: Global, at: u64, wanted: &[Stamp]) -> (Result<bool, Sess
     (ready, memory.has_refused())
 }
 
-// early_retitle
+// row: ready_stamps
+#[test]
+fn tells_which_are_ready(rt: HostRuntime) -> Result<(), Fail> {
+    let both = [stamp_of(Item::News)?, stamp_of(Item::Late)?];
+    assert!(rt; are_ready(&rt.alloc(), &[Item::Late], &[]) == Ok(true));
+    assert!(rt; are_ready(&rt.alloc(), &BOTH, &both) == Ok(true));
+    Ok(())
+}
+
+// row: refused_growths
 #[test]
 fn refuses_each_growth_of_ready_stamps(rt: HostRuntime) -> Result<(), Fail> {
     let both = [stamp_of(Item::News)?, stamp_of(Item::Late)?];

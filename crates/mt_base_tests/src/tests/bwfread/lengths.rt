@@ -39,6 +39,7 @@ fn gives(alloc: Global, list: &[u8], length: Option<u32>) -> Result<bool, AllocE
     Ok(cue.length == length && cue.label == Some(b"News".as_slice()))
 }
 
+// row: smallest_wave_short_length
 #[test]
 fn passes_over_a_length_of_19_bytes(rt: HostRuntime) -> Result<(), Fail> {
     let list =
@@ -66,11 +67,34 @@ fn cue_count(alloc: Global, count: u32) -> Result<u32, AllocError> {
     }
 }
 
+// row: smallest_wave_short_chunks
 #[test]
 fn counts_the_cue_points_that_are_there(rt: HostRuntime) {
-    for (told, count) in [(0, 0), (1, 1), (2, 1), (u32::MAX, 1)] {
+    for (told, count) in [(0, 0), (1, 1), (2, 1), (5, 1), (u32::MAX, 1)] {
         assert!(rt; cue_count(rt.alloc(), told) == Ok(count));
     }
+}
+
+// Whether a file has an extension whose chunk has so many bytes 0.
+fn has_extension(alloc: Global, length: usize) -> Result<bool, AllocError> {
+    let extension = vec![in alloc; 0; length]?;
+    let chunks: [(&[u8], &[u8]); 3] = [
+        (b"bext", &extension),
+        (b"fmt ", &pcm(1, 8)),
+        (b"data", &[129]),
+    ];
+    let text = file(alloc, &chunks)?;
+    match Wave::read(&text) {
+        Ok(wave) => Ok(wave.bext().is_some()),
+        Err(_) => Err(AllocError),
+    }
+}
+
+// row: smallest_wave_short_chunks
+#[test]
+fn passes_over_an_extension_of_601_bytes(rt: HostRuntime) {
+    assert!(rt; has_extension(rt.alloc(), 601) == Ok(false));
+    assert!(rt; has_extension(rt.alloc(), 602) == Ok(true));
 }
 
 // a label and a length of 2^32 - 1 bytes in a list of few

@@ -7,6 +7,65 @@ use mt_testalloc::Refusing;
 use std::alloc::{Allocator, Global};
 use std::test::Fail;
 
+// A tag that is added, or removed.
+#[derive(Clone, Copy)]
+enum Noted {
+    Tag(Stamp),
+    Removed(Stamp),
+}
+
+fn note(presence: &mut Presence, marks: &[Noted]) -> Result<(), CellFault> {
+    for noted in marks {
+        match noted {
+            Noted::Tag(stamp) => presence.add_tag(*stamp)?,
+            Noted::Removed(stamp) => presence.remove_tag(*stamp)?,
+        }
+    }
+    Ok(())
+}
+
+// The presence with these marks.
+fn with_marks(alloc: Global, marks: &[Noted]) -> Result<Presence, CellFault> {
+    let mut presence = Presence::new(alloc);
+    match note(&mut presence, marks) {
+        Ok(()) => Ok(presence),
+        Err(fault) => Err(fault),
+    }
+}
+
+// Whether these are the live tags of a presence, and its copy is equal.
+fn is_live(presence: &Presence, wanted: &[Stamp]) -> Result<bool, CellFault> {
+    let tags = presence.live_tags()?;
+    let copy = presence.try_clone()?;
+    let is_there = presence.is_present() != wanted.is_empty();
+    Ok(tags.as_slice() == wanted && is_there && copy == *presence)
+}
+
+// The same of the first marks, to which a presence with the others is joined.
+fn leave(
+    alloc: Global,
+    marks: &[Noted],
+    others: &[Noted],
+    wanted: &[Stamp],
+) -> Result<bool, CellFault> {
+    let mut presence = with_marks(alloc, marks)?;
+    presence.join(with_marks(alloc, others)?)?;
+    is_live(&presence, wanted)
+}
+
+// row: removed_and_restored, copies
+#[test]
+fn keeps_what_no_removal_lists(rt: HostRuntime) -> Result<(), Fail> {
+    let (item, again) = (Stamp::new(1, A, 1)?, Stamp::new(2, B, 1)?);
+    let (tag, gone, restored) = (Noted::Tag(item), Noted::Removed(item), Noted::Tag(again));
+    assert!(rt; leave(rt.alloc(), &[tag, gone, restored], &[], &[again]) == Ok(true));
+    assert!(rt; leave(rt.alloc(), &[gone, restored, tag], &[], &[again]) == Ok(true));
+    assert!(rt; leave(rt.alloc(), &[tag, gone], &[tag, restored], &[again]) == Ok(true));
+    let both = [gone, Noted::Removed(again)];
+    assert!(rt; leave(rt.alloc(), &[tag, gone, restored], &both, &[]) == Ok(true));
+    Ok(())
+}
+
 // The stamps of a replica, from the greatest on.
 fn falling(replica: Replica) -> Result<[Stamp; 200], StampFault> {
     let mut stamps = [Stamp::new(1, replica, 1)?; 200];
@@ -130,6 +189,7 @@ fn some_of(stamps: &[Stamp], count: usize) -> &[Stamp] {
     stamps.get(..count).unwrap_or(stamps)
 }
 
+// row: refused_growths
 // Of many tags that are given or copied, and of two sets of each presence that are joined; none without marks, and none of two tags that are removed and copied.
 #[test]
 fn refuses_each_growth(rt: HostRuntime) -> Result<(), Fail> {

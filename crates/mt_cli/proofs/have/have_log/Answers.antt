@@ -5,8 +5,8 @@ use Rattle.mt_cli.proofs.have.have_log.Goals as goal
 
 pub returns-in-Ok-clause-ok : goal.returns-in-Ok-clause-ok
 returns-in-Ok-clause-ok g c =
-    one_written g.R.Read.remaining g.W.Write.contents Having (lent_one c.args.input.now c.args.output.now) (lent_one c.read_log.new.input c.put_having.new.output) c.in-Ok.log c.put_having.result c.in-Ok.ensures.ok.0 c.put_having.ensures.ok
+    one_written g.R.Read.remaining g.W.Write.contents Having (lent_one c.args.input.now c.args.output.now) (lent_one c.read_log.new.input c.put_having.new.output) c.in-Ok.log c.put_having.result c.in-Ok.ensures.ok c.put_having.ensures.ok
 
 pub returns-in-Ok-clause-err : goal.returns-in-Ok-clause-err
 returns-in-Ok-clause-err g c =
-    one_failed g.R.Read.remaining g.W.Write.contents Having (lent_one c.args.input.now c.args.output.now) (lent_one c.read_log.new.input c.put_having.new.output) c.in-Ok.log c.put_having.result c.in-Ok.ensures.ok.0 c.in-Ok.ensures.read c.put_having.ensures.err
+    one_failed g.R.Read.remaining g.W.Write.contents Having (lent_one c.args.input.now c.args.output.now) (lent_one c.read_log.new.input c.put_having.new.output) c.in-Ok.log c.put_having.result c.in-Ok.ensures.ok c.in-Ok.ensures.read c.put_having.ensures.err

@@ -5,10 +5,10 @@ use Rattle.mt_cli.proofs.revert.revert_log.Goals as goal
 
 pub returns-in-Ok-clause-ok : goal.returns-in-Ok-clause-ok
 returns-in-Ok-clause-ok g c =
-    one_written g.R.Read.remaining g.W.Write.contents (Reverting c.args.stamps.now) (lent_one c.args.input.now c.args.output.now) (lent_one c.read_log.new.input c.put_script.new.output) c.in-Ok.log c.put_script.result c.in-Ok.ensures.ok.0
+    one_written g.R.Read.remaining g.W.Write.contents (Reverting c.args.stamps.now) (lent_one c.args.input.now c.args.output.now) (lent_one c.read_log.new.input c.put_script.new.output) c.in-Ok.log c.put_script.result c.in-Ok.ensures.ok
     c.put_script.ensures.ok
 
 pub returns-in-Ok-clause-err : goal.returns-in-Ok-clause-err
 returns-in-Ok-clause-err g c =
-    one_failed g.R.Read.remaining g.W.Write.contents (Reverting c.args.stamps.now) (lent_one c.args.input.now c.args.output.now) (lent_one c.read_log.new.input c.put_script.new.output) c.in-Ok.log c.put_script.result c.in-Ok.ensures.ok.0
+    one_failed g.R.Read.remaining g.W.Write.contents (Reverting c.args.stamps.now) (lent_one c.args.input.now c.args.output.now) (lent_one c.read_log.new.input c.put_script.new.output) c.in-Ok.log c.put_script.result c.in-Ok.ensures.ok
     c.in-Ok.ensures.read c.put_script.ensures.err

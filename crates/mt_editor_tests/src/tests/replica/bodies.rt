@@ -105,7 +105,11 @@ fn is_answer(way: Way, number: u64, answer: &Result<Answer, EditorFault>) -> boo
     let Ok(stamp) = made_at(number) else {
         return false;
     };
+    let Ok(second) = made_at(2) else {
+        return false;
+    };
     let wanted = match (way, number) {
+        (Way::Edit, 6) => Answer::Removed(stamp, second),
         (Way::Edit, _) => Answer::Made(stamp),
         (Way::Take, 12 | 16) => Answer::Held,
         (Way::Take, 13 | 17) => Answer::Applied(2),
@@ -214,11 +218,13 @@ fn refusals_in(alloc: Global, way: Way) -> Option<u64> {
     refusals(alloc, &Steps { way, compares })
 }
 
+// row: refused_growths
 #[test]
 fn fails_at_each_refused_growth_of_a_take(rt: HostRuntime) {
     assert!(rt; refusals_in(rt.alloc(), Way::Take) > Some(50));
 }
 
+// row: refused_growths
 #[test]
 fn fails_at_each_refused_growth_of_an_edit(rt: HostRuntime) {
     assert!(rt; refusals_in(rt.alloc(), Way::Edit) > Some(50));
@@ -245,6 +251,7 @@ impl Work for Waiting {
     }
 }
 
+// row: refused_growths
 #[test]
 fn refuses_each_growth_of_a_log_that_waits(rt: HostRuntime) {
     assert!(rt; refusals(rt.alloc(), &Waiting) > Some(20));

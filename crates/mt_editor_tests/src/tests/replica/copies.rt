@@ -120,6 +120,7 @@ impl Work for Made {
     }
 }
 
+// row: taken_again, refused_growths
 #[test]
 fn refuses_each_growth_of_copies_and_drafts(rt: HostRuntime) {
     assert!(rt; refusals(rt.alloc(), &Made::Copy) > Some(5));

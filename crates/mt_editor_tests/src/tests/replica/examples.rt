@@ -66,19 +66,22 @@ fn keeps_both_ways(alloc: Global, ops: &[(Stamp, Act)]) -> bool {
     is_done(alloc, &told) && is_done(alloc, &reversed)
 }
 
-// early_retitle, two_retitles and taken_again: a marker, two new titles of it, and the marker once more.
+// early_retitle and two_retitles: a title before its marker; a marker, and two new titles of it.
 fn retitles(alloc: Global) -> Result<bool, StampFault> {
     let item = Stamp::new(1, A, 1)?;
-    let news = Act::AddMarker(Name::News);
-    Ok(keeps_both_ways(
-        alloc,
-        &[
-            (Stamp::new(2, B, 1)?, Act::Retitle(item, Name::Late)),
-            (item, news),
-            (Stamp::new(2, A, 2)?, Act::Retitle(item, Name::Early)),
-            (item, news),
-        ],
-    ))
+    let news = (item, Act::AddMarker(Name::News));
+    let late = (Stamp::new(2, B, 1)?, Act::Retitle(item, Name::Late));
+    let x = (Stamp::new(2, A, 2)?, Act::Retitle(item, Name::X));
+    let y = (Stamp::new(2, B, 1)?, Act::Retitle(item, Name::Y));
+    Ok(keeps_both_ways(alloc, &[late, news]) && keeps_both_ways(alloc, &[news, x, y]))
+}
+
+// taken_again: a marker three times, and another operation of its stamp.
+fn repeats(alloc: Global) -> Result<bool, StampFault> {
+    let item = Stamp::new(1, A, 1)?;
+    let (news, other) = (Act::AddMarker(Name::News), Act::AddMarker(Name::X));
+    let ops = [(item, news), (item, news), (item, news), (item, other)];
+    Ok(keeps_both_ways(alloc, &ops))
 }
 
 // four_places: at the head, two after it, and one more at the head.
@@ -151,15 +154,19 @@ fn three_logs(alloc: Global) -> Result<bool, StampFault> {
         &[
             (item, Act::AddMarker(Name::News)),
             (Stamp::new(2, B, 1)?, Act::Retitle(item, Name::Late)),
-            (Stamp::new(1, B, 7)?, Act::AddMarker(Name::Weather)),
-            (Stamp::new(3, A, 1)?, Act::AddMarker(Name::Early)),
+            (Stamp::new(1, B, 7)?, Act::AddMarker(Name::Y)),
+            (item, Act::AddMarker(Name::X)),
         ],
     ))
 }
 
+// row: session_at_each_step
+// early_retitle, two_retitles, four_places, moved_tracks, removed_and_restored, moved_and_removed_clip, taken_again, three_logs; refused_edits
+// is compared where it is run
 #[test]
 fn keeps_the_session_through_examples(rt: HostRuntime) -> Result<(), Fail> {
     assert!(rt; retitles(rt.alloc()) == Ok(true));
+    assert!(rt; repeats(rt.alloc()) == Ok(true));
     assert!(rt; places(rt.alloc()) == Ok(true));
     assert!(rt; moved_tracks(rt.alloc()) == Ok(true));
     assert!(rt; removed_marker(rt.alloc()) == Ok(true));

@@ -2,12 +2,12 @@
 
 use super::operations::{Act, change_of, op_of};
 use crate::tests::works::{Work, is_done};
-use mt_op::Op;
+use mt_op::{Body, Op};
 use mt_opcodec::Log;
 use mt_replica::{Change, Editor, EditorFault, Taken};
 use mt_sessionview::{Session, from_scratch};
-use mt_stamp::Stamp;
-use mt_testkit::Refusing;
+use mt_stamp::{Replica, Stamp};
+use mt_testkit::{B, Refusing, log_of};
 use std::alloc::{Allocator, Global};
 
 /// An editor is asked to take an operation of this stamp, or to make an edit.
@@ -17,13 +17,15 @@ pub(crate) enum Step {
     Edit(Act),
 }
 
-/// What comes of a step: what became of the operation, and how many became ready by it; the stamp of the one that an edit made.
+/// What comes of a step: what became of the operation, and how many became ready by it; the stamp of the one that an edit made, and
+/// the tag that it lists where it removes by one.
 #[derive(Clone, Copy, PartialEq, Eq)]
 pub(crate) enum Answer {
     Already,
     Held,
     Applied(usize),
     Made(Stamp),
+    Removed(Stamp, Stamp),
 }
 
 /// How many operations an editor has, how many it holds back, and how many markers it shows.
@@ -60,12 +62,22 @@ pub(crate) fn take<M: Allocator + Copy>(
     }
 }
 
+fn made<M: Allocator>(op: &Op<M>) -> Answer {
+    match op.body() {
+        Body::Remove { tags, .. } => match tags.items() {
+            [tag] => Answer::Removed(op.stamp(), *tag),
+            _ => Answer::Made(op.stamp()),
+        },
+        _ => Answer::Made(op.stamp()),
+    }
+}
+
 fn make<M: Allocator + Copy>(
     editor: &mut Editor<M>,
     change: &Change<M>,
 ) -> Result<Answer, EditorFault> {
     match editor.edit(change) {
-        Ok(op) => Ok(Answer::Made(op.stamp())),
+        Ok(op) => Ok(made(&op)),
         Err(fault) => Err(fault),
     }
 }
@@ -115,12 +127,26 @@ fn is_answered<M: Allocator + Copy>(editor: &mut Editor<M>, memory: M, row: &Row
     answer == Some(wanted) && counts(editor) == Some(left) && is_alike(memory, editor)
 }
 
+// The editor of this name begins with the log of a marker of this stamp, or with the empty log.
 #[derive(Clone, Copy)]
 struct History<'r> {
+    name: Replica,
+    marker: Option<Stamp>,
     rows: &'r [Row],
 }
 
 impl Work for History<'_> {
+    fn name(&self) -> Replica {
+        self.name
+    }
+
+    fn log<M: Allocator + Copy>(&self, memory: M) -> Option<Log<M>> {
+        match self.marker {
+            Some(stamp) => log_of(&memory, &[stamp]).ok(),
+            None => Some(Log::new(memory)),
+        }
+    }
+
     fn is_right<M: Allocator + Copy>(
         &self,
         editor: &mut Editor<M>,
@@ -137,7 +163,14 @@ impl Work for History<'_> {
     }
 }
 
-/// Whether each row is so, of an editor that begins with the empty log.
+/// Whether each row is so, of an editor of B that begins with the empty log.
 pub(crate) fn is_history(alloc: Global, rows: &[Row]) -> bool {
-    is_done(alloc, &History { rows })
+    let (name, marker) = (B, None);
+    is_done(alloc, &History { name, marker, rows })
+}
+
+/// The same of an editor of this name that begins with the log of a marker `News` at 480 of this stamp.
+pub(crate) fn goes_on_with(alloc: Global, name: Replica, stamp: Stamp, rows: &[Row]) -> bool {
+    let marker = Some(stamp);
+    is_done(alloc, &History { name, marker, rows })
 }

@@ -32,7 +32,7 @@ fn stamp_of_b(number: u64) -> Result<Stamp, StampFault> {
 fn takes_marker<M: Allocator + Copy>(editor: &mut Editor<M>, memory: M, number: u64) -> bool {
     match stamp_of_b(number) {
         Ok(item) => {
-            let answer = take(editor, memory, item, Act::AddMarker(Name::News));
+            let answer = take(editor, memory, item, Act::AddMarker(Name::X));
             answer == Some(Ok(Answer::Applied(1)))
         }
         Err(_) => false,
@@ -70,8 +70,8 @@ fn answer_to<M: Allocator + Copy>(
     let title = stamp_of_b(MARKERS.saturating_add(1)).ok()?;
     let item = stamp_of_b(1).ok()?;
     match work {
-        Work::Take => take(editor, memory, title, Act::Retitle(item, Name::Early)),
-        Work::Edit => edit(editor, memory, Act::Retitle(item, Name::Late)),
+        Work::Take => take(editor, memory, title, Act::Retitle(item, Name::Y)),
+        Work::Edit => edit(editor, memory, Act::Retitle(item, Name::X)),
         Work::Scratch => made_from_nothing(editor, memory),
     }
 }
@@ -171,6 +171,8 @@ fn growths_of(alloc: Global, work: Work) -> Option<u64> {
     None
 }
 
+// row: one_cell_of_many
+// wrong body: recomputes_from_scratch
 #[test]
 fn gives_a_title_at_the_cost_of_one_cell(rt: HostRuntime) -> Result<(), Fail> {
     for work in [Work::Take, Work::Edit] {
@@ -187,6 +189,7 @@ fn scratch_takes_more(alloc: Global) -> bool {
     }
 }
 
+// row: one_cell_of_many
 #[test]
 fn makes_a_session_from_nothing_with_more_growths(rt: HostRuntime) -> Result<(), Fail> {
     assert!(rt; scratch_takes_more(rt.alloc()));

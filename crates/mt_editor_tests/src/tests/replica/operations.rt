@@ -6,25 +6,26 @@ use mt_stamp::Stamp;
 use mt_testkit::{add_track, marker, removal, retitle};
 use std::alloc::Allocator;
 
-/// A title of one letter.
+/// A title.
 #[derive(Clone, Copy)]
 pub(crate) enum Name {
     News,
-    Weather,
-    Early,
     Late,
+    X,
+    Y,
 }
 
 fn text(name: Name) -> &'static str {
     match name {
-        Name::News => "N",
-        Name::Weather => "W",
-        Name::Early => "E",
-        Name::Late => "L",
+        Name::News => "News",
+        Name::Late => "Late",
+        Name::X => "X",
+        Name::Y => "Y",
     }
 }
 
-/// What an operation or a change does. A Remove of an operation lists the item's first tag, and `RemoveBoth` a second one too.
+/// What an operation or a change does. A Remove of an operation lists the item's first tag, and `RemoveBoth` a second one too. A marker
+/// is added at 480, and the last one, which no operation is, at the last frame.
 #[derive(Clone, Copy)]
 pub(crate) enum Act {
     AddTrack(Option<Stamp>),
@@ -38,6 +39,7 @@ pub(crate) enum Act {
     RemoveBoth(Stamp, Stamp),
     Restore(Stamp),
     AddMarker(Name),
+    AddLastMarker,
     MoveMarker(Stamp),
     Retitle(Stamp, Name),
     SetFade(Stamp),
@@ -101,13 +103,19 @@ fn titled_change<M: Allocator>(memory: M, act: Act) -> Result<Change<M>, EditorF
             at: 480,
             title: titled(memory, text(name))?,
         },
+        Act::AddLastMarker => Change::AddMarker {
+            at: u32::MAX,
+            title: titled(memory, "X")?,
+        },
         _ => return Err(EditorFault::Memory),
     })
 }
 
 pub(crate) fn change_of<M: Allocator>(memory: M, act: Act) -> Result<Change<M>, EditorFault> {
     match act {
-        Act::AddTrack(_) | Act::Retitle(_, _) | Act::AddMarker(_) => titled_change(memory, act),
+        Act::AddTrack(_) | Act::Retitle(_, _) | Act::AddMarker(_) | Act::AddLastMarker => {
+            titled_change(memory, act)
+        }
         _ => plain_change(act),
     }
 }

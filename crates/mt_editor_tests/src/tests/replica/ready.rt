@@ -3,7 +3,7 @@
 use crate::tests::works::{Work, is_done};
 use mt_op::{Body, Op};
 use mt_opcodec::Log;
-use mt_replica::{Change, Draft, Editor, EditorFault, Taken};
+use mt_replica::{Change, Editor, EditorFault, Taken};
 use mt_stamp::{List, Stamp};
 use mt_testkit::{A, B, Refusing, add_track, marker, retitle};
 use std::alloc::{Allocator, Global};
@@ -18,9 +18,22 @@ fn applied<M: Allocator>(memory: M, stamps: &[Stamp]) -> Option<Taken<M>> {
 // Whether an editor who takes a title before its marker is told of both, in the order of their stamps.
 fn tells_of_both<M: Allocator + Copy>(editor: &mut Editor<M>, memory: M) -> Option<bool> {
     let (item, early) = (Stamp::new(1, A, 1).ok()?, Stamp::new(2, B, 1).ok()?);
-    let held = editor.take(retitle(memory, early, item, "Weather").ok()?);
+    let held = editor.take(retitle(memory, early, item, "Late").ok()?);
+    let is_held = held == Ok(Taken::Held) && shows(editor, None, 1);
     let both = editor.take(marker(memory, item, "News").ok()?).ok()?;
-    Some(held == Ok(Taken::Held) && both == applied(memory, &[item, early])?)
+    let are_ready = both == applied(memory, &[item, early])?;
+    Some(is_held && are_ready && shows(editor, Some("Late"), 0))
+}
+
+// Whether an editor's session has no marker, or one of this title, and holds back so many operations.
+fn shows<M: Allocator + Copy>(editor: &Editor<M>, title: Option<&str>, held: u64) -> bool {
+    match editor.session() {
+        Some(session) => {
+            let first = session.markers.items().first();
+            session.held == held && first.map(|marker| marker.title.text()) == title
+        }
+        None => false,
+    }
 }
 
 // The track of this number, whose place is behind that of the one before.
@@ -78,60 +91,81 @@ impl Work for Early {
     }
 }
 
+// row: early_retitle
 #[test]
 fn tells_the_stamps_that_became_ready(rt: HostRuntime) {
     assert!(rt; is_done(rt.alloc(), &Early::Title));
 }
 
+// row: held_chain
 #[test]
 fn holds_a_long_chain_until_its_first(rt: HostRuntime) {
     assert!(rt; is_done(rt.alloc(), &Early::Chain));
 }
 
 // Gives the marker another tag, or makes it where the number is 1.
-fn add_tag(log: &mut Log, alloc: Global, number: u64) -> Option<bool> {
+fn add_tag<M: Allocator + Copy>(log: &mut Log<M>, memory: M, number: u64) -> Option<bool> {
     let stamp = Stamp::new(number, A, number).ok()?;
     let op = match number {
-        1 => marker(alloc, stamp, "N").ok()?,
+        1 => marker(memory, stamp, "News").ok()?,
         _ => Op::new(stamp, restored()?).ok()?,
     };
     log.add(op).ok()
 }
 
-fn restored() -> Option<Body> {
+fn restored<M: Allocator>() -> Option<Body<M>> {
     let item = Stamp::new(1, A, 1).ok()?;
     Some(Body::Restore { item })
 }
 
-// The log of a marker that is there by as many tags.
-fn log_with_tags(alloc: Global, tags: u64) -> Option<Log> {
-    let mut log = Log::new(alloc);
-    for before in 0..tags {
-        add_tag(&mut log, alloc, before.saturating_add(1))?;
-    }
-    Some(log)
-}
-
 // How many tags an operation lists.
-fn tags_of(op: &Op) -> usize {
+fn tags_of<M: Allocator>(op: &Op<M>) -> usize {
     match op.body() {
         Body::Remove { tags, .. } => tags.items().len(),
         _ => 0,
     }
 }
 
-// How many tags the removal of a marker lists that is there by as many, or why there is none.
-fn removed(alloc: Global, tags: u64) -> Option<Result<usize, EditorFault>> {
-    let item = Stamp::new(1, A, 1).ok()?;
-    let mut draft = Draft::new(alloc, B, log_with_tags(alloc, tags)?).ok()?;
-    Some(match draft.edit(&Change::Remove { item }) {
-        Ok(op) => Ok(tags_of(&op)),
-        Err(fault) => Err(fault),
-    })
+// A marker that is there by as many tags, and how many its removal lists, or why there is none.
+#[derive(Clone, Copy)]
+struct Tagged {
+    tags: u64,
+    removed: Result<usize, EditorFault>,
 }
 
+impl Work for Tagged {
+    fn log<M: Allocator + Copy>(&self, memory: M) -> Option<Log<M>> {
+        let mut log = Log::new(memory);
+        for before in 0..self.tags {
+            add_tag(&mut log, memory, before.saturating_add(1))?;
+        }
+        Some(log)
+    }
+
+    fn is_right<M: Allocator + Copy>(
+        &self,
+        editor: &mut Editor<M>,
+        _memory: M,
+        _alloc: Global,
+        _tally: &Refusing<Global>,
+    ) -> Option<bool> {
+        let item = Stamp::new(1, A, 1).ok()?;
+        let removed = match editor.edit(&Change::Remove { item }) {
+            Ok(op) => Ok(tags_of(&op)),
+            Err(fault) => Err(fault),
+        };
+        Some(removed == self.removed)
+    }
+}
+
+// Whether a marker that is there by as many tags is removed so.
+fn is_removed(alloc: Global, tags: u64, removed: Result<usize, EditorFault>) -> bool {
+    is_done(alloc, &Tagged { tags, removed })
+}
+
+// row: refused_edits
 #[test]
 fn lists_the_greatest_number_of_tags(rt: HostRuntime) {
-    assert!(rt; removed(rt.alloc(), 65_535) == Some(Ok(65_535)));
-    assert!(rt; removed(rt.alloc(), 65_536) == Some(Err(EditorFault::TooManyTags)));
+    assert!(rt; is_removed(rt.alloc(), 65_535, Ok(65_535)));
+    assert!(rt; is_removed(rt.alloc(), 65_536, Err(EditorFault::TooManyTags)));
 }

@@ -109,6 +109,7 @@ pub(super) fn whole(side: Side) -> Conversation<'static> {
 
 const SIDES: [Side; 2] = [Side::Caller, Side::Answerer];
 
+// row: conversation_over_devices
 #[test]
 fn converses_over_a_reader_and_a_writer(rt: HostRuntime) {
     for side in SIDES {
@@ -131,6 +132,7 @@ fn is_cut(alloc: Global, side: Side, end: usize) -> bool {
     is_done(alloc, &ends) && is_done(alloc, &fails)
 }
 
+// row: cut_conversation, each_device_failing
 #[test]
 fn each_read_ends_or_fails_in_turn(rt: HostRuntime) {
     for side in SIDES {
@@ -155,6 +157,7 @@ fn is_stopped(alloc: Global, side: Side, at: usize) -> bool {
     is_done(alloc, &fails)
 }
 
+// row: each_device_failing
 #[test]
 fn each_write_fails_in_turn(rt: HostRuntime) {
     for side in SIDES {

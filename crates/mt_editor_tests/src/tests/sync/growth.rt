@@ -1,11 +1,11 @@
 //! What editors swap, with each growth refused in turn.
 use super::devices::whole;
 use super::messages::{log_before, ops_for};
-use super::{CALLER, End, held, is_left, is_wanted, log_of_end};
+use super::{CALLER, Cut, End, held, is_left, is_wanted, log_of_end};
 use crate::tests::works::{Work, refusals};
 use mt_opcodec::Log;
 use mt_replica::Editor;
-use mt_stamp::Stamp;
+use mt_stamp::{Replica, Stamp};
 use mt_sync::{MessageFault, Side, SyncFault, TalkFault, exchange, take_ops};
 use mt_testkit::{A, B, Refusing, log_of};
 use std::alloc::{Allocator, Global};
@@ -34,7 +34,7 @@ fn swaps<M: Allocator + Copy>(
     answerer: &mut Editor<M>,
 ) -> Result<bool, TalkFault> {
     match exchange(memory, caller, answerer) {
-        Ok(()) => Ok(held(caller) == Some(2) && caller == answerer),
+        Ok(()) => Ok(held(caller) == Some(2) && caller.log() == answerer.log()),
         Err(fault) if is_left(caller, 2) && is_left(answerer, 2) => Err(fault),
         Err(_) => Ok(false),
     }
@@ -86,7 +86,7 @@ fn stamps() -> Option<[Stamp; 5]> {
     ])
 }
 
-// lacking_operations: two markers of 42 bytes in one message, and Bye
+// Two markers of 42 bytes in one message, and Bye
 fn carries<M: Allocator + Copy>(
     memory: M,
     alloc: Global,
@@ -113,6 +113,13 @@ enum Call {
 }
 
 impl Work for Call {
+    fn name(&self) -> Replica {
+        match self {
+            Call::Exchange => A,
+            _ => B,
+        }
+    }
+
     fn log<M: Allocator + Copy>(&self, memory: M) -> Option<Log<M>> {
         match self {
             Call::Take => Some(Log::new(memory)),
@@ -139,24 +146,32 @@ impl Work for Call {
     }
 }
 
+// row: refused_growths
 #[test]
 fn refuses_each_growth_of_a_conversation(rt: HostRuntime) {
     for side in [Side::Caller, Side::Answerer] {
-        assert!(rt; refusals(rt.alloc(), &End { side, size: 50 }) > Some(2));
+        let cut = Cut {
+            first: 50,
+            size: 50,
+        };
+        assert!(rt; refusals(rt.alloc(), &End { side, cut }) > Some(2));
         assert!(rt; refusals(rt.alloc(), &whole(side)) > Some(2));
     }
 }
 
+// row: refused_growths
 #[test]
 fn refuses_each_growth_of_a_take(rt: HostRuntime) {
     assert!(rt; refusals(rt.alloc(), &Call::Take) > Some(2));
 }
 
+// row: conversation_by_exchange, refused_growths
 #[test]
 fn refuses_each_growth_of_an_exchange(rt: HostRuntime) {
     assert!(rt; refusals(rt.alloc(), &Call::Exchange) > Some(2));
 }
 
+// row: lacking_operations, refused_growths
 #[test]
 fn refuses_each_growth_of_what_is_carried(rt: HostRuntime) {
     assert!(rt; refusals(rt.alloc(), &Call::Carry) > Some(2));

@@ -31,6 +31,7 @@ fn answers_over<S: Read + Write + OpenStream + Drop>(alloc: Global, stream: S) -
     }
 }
 
+// row: conversation_over_sockets
 #[test]
 fn answers_a_caller_of_the_same_process(rt: HostRuntime) -> Result<(), Fail> {
     let listener = TcpListener::bind(&rt, "127.0.0.1:0")?;

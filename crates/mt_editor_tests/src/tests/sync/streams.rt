@@ -46,6 +46,7 @@ fn stops(alloc: Global, piece: &[u8], number: u8) -> bool {
     is_done(alloc, &Stop { piece, number })
 }
 
+// row: conversation
 #[test]
 fn stops_at_the_first_fault(rt: HostRuntime) {
     for (piece, number) in [

@@ -38,6 +38,7 @@ fn writes_in_pieces(alloc: Global) -> bool {
     is_put && is_sound && output.into_inner().as_slice() == TEXT
 }
 
+// wrong body: latch_fails_by_itself
 #[test]
 fn no_latch_fails_by_itself(rt: HostRuntime) {
     assert!(rt; reads_in_pieces(rt.alloc()) == Ok(true));
@@ -190,6 +191,7 @@ fn refusals(alloc: Global, text: &[u8]) -> Option<u64> {
     Some(granted.allocations())
 }
 
+// row: refused_growths
 /// A refused growth is no failure of the reader: the latch stays sound, and what was not read yet is
 /// still there.
 #[test]

@@ -20,20 +20,23 @@ const ONE_MARKER: [u8; 87] = [
     0x0c,
 ];
 
-// How many operations a log has that is read from a text and written as it again, where the first of them is that of the dot `(A, 1)`.
+// How many operations a log has that is read from a text and written as it again, where the first of them is that of the dot `(A, 1)`
+// and its copy is equal.
 fn count_of(alloc: Global, text: &[u8]) -> Result<Option<usize>, LogFault> {
     let log = Log::read(alloc, text)?;
     let first = Dot { replica: A, seq: 1 };
     let is_first = log.op_at(0) == log.get(&first) && log.op_at(0).is_none() == log.is_empty();
     let written = log.write()?;
-    if is_first && written.as_slice() == text {
+    let is_copied = log.try_clone()? == log;
+    if is_first && is_copied && written.as_slice() == text {
         Ok(Some(log.len()))
     } else {
         Ok(None)
     }
 }
 
-// empty_log, one_marker
+// row: empty_log, one_marker, copies
+// wrong body: always_gives_up
 #[test]
 fn writes_and_reads_logs(rt: HostRuntime) {
     assert!(rt; count_of(rt.alloc(), &EMPTY) == Ok(Some(0)));
@@ -58,6 +61,7 @@ fn refusal_of_a_cut(len: usize) -> u8 {
     }
 }
 
+// row: damaged_logs_prefixes
 #[test]
 fn refuses_each_cut_log(rt: HostRuntime) {
     for len in 0..ONE_MARKER.len() + 1 {
@@ -74,6 +78,7 @@ fn op_refusal(alloc: Global, bytes: &[u8]) -> u8 {
     }
 }
 
+// row: damaged_logs_prefixes
 #[test]
 fn refuses_each_cut_operation(rt: HostRuntime) {
     let news = &ONE_MARKER[13..55];
@@ -81,6 +86,33 @@ fn refuses_each_cut_operation(rt: HostRuntime) {
         assert!(rt; op_refusal(rt.alloc(), &news[..len]) == 8, "of {len}");
     }
     assert!(rt; op_refusal(rt.alloc(), news) == 255);
+}
+
+// How long the operation is with which bytes begin, or why there is none.
+fn op_len(alloc: Global, bytes: &[u8]) -> Result<usize, ReadFault> {
+    let (_, len) = read_op(alloc, bytes)?;
+    Ok(len)
+}
+
+// The log of one marker with another byte at a place.
+fn with_byte(place: usize, byte: u8) -> [u8; 87] {
+    let mut bytes = ONE_MARKER;
+    if let Some(there) = bytes.get_mut(place) {
+        *there = byte;
+    }
+    bytes
+}
+
+// row: operation_bytes
+// its operation and all after it; then another kind, a character of the title, and a clock of 0
+#[test]
+fn reads_an_operation_and_refuses_others(rt: HostRuntime) {
+    assert!(rt; op_len(rt.alloc(), &ONE_MARKER[13..]) == Ok(42));
+    assert!(rt; op_len(rt.alloc(), &ONE_MARKER[13..54]) == Err(ReadFault::Truncated));
+    let (kind, title, clock) = (with_byte(45, 255), with_byte(51, 7), with_byte(20, 0));
+    assert!(rt; op_len(rt.alloc(), &kind[13..]) == Err(ReadFault::BadTag));
+    assert!(rt; op_len(rt.alloc(), &title[13..]) == Err(ReadFault::BadField));
+    assert!(rt; op_len(rt.alloc(), &clock[13..]) == Err(ReadFault::BadField));
 }
 
 /// The log of a track, a clip on it and a fade of that, in the version that knows no fade.
@@ -100,6 +132,36 @@ fn log_fault(alloc: Global, bytes: &[u8]) -> Option<LogFault> {
     Log::read(alloc, bytes).err()
 }
 
+// The log of one marker with a count of 2.
+const COUNT_2: &[u8] =
+    b"RMTS\x01\0\0\0\0\0\0\0\x02\0\0\0\0\0\0\0\x01\0\0\0\0\0\0\0\0\0\0\0\0\0\0\0\n\0\0\0\0\0\0\0\x01\n\0\0\x01\xe0\x04News\xba'\xe6\x05@\xf1\x8c\xa5\xb3'\x94!IG\x13J7\x0c\xac\x14\x9b<Lxv\xd3\xbdJ\x9e3?W";
+
+// The same operation twice.
+const TWICE: &[u8] =
+    b"RMTS\x01\0\0\0\0\0\0\0\x02\0\0\0\0\0\0\0\x01\0\0\0\0\0\0\0\0\0\0\0\0\0\0\0\n\0\0\0\0\0\0\0\x01\n\0\0\x01\xe0\x04News\0\0\0\0\0\0\0\x01\0\0\0\0\0\0\0\0\0\0\0\0\0\0\0\n\0\0\0\0\0\0\0\x01\n\0\0\x01\xe0\x04News\xec\xc5\xcc&\xc7C\xdd\xca{\xc5\xbc\xc1BM\x1a\xa7\xc2\xf2\x02\xab\xde\xfb\x0e\x0d|;\xdb\xee\xf2o1\x91";
+
+// A count of 0 and one operation.
+const COUNT_0: &[u8] =
+    b"RMTS\x01\0\0\0\0\0\0\0\0\0\0\0\0\0\0\0\x01\0\0\0\0\0\0\0\0\0\0\0\0\0\0\0\n\0\0\0\0\0\0\0\x01\n\0\0\x01\xe0\x04News\xae\xc2\x10\x1fr\xd2\x03Q\xae>\"{\xadm\xb7\xdb\x88mp\xdeX@\xa3\xfb6Y\xa3\xf8WO7\xda";
+
+// row: damaged_logs
+#[test]
+fn refuses_damaged_logs(rt: HostRuntime) {
+    for (bytes, fault) in [
+        (b"RMT".as_slice(), LogFault::BadMagic),
+        (b"RMTS", LogFault::BadVersion),
+        (&with_byte(4, 9), LogFault::BadVersion),
+        (&with_byte(86, 0), LogFault::Damaged),
+        (&ONE_MARKER[..86], LogFault::Damaged),
+        (COUNT_2, LogFault::BadRecord(1, ReadFault::Truncated)),
+        (TWICE, LogFault::OutOfOrder(1)),
+        (COUNT_0, LogFault::Trailing),
+    ] {
+        assert!(rt; log_fault(rt.alloc(), bytes) == Some(fault));
+    }
+}
+
+// row: log_versions, marker_length_log, fade_limits
 #[test]
 fn tells_which_record_is_none_and_why(rt: HostRuntime) {
     let unknown_fade = log_fault(rt.alloc(), A_FADE_IN_VERSION_1);

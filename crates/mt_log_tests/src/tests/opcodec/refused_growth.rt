@@ -188,6 +188,7 @@ fn text_of_numbered(alloc: Global, seq: u64) -> Result<Vec<u8>, LogFault> {
     Ok(out)
 }
 
+// row: refused_growths
 // Of titles and tags, and of the bytes that are written.
 #[test]
 fn of_operations(rt: HostRuntime) -> Result<(), Fail> {
@@ -224,6 +225,7 @@ const OF_LOGS: [(Work, usize, u64); 4] = [
     (Work::Read, 10, 12),
 ];
 
+// row: refused_growths
 #[test]
 fn of_logs(rt: HostRuntime) {
     for (work, size, least) in OF_LOGS {
@@ -250,6 +252,7 @@ fn text_of(alloc: Global, count: u64, record: &[u8]) -> Result<Vec<u8>, AllocErr
     Ok(bytes)
 }
 
+// row: damaged_logs_counts
 /// A count that no log can have is no reason to ask for memory: it is asked for one title, one operation in its run, and one run in the log.
 #[test]
 fn of_a_log_with_too_great_a_count(rt: HostRuntime) -> Result<(), Fail> {

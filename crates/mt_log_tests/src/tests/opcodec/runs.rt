@@ -99,6 +99,7 @@ fn growths_of_adding(alloc: Global) -> u64 {
     }
 }
 
+// row: refused_growths
 #[test]
 fn of_a_log_of_two_runs(rt: HostRuntime) {
     let growths = growths_of_adding(rt.alloc());

@@ -42,6 +42,7 @@ fn refused_read(alloc: Global, bytes: &[u8]) -> (Option<ReadFault>, u64) {
     (fault, memory.allocations())
 }
 
+// row: damaged_logs_counts
 // A count alone takes no memory.
 #[test]
 fn takes_no_memory_for_a_count(rt: HostRuntime) -> Result<(), Fail> {

@@ -1,5 +1,6 @@
 //! Clips at gains that fade in and out: each sample beside the formula as it stands, in 128 bits, which every way to it has to give.
 
+use super::fill;
 use mt_op::{Body, Digest, Gain, Op};
 use mt_opcodec::Log;
 use mt_render::{Catalogue, Format, Mix};
@@ -67,21 +68,7 @@ fn session_of(alloc: Global, source: Digest, played: Played) -> Option<Session> 
     from_scratch(alloc, &log).ok()
 }
 
-// Fills a block where it lies in the programme, and tells whether it does.
-fn fill(mix: &Mix<'_, '_>, first: u64, samples: &mut [i32]) -> bool {
-    let channels = usize::from(mix.format().channels());
-    if channels == 0 || samples.len() % channels != 0 {
-        return false;
-    }
-    let frames = (samples.len() / channels) as u64;
-    if mix.length() < frames || mix.length() - frames < first {
-        return false;
-    }
-    mix.block(first, samples);
-    true
-}
-
-// The same of the mix of a session over a recording.
+// Fills a block of the mix of a session over a recording, and tells whether it lies in the programme.
 fn sounds(
     alloc: Global,
     session: &Session,

@@ -83,6 +83,7 @@ fn refused_counts(alloc: Global, at: u64) -> (Result<(usize, usize, u64), Sessio
     (made, memory.has_refused())
 }
 
+// row: refused_growths
 #[test]
 fn makes_no_session_without_memory(rt: HostRuntime) -> Result<(), Fail> {
     let first = growths_of_log(rt.alloc(), &ITEMS)?;

@@ -1,0 +1,97 @@
+//! The program's commands, run by their words over the files of a folder. More of each stands in the cases of the command line.
+
+pub(crate) mod logs;
+mod renders;
+mod sessions;
+pub(crate) mod waves;
+
+use mt_cli::command;
+use mt_opcodec::Latch;
+use std::alloc::Global;
+use std::fs;
+use std::io::Result;
+
+/// A run of the program: its words, with a space between two, and what comes of it.
+#[derive(Clone, Copy)]
+pub(crate) enum Run {
+    /// It is done and prints this.
+    Prints(&'static str, &'static str),
+    /// It is done, writes this file, and prints the last text.
+    Makes(&'static str, (&'static str, &'static [u8]), &'static str),
+    /// It is refused with this line on standard error.
+    Refused(&'static str, &'static str),
+    /// Its words do not parse, and standard error has this text.
+    Mistaken(&'static str, &'static str),
+}
+
+/// Runs over an input, in a folder with these files.
+#[derive(Clone, Copy)]
+pub(crate) struct Story {
+    pub(crate) input: &'static [u8],
+    pub(crate) files: &'static [(&'static str, &'static [u8])],
+    pub(crate) runs: &'static [Run],
+}
+
+fn list_of(alloc: Global, words: &str) -> Result<Vec<String>> {
+    let mut list = Vec::new(alloc);
+    for word in words.split(' ') {
+        list.push(String::from_str(alloc, word)?)?;
+    }
+    Ok(list)
+}
+
+// Whether the words, run over an input, are answered with this status, what is printed is the first text, and what stands on standard
+// error is the second.
+fn is_answered(
+    rt: &HostRuntime,
+    (words, input): (&str, &[u8]),
+    status: u8,
+    (printed, told): (&str, &str),
+) -> Result<bool> {
+    let words = list_of(rt.alloc(), words)?;
+    let mut input = Latch::new(input);
+    let mut output = Latch::new(Vec::new(rt.alloc()));
+    let mut errors = Latch::new(Vec::new(rt.alloc()));
+    let answer = command(rt, &words, &mut input, &mut output, &mut errors);
+    let is_printed = output.into_inner().as_slice() == printed.as_bytes();
+    let is_told = errors.into_inner().as_slice() == told.as_bytes();
+    Ok(answer == status && is_printed && is_told)
+}
+
+fn has_file(rt: &HostRuntime, (name, bytes): (&str, &[u8])) -> Result<bool> {
+    Ok(fs::read(rt, name)?.as_slice() == bytes)
+}
+
+// Whether a run comes to what it has to.
+fn is_so(rt: &HostRuntime, input: &[u8], run: Run) -> Result<bool> {
+    match run {
+        Run::Prints(words, text) => is_answered(rt, (words, input), 0, (text, "")),
+        Run::Makes(words, file, text) => {
+            let is_done = is_answered(rt, (words, input), 0, (text, ""))?;
+            Ok(is_done && has_file(rt, file)?)
+        }
+        Run::Refused(words, line) => is_answered(rt, (words, input), 1, ("", line)),
+        Run::Mistaken(words, text) => is_answered(rt, (words, input), 2, ("", text)),
+    }
+}
+
+fn put_files(rt: &HostRuntime, files: &[(&str, &[u8])]) -> Result<()> {
+    for (name, bytes) in files {
+        fs::write(rt, *name, *bytes)?;
+    }
+    Ok(())
+}
+
+// Whether the runs of a story come to what they have to, one after another.
+fn come_to(rt: &HostRuntime, story: &Story) -> bool {
+    if put_files(rt, story.files).is_err() {
+        return false;
+    }
+    for run in story.runs {
+        match is_so(rt, story.input, *run) {
+            Ok(true) => {}
+            _ => return false,
+        }
+    }
+    true
+}
