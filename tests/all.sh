@@ -1,28 +1,38 @@
 #!/bin/sh
-# Everything that has to pass: each proof from nothing, the wrong bodies, the tests, the stored run, and the command line.
+# Everything that has to pass: the pages and the record, each proof from nothing, the wrong bodies, the
+# tests, the stored run and the command line. What is quick comes first.
 set -e
 cd "$(dirname "$0")/.."
-rt ci
-sh tests/suite.sh "$PWD/crates/radio/out/radio"
-sh tests/checks/refusals.sh "$PWD/crates/radio/out/radio"
-if command -v python3 >/dev/null 2>&1; then
-  python3 tests/checks/model.py "$PWD/crates/radio/out/radio" --sets 300
-  python3 tests/checks/world.py "$PWD/crates/world_histories/out/world_histories"
-  python3 tests/checks/outlines.py "$PWD/crates/radio/out/radio"
-  python3 tests/checks/real_waves.py "$PWD/crates/radio/out/radio"
-  python3 tests/checks/rendered_waves.py "$PWD/crates/radio/out/radio"
-  python3 tests/checks/story.py "$PWD/crates/radio/out/radio"
-  python3 tests/checks/meetings.py "$PWD/crates/radio/out/radio"
-  python3 tests/checks/damage.py "$PWD/crates/radio/out/radio"
-  python3 tests/checks/peers.py "$PWD/crates/radio/out/radio"
-  python3 tests/checks/slips.py "$PWD/crates/radio/out/radio"
-  python3 tests/checks/faults.py "$PWD/crates/radio/out/radio"
-  python3 tests/checks/chain.py "$PWD/crates/radio/out/radio"
-  python3 tests/checks/completions.py "$PWD/crates/radio/out/radio"
-  python3 tests/checks/pictures.py "$PWD/crates/radio/out/radio"
-  python3 tests/checks/examples.py
-  python3 tests/checks/calls.py
-  python3 tests/wrong_bodies.py --changed
-else
-  echo "skipped the comparisons with the model, of worlds, of damaged files and broken conversations, of wave files of more than a MiB, with other programs' wave files and with the README and docs/calls.md, failing system calls and memory, completions and the page of the manual, pictures, the examples of the libraries, and the wrong bodies in rounds: no python3"
+if ! python3 -c 'import sys; sys.exit(sys.version_info < (3, 9))' 2> /dev/null; then
+  echo "tests/all.sh: the tests need python3, 3.9 or later, which is not there" >&2
+  exit 1
 fi
+radio=$PWD/crates/radio/out/radio
+python3 tests/checks/case_texts.py
+python3 tests/make_cases.py --check
+python3 tests/docs.py --check
+python3 tests/checks/prose.py
+python3 tests/checks/record.py
+python3 tests/checks/rows.py
+rt ci
+python3 tests/suite.py "$radio"
+sh tests/checks/refusals.sh "$radio"
+python3 tests/checks/model.py "$radio" --sets 300
+python3 tests/checks/reverted.py "$radio"
+python3 tests/checks/world.py "$PWD/crates/world_histories/out/world_histories"
+python3 tests/checks/outlines.py "$radio"
+python3 tests/checks/real_waves.py "$radio"
+python3 tests/checks/rendered_waves.py "$radio"
+python3 tests/checks/story.py "$radio"
+python3 tests/checks/meetings.py "$radio"
+python3 tests/checks/damage.py "$radio"
+python3 tests/checks/peers.py "$radio"
+python3 tests/checks/slips.py "$radio"
+python3 tests/checks/git.py "$radio"
+python3 tests/checks/install.py "$radio"
+python3 tests/checks/faults.py "$radio"
+python3 tests/checks/chain.py "$radio"
+python3 tests/checks/completions.py "$radio"
+python3 tests/checks/pictures.py "$radio"
+python3 tests/checks/examples.py
+python3 tests/wrong_bodies.py --changed

@@ -1,4 +1,4 @@
-"""A chain of operations that all wait, each for the one before it, and then the first one comes: tests/checks/chain.py PROGRAM [--count N] [--stack KIB]
+"""Releases a million operations that wait in a chain: tests/checks/chain.py PROGRAM [--count N] [--stack KIB]
 
 A log has tracks, each put after the one before, and lacks the first of them, so that all are held. `radio take` then takes the first one, by which all become
 ready one after another. The program has little stack: what goes down a chain by calling itself would run out of it.

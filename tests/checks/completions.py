@@ -1,5 +1,5 @@
 #!/usr/bin/env python3
-"""Looks at what `radio completions` and `radio man` print: tests/checks/completions.py PROGRAM
+"""Tries the completions in bash, zsh and fish, and sets the manual: tests/checks/completions.py PROGRAM
 
 What is wanted are the commands, words and options that `radio --help` and `radio COMMAND --help` tell. bash and fish are asked for their completions, and zsh
 in a terminal, where they are installed; without them the scripts are read as texts. The page of the manual is set without a warning by man and groff.

@@ -1,9 +1,9 @@
 #!/usr/bin/env python3
-"""Compares what `radio` answers to damaged files with a second reading of the formats: python3 tests/checks/damage.py PROGRAM [--count N] [--seed N] [--first N]
+"""Compares the answers to damaged files with a second reading: python3 tests/checks/damage.py PROGRAM [--count N] [--seed N] [--first N]
 
 Logs, scripts, messages and wave files are drawn at random, damaged (formats/mutations.py: bits, bytes, numbers, counts and sizes changed, parts cut, put in,
 doubled, and spliced with others; the digest of a log, the frames of messages and the digests that a session names are mended, mostly, so that what is behind them
-is reached) and put through each command that reads them: view, log, merge, timeline, diff and revert; edit; have, lack and take; info, render, check, sources, find and lay. So are the files of the stored cases. The second reading, of docs/formats.md
+is reached) and put through each command that reads them: view, log, merge, timeline, diff and revert; edit; have, lack and take; info, render, check, sources, find and lay. So are the files of the stored cases. The second reading, of docs/formats and docs/use
 alone, is formats/answers.py. Status, standard output, the refusal's line and every file of the folder have to be the same, byte for byte. First the reading itself is
 compared with the stored cases of these commands. Stops at the first that differs, and prints what repeats it."""
 import argparse
@@ -19,11 +19,10 @@ import tempfile
 sys.dont_write_bytecode = True
 sys.path.insert(0, os.path.dirname(os.path.dirname(os.path.abspath(__file__))))
 from checks.model import drawn
-from formats import drawings, exchange, logs
+from formats import case_text, drawings, exchange, logs
 from formats.answers import COMMANDS, TooMuch, answer
 from formats.mutations import damaged, damaged_frames, damaged_log, damaged_records, damaged_wave, seal
 
-CASES = os.path.join(os.path.dirname(os.path.dirname(os.path.abspath(__file__))), "cases")
 PATIENCE = 60
 FORMS = [[], ["--fields"], ["--view"]]
 # forms of lines
@@ -31,31 +30,31 @@ LINES = [[], [], ["--json"], ["--time"], ["--time", "--rate", "44100", "--json"]
 EDITORS = ["00000000-0000-0000-0000-%012x" % name for name in (0, 1, 10, 11)] + ["ffffffff-ffff-ffff-ffff-ffffffffffff"]
 
 
-def bytes_of(path):
-    with open(path, "rb") as file:
-        return file.read()
-
-
 def files_in(folder):
-    """The files of a folder by name, where there is one."""
-    names = [name for name in os.listdir(folder) if name != ".keep"] if os.path.isdir(folder) else []
-    return {name: bytes_of(os.path.join(folder, name)) for name in names}
+    """The files of a folder by name."""
+    found = {}
+    for name in os.listdir(folder):
+        with open(os.path.join(folder, name), "rb") as file:
+            found[name] = file.read()
+    return found
 
 
 Case = collections.namedtuple("Case", "name words files stdin status output errors made")
 
 
+def is_read(case):
+    """Whether the reading knows what a case is about: neither devices nor the texts of help and `--why`."""
+    is_text = case.status == 2 or b"--help" in case.words or b"--why" in case.words
+    return case.command in COMMANDS and not (is_text or case.setup or case.output)
+
+
 def stored_cases():
-    """The stored cases of these commands, but for those of the command line's own texts and of devices, which the reading does not know."""
+    """The stored cases of these commands, as far as the reading knows them."""
     cases = []
-    for command in sorted(COMMANDS):
-        for name in sorted(os.listdir(os.path.join(CASES, command))):
-            folder = os.path.join(CASES, command, name)
-            part = {part: bytes_of(os.path.join(folder, part)) for part in ("words", "stdin", "stdout", "stderr", "status")}
-            if part["status"] == b"2\n" or b"--help" in part["words"] or b"--why" in part["words"] or {"setup", "output"} & set(os.listdir(folder)):
-                continue
-            words, files = part["words"].decode().split("\n")[:-1], files_in(os.path.join(folder, "files"))
-            cases.append(Case(command + "/" + name, words, files, part["stdin"], int(part["status"]), part["stdout"], part["stderr"], files_in(os.path.join(folder, "made"))))
+    for case in filter(is_read, case_text.stored_cases()):
+        words = [word.decode() for word in case.words]
+        told = case.status, case.stdout, case.stderr, case.made
+        cases.append(Case(case.title, words, case.files, case.stdin, *told))
     return cases
 
 

@@ -1,5 +1,5 @@
 #!/usr/bin/env python3
-"""Lets system calls and memory fail under every command of `radio`: python3 tests/checks/faults.py PROGRAM [--full] [--trials N] [--seed N] [--tell]
+"""Makes system calls and memory fail under every command: python3 tests/checks/faults.py PROGRAM [--full] [--trials N] [--seed N] [--tell]
 
 Each call of the program for files, memory and sockets is made to fail in turn with several errors, to be interrupted, to read or write less than it was asked for, or
 nothing; the process is killed before it and after it; the calls for memory are refused from each one on; the program's own requests for memory are refused, one and

@@ -1,5 +1,5 @@
 #!/usr/bin/env python3
-"""Two processes that swap operations: python3 tests/checks/meetings.py PROGRAM
+"""Lets two processes exchange operations: python3 tests/checks/meetings.py PROGRAM
 
 `radio serve` and `radio meet` over loopback on logs of several sizes with what they share: both end with the union, byte for byte as
 `radio merge` gives it, and what `have`, `lack` and `take` do by files gives the same. Then peers that cut, that send one byte at a

@@ -1,7 +1,8 @@
 #!/usr/bin/env python3
-"""Compares `radio view`, `radio log`, both also as JSON, `radio timeline`, its pictures and `radio merge` with a model of the session in Python: tests/checks/model.py PROGRAM [--sets N] [--seed N]
+"""Compares views, logs, timelines, pictures and merges with a model in Python: tests/checks/model.py PROGRAM
+[--sets N] [--seed N]
 
-The model (tests/formats/sessions.py) is written from docs/formats.md alone. The sets are drawn at random: a few replicas whose numbers may have gaps,
+The model (tests/formats/sessions.py) is written from docs/formats and docs/use alone. The sets are drawn at random: a few replicas whose numbers may have gaps,
 names of operations that are there, that are not, that have another clock or do not fit the role. Each set is handed to the
 program as one log, or as several that share operations, and merging these has to give the one log of the set. Stops at the
 first set of which the two tell different texts, of the session or of the operations."""

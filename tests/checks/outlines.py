@@ -1,8 +1,8 @@
 #!/usr/bin/env python3
-"""Compares what `radio info`, `sources` and `lay` say of wave files of more than a MiB, whose samples are not kept, and which clips `find --wave` finds by
-them, with a second reading of the whole files: python3 tests/checks/outlines.py PROGRAM [--files N] [--seed S]
+"""Compares what `radio` says of large wave files with a second reading: python3 tests/checks/outlines.py PROGRAM [--files N] [--seed S]
 
-The second reading is tests/formats/read_waves.py. The files are drawn: where the samples begin, at, before and behind the end of the first MiB; with
+`radio info`, `sources`, `lay` and `find --wave` keep no samples of files of more than a MiB. The second reading, of the whole files, is
+tests/formats/read_waves.py. The files are drawn: where the samples begin, at, before and behind the end of the first MiB; with
 an odd number of bytes and without their pad byte; a second chunk `data`; lists, cue points and extensions before and behind the samples; sizes that
 are too small, too great and unfinished; cut off at places round the end of the samples, or anywhere; bytes behind the RIFF chunk; and as a file or
 as a pipe, which gives fewer bytes than are asked for. At last a file of 64 MiB is read in 48 MiB of address space.

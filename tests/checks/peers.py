@@ -1,5 +1,5 @@
 #!/usr/bin/env python3
-"""Conversations with peers that cut, change and never end what they send: python3 tests/checks/peers.py PROGRAM [--count N] [--seed N]
+"""Converses with peers that damage or never end what they send: python3 tests/checks/peers.py PROGRAM [--count N] [--seed N]
 
 A socket on loopback plays the other end of `radio serve` and of `radio meet`. What it sends is a short honest stream cut at each place, the same with the byte at
 each place changed, and N streams drawn at random and damaged (formats/mutations.py), in one piece or in many. What the program comes to is compared with a second

@@ -1,5 +1,5 @@
 #!/usr/bin/env python3
-"""Looks at the pictures that `radio timeline --svg` prints: tests/checks/pictures.py PROGRAM
+"""Compares the pictures of `radio timeline --svg` with a second reading: tests/checks/pictures.py PROGRAM
 
 Of some sessions, with fades, muted clips, markers that are no points and odd titles, and at several rates: that the picture is well-formed XML, that each thing is
 there as often as the session has it, with its title, and that each lies in the page and each clip in the row of its track. One has recordings, of which each width,

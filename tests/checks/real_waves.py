@@ -1,5 +1,5 @@
 #!/usr/bin/env python3
-"""Compares `radio info` with what other programs say of wave files that other programs wrote:
+"""Reads wave files of other programs as these do:
 python3 tests/checks/real_waves.py PROGRAM
 
 sox, ffmpeg, libsndfile's tools, espeak-ng and flac write the files; soxi, ffprobe and sndfile-info read them, and exiftool the

@@ -1,6 +1,7 @@
 #!/bin/sh
-# Whether `radio explain` and docs/refusals.md have the same numbers and names, and each fault type of the libraries gives a variant the
-# number under which they have its name, or that of both (`TooLong` of `FrameFault` is FrameTooLong): sh tests/checks/refusals.sh PROGRAM
+# Compares the numbers and names of `radio explain`, docs/use/errors.md and the fault types: sh tests/checks/refusals.sh PROGRAM
+# Each fault type of the libraries gives a variant the number under which the page has its name, or that of both (`TooLong` of `FrameFault`
+# is FrameTooLong).
 set -eu
 program=$1
 top=$(dirname "$0")/../..
@@ -8,8 +9,9 @@ told=$(mktemp)
 written=$(mktemp)
 given=$(mktemp)
 trap 'rm -f "$told" "$written" "$given"' EXIT
-"$program" explain | sed 's/: .*//' > "$told"
-sed -n 's/^| \([0-9][0-9]*\) | \([^|]*\) |.*/\1 \2/p' "$top/docs/refusals.md" > "$written"
+"$program" explain | sed 's/: .*//' | sort > "$told"
+sed -n 's/^- \*\*\([0-9][0-9]*\)\*\* \([^:]*\).*/\1 \2/p' "$top/docs/use/errors.md" | sort > "$written"
+[ -s "$written" ]
 diff "$written" "$told"
 sed -n 's/^ *\([A-Za-z]*\)Fault::\([A-Za-z]*\)[^=]*=> \([0-9][0-9]*\),$/\3 \1 \2/p' "$top"/crates/*/src/*.rt | sort -u > "$given"
 [ -s "$given" ]

@@ -1,9 +1,8 @@
 #!/usr/bin/env python3
-"""Compares what other readers say of files that `radio render` writes with what `radio info` says of them, and their samples
-with those of the recording: python3 tests/checks/rendered_waves.py PROGRAM
+"""Compares rendered files as other programs and `radio info` read them: python3 tests/checks/rendered_waves.py PROGRAM
 
-python3's own module `wave` always reads them; soxi, ffprobe, sndfile-info, mediainfo, and sox and ffmpeg for the samples, where they are
-installed. What `radio info` tells of a file's `bext` chunk has to be the head that the file was rendered with.
+The samples have to be those of the recording. python3's own module `wave` always reads them; soxi, ffprobe, sndfile-info,
+mediainfo, and sox and ffmpeg for the samples, where they are installed. What `radio info` tells of a file's `bext` chunk has to be the head that the file was rendered with.
 
 sndfile-info tells the cue points and their labels, and ffprobe tells them as chapters: both have to be the markers. exiftool tells
 the lengths: they have to be those of the markers, cut at the programme's end.

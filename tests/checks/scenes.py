@@ -9,13 +9,14 @@ import time
 from checks.meetings import free_port
 from formats import exchange, waves
 from formats.answers import Answer, answer
+from formats.case_text import stored_cases
 from formats.logs import A, B, C, add_clip, add_marker, add_track, log
 from formats.read_logs import read_log, write_log
 from formats.read_messages import End
 from formats.refused import Refused
 
 OLD = b"what was there"
-EXPLAINED = os.path.join(os.path.dirname(os.path.dirname(os.path.abspath(__file__))), "cases", "explain", "a_number", "stdout")
+EXPLAINED = next(case.stdout for case in stored_cases() if case.title == "explain/a_number")
 PATIENCE = 30
 
 
@@ -86,7 +87,7 @@ def scenes(count, size):
         Scene("lack", ["lack", "log", "have", "out"], {"log": whole, "have": asked, "out": OLD}),
         Scene("take", ["take", "log", "ops", "out"], {"log": whole, "ops": sent, "out": OLD}),
         Scene("take onto the log", ["take", "log", "ops", "log"], {"log": whole, "ops": sent}),
-        Scene("explain", ["explain", "45"], {}, right=Answer(output=read(EXPLAINED))),
+        Scene("explain", ["explain", "45"], {}, right=Answer(output=EXPLAINED)),
         Scene("serve", ["serve", "ADDR", "log", "out"], {"log": whole, "out": OLD}, stream=stream),
         Scene("meet", ["meet", "ADDR", "log", "log"], {"log": whole}, stream=stream),
     ]

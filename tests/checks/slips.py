@@ -1,4 +1,4 @@
-"""Nothing is lost by a slip: tests/checks/slips.py PROGRAM [--edits N]
+"""Edits logs with several programs at once, and loses nothing: tests/checks/slips.py PROGRAM [--edits N]
 
 Several programs that edit one log at once, each again while it is refused (37): no edit that was told as done is missing in the end. A log that is edited
 while it is served, an OUT that may not be there, the permissions of a file that is replaced, a link, a limit of the size of files, several programs that pull into one log, and new names of editors.

@@ -1,14 +1,20 @@
 #!/usr/bin/env python3
-"""Follows the README as a newcomer does: python3 tests/checks/story.py PROGRAM
+"""Types the commands of every page as a newcomer does: python3 tests/checks/story.py PROGRAM
 
-Types the commands of the page in its order, in a folder that has `examples` and the program where a build puts it, and compares what
-they print with what the README says that they print. Only those that try it, build it for another processor and test it are not typed, and in place of `rt run`
-the program runs. The scripts that it shows have to be those of `examples/`. Then makes the logs of `examples/` anew from their scripts, which
-have to be the same bytes, and looks at the sessions of the first picture, and whether the commands draw the second one.
+The `sh` blocks of README.md, CONTRIBUTING.md and each page of docs are typed in their order, page by page, in a folder of its own that has
+`examples`, with `radio` on the PATH; that of README.md has the program only where a build puts it, and in place of its `rt run` the program
+runs. A `text` block right after an `sh` block is what it prints, and so is `# ops N` at the end of a line. A block `sh norun NAME` is not
+typed: the check NAME runs its like (prose.py).
+
+The scripts that README.md shows have to be those of `examples`. Then the logs of `examples` are made anew from their scripts, which have to
+be the same bytes; the sessions of the first picture have to be theirs, and the tutorial has to draw the second one. Where `rt` is there, it
+has to be the kit that README.md names, with the logic that docs/build/proved.md names.
 """
 import filecmp
+import glob
 import os
 import re
+import shutil
 import subprocess
 import sys
 import tempfile
@@ -16,69 +22,100 @@ import xml.etree.ElementTree as ElementTree
 
 TOP = os.path.dirname(os.path.dirname(os.path.dirname(os.path.abspath(__file__))))
 EXAMPLES = os.path.join(TOP, "examples")
-PICTURE = os.path.join(TOP, "docs", "two_editors.svg")
-DRAWN = os.path.join(TOP, "docs", "news.svg")
+PICTURE = os.path.join(TOP, "docs", "img", "two_editors.svg")
+DRAWN = os.path.join(TOP, "docs", "img", "news.svg")
+TUTORIAL = "docs/use/tutorial.md"
+BUILD = "rt run --jobs 4 --"
+BLOCK = re.compile(r"^```(.*)\n((?:.*\n)*?)^```$(\n*)", re.M)
 
 
-def blocks(text):
-    """The fenced blocks of a text: their language and their lines."""
-    return re.findall(r"^```(\w+)\n(.*?)^```$", text, re.M | re.S)
+def text_of(page):
+    with open(os.path.join(TOP, page)) as file:
+        return file.read()
 
 
-BUILD = "(cd crates/radio && rt run -- "
-NOT_TYPED = ["rt try ", "--cpu=x86-64-v3", "sh tests/all.sh"]
+def pages():
+    found = glob.glob(os.path.join(TOP, "docs", "**", "*.md"), recursive=True)
+    return ["README.md", "CONTRIBUTING.md"] + sorted(os.path.relpath(path, TOP) for path in found)
 
 
-def steps_of(readme):
-    """The commands of the page, block by block, each with what it prints: the numbers of changes that stand behind the edits, and then
-    the text block behind it, where there is one."""
-    steps = []
-    for language, text in blocks(readme):
-        if language == "script":
-            continue
-        if language == "sh":
-            steps.append((text, "".join(line + "\n" for line in re.findall(r"# (ops \d+)$", text, re.M))))
-        else:
-            commands, printed = steps.pop()
-            steps.append((commands, printed + text))
+def steps_of(page):
+    """The commands of a page, block by block, each with what it prints: the numbers of changes after the edits, and then the text block
+    right after it, if there is one."""
+    steps, end = [], None
+    for place in BLOCK.finditer(text_of(page)):
+        kind, text = place.group(1), place.group(2)
+        if kind == "sh":
+            steps.append([text, "".join(line + "\n" for line in re.findall(r"# (ops \d+)$", text, re.M))])
+            end = place.end()
+        elif kind == "text" and end == place.start():
+            steps[-1][1] += text
+            end = None
     return steps
 
 
-def check_scripts(readme):
-    """How many scripts the page shows, each as it stands in `examples`."""
+def type_page(page, folder, path):
+    """Types the steps of a page in one shell, so that each begins where the one before has ended."""
+    steps = steps_of(page)
+    script = "printf '\\036'\n".join(commands.replace(BUILD, "out/radio") for commands, _ in steps)
+    env = dict(os.environ, PATH=path)
+    run = subprocess.run(["sh", "-ec", script], cwd=folder, stdin=subprocess.DEVNULL, stdout=subprocess.PIPE, text=True, env=env)
+    printed = run.stdout.split("\036")
+    assert run.returncode == 0, "these commands of %s failed:\n%s" % (page, steps[len(printed) - 1][0])
+    for (commands, wanted), text in zip(steps, printed):
+        assert text == wanted, "the commands\n%sof %s print\n%swhere it says\n%s" % (commands, page, text, wanted)
+    return len(steps)
+
+
+def check_pages(program):
+    """How many blocks of all pages were typed, and how many were not."""
+    typed = left = 0
+    for page in pages():
+        left += len(re.findall(r"^```sh norun ", text_of(page), re.M))
+        with tempfile.TemporaryDirectory() as folder:
+            shutil.copytree(EXAMPLES, os.path.join(folder, "examples"))
+            built = os.path.join(folder, "crates" if page == "README.md" else ".clone/crates", "radio", "out")
+            os.makedirs(built)
+            os.symlink(program, os.path.join(built, "radio"))
+            path = os.environ["PATH"] if page == "README.md" else built + os.pathsep + os.environ["PATH"]
+            typed += type_page(page, folder, path)
+            if page == TUTORIAL:
+                assert filecmp.cmp(DRAWN, os.path.join(folder, "news.svg"), shallow=False), "docs/img/news.svg is not what the tutorial draws"
+    return typed, left
+
+
+def check_readme():
+    """How many scripts README.md shows, each as it is in `examples`."""
+    readme = text_of("README.md")
+    assert sum(BUILD in commands for commands, _ in steps_of("README.md")) == 1, "README.md has not one block with `%s`" % BUILD
     kept = []
     for name in sorted(os.listdir(EXAMPLES)):
         if name.endswith(".txt"):
-            with open(os.path.join(EXAMPLES, name)) as file:
-                kept.append(file.read())
-    shown = [text for language, text in blocks(readme) if language == "script"]
+            kept.append(text_of(os.path.join("examples", name)))
+    shown = [place.group(2) for place in BLOCK.finditer(readme) if place.group(1) == "script"]
     for text in shown:
         assert text in kept, "no script of examples is\n%s" % text
     return len(shown)
 
 
-def follow(readme, folder):
-    """Types the steps in one shell, so that each begins where the one before has ended."""
-    steps = steps_of(readme)
-    for words in [BUILD] + NOT_TYPED:
-        assert sum(words in commands for commands, _ in steps) == 1, "the README has not one block with `%s`" % words
-    steps = [(commands.replace("rt run --", "out/radio"), wanted) for commands, wanted in steps if not any(words in commands for words in NOT_TYPED)]
-    run = subprocess.run(["sh", "-ec", "printf '\\036'\n".join(commands for commands, _ in steps)], cwd=folder, stdin=subprocess.DEVNULL, stdout=subprocess.PIPE, text=True)
-    printed = run.stdout.split("\036")
-    assert run.returncode == 0, "these commands of the README were refused:\n%s" % steps[len(printed) - 1][0]
-    for (commands, wanted), text in zip(steps, printed):
-        assert text == wanted, "the commands\n%sprint\n%swhere the README says\n%s" % (commands, text, wanted)
-    return len(steps)
+def check_kit():
+    """Whether the kit at hand is the one that the pages name."""
+    if not shutil.which("rt"):
+        print("skipped: the kit's name, no rt")
+        return
+    kit, _, logic = subprocess.run(["rt", "version"], stdout=subprocess.PIPE, text=True, check=True).stdout.split()
+    assert kit in text_of("README.md"), "README.md does not name the kit %s" % kit
+    assert logic in text_of("docs/build/proved.md"), "docs/build/proved.md does not name the logic %s" % logic
 
 
 def picture_of(path):
-    """The logs that the picture's bold lines name, each with what stands behind the name and the lines below it; and all other text."""
+    """The logs that the picture's bold lines name, each with what stands after the name and the lines below it; and all other text."""
     logs, rest = [], []
     for text in ElementTree.parse(path).iter("{http://www.w3.org/2000/svg}text"):
         line = "".join(text.itertext())
         if text.get("font-weight") == "bold":
             named = re.fullmatch(r"(\w+\.log)[,:] (.*)", line)
-            assert named, "docs/two_editors.svg has a bold line that names no log: %s" % line
+            assert named, "two_editors.svg has a bold line that names no log: %s" % line
             logs.append((named.group(1), named.group(2), text.get("x"), []))
         elif logs and text.get("x") == logs[-1][2]:
             logs[-1][3].append(line)
@@ -93,10 +130,10 @@ def is_printed(shown, printed):
 
 
 def check_picture(program, folder):
-    """How many lines of sessions the picture shows, each as `radio view` prints it. A merge that stands beside a name makes that log, and
-    the same bytes with its inputs turned."""
+    """How many lines of sessions the picture shows, each as `radio view` prints it. A merge beside a name makes that log, and the same bytes
+    with its inputs turned."""
     logs, rest = picture_of(PICTURE)
-    assert rest == ["the same bytes in either order"], "docs/two_editors.svg has other text than its sessions: %s" % rest
+    assert rest == ["the same bytes in either order"], "two_editors.svg has other text than its sessions: %s" % rest
     for name, about, lines in logs:
         if about.startswith("radio merge "):
             _, _, out, *inputs = about.split()
@@ -104,30 +141,30 @@ def check_picture(program, folder):
                 subprocess.run([program, "merge", made] + order, check=True, cwd=folder)
             assert filecmp.cmp(os.path.join(folder, out), os.path.join(folder, out + ".turned"), shallow=False), "%s has other bytes in the other order" % out
         printed = subprocess.run([program, "view", name], check=True, cwd=folder, stdout=subprocess.PIPE, text=True).stdout
-        assert is_printed(lines, printed.splitlines()), "docs/two_editors.svg shows of %s\n%s\nwhere `radio view` prints\n%s" % (name, "\n".join(lines), printed)
+        assert is_printed(lines, printed.splitlines()), "two_editors.svg shows of %s\n%s\nwhere `radio view` prints\n%s" % (name, "\n".join(lines), printed)
     return sum(len(lines) for _, _, lines in logs)
+
+
+def check_examples(program, folder):
+    """How many logs `examples` has, each made anew by its scripts."""
+    subprocess.run(["sh", os.path.join(EXAMPLES, "make.sh"), program], check=True, cwd=folder, stdout=subprocess.DEVNULL)
+    made = sorted(os.listdir(folder))
+    for name in made:
+        assert filecmp.cmp(os.path.join(folder, name), os.path.join(EXAMPLES, name), shallow=False), "examples/%s is not what its scripts make" % name
+    assert made == sorted(name for name in os.listdir(EXAMPLES) if name.endswith(".log")), made
+    return len(made)
 
 
 def main():
     program = os.path.abspath(sys.argv[1])
-    with open(os.path.join(TOP, "README.md")) as file:
-        readme = file.read()
-    with tempfile.TemporaryDirectory() as clone, tempfile.TemporaryDirectory() as folder:
-        built = os.path.join(clone, "crates", "radio", "out")
-        os.makedirs(built)
-        os.symlink(program, os.path.join(built, "radio"))
-        os.symlink(EXAMPLES, os.path.join(clone, "examples"))
-        steps = follow(readme, clone)
-        assert filecmp.cmp(DRAWN, os.path.join(clone, "out", "news.svg"), shallow=False), "docs/news.svg is not what the README's commands draw"
-        scripts = check_scripts(readme)
-        subprocess.run(["sh", os.path.join(EXAMPLES, "make.sh"), program], check=True, cwd=folder, stdout=subprocess.DEVNULL)
-        made = sorted(os.listdir(folder))
-        for name in made:
-            with open(os.path.join(folder, name), "rb") as new, open(os.path.join(EXAMPLES, name), "rb") as kept:
-                assert new.read() == kept.read(), "examples/%s is not what its scripts make" % name
-        assert made == sorted(name for name in os.listdir(EXAMPLES) if name.endswith(".log")), made
+    scripts = check_readme()
+    typed, left = check_pages(program)
+    check_kit()
+    with tempfile.TemporaryDirectory() as folder:
+        made = check_examples(program, folder)
         lines = check_picture(program, folder)
-    print("the README's commands in %d steps, %d scripts that it shows, %d example logs made anew, %d lines of sessions in its picture" % (steps, scripts, len(made), lines))
+    print("story: %d blocks typed, %d left to other checks, %d scripts, %d example logs, %d lines of the picture" % (typed, left, scripts, made, lines))
 
 
-main()
+if __name__ == "__main__":
+    main()

@@ -1,8 +1,8 @@
 #!/usr/bin/env python3
-"""Compares the world of editors with a second reading of it in Python: tests/checks/world.py PROGRAM [--lists N] [--events N] [--seed N]
+"""Compares worlds of editors with a second reading: tests/checks/world.py PROGRAM [--lists N] [--events N] [--seed N]
 
 PROGRAM is crates/world_histories/out/world_histories, which runs lists of events and prints what was sent and what each editor has and shows. The reading is written
-from docs/model.md alone, in the plainest way: a dictionary from dot to operation for what an editor has taken and one for what it has saved, one list of what was sent, and
+from docs/build/model.md alone, in the plainest way: a dictionary from dot to operation for what an editor has taken and one for what it has saved, one list of what was sent, and
 for an edit the operation that it makes of the editor's set. Sessions are told by tests/checks/model.py. The lists are drawn at random: five editors add, change, remove and
 bring back tracks, clips and markers, save, take what was sent in any order and often twice, and restart; now and then an edit names what is not there, and an event no editor
 or nothing that was sent. Stops at the first list of which the two tell different worlds.

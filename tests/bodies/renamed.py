@@ -1,0 +1,237 @@
+"""Lines of tests/wrong_bodies.tried for crates in which names have changed, and some functions: the
+work of `tests/wrong_bodies.py --renamed MAP OLD`.
+
+MAP is a file of lines `old new`, each name one whole word: of the code, of definitions and proofs,
+of a file, a folder or a crate. OLD is a commit. A crate gets its new line only where its line held
+in OLD, by that commit's own script. All that its sum covers has to be the same tokens as then, once
+the new names are mapped back. Where something differs, each wrong body is looked at for itself: if
+all that it rests on is the same tokens, it was refused in OLD. The others, and those that OLD has
+not, are tried, and have to be refused; else what differs first is told, and the line stays as it
+is.
+
+A map has to lead back without a doubt: no two names may become one, no new name may be a word of
+OLD, and where a crate's files have a new name they may not have the old one too."""
+import os
+import subprocess
+import sys
+import tempfile
+
+from bodies.edits import Edit
+from bodies.sums import TOP, RULES, covered, crate_lines, note_tried, sum_of, text_of, tried
+from bodies.tokens import names_in, tokens_of, words_of_path
+
+# Run in the tests of OLD: what counts as refused, and the crates of its record whose line holds.
+HOLDS = """
+import sys
+import wrong_bodies
+try:
+    from bodies.sums import RULES
+except ImportError:
+    RULES = wrong_bodies.RULES
+print(RULES)
+for name, line in wrong_bodies.tried().items():
+    if line.split()[2] == wrong_bodies.sum_of(name):
+        print(name, line.split()[1])
+"""
+
+
+class BadMap(Exception):
+    """A map that does not lead back without a doubt."""
+
+
+def read_map(text):
+    """The old names by the new ones."""
+    names = {}
+    for number, line in enumerate(text.split("\n"), 1):
+        words = line.split("#")[0].split()
+        if not words:
+            continue
+        if len(words) != 2 or not all(word.replace("_", "a").isalnum() for word in words):
+            raise BadMap("line %d is not of the form `old new`, each one word" % number)
+        old, new = words
+        if new in names or old in names.values():
+            raise BadMap("line %d: %s or %s stands in another line too" % (number, old, new))
+        names[new] = old
+    return names
+
+
+def words_of_tree(top):
+    """All words of the crates of a tree, each with a file that has it."""
+    found = dict.fromkeys(("crates.txt",), "crates.txt")
+    for line in crate_lines(top).values():
+        found.update(dict.fromkeys(names_in("crates.txt", line), "crates.txt"))
+    for at, folders, files in os.walk(os.path.join(top, "crates")):
+        folders[:] = [one for one in folders if one != "out"]
+        for file in files:
+            if file.endswith((".rt", ".antt", ".edit")):
+                path = os.path.join(at, file)
+                short = os.path.relpath(path, top)
+                found.update(dict.fromkeys(names_in(short, text_of(path)), short))
+    return found
+
+
+def check_map(names, old_top):
+    """A new name that OLD has would lead back to another one."""
+    there = words_of_tree(old_top)
+    for new in names:
+        if new in there:
+            raise BadMap("%s is a word of OLD already, in %s" % (new, there[new]))
+
+
+def old_path(path, names):
+    return "".join(names.get(word, word) for word in words_of_path(path))
+
+
+def both_names(texts, names):
+    """A name that stands in these texts beside the one that it got, if any."""
+    words = {}
+    for path, text in texts.items():
+        words.update(dict.fromkeys(names_in(path, text), path))
+    for new, old in names.items():
+        if new in words and old in words:
+            return "%s has %s, and %s has %s still" % (words[new], new, words[old], old)
+    return None
+
+
+def token_difference(path, new, old):
+    """Where two lists of tokens differ first."""
+    at = next((i for i, (a, b) in enumerate(zip(new, old)) if a != b), min(len(new), len(old)))
+    told = [repr(one[at]) if at < len(one) else "the end" for one in (new, old)]
+    return "%s: token %d is %s, and was %s" % (path, at + 1, *told)
+
+
+def new_bodies(name, names, old_top, new_top=TOP):
+    """The wrong bodies of a crate that it has not in OLD: their files below `new_top`."""
+    paths = bodies_of(name, new_top)
+    old = [os.path.join(old_top, old_path(path, names)) for path in paths]
+    return [path for path, there in zip(paths, old) if not os.path.exists(there)]
+
+
+def bodies_of(name, top):
+    """The files of the wrong bodies of a crate, below `top`."""
+    folder = os.path.join("crates", name, "wrong-bodies")
+    return [os.path.join(folder, file) for file in sorted(os.listdir(os.path.join(top, folder)))]
+
+
+def changed_bodies(name, names, old_top, new_top=TOP):
+    """The wrong bodies of a crate that OLD has, and that rest on something that differs."""
+    new, found = new_bodies(name, names, old_top, new_top), []
+    for path in bodies_of(name, new_top):
+        if path not in new and difference(name, names, old_top, new_top, path):
+            found.append(path)
+    return found
+
+
+def difference(name, names, old_top, new_top=TOP, body=None):
+    """What differs first between what a crate's sum covers and what it covered in OLD, if
+    anything; new wrong bodies are passed over, and all but one where one is given."""
+    old_name = names.get(name, name)
+    if body is None:
+        others, old_others = new_bodies(name, names, old_top, new_top), ()
+    else:
+        others = [one for one in bodies_of(name, new_top) if one != body]
+        old_others = [one for one in bodies_of(old_name, old_top) if one != old_path(body, names)]
+    texts, lines = covered(name, new_top, others)
+    old_texts, old_lines = covered(old_name, old_top, old_others)
+    both = both_names({"crates.txt": "".join(lines), **texts}, names)
+    if both:
+        return both
+    was = sorted(tokens_of("crates.antt", line, {}) for line in old_lines)
+    if sorted(tokens_of("crates.antt", line, names) for line in lines) != was:
+        return "crates.txt: other lines"
+    paths = {old_path(path, names): path for path in texts}
+    for path in sorted(paths.keys() ^ old_texts.keys()):
+        return "%s: %s" % (path, "it is new" if path in paths else "it is gone")
+    for path, was in sorted(old_texts.items()):
+        new = tokens_of(path, texts[paths[path]], names)
+        old = tokens_of(path, was, {})
+        if new != old:
+            return token_difference(paths[path], new, old)
+    return None
+
+
+def check_out(commit, folder):
+    """Lays the tree of a commit into a folder."""
+    told = subprocess.run(["git", "archive", commit], cwd=TOP, capture_output=True)
+    if told.returncode != 0:
+        raise BadMap("git archive %s: %s" % (commit, told.stderr.decode().strip()))
+    subprocess.run(["tar", "-x", "-C", folder], input=told.stdout, check=True)
+
+
+def held_in(folder):
+    """The crates whose line held in a tree, by its own script, each with its number of wrong
+    bodies."""
+    words = [sys.executable, "-B", "-c", HOLDS]
+    tests = os.path.join(folder, "tests")
+    told = subprocess.run(words, cwd=tests, capture_output=True, text=True)
+    if told.returncode != 0:
+        raise BadMap("the sums of OLD cannot be made:\n%s" % told.stderr)
+    rules, *lines = told.stdout.split("\n")[:-1]
+    if rules != RULES:
+        raise BadMap("in OLD something else counted as refused")
+    return dict(line.split() for line in lines)
+
+
+def lapsed():
+    """The crates that have wrong bodies and whose line does not hold, each with its sum."""
+    lines, found = tried(), {}
+    for name in crate_lines():
+        if os.path.isdir(os.path.join(TOP, "crates", name, "wrong-bodies")):
+            made = sum_of(name)
+            if name not in lines or lines[name].split()[2] != made:
+                found[name] = made
+    return found
+
+
+def refused(name, paths, try_part):
+    """Whether these wrong bodies of a crate are refused; what is wrong is told."""
+    if not paths:
+        return True
+    crate = os.path.join(TOP, "crates", name)
+    part = try_part(name, [Edit(os.path.join(TOP, path), crate) for path in paths])
+    wrong = {"": "the crate itself is not proved"} if part is None else {**part[1], **part[0]}
+    for edit in sorted(wrong):
+        print("%s: %s: tried, and %s" % (name, edit, wrong[edit]))
+    return not wrong
+
+
+def write_lines(names, folder, try_part):
+    """Writes the lines of lapsed crates that are as in OLD; how many are not."""
+    held, left = held_in(folder), 0
+    for name, made in sorted(lapsed().items()):
+        if names.get(name, name) not in held:
+            print("%s: left lapsed: its line did not hold in OLD" % name, flush=True)
+            left += 1
+            continue
+        why = difference(name, names, folder)
+        again = changed_bodies(name, names, folder) if why else []
+        again += new_bodies(name, names, folder)
+        count = len(bodies_of(name, TOP))
+        told = "%s: the same tokens as in OLD, %d wrong bodies" % (name, count - len(again))
+        if count - len(again) == 0:
+            print("%s: left lapsed: %s" % (name, why), flush=True)
+            left += 1
+            continue
+        if again:
+            print("%s; %d to try; %s" % (told, len(again), why or "these are new"), flush=True)
+        if refused(name, again, try_part):
+            note_tried(name, count, made)
+            print("%s%s" % (told, ", %d tried" % len(again) if again else ""), flush=True)
+        else:
+            print("%s: left lapsed: not all are refused" % name, flush=True)
+            left += 1
+    return left
+
+
+def write_renamed(path, commit, try_part):
+    """The work of --renamed: 0 where no crate is left lapsed, 1 where some are, 2 where the map or
+    the commit cannot be used."""
+    try:
+        names = read_map(text_of(path))
+        with tempfile.TemporaryDirectory() as folder:
+            check_out(commit, folder)
+            check_map(names, folder)
+            return 1 if write_lines(names, folder, try_part) else 0
+    except (BadMap, OSError) as why:
+        print("wrong_bodies.py: %s" % why)
+        return 2

@@ -1,0 +1,265 @@
+"""What the wrong bodies of a crate rest on: the files whose change may let one through, and a sum
+of these for tests/wrong_bodies.tried.
+
+The sum covers the wrong bodies; the functions that they edit, or that have to be refused, with
+their proofs; of all other functions of the crate and of those below it what a caller can know,
+where those that are edited or the wrong bodies may call them by name; all that is no function; the
+definitions and proofs that any of this names; the lines of crates.txt; what counts as refused; and
+the toolchain's logic. It covers no tests and no remarks."""
+import functools
+import hashlib
+import os
+import re
+import subprocess
+import threading
+
+from bodies.edits import Edit
+from bodies.edits import functions as functions_read
+
+TOP = os.path.dirname(os.path.dirname(os.path.dirname(os.path.abspath(__file__))))
+TRIED = os.path.join(TOP, "tests", "wrong_bodies.tried")
+WRITING = threading.Lock()
+
+# What counts as refused: a line of wrong_bodies.tried holds by these rules alone.
+RULES = "by a goal that is open, once answers that fit no longer are left out"
+
+# Tests, which no round compiles, and their proofs.
+OF_TESTS = re.compile(r"/(src|proofs)/(\w+_)?tests(\.rt$|/)")
+
+# A line that brings names into a file, and into no other.
+IMPORT = r"(?m)^(ghost )?use [^;]*;\n"
+
+
+def text_of(path):
+    with open(path) as file:
+        return file.read()
+
+
+def crate_lines(top=TOP):
+    """The lines of crates.txt, by the names of the crates."""
+    with open(os.path.join(top, "crates.txt")) as file:
+        lines = [line for line in file if not line.startswith("#") and ":" in line]
+    return {line.partition(":")[0].strip(): line for line in lines}
+
+
+def crates_below(name, lines):
+    """The crates of the project that a crate stands on, and itself."""
+    wanted, reached = [name], []
+    while wanted:
+        one = wanted.pop()
+        if one in lines and one not in reached:
+            reached.append(one)
+            wanted += lines[one].partition(":")[2].split()
+    return reached
+
+
+@functools.lru_cache(maxsize=None)
+def functions(path, text):
+    return functions_read(path, text)
+
+
+def hidden_lines(lines, one, words):
+    """The lines of a function, counted from 0, on which nothing rests in a crate above that has
+    these words: all of it where that crate cannot name it or does not, else its body. A method of
+    an interface may be called without its name. What is no plain body stays: a constant function's,
+    which a type may use, and any whose beginning is not found."""
+    own = range(one.first - 1, one.last)
+    head = next(i for i in own if re.match(r" *(pub(\(crate\))? )?(const )?fn ", lines[i]))
+    indent = re.match(" *", lines[head]).group()
+    is_const = " const fn " in " " + lines[head]
+    rest = range(head, one.last)
+    clauses = [i for i in rest if re.match(r" +(requires|ensures|ghost)\b", lines[i])]
+    begins = [i for i in rest if lines[i] == indent + "{"]
+    if not begins and not clauses:
+        begins = [i for i in rest if lines[i].endswith(" {")]
+    if not indent or one.owner:
+        is_own = re.match(r"(pub\(crate\) )?fn ", lines[head].strip())
+        if is_own or one.name not in words and not is_const:
+            return own
+    if begins and not is_const:
+        return range(begins[0] + 1, one.last - 1)
+    return []
+
+
+def for_callers(path, text, words, whole=None):
+    """What a crate above that has these words rests on in a source file: of a function its head and
+    its clauses, and nothing of one that the crate cannot or does not name; no remark, and no line
+    for names that none of this has; of a file that has nothing else, nothing. Of the crate's own
+    files the functions of some names are whole, and each may be called."""
+    named = frozenset(one.name for one in functions(path, text))
+    return kept_lines(path, text, named & words, None if whole is None else named & whole)
+
+
+@functools.lru_cache(maxsize=None)
+def kept_lines(path, text, words, whole):
+    """That, where `words` and `whole` are those of the names of the file's functions alone."""
+    lines, left = text.split("\n"), set()
+    for one in functions(path, text):
+        if whole is None:
+            left.update(hidden_lines(lines, one, words))
+        elif one.name not in whole:
+            left.update(hidden_here(lines, one, words))
+    kept = "\n".join(line for i, line in enumerate(lines) if i not in left)
+    kept = re.sub(r"(?m)^ *//.*\n|^mod \w+;\n", "", kept)
+    rest = re.sub(IMPORT, "", kept)
+    return re.sub(IMPORT, lambda line: of_use(line.group(), rest), kept) if rest.strip() else ""
+
+
+def hidden_here(lines, one, words):
+    """The lines of a function on which nothing rests in functions of its own crate that have these
+    words: all of it where they do not name it, else its body."""
+    own = range(one.first - 1, one.last)
+    head = next(i for i in own if re.match(r" *(pub(\(crate\))? )?(const )?fn ", lines[i]))
+    indent = re.match(" *", lines[head]).group()
+    if " const fn " in " " + lines[head]:
+        return []
+    if (not indent or one.owner) and one.name not in words:
+        return own
+    rest = range(head, one.last)
+    clauses = [i for i in rest if re.match(r" +(requires|ensures|ghost)\b", lines[i])]
+    begins = [i for i in rest if lines[i] == indent + "{"]
+    if not begins and not clauses:
+        begins = [i for i in rest if lines[i].endswith(" {")]
+    return range(begins[0] + 1, one.last - 1) if begins else []
+
+
+def edited_names(paths, crate):
+    """The names of the functions that wrong bodies edit, or that have to be refused."""
+    found = set()
+    for edit in (Edit(path, crate) for path in paths):
+        found.update(one.name for one in edit.functions())
+        found.update([edit.refused] if edit.refused else [])
+    return found
+
+
+def own_texts(name, top, without):
+    """What the wrong bodies of a crate rest on in its own files: themselves, its sources, and the
+    proofs of the functions that they edit or that have to be refused."""
+    crate = os.path.join(top, "crates", name)
+    edits = [path for path in files_below(crate, "wrong-bodies") if path.endswith(".edit")]
+    edits = [path for path in edits if os.path.relpath(path, top) not in without]
+    texts, whole = {path: text_of(path) for path in edits}, edited_names(edits, crate)
+    for path in files_below(crate, "proofs"):
+        folders = os.path.relpath(path, crate).split(os.sep)[1:-1]
+        if {one.lstrip("+") for one in folders} & whole:
+            texts[path] = text_of(path)
+    sources = {path: text_of(path) for path in files_below(crate, "src")}
+    words = set(re.findall(r"\w+", " ".join(texts.values())))
+    for path, text in sources.items():
+        lines = text.split("\n")
+        for one in (one for one in functions(path, text) if one.name in whole):
+            words.update(re.findall(r"\w+", "\n".join(lines[one.first - 1 : one.last])))
+    for path, text in sources.items():
+        kept = for_callers(path, text, words, whole)
+        # an attribute names the crate's own proofs and definitions so
+        kept = re.sub(r"\bcrate::(proofs|specs)::", name + r"::\1::", kept)
+        if kept:
+            texts[path] = kept
+    return texts
+
+
+def of_use(line, text):
+    """Such a line with those of its names, and of its signs, that a text has; nothing where it has
+    none."""
+    origin, _, listed = line.partition("{") if "{" in line else line.rpartition("::")
+    names = [name.strip() for name in listed.rstrip("};\n").split(",")]
+    words = {name: re.escape(name.split(" ")[-1].strip("◌")) for name in names}
+    used = [
+        name
+        for name in names
+        if name == "*" or re.search(r"(?<!\w)%s(?!\w)" % words[name], text)
+    ]
+    return "%s{%s}\n" % (origin, ", ".join(used)) if used else ""
+
+
+@functools.lru_cache(maxsize=None)
+def modules_named(text, top):
+    """The files of the modules of definitions and of proofs that a text names, as a clause and a
+    proof do, or as an attribute does."""
+    found = set()
+    named = re.findall(r"\b(\w+)\.(specs|proofs)((?:\.\w+)+)", text.replace("::", "."))
+    for crate, part, names in named:
+        names = names[1:].split(".")
+        while names:
+            path = os.path.join(top, "crates", crate, part, *names) + ".antt"
+            if os.path.exists(path):
+                found.add(path)
+                break
+            names.pop()
+    return found
+
+
+def with_what_they_name(texts, top):
+    """Texts by their files, with those of the modules that they name, and that these name."""
+    texts, wanted = dict(texts), list(texts)
+    while wanted:
+        for path in modules_named(texts[wanted.pop()], top) - texts.keys():
+            texts[path] = text_of(path)
+            wanted.append(path)
+    return texts
+
+
+def files_below(top, *folders):
+    """The files of some folders and of those in them, but for tests."""
+    walks = [one for folder in folders for one in os.walk(os.path.join(top, folder))]
+    files = [os.path.join(at, file) for at, _, found in walks for file in found]
+    return [path for path in files if not OF_TESTS.search(path)]
+
+
+@functools.lru_cache(maxsize=None)
+def without_remarks(path, text):
+    """A text with neither remarks nor empty lines, which prove nothing, and no modules of tests."""
+    if path.endswith(".rt"):
+        text = re.sub(r"#\[cfg\(test\)\]\nmod \w+;\n", "", text)
+    return re.sub(r"\n\s*\n+", "\n", re.sub(r"(?m)^ *(//|--).*$", "", text))
+
+
+def covered(name, top=TOP, without=()):
+    """All that the wrong bodies of a crate rest on, but for some of its files: texts by their paths
+    below `top`, and the lines of crates.txt."""
+    lines = crate_lines(top)
+    reached = sorted(crates_below(name, lines))
+    texts = own_texts(name, top, without)
+    words = set(re.findall(r"\w+", " ".join(texts.values())))
+    others = [os.path.join("crates", one, "src") for one in reached if one != name]
+    for path in files_below(top, *others):
+        told = for_callers(path, text_of(path), words)
+        if told:
+            texts[path] = told
+    texts = with_what_they_name(texts, top)
+    texts = {path: without_remarks(path, text) for path, text in sorted(texts.items())}
+    return {os.path.relpath(path, top): text for path, text in texts.items()}, [
+        lines[one] for one in reached
+    ]
+
+
+def sum_of(name, top=TOP):
+    """A sum of all that the wrong bodies of a crate rest on."""
+    texts, lines = covered(name, top)
+    version = subprocess.run(["rt", "version"], capture_output=True, check=True, text=True).stdout
+    made = hashlib.sha256(version.partition("logic ")[2].encode())
+    for line in lines + [RULES]:
+        made.update(line.encode())
+    for path, text in texts.items():
+        one = hashlib.sha256(text.encode()).hexdigest()
+        made.update(("%s %s\n" % (path, one)).encode())
+    return made.hexdigest()
+
+
+def tried(path=TRIED):
+    """The lines of crates whose wrong bodies were all refused, by the names of the crates."""
+    if not os.path.exists(path):
+        return {}
+    with open(path) as file:
+        return {line.split()[0]: line for line in file}
+
+
+def note_tried(name, count, made):
+    """Notes that so many wrong bodies of a crate, all that it has, were refused. The line of a
+    crate that is no longer there goes."""
+    with WRITING:
+        there = crate_lines()
+        lines = {one: line for one, line in tried().items() if one in there}
+        lines[name] = "%s %d %s\n" % (name, count, made)
+        with open(TRIED, "w") as file:
+            file.writelines(lines[one] for one in sorted(lines))

@@ -1,0 +1,134 @@
+"""The crates by rooms, the laws, and the checks of the gate, from crates.txt, the code and tests/all.sh."""
+import ast
+import re
+import sys
+
+from pages.text import files_of, fill, table, text_of
+
+# the rooms of the repository, from the lowest to the highest: each crate with what it does
+ROOMS = {
+    "base": {
+        "mt_digests": "SHA-256: of one message, of a stream, of eight messages at a time",
+        "mt_times": "times and decibels as people write them",
+        "mt_stamp": "replicas, dots, stamps, and the order of places in a tree",
+        "mt_latch": "readers and writers that stay failed, and a buffer in front of a writer",
+        "mt_stampmap": "a map from stamps to values that keeps the order of insertion",
+    },
+    "operations and logs": {
+        "mt_op": "titles, gains, operations, their needs and roles, readiness",
+        "mt_opcodec": "operations and logs as bytes; union of logs",
+        "mt_holdback": "items that wait for others, and their release",
+    },
+    "session": {
+        "mt_cells": "the laws of joining, the last-writer register, presence",
+        "mt_tracklist": "the places of tracks as one list in tree order",
+        "mt_items": "the state of items: last writes and tags",
+        "mt_sessionview": "the session of a set of operations, and its text",
+        "mt_mending": "what one more operation changes in a session",
+        "mt_replica": "the editor: a name, a log and its session, kept up to date",
+    },
+    "exchange": {
+        "mt_frames": "frames in a stream of bytes",
+        "mt_summary": "summaries of logs, missing operations, messages",
+        "mt_world": "editors that work, save, send and crash: the laws of every history",
+        "mt_sync": "conversations between two holders of operations",
+    },
+    "sound": {
+        "mt_overlap": "overlapping spans, and the segments in which one is on top",
+        "mt_bwfread": "Broadcast Wave files in memory",
+        "mt_outline": "a wave file read as a stream, without its samples",
+        "mt_render": "the recordings at hand, and the mix of a session",
+        "mt_cuewrite": "the rendered file with its markers as cue points",
+    },
+    "text": {
+        "mt_logtext": "the text of `radio log`",
+        "mt_logdiff": "the texts of `radio diff`",
+        "mt_revert": "the script of `radio revert`",
+        "mt_script": "scripts of edits, read and run",
+        "mt_preflight": "the texts of `radio sources` and `radio check`",
+        "mt_timeline": "the text of `radio timeline`",
+        "mt_svg": "the picture of `radio timeline --svg`",
+        "mt_lines": "lines as JSON, with times, and back from times",
+    },
+    "program": {
+        "mt_cli": "the work of each command over readers and writers; the command line",
+        "radio": "`main`",
+        "world_histories": "runs lists of events for `tests/checks/world.py` and `bench/world`",
+    },
+    "tests": {
+        "mt_testalloc": "an allocator that makes a chosen allocation fail",
+        "mt_testkit": "failing readers and writers, builders of operations and logs",
+        "mt_base_tests": "tests of the low crates",
+        "mt_log_tests": "tests of operations and logs",
+        "mt_session_tests": "tests of sessions",
+        "mt_editor_tests": "tests of editors, worlds and conversations",
+        "mt_output_tests": "tests of mixes, scripts and rendered files",
+        "mt_cli_tests": "tests of the commands and of the texts that they print",
+        "mt_surface_tests": "calls every public call with its specified arguments",
+    },
+}
+
+
+def crates_txt():
+    lines = [line.split(":") for line in text_of("crates.txt").splitlines() if line and not line.startswith("#")]
+    return {name.strip(): uses.split() for name, uses in lines}
+
+
+def all_below(name, uses):
+    found = set()
+    for one in uses.get(name, []):
+        found |= {one} | all_below(one, uses)
+    return found
+
+
+def crates(*room):
+    """The crates of a room with those directly below: what another one of them does not have below it."""
+    uses = {name: [one for one in own if one in crates_txt()] for name, own in crates_txt().items()}
+    rows = []
+    for name in uses:
+        if name in ROOMS[" ".join(room)]:
+            direct = [one for one in uses[name] if not any(one in all_below(other, uses) for other in uses[name])]
+            rows.append(["`%s`" % name, ROOMS[" ".join(room)][name], ", ".join(direct)])
+    return table(["Crate", "Does", "Directly on"], rows)
+
+
+def laws_of_code():
+    """The laws of each crate, with the first sentence of their doc comments."""
+    found = {}
+    for path in files_of("crates/*/src/laws.rt") + files_of("crates/*/src/laws/*.rt"):
+        for doc, name in re.findall(r"((?:^///.*\n)+)(?:^#\[.*\]\n)*^pub fn (\w+)", text_of(path), re.M):
+            text = " ".join(line[3:].strip() for line in doc.splitlines())
+            found.setdefault(path.split("/")[1], {})[name] = re.split(r"(?<=\.) (?=[A-Z])", text)[0]
+    return found
+
+
+def laws():
+    lines = []
+    for crate, own in laws_of_code().items():
+        lines += ["**%s**" % crate, ""] + [fill("`%s`: %s" % (name, text), "- ") for name, text in own.items()] + [""]
+    return "\n".join(lines).strip()
+
+
+def first_line(path):
+    """What a check says that it does, up to how it is called, and whether it says how it is called."""
+    text = text_of(path)
+    if path.endswith(".py"):
+        text = (ast.get_docstring(ast.parse(text)) or "").split("\n\n")[0]
+    else:
+        text = " ".join(line[2:] for line in text.splitlines()[1:8] if line.startswith("# "))
+    said, *usage = re.split(r":\s+(?:python3 |sh )?tests/", " ".join(text.split()), maxsplit=1)
+    return re.split(r"(?<=\.) (?=[A-Z])", said)[0].rstrip(".:"), bool(usage)
+
+
+def row(path):
+    said, _ = first_line(path)
+    if not said:
+        sys.exit("%s does not say what it does" % path)
+    return fill("`%s`: %s" % (path[6:], said), "- ")
+
+
+def checks():
+    run = re.findall(r"(?:sh|python3) (tests/[\w/.]+)", text_of("tests/all.sh"))
+    rest = [path for path in files_of("tests/checks/*") if path not in run and path.endswith((".py", ".sh")) and first_line(path)[1]]
+    lines = [fill("`rt ci`: each proof from nothing, the tests, the must-fail edits and the stored run", "- ")]
+    return "\n".join(lines + [row(path) for path in run] + ["", "By hand:", ""] + [row(path) for path in rest])

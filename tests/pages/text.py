@@ -1,0 +1,32 @@
+"""Files of the repository as text, and text as the pages have it."""
+import glob
+import os
+import re
+import textwrap
+
+TOP = os.path.dirname(os.path.dirname(os.path.dirname(os.path.abspath(__file__))))
+STRING = r'"((?:[^"\\]|\\.)*)"'
+WIDTH = 100
+
+
+def text_of(*names):
+    with open(os.path.join(TOP, *names)) as file:
+        return file.read()
+
+
+def files_of(pattern):
+    return sorted(os.path.relpath(path, TOP) for path in glob.glob(os.path.join(TOP, pattern), recursive=True))
+
+
+def fill(text, first="", rest="  "):
+    """The text in lines of at most WIDTH characters, none of them broken inside a word or at a hyphen."""
+    return textwrap.fill(text, WIDTH, initial_indent=first, subsequent_indent=rest, break_long_words=False, break_on_hyphens=False)
+
+
+def table(heads, rows):
+    lines = [heads, ["---"] * len(heads)] + rows
+    return "\n".join("|%s|" % "|".join(str(cell) for cell in line) for line in lines)
+
+
+def unescaped(text):
+    return re.sub(r"\\(.)", lambda place: {"n": "\n"}.get(place.group(1), place.group(1)), text)
