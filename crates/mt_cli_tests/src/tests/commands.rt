@@ -1,4 +1,4 @@
-//! The program's commands, run by their words over the files of a folder. More of each stands in the cases of the command line.
+//! The program's commands, run by their words over the files of a temporary folder. The cases of the command line have more of each.
 
 pub(crate) mod logs;
 mod renders;
@@ -8,8 +8,9 @@ pub(crate) mod waves;
 use mt_cli::command;
 use mt_opcodec::Latch;
 use std::alloc::Global;
-use std::fs;
 use std::io::Result;
+use std::path::PathBuf;
+use std::{env, fs, process};
 
 /// A run of the program: its words, with a space between two, and what comes of it.
 #[derive(Clone, Copy)]
@@ -82,16 +83,32 @@ fn put_files(rt: &HostRuntime, files: &[(&str, &[u8])]) -> Result<()> {
     Ok(())
 }
 
-// Whether the runs of a story come to what they have to, one after another.
-fn come_to(rt: &HostRuntime, story: &Story) -> bool {
-    if put_files(rt, story.files).is_err() {
-        return false;
-    }
+// Makes a new temporary folder, in which this process goes on, and returns its path.
+fn enter_folder(rt: &HostRuntime) -> Result<PathBuf> {
+    let id = process::id(rt.process());
+    let name = format!(in rt.alloc(); "mt_cli_tests-{id}")?;
+    let folder = env::temp_dir(rt)?.join(rt.alloc(), name.as_str())?;
+    fs::create_dir(rt, folder.as_path())?;
+    env::set_current_dir(rt, folder.as_path())?;
+    Ok(folder)
+}
+
+// Whether the runs of a story come to what they have to, one after another, in this folder.
+fn come_to_here(rt: &HostRuntime, story: &Story) -> Result<bool> {
+    put_files(rt, story.files)?;
     for run in story.runs {
-        match is_so(rt, story.input, *run) {
-            Ok(true) => {}
-            _ => return false,
+        if !is_so(rt, story.input, *run)? {
+            return Ok(false);
         }
     }
-    true
+    Ok(true)
+}
+
+// Whether they do in a new temporary folder, which is removed.
+fn come_to(rt: &HostRuntime, story: &Story) -> Result<bool> {
+    let folder = enter_folder(rt)?;
+    let answer = come_to_here(rt, story);
+    env::set_current_dir(rt, "/")?;
+    fs::remove_dir_all(rt, folder.as_path())?;
+    answer
 }

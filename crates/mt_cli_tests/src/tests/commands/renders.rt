@@ -97,6 +97,6 @@ const ALL: [Story; 5] = [
 #[test]
 fn renders(rt: HostRuntime) {
     for index in 0..ALL.len() {
-        assert!(rt; come_to(&rt, &ALL[index]), "in {index}");
+        assert!(rt; matches!(come_to(&rt, &ALL[index]), Ok(true)), "in {index}");
     }
 }

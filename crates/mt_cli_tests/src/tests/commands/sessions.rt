@@ -300,6 +300,6 @@ const ALL: [Story; 15] = [
 #[test]
 fn shows_and_makes(rt: HostRuntime) {
     for index in 0..ALL.len() {
-        assert!(rt; come_to(&rt, &ALL[index]), "in {index}");
+        assert!(rt; matches!(come_to(&rt, &ALL[index]), Ok(true)), "in {index}");
     }
 }
