@@ -44,7 +44,3 @@ pub fn wave_cue<'a>(wave: &Wave<'a>, index: u32) -> (u32, Option<Cue<'a>>) {
 pub fn cue_fields<'a>(cue: &Cue<'a>) -> (u32, u32, Option<&'a [u8]>, Option<u32>) {
     (cue.name, cue.at, cue.label, cue.length)
 }
-
-pub fn fault_number(fault: WaveFault) -> u8 {
-    fault.number()
-}

@@ -56,7 +56,3 @@ pub fn presence_join<A: Allocator + Clone>(
 ) -> Result<(), CellFault> {
     presence.join(other)
 }
-
-pub fn fault_number(fault: CellFault) -> u8 {
-    fault.number()
-}

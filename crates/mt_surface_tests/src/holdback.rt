@@ -38,7 +38,3 @@ pub fn first_ready(offered: Offered) -> Option<usize> {
         Offered::Ready(first) => Some(first),
     }
 }
-
-pub fn fault_number(fault: HoldBackFault) -> u8 {
-    fault.number()
-}

@@ -16,16 +16,12 @@ pub fn title_try_clone<A: Allocator + Clone>(title: &Title<A>) -> Result<Title<A
     title.try_clone()
 }
 
-pub fn title_order<A: Allocator>(first: &Title<A>, second: &Title<A>) -> bool {
-    first == second || first < second
-}
-
 pub fn gain_new(num: u16, den: u16) -> Result<Gain, OpFault> {
     Gain::new(num, den)
 }
 
-pub fn gain_parts(gain: Gain, other: Gain) -> (u16, u16, bool) {
-    (gain.num(), gain.den(), gain < other)
+pub fn gain_parts(gain: Gain) -> (u16, u16) {
+    (gain.num(), gain.den())
 }
 
 pub fn digest_of(bytes: &[u8]) -> Digest {
@@ -40,10 +36,6 @@ pub fn digest_text<A: Allocator>(bytes: [u8; 32], alloc: A) -> Result<String<A>,
     Digest(bytes).text(alloc)
 }
 
-pub fn digest_order(first: Digest, second: Digest) -> bool {
-    first < second
-}
-
 pub fn body_try_clone<A: Allocator + Clone>(body: &Body<A>) -> Result<Body<A>, OpFault> {
     body.try_clone()
 }
@@ -56,10 +48,6 @@ pub fn op_try_clone<A: Allocator + Clone>(op: &Op<A>) -> Result<Op<A>, OpFault> 
     op.try_clone()
 }
 
-pub fn op_equality<A: Allocator>(first: &Op<A>, second: &Op<A>) -> bool {
-    first == second || first.body() == second.body()
-}
-
 pub fn op_parts<A: Allocator>(op: &Op<A>) -> (Stamp, Dot, &Body<A>) {
     (op.stamp(), op.dot(), op.body())
 }
@@ -70,8 +58,4 @@ pub fn op_needs<A: Allocator>(op: &Op<A>, index: usize) -> (usize, Option<Need>)
 
 pub fn op_fits<A: Allocator>(op: &Op<A>, role: &Role) -> bool {
     op.fits(role)
-}
-
-pub fn fault_number(fault: OpFault) -> u8 {
-    fault.number()
 }

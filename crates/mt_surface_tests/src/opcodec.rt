@@ -54,10 +54,6 @@ pub fn log_merge<A: Allocator + Clone>(
     Log::merge(alloc, first, second)
 }
 
-pub fn log_equality<A: Allocator>(first: &Log<A>, second: &Log<A>) -> bool {
-    first == second
-}
-
 pub fn latch_new<T: Drop>(inner: T) -> Latch<T> {
     Latch::new(inner)
 }
@@ -83,8 +79,4 @@ pub fn latch_get_all<A: Allocator, R: Read>(
     alloc: A,
 ) -> Result<Vec<u8, A>, LatchFault> {
     latch.get_all(alloc)
-}
-
-pub fn fault_numbers(latch: LatchFault, log: LogFault, read: ReadFault) -> (u8, u8, u8) {
-    (latch.number(), log.number(), read.number())
 }

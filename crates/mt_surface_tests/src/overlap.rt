@@ -22,7 +22,3 @@ pub fn span_fields(span: &Span) -> (Stamp, u32, u32) {
 pub fn segment_fields(segment: &Segment) -> (u64, u64, usize) {
     (segment.start, segment.end, segment.which)
 }
-
-pub fn fault_number(fault: OverlapFault) -> u8 {
-    fault.number()
-}

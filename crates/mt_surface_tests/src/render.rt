@@ -1,6 +1,6 @@
 //! Catalogues, formats and mixes.
 
-ghost use Rattle.std.specs.Prelude.{◌≡◌, ◌≤◌, ◌+◌, ℕ, length};
+ghost use Rattle.std.specs.Prelude.{◌≡◌, ◌≤◌, ◌+◌, ◌%◌, ◌/◌, ℕ, length};
 ghost use Rattle.mt_render.specs.Mix.{length_of};
 
 use mt_bwfread::Wave;
@@ -37,7 +37,7 @@ pub fn format_parts(format: Format) -> (u32, u16, u16) {
 
 pub fn mix_new<'c, 'a, A: Allocator + Clone>(
     alloc: A,
-    session: &Session<A>,
+    session: &'c Session<A>,
     catalogue: &'c Catalogue<'a, A>,
     format: Format,
 ) -> Result<Mix<'c, 'a, A>, MixFault> {

@@ -53,7 +53,3 @@ pub fn clip_fields(view: &ClipView) -> (Stamp, Stamp, Gain, bool, Digest) {
 pub fn marker_fields<A: Allocator>(view: &MarkerView<A>) -> (Stamp, u32, u32, &Title<A>) {
     (view.marker, view.at, view.len, &view.title)
 }
-
-pub fn fault_number(fault: SessionFault) -> u8 {
-    fault.number()
-}

@@ -31,18 +31,10 @@ pub fn stamp_parts(stamp: Stamp) -> (u64, Replica, u64, Dot) {
     (stamp.clock(), stamp.replica(), stamp.seq(), stamp.dot())
 }
 
-pub fn stamp_order(first: (Stamp, Dot, Replica), second: (Stamp, Dot, Replica)) -> bool {
-    first.0 < second.0 && first.1 <= second.1 && first.2 == second.2
-}
-
 pub fn stamp_text<A: Allocator>(stamp: Stamp, alloc: A) -> Result<String<A>, StampFault> {
     stamp.text(alloc)
 }
 
 pub fn stamp_read(text: &str) -> Result<Stamp, StampFault> {
     Stamp::read(text)
-}
-
-pub fn fault_number(fault: StampFault) -> u8 {
-    fault.number()
 }

@@ -12,10 +12,9 @@ pub fn list_insert<A: Allocator>(
     list: &mut TrackList<A>,
     place: Stamp,
     after: Option<Stamp>,
-    track: Stamp,
 ) -> Result<(), TrackListFault> {
     if is_newer(place, after) {
-        list.insert(place, after, track)?;
+        list.insert(place, after, place)?;
     }
     Ok(())
 }
@@ -32,8 +31,4 @@ pub fn list_try_clone<A: Allocator + Clone>(
     list: &TrackList<A>,
 ) -> Result<TrackList<A>, TrackListFault> {
     list.try_clone()
-}
-
-pub fn fault_number(fault: TrackListFault) -> u8 {
-    fault.number()
 }

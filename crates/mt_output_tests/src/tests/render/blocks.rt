@@ -40,16 +40,17 @@ fn sum_up(before: u64, samples: &[i32]) -> u64 {
 fn in_blocks(mix: &Mix<'_, '_>, frames: usize) -> Option<u64> {
     let mut samples = [7; 20000];
     let (mut sum, mut done) = (0, 0);
-    while done < FRAMES && frames > 0 {
-        let count = frames.min(FRAMES - done);
-        let piece = samples.get_mut(..2 * count)?;
+    // no block is empty, so there are no more than frames
+    for _ in 0..FRAMES {
+        let count = frames.min(FRAMES.saturating_sub(done));
+        let piece = samples.get_mut(..count.saturating_mul(2))?;
         if !fill(mix, done as u64, piece) {
             return None;
         }
         sum = sum_up(sum, piece);
-        done += count;
+        done = done.saturating_add(count);
     }
-    Some(sum)
+    if done == FRAMES { Some(sum) } else { None }
 }
 
 // The same in blocks of 1, 7 and 4,096 frames, and in one.
