@@ -8,23 +8,22 @@ pub fn list_new<A: Allocator>(alloc: A) -> TrackList<A> {
     TrackList::new(alloc)
 }
 
-pub fn list_insert<A: Allocator>(
+pub fn list_insert<A: Allocator + Clone>(
     list: &mut TrackList<A>,
     place: Stamp,
     after: Option<Stamp>,
-) -> Result<(), TrackListFault> {
+) -> Result<bool, TrackListFault> {
     if is_newer(place, after) {
         list.insert(place, after, place)?;
     }
-    Ok(())
-}
-
-pub fn list_order<A: Allocator>(list: &TrackList<A>) -> &[Placed] {
-    list.order()
-}
-
-pub fn list_index_of<A: Allocator>(list: &TrackList<A>, place: &Stamp) -> Option<usize> {
-    list.index_of(place)
+    let index: Option<usize> = list.index_of(&place);
+    let order: &[Placed] = list.order();
+    let is_there = order.contains(&Placed {
+        place,
+        after,
+        track: place,
+    });
+    Ok(is_there && index == Some(0))
 }
 
 pub fn list_try_clone<A: Allocator + Clone>(

@@ -20,7 +20,8 @@ use std::test::Fail;
 #[test]
 fn takes_an_operation_once(rt: HostRuntime) -> Result<(), Fail> {
     let item = Stamp::new(1, A, 1)?;
-    let (news, another) = (Act::AddMarker(Name::News), Act::AddMarker(Name::X));
+    let news = Act::AddMarker(Name::News);
+    let another = Act::AddMarker(Name::X);
     let clash = Err(EditorFault::Conflict(item.dot()));
     let rows = [
         (Step::Take(item, news), Ok(Answer::Applied(1)), (1, 0, 1)),
