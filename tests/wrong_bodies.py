@@ -1,9 +1,9 @@
 #!/usr/bin/env python3
-"""Tries wrong bodies many at a time: tests/wrong_bodies.py [--changed] [--folder NAME] [--jobs N]
-[CRATE]..., or those alone that rest on what changed since a commit: --renamed MAP OLD
+"""Tries wrong bodies many at a time: tests/wrong_bodies.py [--changed] [--jobs N] [CRATE]..., one
+alone: CRATE/NAME, or those that rest on what changed since a commit: --renamed MAP OLD
 
-The edits are those of crates/CRATE/wrong-bodies, or of the folder named, in the form of must-fail
-edits. `rt must-fail` checks a crate once for each edit; here a round applies one edit to each of
+They are in crates/CRATE/wrong-bodies.txt, a paragraph for each: `edit: NAME` and the lines of a
+must-fail edit, `file:` with pairs of `old:` and `new:`. `rt must-fail` checks a crate once for each edit; here a round applies one edit to each of
 many functions, checks the crate once, and wants each edited function to be refused for itself: by a
 goal of its own that is left open. A function that is refused only since it calls one that is not
 proved does not count: its edit goes into another round, and at last into a check of its own.
@@ -29,7 +29,6 @@ of a rename back, and tries those edits that do not rest on the same tokens as i
 where the line held (tests/bodies/renamed.py)."""
 import argparse
 import concurrent.futures
-import glob
 import os
 import shutil
 import subprocess
@@ -41,10 +40,10 @@ import traceback
 sys.dont_write_bytecode = True
 from bodies.draw import MINUTES, bodies_of, copy_project, drawn, in_order, stamp_libraries
 from bodies.draw import tree_hash, try_drawn
-from bodies.edits import Edit, rounds
+from bodies.edits import edits_of, rounds, texts_of
 from bodies.refusals import Bench, OutOfTime, link_or_copy, tried_in_rounds
 from bodies.renamed import write_renamed
-from bodies.sums import TOP, note_tried, sum_of, tried
+from bodies.sums import TOP, crate_lines, note_tried, sum_of, tried
 
 # how many wrong bodies of one crate are tried one round after another, in a copy of the crate
 PART = 64
@@ -69,11 +68,10 @@ def try_part(name, edits):
         return tried_in_rounds(edits, bench, rounds)
 
 
-def try_crate(name, folder, pool):
-    """Tries the wrong bodies of a crate, in parts of PART at most that the pool tries side by side;
-    how many were not refused as they have to be."""
-    kept = os.path.join(TOP, "crates", name)
-    edits = [Edit(path, kept) for path in sorted(glob.glob(os.path.join(kept, folder, "*.edit")))]
+def try_crate(name, bodies, pool):
+    """Tries the wrong bodies of a crate, or those named, in parts of PART at most that the pool
+    tries side by side; how many were not refused as they have to be."""
+    edits = edits_of(os.path.join(TOP, "crates", name), bodies)
     made, parts, wrong, weak, checks = sum_of(name), -(-len(edits) // PART), {}, {}, 0
     for part in pool.map(lambda i: try_part(name, edits[i::parts]), range(parts)):
         if part is None:
@@ -90,7 +88,7 @@ def try_crate(name, folder, pool):
     told = "%s: %d wrong bodies in %d checks" % (name, len(edits), checks)
     counts = "%d not refused, %d let through, %d refused by names alone"
     print("%s, %s" % (told, counts % (len(wrong), through, names)), flush=True)
-    if folder == "wrong-bodies" and not wrong and not weak and made == sum_of(name):
+    if bodies is None and not wrong and not weak and made == sum_of(name):
         note_tried(name, len(edits), made)
     return len(wrong) + len(weak)
 
@@ -105,9 +103,10 @@ def tried_to_the_end(name, work):
         return 1
 
 
-def try_crates(names, folder, jobs):
-    """Tries the wrong bodies of these crates; how many were not refused as they have to be."""
-    for name in names:
+def try_crates(crates, jobs):
+    """Tries the wrong bodies of these crates, each with the names of some or none for all; how many
+    were not refused as they have to be."""
+    for name in crates:
         # proves it and those that it stands on, unless `rt ci` just did, so that the rounds begin with
         # what this keeps
         stamp_libraries(name)
@@ -116,10 +115,10 @@ def try_crates(names, folder, jobs):
             print("%s: rt check: the crate itself is not proved" % name)
             return 1
     threads = concurrent.futures.ThreadPoolExecutor
-    with threads(jobs) as pool, threads(max(len(names), 1)) as waiting:
+    with threads(jobs) as pool, threads(max(len(crates), 1)) as waiting:
         return sum(
             waiting.map(
-                lambda one: tried_to_the_end(one, lambda: try_crate(one, folder, pool)), names
+                lambda one: tried_to_the_end(one, lambda: try_crate(one, crates[one], pool)), crates
             )
         )
 
@@ -152,17 +151,28 @@ def try_draw(crates):
     return failed
 
 
-def by_number(folder):
-    """The crates with such a folder, those with the most wrong bodies first."""
-    found = glob.glob(os.path.join(TOP, "crates", "*", folder))
-    found.sort(key=lambda path: (-len(os.listdir(path)), path))
-    return [os.path.basename(os.path.dirname(path)) for path in found]
+def by_number():
+    """The crates that have wrong bodies, those with the most first."""
+    counts = {one: len(texts_of(os.path.join(TOP, "crates", one))) for one in crate_lines()}
+    return sorted((one for one in counts if counts[one]), key=lambda one: (-counts[one], one))
+
+
+def named(words):
+    """The crates of some words CRATE or CRATE/NAME, each with the names of its wrong bodies, or none
+    for all."""
+    crates = {}
+    for word in words:
+        crate, _, body = word.partition("/")
+        if not body:
+            crates[crate] = None
+        elif crates.setdefault(crate, []) is not None:
+            crates[crate].append(body)
+    return crates
 
 
 def words():
     parser = argparse.ArgumentParser(description=__doc__.split("\n\n")[0])
-    parser.add_argument("crates", nargs="*")
-    parser.add_argument("--folder", default="wrong-bodies")
+    parser.add_argument("crates", nargs="*", metavar="CRATE or CRATE/NAME")
     parser.add_argument(
         "--changed",
         action="store_true",
@@ -187,7 +197,7 @@ def main():
     options = words()
     if options.renamed:
         return write_renamed(*options.renamed, try_part)
-    crates, failed = options.crates or by_number(options.folder), 0
+    crates, failed = named(options.crates or by_number()), 0
     if options.changed:
         lines = tried()
         holds = [one for one in crates if one in lines and lines[one].split()[2] == sum_of(one)]
@@ -195,8 +205,8 @@ def main():
         told = "wrong bodies: %d were refused in %d crates that did not change since"
         print(told % (count, len(holds)))
         failed = try_draw(holds)
-        crates = [one for one in crates if one not in holds]
-    return 1 if try_crates(crates, options.folder, options.jobs) + failed else 0
+        crates = {one: crates[one] for one in crates if one not in holds}
+    return 1 if try_crates(crates, options.jobs) + failed else 0
 
 
 if __name__ == "__main__":

@@ -14,13 +14,12 @@ none has a stamp, the copies on which the draw is tried get one.
 
 The draw is a sample and ends after MINUTES minutes on the clock; what was not tried by then is
 named, and does not fail."""
-import glob
 import hashlib
 import os
 import shutil
 import subprocess
 
-from bodies.edits import Edit, edited, is_apart, rounds
+from bodies.edits import FILE, edited, edits_of, is_apart, rounds, texts_of
 from bodies.refusals import Bench, link_or_copy, tried_in_rounds
 from bodies.sums import TOP, crate_lines, crates_below, files_below
 
@@ -68,8 +67,7 @@ def in_order(hash_of_tree, bodies):
 def share(crate, names, most):
     """The first edits of different functions of a crate, so many at most."""
     taken, texts, folder = [], {}, os.path.join(TOP, "crates", crate)
-    for name in names:
-        edit = Edit(os.path.join(folder, "wrong-bodies", name + ".edit"), folder)
+    for edit in edits_of(folder, names):
         fits = edit.is_alone() or is_apart(edit, [one for one in taken if not one.is_alone()])
         if fits and (edit.is_alone() or edited(edit, texts, folder)):
             taken.append(edit)
@@ -92,11 +90,9 @@ def drawn(order):
 
 def bodies_of(crates):
     """All wrong bodies of some crates: the crate and the name of each."""
-    found = []
-    for crate in crates:
-        for path in glob.glob(os.path.join(TOP, "crates", crate, "wrong-bodies", "*.edit")):
-            found.append((crate, os.path.basename(path)[: -len(".edit")]))
-    return found
+    return [
+        (crate, name) for crate in crates for name in texts_of(os.path.join(TOP, "crates", crate))
+    ]
 
 
 def copy_project(name, top):
@@ -104,7 +100,7 @@ def copy_project(name, top):
     and lists them alone."""
     lines = crate_lines()
     reached = crates_below(name, lines)
-    passed = shutil.ignore_patterns("must-fail", "wrong-bodies", "out")
+    passed = shutil.ignore_patterns("must-fail", FILE, "out")
     for one in reached:
         old, new = (os.path.join(at, "crates", one) for at in (TOP, top))
         shutil.copytree(old, new, ignore=passed)

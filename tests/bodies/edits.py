@@ -5,6 +5,29 @@ import re
 
 FUNCTION = re.compile(r"( *)(pub(\(crate\))? )?(const )?fn (\w+)")
 PLAIN_IMPL = re.compile(r"impl(?:<.*?>)? (\w+)(?:<[^<>]*>)? \{")
+# The file of a crate that has its wrong bodies: a paragraph for each, which begins with a line
+# `edit: NAME`.
+FILE = "wrong-bodies.txt"
+
+
+def texts_of(crate):
+    """The wrong bodies in the folder of a crate: the texts of their edits by their names."""
+    path = os.path.join(crate, FILE)
+    if not os.path.exists(path):
+        return {}
+    with open(path) as file:
+        paragraphs = [one.split("\n", 1) for one in file.read().rstrip("\n").split("\n\n")]
+    texts = {head[len("edit: ") :]: text + "\n" for head, text in paragraphs}
+    if len(texts) < len(paragraphs) or not all(head.startswith("edit: ") for head, _ in paragraphs):
+        raise ValueError("%s: two wrong bodies of one name, or a paragraph without one" % path)
+    return texts
+
+
+def edits_of(crate, names=None):
+    """The edits of a crate by their names: all, or those named."""
+    texts = texts_of(crate)
+    wanted = sorted(texts) if names is None else names
+    return [Edit(name, texts[name], crate) for name in wanted]
 
 
 class Function:
@@ -56,20 +79,19 @@ def functions(path, text):
 class Edit:
     """An edit: the file, and the texts that stand in the place of others, one after another."""
 
-    def __init__(self, path, crate):
-        self.name = os.path.basename(path)[: -len(".edit")]
+    def __init__(self, name, text, crate):
+        self.name = name
         self.pairs, self.refused, file, old = [], None, None, None
-        with open(path) as lines:
-            for line in lines.read().rstrip("\n").split("\n"):
-                word, _, rest = line.partition(": ")
-                if word == "file":
-                    file = rest
-                elif word == "refused":
-                    self.refused = rest
-                elif word == "old":
-                    old = rest
-                else:
-                    self.pairs.append((file, old, rest))
+        for line in text.rstrip("\n").split("\n"):
+            word, _, rest = line.partition(": ")
+            if word == "file":
+                file = rest
+            elif word == "refused":
+                self.refused = rest
+            elif word == "old":
+                old = rest
+            else:
+                self.pairs.append((file, old, rest))
         self.touched = {}
         for file, old, _ in self.pairs:
             with open(os.path.join(crate, file)) as source:

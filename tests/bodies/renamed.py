@@ -16,8 +16,8 @@ import subprocess
 import sys
 import tempfile
 
-from bodies.edits import Edit
-from bodies.sums import TOP, RULES, covered, crate_lines, note_tried, sum_of, text_of, tried
+from bodies.edits import edits_of, texts_of
+from bodies.sums import TOP, RULES, covered, crate_lines, note_tried, path_of, sum_of, text_of, tried
 from bodies.tokens import names_in, tokens_of, words_of_path
 
 # Run in the tests of OLD: what counts as refused, and the crates of its record whose line holds.
@@ -67,6 +67,10 @@ def words_of_tree(top):
                 path = os.path.join(at, file)
                 short = os.path.relpath(path, top)
                 found.update(dict.fromkeys(names_in(short, text_of(path)), short))
+    for name in crate_lines(top):
+        for body, text in texts_of(os.path.join(top, "crates", name)).items():
+            path = path_of(name, body)
+            found.update(dict.fromkeys(names_in(path, text), path))
     return found
 
 
@@ -101,24 +105,22 @@ def token_difference(path, new, old):
 
 
 def new_bodies(name, names, old_top, new_top=TOP):
-    """The wrong bodies of a crate that it has not in OLD: their files below `new_top`."""
-    paths = bodies_of(name, new_top)
-    old = [os.path.join(old_top, old_path(path, names)) for path in paths]
-    return [path for path, there in zip(paths, old) if not os.path.exists(there)]
+    """The wrong bodies of a crate that it has not in OLD."""
+    old = bodies_of(names.get(name, name), old_top)
+    return [body for body in bodies_of(name, new_top) if old_path(body, names) not in old]
 
 
 def bodies_of(name, top):
-    """The files of the wrong bodies of a crate, below `top`."""
-    folder = os.path.join("crates", name, "wrong-bodies")
-    return [os.path.join(folder, file) for file in sorted(os.listdir(os.path.join(top, folder)))]
+    """The names of the wrong bodies of a crate."""
+    return sorted(texts_of(os.path.join(top, "crates", name)))
 
 
 def changed_bodies(name, names, old_top, new_top=TOP):
     """The wrong bodies of a crate that OLD has, and that rest on something that differs."""
     new, found = new_bodies(name, names, old_top, new_top), []
-    for path in bodies_of(name, new_top):
-        if path not in new and difference(name, names, old_top, new_top, path):
-            found.append(path)
+    for body in bodies_of(name, new_top):
+        if body not in new and difference(name, names, old_top, new_top, body):
+            found.append(body)
     return found
 
 
@@ -176,19 +178,18 @@ def lapsed():
     """The crates that have wrong bodies and whose line does not hold, each with its sum."""
     lines, found = tried(), {}
     for name in crate_lines():
-        if os.path.isdir(os.path.join(TOP, "crates", name, "wrong-bodies")):
+        if texts_of(os.path.join(TOP, "crates", name)):
             made = sum_of(name)
             if name not in lines or lines[name].split()[2] != made:
                 found[name] = made
     return found
 
 
-def refused(name, paths, try_part):
+def refused(name, bodies, try_part):
     """Whether these wrong bodies of a crate are refused; what is wrong is told."""
-    if not paths:
+    if not bodies:
         return True
-    crate = os.path.join(TOP, "crates", name)
-    part = try_part(name, [Edit(os.path.join(TOP, path), crate) for path in paths])
+    part = try_part(name, edits_of(os.path.join(TOP, "crates", name), bodies))
     wrong = {"": "the crate itself is not proved"} if part is None else {**part[1], **part[0]}
     for edit in sorted(wrong):
         print("%s: %s: tried, and %s" % (name, edit, wrong[edit]))

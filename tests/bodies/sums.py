@@ -13,7 +13,7 @@ import re
 import subprocess
 import threading
 
-from bodies.edits import Edit
+from bodies.edits import edits_of, texts_of
 from bodies.edits import functions as functions_read
 
 TOP = os.path.dirname(os.path.dirname(os.path.dirname(os.path.abspath(__file__))))
@@ -123,10 +123,15 @@ def hidden_here(lines, one, words):
     return range(begins[0] + 1, one.last - 1) if begins else []
 
 
-def edited_names(paths, crate):
+def path_of(name, body):
+    """A path for a wrong body of a crate, below the repository, among those of files."""
+    return os.path.join("crates", name, "wrong-bodies", body + ".edit")
+
+
+def edited_names(names, crate):
     """The names of the functions that wrong bodies edit, or that have to be refused."""
     found = set()
-    for edit in (Edit(path, crate) for path in paths):
+    for edit in edits_of(crate, names):
         found.update(one.name for one in edit.functions())
         found.update([edit.refused] if edit.refused else [])
     return found
@@ -136,9 +141,9 @@ def own_texts(name, top, without):
     """What the wrong bodies of a crate rest on in its own files: themselves, its sources, and the
     proofs of the functions that they edit or that have to be refused."""
     crate = os.path.join(top, "crates", name)
-    edits = [path for path in files_below(crate, "wrong-bodies") if path.endswith(".edit")]
-    edits = [path for path in edits if os.path.relpath(path, top) not in without]
-    texts, whole = {path: text_of(path) for path in edits}, edited_names(edits, crate)
+    bodies = {one: text for one, text in texts_of(crate).items() if one not in without}
+    texts = {os.path.join(top, path_of(name, one)): text for one, text in bodies.items()}
+    whole = edited_names(bodies, crate)
     for path in files_below(crate, "proofs"):
         folders = os.path.relpath(path, crate).split(os.sep)[1:-1]
         if {one.lstrip("+") for one in folders} & whole:
@@ -215,8 +220,8 @@ def without_remarks(path, text):
 
 
 def covered(name, top=TOP, without=()):
-    """All that the wrong bodies of a crate rest on, but for some of its files: texts by their paths
-    below `top`, and the lines of crates.txt."""
+    """All that the wrong bodies of a crate, but for some, rest on: texts by their paths below `top`,
+    and the lines of crates.txt."""
     lines = crate_lines(top)
     reached = sorted(crates_below(name, lines))
     texts = own_texts(name, top, without)

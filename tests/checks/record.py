@@ -51,7 +51,7 @@ HIGH = (
     "use low::{Hand, added};\n\npub fn twice(one: u32) -> u32\n"
     "    ensures Rattle.low.specs.Sums.total one one ≡ result\n{\n    added(one, one)\n}\n"
 )
-EDIT = "file: src/lib.rt\nold:     one + other //\nnew:     one - other //\n"
+EDIT = "edit: takes_away\nfile: src/lib.rt\nold:     one + other //\nnew:     one - other //\n"
 OLD = {
     "crates.txt": "# crates\nlow:\nhigh: low\n",
     "HANDLES": "Handles allowed: none.\n",
@@ -61,9 +61,11 @@ OLD = {
     "crates/low/specs/Alone.antt": "abbrev pub alone : ℕ\nalone = 0\n",
     "crates/low/specs/Sums.antt": SUMS,
     "crates/low/proofs/added/Answers.antt": ANSWERS,
-    "crates/low/wrong-bodies/takes_away.edit": EDIT,
+    "crates/low/wrong-bodies.txt": EDIT,
     "crates/high/src/lib.rt": HIGH,
-    "crates/high/wrong-bodies/thrice.edit": "file: src/lib.rt\nold: added(one, one)\nnew: 0\n",
+    "crates/high/wrong-bodies.txt": (
+        "edit: thrice\nfile: src/lib.rt\nold: added(one, one)\nnew: 0\n"
+    ),
 }
 NAMES = {
     "low": "base", "added": "summed", "total": "entire", "Hand": "Arm", "hand": "arm",
@@ -105,7 +107,7 @@ CHANGES = {
     "a proof": ("base", "crates/base/proofs/summed/Answers.antt", "rw entire", "rw"),
     "a goal": ("base", "crates/base/proofs/summed/Answers.antt", "returns-then-first =",
                "returns - then-first ="),
-    "a wrong body": ("base", "crates/base/wrong-bodies/subtracts.edit", "- other", "* other"),
+    "a wrong body": ("base", "crates/base/wrong-bodies.txt", "- other", "* other"),
     "an old name": ("base high", "crates/base/src/lib.rt", "pub fn summed(", "pub fn added("),
     "a crate below": ("high", "crates.txt", "high: base", "high: base std"),
 }
@@ -214,9 +216,9 @@ SAYS = {
 }
 
 
-def lay_repository(top):
-    """A repository with the tree OLD, in whose record `low` holds, and `high` does not."""
-    lay(OLD, top)
+def lay_repository(top, more=None):
+    """A repository with the tree OLD, and more, in whose record `low` holds, and `high` does not."""
+    lay({**OLD, **(more or {})}, top)
     lay({"bin/rt": RT}, os.path.dirname(top))
     os.chmod(os.path.join(os.path.dirname(top), "bin", "rt"), 0o755)
     own, passed = os.path.join(top, "tests", "bodies"), shutil.ignore_patterns("__pycache__")
@@ -290,8 +292,8 @@ def check_bodies(folder):
     top, wrong = os.path.join(folder, "bodies"), []
     more = {
         "crates/low/src/least.rt": "pub fn none() -> u32\n    ensures result ≡ 0\n{\n    0\n}\n",
-        "crates/low/wrong-bodies/counts_one.edit": "file: src/least.rt\nold:     0\nnew:     1\n",
     }
+    bodies = EDIT + "\nedit: counts_one\nfile: src/least.rt\nold:     0\nnew:     1\n"
     words = [sys.executable, "-B", "tests/wrong_bodies.py", "--renamed", "../none", "HEAD"]
     for how, says in (
         ("refused", "low: the same tokens as in OLD, 1 wrong bodies, 1 tried\n"),
@@ -303,7 +305,7 @@ def check_bodies(folder):
     ):
         shutil.rmtree(top, ignore_errors=True)
         lay(more, top)
-        lay_repository(top)
+        lay_repository(top, {"crates/low/wrong-bodies.txt": bodies})
         was = sum_of("low", top)
         lay({"none": ""}, folder)
         lib = LOW.replace("    one + other // 'a'", "    let sum = one + other;\n    one + other // 'a'")

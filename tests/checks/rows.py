@@ -2,14 +2,18 @@
 """Checks that each worked row and each named wrong body has its places: tests/checks/rows.py
 
 tests/rows.txt lists them: a name at the beginning of a line, with what it is about, and below it, indented, its places, each FILE:WHAT. A place is a test, or
-what a test goes through, that a comment `row: NAME, ...` (or `wrong body: NAME, ...`) before it marks; of a wrong body also an edit, which is a file
-alone. The check fails where a name has no place, a place is not there or not marked, or a mark is not listed."""
+what a test goes through, that a comment `row: NAME, ...` (or `wrong body: NAME, ...`) before it marks; of a wrong body also an edit of that name in a crate's
+wrong-bodies.txt. The check fails where a name has no place, a place is not there or not marked, or a mark is not listed."""
 import glob
 import os
 import re
 import sys
 
+sys.dont_write_bytecode = True
 TOP = os.path.dirname(os.path.dirname(os.path.dirname(os.path.abspath(__file__))))
+sys.path.insert(0, os.path.join(TOP, "tests"))
+from bodies.edits import FILE, texts_of
+
 ROWS = os.path.join(TOP, "tests", "rows.txt")
 MARK = re.compile(r"^\s*(?://|--|#) (row|wrong body): (.+)$")
 ITEM = re.compile(r"^\s*(?:pub(?:\(\w+\))? )?(fn|const) (\w+)")
@@ -81,7 +85,7 @@ def main():
     places = list(listed())
     names = [place[:2] for place in places if place[2] is None]
     there = {place for place in places if place[2] is not None}
-    edits = {place for place in there if place[3] is None}
+    edits = {place for place in there if os.path.basename(place[2]) == FILE}
     for kind, name in names:
         if not any(place[:2] == (kind, name) for place in there):
             print("%s %s: no place" % (kind, name))
@@ -89,9 +93,10 @@ def main():
         if names.count((kind, name)) > 1:
             print("%s %s: listed twice" % (kind, name))
             wrong += 1
-    for kind, name, file, _ in sorted(edits):
-        if kind != "wrong body" or os.path.basename(file) != name + ".edit" or not os.path.isfile(os.path.join(TOP, file)):
-            print("%s %s: no edit %s" % (kind, name, file))
+    for kind, name, file, what in sorted(edits):
+        bodies = texts_of(os.path.join(TOP, os.path.dirname(file)))
+        if kind != "wrong body" or what != name or name not in bodies:
+            print("%s %s: no edit %s:%s" % (kind, name, file, what))
             wrong += 1
     for place in sorted(there - edits - marked):
         print("%s %s: listed, and not marked: %s:%s" % place)
