@@ -14,7 +14,8 @@ import sys
 import tempfile
 import time
 
-TOP = os.path.dirname(os.path.dirname(os.path.abspath(__file__)))
+from lib import TOP
+
 RESULT = os.path.join(TOP, "bench", "results", "first_build.txt")
 MOST_LOAD = 0.5
 

@@ -1,4 +1,4 @@
-/* The formula of the mix in plain C, for bench/mix: one thread, whole numbers, blocks of 1,024 frames.
+/* The formula of the mix in plain C, for bench/mix.py: one thread, whole numbers, blocks of 1,024 frames.
 
    mix PLAN WAVE CHANNELS BITS TURNS [divided]
 

@@ -53,7 +53,7 @@ ROOMS = {
     "program": {
         "mt_cli": "the work of each command over readers and writers; the command line",
         "radio": "`main`",
-        "world_histories": "runs lists of events for `tests/checks/world.py` and `bench/world`",
+        "world_histories": "runs lists of events for `tests/checks/world.py` and `bench/world.py`",
     },
     "tests": {
         "mt_testalloc": "an allocator that makes a chosen allocation fail",

@@ -34,7 +34,7 @@ class Data:
 
 
 def gate_minutes(data):
-    """The processor minutes of the gate, and those on the clock, as bench/gate prints them or in words."""
+    """The processor minutes of the gate, and those on the clock, as bench/gate.py prints them or in words."""
     whole = re.search(r"(?:in all|processor time) ([\d.]+)", data.text)
     clock = re.search(r"([\d.]+) minutes on the clock|wall ([\d.]+) min", data.text)
     return whole.group(1), clock.group(1) or clock.group(2)

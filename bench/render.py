@@ -1,5 +1,5 @@
 #!/usr/bin/env python3
-"""Times `radio render`: bench/render [--program PATH] [--quick PATH] [--minutes N,N,..] [--sources N,N,..] [--runs N] [--fades] [--archive]
+"""Times `radio render`: bench/render.py [--program PATH] [--quick PATH] [--minutes N,N,..] [--sources N,N,..] [--runs N] [--fades] [--archive]
 
 Makes mono sources of 24 bits at 48,000 frames a second, each on a track of its own from the first frame on, and renders them into 24 bits on one
 channel with the optimised program (crates/radio/out/radio). Beside it in the same run: `radio info` of the same sources, which hashes them one by one
@@ -19,11 +19,8 @@ import shutil
 import subprocess
 import sys
 import tempfile
-import time
 
-TOP = os.path.dirname(os.path.dirname(os.path.abspath(__file__)))
-sys.dont_write_bytecode = True
-sys.path.insert(0, os.path.join(TOP, "tests"))
+from lib import RADIO, TOP, run
 from formats.logs import A, add_clip, add_track, log, set_fade
 from formats.waves import data, fmt, riff
 
@@ -32,26 +29,20 @@ RATE, WIDTH = 48000, 3
 ARCHIVE, SOUNDING = 200, range(0, 200, 50)
 
 
-def run_once(commands):
+def run_all(commands):
     """Seconds of these commands, one after another, and the peak MiB of the greatest process."""
-    begun, peak = time.monotonic(), 0
-    for words in commands:
-        child = subprocess.Popen(words, stdout=subprocess.DEVNULL, stderr=subprocess.DEVNULL)
-        _, status, used = os.wait4(child.pid, 0)
-        if status != 0:
-            sys.exit("refused: %s" % " ".join(words))
-        peak = max(peak, used.ru_maxrss // 1024)
-    return time.monotonic() - begun, peak
+    runs = [run(words, stderr=subprocess.DEVNULL) for words in commands]
+    return sum(one[0] for one in runs), max(one[1] for one in runs)
 
 
-def run(commands, runs=3):
+def best_of(commands, runs=3):
     """The same of the best of so many runs."""
-    return min(run_once(commands) for _ in range(runs))
+    return min(run_all(commands) for _ in range(runs))
 
 
 def run_in_turn(ways, runs):
     """The same of each way, which take turns: a machine that is slow for a while is so for all of them."""
-    turns = [[run_once(commands) for _, commands in ways] for _ in range(runs)]
+    turns = [[run_all(commands) for _, commands in ways] for _ in range(runs)]
     return [(name,) + min(of_one) for (name, _), of_one in zip(ways, zip(*turns))]
 
 
@@ -104,7 +95,7 @@ def from_archive(program, minutes, fade):
         for numbers in (SOUNDING, range(ARCHIVE)):
             paths = [path_of(folder, number) for number in numbers]
             out = os.path.join(folder, "of_%d.wav" % len(paths))
-            seconds, peak = run([[program, "render", out, path] + paths])
+            seconds, peak = best_of([[program, "render", out, path] + paths])
             alone = alone or (out, seconds)
             if not filecmp.cmp(alone[0], out, shallow=False):
                 sys.exit("the files of the two renders differ")
@@ -120,7 +111,7 @@ def mix_in_c(folder, recording, tracks, frames, fade):
     subprocess.run(["gcc", "-O3", "-march=x86-64-v2", "-o", program, os.path.join(TOP, "bench", "mix.c")], check=True)
     with open(plan, "w") as file:
         file.write("%d\n" % frames + "".join("%d 0 %d 0 1 1 0 %d %d %d\n" % (track, frames, frames, fade, fade) for track in range(tracks)))
-    few, many = (run([[program, plan, recording, "1", "24", turns]])[0] for turns in ("2", "6"))
+    few, many = (best_of([[program, plan, recording, "1", "24", turns]])[0] for turns in ("2", "6"))
     return max(many - few, 1e-9) / 4
 
 
@@ -143,7 +134,7 @@ def others(paths, out):
 
 def main():
     parser = argparse.ArgumentParser()
-    parser.add_argument("--program", default=os.path.join(TOP, "crates", "radio", "out", "radio"))
+    parser.add_argument("--program", default=RADIO)
     parser.add_argument("--quick")
     parser.add_argument("--runs", type=int, default=3)
     parser.add_argument("--minutes")
@@ -180,4 +171,5 @@ def main():
                 sys.stdout.flush()
 
 
-main()
+if __name__ == "__main__":
+    main()

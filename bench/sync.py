@@ -1,9 +1,9 @@
 #!/usr/bin/env python3
-"""Times how editors swap operations: bench/sync [--program PATH] [--sizes N,N,..] [--replicas N] [--stream MIB]
+"""Times how editors swap operations: bench/sync.py [--program PATH] [--sizes N,N,..] [--replicas N] [--stream MIB]
 [--frames N,N,..] [--limit SECONDS]
 [--messages N,N,..] [--keep FOLDER]
 
-Makes logs of each size with the mixed history of bench/view, and for each a second log that lacks none, 100, a tenth, half or all of the
+Makes logs of each size with the mixed history of bench/view.py, and for each a second log that lacks none, 100, a tenth, half or all of the
 operations, the latest ones, as that of an editor who was away. Runs the optimised program (crates/radio/out/radio): `have` of the second
 log, `lack` of the first one for it, `take` of what that gives into the second one, a conversation over loopback (`serve` with the first
 log, `meet` with the second one, from the start of `meet` to the end of both), and `merge` of both logs beside them. All of these give
@@ -15,7 +15,7 @@ time from size to size. Then:
             replica, in rising order and in falling order, and all of them in one message beside that
   stream    `serve` with an empty log, told --stream (128) MiB of messages of operations that it has by then, in pieces of 512 bytes
 
-With --messages it makes a program over mt_sync in a folder of its own, as bench/take does (the first build takes some minutes; --keep says in which folder, to
+With --messages it makes a program over mt_sync in a folder of its own, as bench/take.py does (the first build takes some minutes; --keep says in which folder, to
 take it up again), and times one message of 100 markers that joins an editor of a log of each of these sizes, in processor time between two gates: markers that follow those
 of their replica in the log, which are taken one by one, and markers that stand before one of their replica, which join as a whole. `--sizes "" --replicas 0
 --stream 0 --frames ""` leaves the others out, which need the program.
@@ -25,8 +25,6 @@ of the machine at hand: compare ratios of one run only. Peaks under 20 MiB are t
 """
 import argparse
 import filecmp
-import importlib.machinery
-import importlib.util
 import itertools
 import os
 import socket
@@ -36,25 +34,16 @@ import tempfile
 import threading
 import time
 
-TOP = os.path.dirname(os.path.dirname(os.path.abspath(__file__)))
-sys.dont_write_bytecode = True
-sys.path.insert(0, os.path.join(TOP, "tests"))
+import take
+import view
+from lib import RADIO, build
 from formats import exchange
 from formats.logs import add_marker, log
 from checks.meetings import free_port, listens
 
+USES = ["mt_stamp", "mt_opcodec", "mt_replica", "mt_sync"]
 
-def module_of(path):
-    loader = importlib.machinery.SourceFileLoader(os.path.basename(path), path)
-    made = importlib.util.module_from_spec(importlib.util.spec_from_loader(loader.name, loader))
-    loader.exec_module(made)
-    return made
-
-
-view = module_of(os.path.join(TOP, "bench/view"))
-take = module_of(os.path.join(TOP, "bench/take"))
-
-PROGRAM = """//! Takes a message: for `bench/sync` alone.
+PROGRAM = """//! Takes a message: for `bench/sync.py` alone.
 #![tactic(auto)]
 
 use mt_opcodec::Log;
@@ -278,29 +267,6 @@ def time_stream(given, place):
     print("\n%d messages of 1000 operations, %d MiB in pieces of 512 bytes: %.3f seconds, %.0f MiB" % (count, given.stream, seconds, peak))
 
 
-def build(folder):
-    """The program over mt_sync, made in this folder."""
-    below = take.BELOW + ["mt_world", "mt_frames", "mt_summary", "mt_sync"]
-    crates = os.path.join(folder, "crates")
-    here = os.path.join(crates, "bench_sync")
-    program = os.path.join(here, "out", "bench_sync")
-    if not os.path.exists(program):
-        os.makedirs(os.path.join(here, "src"), exist_ok=True)
-        for name in below:
-            if not os.path.exists(os.path.join(crates, name)):
-                subprocess.check_call(["cp", "-a", os.path.join(TOP, "crates", name), crates])
-        with open(os.path.join(TOP, "crates.txt")) as file:
-            lines = [line for line in file if line.split(":")[0] in below]
-        with open(os.path.join(folder, "crates.txt"), "w") as file:
-            file.write("".join(lines) + "bench_sync: mt_stamp mt_opcodec mt_replica mt_sync\n")
-        with open(os.path.join(here, "src", "main.rt"), "w") as file:
-            file.write(PROGRAM)
-        done = subprocess.run(["rt", "run", "--jobs", "1"], cwd=here, stdout=subprocess.PIPE, stderr=subprocess.STDOUT)
-        if not os.path.exists(program):
-            sys.exit(done.stdout.decode()[-4000:])
-    return program
-
-
 def hundred(first):
     """100 markers of one replica, with the numbers from this one on, whose clocks no operation of the logs has. They stand behind all other
     markers, so that what is measured is no moving of the session's list of these."""
@@ -308,7 +274,7 @@ def hundred(first):
 
 
 def time_messages(given, place):
-    program = build(given.keep or place)
+    program = build(given.keep or place, "bench_sync", PROGRAM, USES)
     take.make_gates(place)
     left, message = os.path.join(place, "left"), os.path.join(place, "message")
     print("\n| operations | 100 that follow, ms | 100 that stand before, ms |")
@@ -325,7 +291,7 @@ def time_messages(given, place):
 
 def main():
     words = argparse.ArgumentParser()
-    words.add_argument("--program", default=os.path.join(TOP, "crates/radio/out/radio"))
+    words.add_argument("--program", default=RADIO)
     words.add_argument("--sizes", default="10000,100000,1000000")
     words.add_argument("--replicas", type=int, default=100000)
     words.add_argument("--stream", type=int, default=128)

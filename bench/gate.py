@@ -1,5 +1,5 @@
 #!/usr/bin/env python3
-"""Tells what the gate costs, crate by crate: bench/gate [--markdown] [COMMAND]...
+"""Tells what the gate costs, crate by crate: bench/gate.py [--markdown] [COMMAND]...
 
 Runs a command, `sh tests/all.sh` unless told otherwise, at the top of the repository, looks at all its processes several times a second, and prints the
 processor seconds (user and system) of each crate's proof, of its tests and of its wrong bodies, and of all else. What a process takes after it was
@@ -15,7 +15,8 @@ import sys
 import threading
 import time
 
-TOP = os.path.dirname(os.path.dirname(os.path.abspath(__file__)))
+from lib import TOP
+
 TICK = os.sysconf("SC_CLK_TCK")
 KINDS = ["proof", "tests", "wrong bodies"]
 

@@ -1,5 +1,5 @@
 #!/usr/bin/env python3
-"""Times mt_holdback and mt_tracklist: bench/holdback [--sizes N,N,..] [--places N,N,..] [--keep FOLDER]
+"""Times mt_holdback and mt_tracklist: bench/holdback.py [--sizes N,N,..] [--places N,N,..] [--keep FOLDER]
 
 `radio` uses neither crate yet, so this makes a program over both in a folder of its own (a copy of the crates below them, with the work
 that `rt check` kept), which `rt run` proves and builds optimised; the first build takes some minutes. It offers tracks to a hold-back: none
@@ -8,15 +8,12 @@ tags whose tags come after it; and it puts places at the front of a track list. 
 size to the next, the best of three. Times are those of the machine at hand: compare ratios of one run only.
 """
 import argparse
-import os
 import shutil
-import subprocess
-import sys
 import tempfile
-import time
 
-TOP = os.path.dirname(os.path.dirname(os.path.abspath(__file__)))
-BELOW = ["mt_testalloc", "mt_digests", "mt_stamp", "mt_tracklist", "mt_op", "mt_holdback"]
+from lib import best, build
+
+USES = ["mt_stamp", "mt_op", "mt_holdback", "mt_tracklist"]
 SHAPES = ["free", "chain", "fan", "tags", "front"]
 ORDERS = ["rising", "falling", "mixed"]
 
@@ -145,52 +142,14 @@ fn fronts(alloc: Global, count: u64) -> Option<u64> {
 """
 
 
-def build(folder):
-    """The program, made in this folder."""
-    crates = os.path.join(folder, "crates")
-    here = os.path.join(crates, "bench_holdback", "src")
-    os.makedirs(here, exist_ok=True)
-    for name in BELOW:
-        if not os.path.exists(os.path.join(crates, name)):
-            subprocess.check_call(["cp", "-a", os.path.join(TOP, "crates", name), crates])
-    with open(os.path.join(TOP, "crates.txt")) as file:
-        lines = [line for line in file if line.split(":")[0] in BELOW]
-    with open(os.path.join(folder, "crates.txt"), "w") as file:
-        file.write("".join(lines) + "bench_holdback: mt_stamp mt_op mt_holdback mt_tracklist\n")
-    with open(os.path.join(here, "main.rt"), "w") as file:
-        file.write(PROGRAM)
-    at = os.path.dirname(here)
-    done = subprocess.run(["rt", "run", "--jobs", "1", "--", "0", "0", "1"], cwd=at, stdout=subprocess.PIPE, stderr=subprocess.STDOUT)
-    program = os.path.join(at, "out", "bench_holdback")
-    if done.returncode != 0 or not os.path.exists(program):
-        sys.exit(done.stdout.decode()[-4000:])
-    return program
-
-
-def run(program, shape, order, count):
-    """Seconds and peak MiB of the best of three."""
-    best = None
-    for _ in range(3):
-        begun = time.monotonic()
-        child = subprocess.Popen([program, str(SHAPES.index(shape)), str(ORDERS.index(order)), str(count)])
-        _, status, used = os.wait4(child.pid, 0)
-        seconds = time.monotonic() - begun
-        if status != 0:
-            sys.exit("failed: %s %s %d" % (shape, order, count))
-        if best is None or seconds < best[0]:
-            best = (seconds, used.ru_maxrss // 1024)
-        if seconds > 20:
-            break
-    return best
-
-
 def table(program, rows):
     print("| Shape | Order | Number | Seconds | Peak MiB | Growth |")
     print("|---|---|---|---|---|---|")
     for shape, order, sizes in rows:
         before = None
         for size in sizes:
-            seconds, peak = run(program, shape, order, size)
+            words = [program, str(SHAPES.index(shape)), str(ORDERS.index(order)), str(size)]
+            seconds, peak, _ = best(words)
             growth = "" if before is None else "%.1f" % (seconds / before)
             print("| %s | %s | %d | %.3f | %d | %s |" % (shape, order, size, seconds, peak, growth), flush=True)
             before = seconds
@@ -208,7 +167,8 @@ def main():
     try:
         rows = [(shape, order, sizes) for shape in SHAPES[:3] for order in ORDERS]
         rows += [("tags", order, [6554, 65536]) for order in ORDERS]
-        table(build(folder), rows + [("front", "rising", places)])
+        program = build(folder, "bench_holdback", PROGRAM, USES)
+        table(program, rows + [("front", "rising", places)])
     finally:
         if not options.keep:
             shutil.rmtree(folder)

@@ -1,5 +1,5 @@
 #!/usr/bin/env python3
-"""Times `radio view` and `radio merge`: bench/view [--program PATH] [--against PATH] [--runs N] [--sizes N,N,..] [--parts N] [--shapes NAME,NAME,..]
+"""Times `radio view` and `radio merge`: bench/view.py [--program PATH] [--against PATH] [--runs N] [--sizes N,N,..] [--parts N] [--shapes NAME,NAME,..]
 [--limit SECONDS] [--instructions] [--commands]
 
 Makes logs of each size by six replicas. Of a hundred operations some 40 add markers, 25 retitle and 20 move a marker
@@ -31,7 +31,6 @@ the peak of the process that started it.
 import argparse
 import os
 import random
-import shutil
 import subprocess
 import sys
 import tempfile
@@ -39,9 +38,7 @@ import threading
 import time
 import traceback
 
-TOP = os.path.dirname(os.path.dirname(os.path.abspath(__file__)))
-sys.dont_write_bytecode = True
-sys.path.insert(0, os.path.join(TOP, "tests"))
+from lib import RADIO, instructions
 from formats.logs import (
     add_clip, add_marker, add_track, log, move_clip, move_marker, move_track, remove, restore, retitle, set_fade, set_gain, set_marker_length,
     set_mute, trim_clip)
@@ -328,17 +325,6 @@ def columns(given):
     return (" against | peak MiB | ratio |", "---|---|---|") if given.against else ("", "")
 
 
-def instructions(command):
-    if not shutil.which("valgrind"):
-        return None
-    with tempfile.NamedTemporaryFile() as out:
-        told = subprocess.run(["valgrind", "--tool=callgrind", "--callgrind-out-file=" + out.name] + command, stdout=subprocess.DEVNULL, stderr=subprocess.PIPE, text=True).stderr
-    for line in told.splitlines():
-        if "Collected" in line:
-            return int(line.split(":")[1])
-    return None
-
-
 def write_logs(make, paths):
     """Writes what `make` makes, dealt out in turn, into these logs. In a process of its own: a program that is run from here
     begins with the peak memory of this process."""
@@ -425,7 +411,7 @@ def time_shapes(given, place, names):
 
 def main():
     words = argparse.ArgumentParser()
-    words.add_argument("--program", default=os.path.join(TOP, "crates/radio/out/radio"))
+    words.add_argument("--program", default=RADIO)
     words.add_argument("--against")
     words.add_argument("--runs", type=int, default=3)
     words.add_argument("--sizes", default="1000,10000,100000,1000000")

@@ -1,35 +1,22 @@
 #!/usr/bin/env python3
-"""Times `radio edit`: bench/edit [--program PATH] [--logs N,N,..] [--lines N,N,..]
+"""Times `radio edit`: bench/edit.py [--program PATH] [--logs N,N,..] [--lines N,N,..]
 
-Makes logs of a programme by six editors (bench/view's mixed history of markers), and runs the optimised program
+Makes logs of a programme by six editors (bench/view.py's mixed history of markers), and runs the optimised program
 (crates/radio/out/radio) on each with scripts of several lengths, of which half of the lines add markers and half retitle or move them.
 Prints wall time, peak memory and the growth with the lines and with the log, beside `radio merge` of the same log, which reads and
 writes it and does nothing else. The best of three runs counts. Times are those of the machine at hand: compare ratios of one run only.
 """
 import argparse
-import importlib.machinery
-import importlib.util
 import os
 import subprocess
 import sys
 import tempfile
-import time
 
-TOP = os.path.dirname(os.path.dirname(os.path.abspath(__file__)))
-sys.dont_write_bytecode = True
-sys.path.insert(0, os.path.join(TOP, "tests"))
+import view
+from lib import RADIO, best
 from formats.logs import log
 
 NAME = "00000000-0000-0000-0000-00000000000a"
-
-
-def bench_view():
-    """bench/view as a module: its history."""
-    loader = importlib.machinery.SourceFileLoader("bench_view", os.path.join(TOP, "bench", "view"))
-    spec = importlib.util.spec_from_loader("bench_view", loader)
-    module = importlib.util.module_from_spec(spec)
-    loader.exec_module(module)
-    return module
 
 
 def script(lines):
@@ -45,31 +32,16 @@ def script(lines):
     return "\n".join(made) + "\n"
 
 
-def run(words):
-    """Seconds and peak MiB of the best of three."""
-    best = None
-    for _ in range(3):
-        begun = time.monotonic()
-        child = subprocess.Popen(words, stdout=subprocess.DEVNULL)
-        _, status, used = os.wait4(child.pid, 0)
-        seconds = time.monotonic() - begun
-        if status != 0:
-            sys.exit("refused: %s" % " ".join(words))
-        if best is None or seconds < best[0]:
-            best = (seconds, used.ru_maxrss // 1024)
-    return best
-
-
 def main():
     parser = argparse.ArgumentParser()
-    parser.add_argument("--program", default=os.path.join(TOP, "crates", "radio", "out", "radio"))
+    parser.add_argument("--program", default=RADIO)
     parser.add_argument("--logs", default="1000,10000,100000")
     parser.add_argument("--lines", default="1,100,1000")
     parser.add_argument("--write", nargs=2, metavar=("OPERATIONS", "FILE"), help="write such a log into a file, and do nothing else")
     options = parser.parse_args()
     if options.write:
         with open(options.write[1], "wb") as file:
-            file.write(log(bench_view().operations(int(options.write[0]))))
+            file.write(log(view.operations(int(options.write[0]))))
         return
     print("| Operations | Lines | Seconds | Peak MiB | Seconds of merge | ms a line |")
     print("|---|---|---|---|---|---|")
@@ -78,13 +50,14 @@ def main():
         for size in (int(word) for word in options.logs.split(",")):
             # by a process of its own: what is told of a child's memory begins with what its parent has
             subprocess.run([sys.executable, os.path.abspath(__file__), "--write", str(size), before], check=True)
-            merge, _ = run([options.program, "merge", after, before])
+            merge = best([options.program, "merge", after, before])[0]
             for lines in (int(word) for word in options.lines.split(",")):
                 with open(text, "w") as file:
                     file.write(script(lines))
-                seconds, peak = run([options.program, "edit", NAME, before, text, after])
+                seconds, peak, _ = best([options.program, "edit", NAME, before, text, after])
                 print("| %d | %d | %.3f | %d | %.3f | %.3f |" % (size, lines, seconds, peak, merge, (seconds - merge) * 1000 / lines))
                 sys.stdout.flush()
 
 
-main()
+if __name__ == "__main__":
+    main()

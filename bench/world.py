@@ -1,5 +1,5 @@
 #!/usr/bin/env python3
-"""Times worlds of editors: bench/world [--events N,N,..] [--runs N] [--program PROGRAM]
+"""Times worlds of editors: bench/world.py [--events N,N,..] [--runs N] [--program PROGRAM]
 
 Runs crates/world_histories/out/world_histories (make it by `rt run` in its folder) over lists of events, from a few to many, and tells the processor time of a run, the best of
 three (--runs), and how many times the time of a list of half as many events it is: n log n is a little over 2. Reading the list and printing the world are in it, and grow as the list. Times are those of the
@@ -18,9 +18,7 @@ import subprocess
 import sys
 import uuid
 
-TOP = os.path.dirname(os.path.dirname(os.path.abspath(__file__)))
-sys.dont_write_bytecode = True
-sys.path.insert(0, os.path.join(TOP, "tests"))
+from lib import TOP
 from formats.logs import add_marker
 
 PROGRAM = os.path.join(TOP, "crates", "world_histories", "out", "world_histories")

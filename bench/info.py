@@ -1,5 +1,5 @@
 #!/usr/bin/env python3
-"""Times `radio info`: bench/info [--program PATH] [--quick PATH] [--bytes N] [--runs N] [--cues N,N,..]
+"""Times `radio info`: bench/info.py [--program PATH] [--quick PATH] [--bytes N] [--runs N] [--cues N,N,..]
 
 Makes a wave file of that many bytes (10^9 unless told otherwise: stereo, 24 bits, 48000 frames a second) and runs the
 optimised program (crates/radio/out/radio), with --quick the build of it for processors with AVX2, and `sha256sum` on it in turn, the best of seven
@@ -13,23 +13,11 @@ import argparse
 import os
 import random
 import struct
-import subprocess
 import sys
 import tempfile
-import time
 
-TOP = os.path.dirname(os.path.dirname(os.path.abspath(__file__)))
-sys.path.insert(0, os.path.join(TOP, "tests"))
+from lib import RADIO, best, run
 from formats.waves import adtl, cue, data, fmt, labl, ltxt, point, riff
-
-
-def run(command):
-    start = time.monotonic()
-    child = subprocess.Popen(command, stdout=subprocess.DEVNULL)
-    _, status, usage = os.wait4(child.pid, 0)
-    if status != 0:
-        sys.exit("%s: status %d" % (" ".join(command), status))
-    return time.monotonic() - start, usage.ru_maxrss / 1024
 
 
 def large(path, length):
@@ -67,7 +55,7 @@ def in_a_process(make, *words):
 
 def main():
     words = argparse.ArgumentParser()
-    words.add_argument("--program", default=os.path.join(TOP, "crates/radio/out/radio"))
+    words.add_argument("--program", default=RADIO)
     words.add_argument("--quick")
     words.add_argument("--bytes", type=int, default=10**9)
     words.add_argument("--runs", type=int, default=7)
@@ -79,7 +67,7 @@ def main():
         ways = [("radio info", [given.program, "info", path])]
         ways += [("radio info, AVX2", [given.quick, "info", path])] if given.quick else []
         ways += [("sha256sum", ["sha256sum", path])]
-        turns = [[run(command) for _, command in ways] for _ in range(given.runs)]
+        turns = [[run(command)[:2] for _, command in ways] for _ in range(given.runs)]
         bests = [min(of_one) for of_one in zip(*turns)]
         size = os.path.getsize(path)
         print("| bytes | way | seconds | to sha256sum | peak MiB | file MiB |")
@@ -91,10 +79,11 @@ def main():
         before = None
         for count in [int(word) for word in given.cues.split(",")]:
             in_a_process(labelled, path, count)
-            seconds, peak = min(run([given.program, "info", path]) for _ in range(3))
+            seconds, peak, _ = best([given.program, "info", path])
             growth = "%.1f" % (seconds / before) if before else ""
             before = seconds
             print("| %d | %d | %.3f | %.0f | %s |" % (count, os.path.getsize(path), seconds, peak, growth), flush=True)
 
 
-main()
+if __name__ == "__main__":
+    main()

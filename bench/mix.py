@@ -1,5 +1,5 @@
 #!/usr/bin/env python3
-"""Times the mix by itself: bench/mix [--folder FOLDER] [--seconds N] [--only WORD] [--fades] [--instructions]
+"""Times the mix by itself: bench/mix.py [--folder FOLDER] [--seconds N] [--only WORD] [--fades] [--instructions]
 
 Makes a small program over mt_render in a temporary folder (or in FOLDER, where it is kept and used again), with copies of the crates, and
 compiles bench/mix.c beside it (gcc -O3, for the processor that Rattle compiles for). Both read the same session and recording, mix the whole
@@ -14,21 +14,18 @@ import hashlib
 import os
 import random
 import resource
-import shutil
 import subprocess
 import sys
 import tempfile
 from fractions import Fraction
 
-TOP = os.path.dirname(os.path.dirname(os.path.abspath(__file__)))
-sys.dont_write_bytecode = True
-sys.path.insert(0, os.path.join(TOP, "tests"))
+from lib import TOP, build, instructions
 from formats.logs import add_clip, add_track, log, set_fade, set_gain
 from formats.waves import data, fmt, riff
 
 REPLICA = 10
 
-PROGRAM = """//! Mixes a session over and over: for `bench/mix` alone.
+PROGRAM = """//! Mixes a session over and over: for `bench/mix.py` alone.
 #![tactic(auto)]
 
 use mt_opcodec::Log;
@@ -119,25 +116,12 @@ fn main(rt: HostRuntime) -> ExitCode {
 """
 
 
-def build(folder):
+def both(folder):
     """The two programs."""
-    crates = os.path.join(folder, "crates")
-    if not os.path.isdir(crates):
-        shutil.copytree(os.path.join(TOP, "crates"), crates, symlinks=True)
-        with open(os.path.join(TOP, "crates.txt")) as names, open(os.path.join(folder, "crates.txt"), "w") as more:
-            more.write(names.read() + "mixbench: mt_opcodec mt_sessionview mt_render\n")
-    crate = os.path.join(crates, "mixbench")
-    os.makedirs(os.path.join(crate, "src"), exist_ok=True)
-    source = os.path.join(crate, "src", "main.rt")
-    program = os.path.join(crate, "out", "mixbench")
-    if not os.path.exists(program):
-        with open(source, "w") as text:
-            text.write(PROGRAM)
-        subprocess.run(["rt", "run"], cwd=crate, stdout=subprocess.DEVNULL, stderr=subprocess.DEVNULL)
-        if not os.path.exists(program):
-            sys.exit("%s was not built: see `rt run` there" % crate)
+    program = build(folder, "mixbench", PROGRAM, ["mt_opcodec", "mt_sessionview", "mt_render"])
     plain = os.path.join(folder, "mix")
-    subprocess.run(["gcc", "-O3", "-march=x86-64-v2", "-o", plain, os.path.join(TOP, "bench", "mix.c")], check=True)
+    source = os.path.join(TOP, "bench", "mix.c")
+    subprocess.run(["gcc", "-O3", "-march=x86-64-v2", "-o", plain, source], check=True)
     return program, plain
 
 
@@ -149,17 +133,6 @@ def run(command):
     if done.returncode != 0:
         sys.exit("refused: " + " ".join(command))
     return seconds, done.stdout.decode().strip()
-
-
-def instructions(command):
-    """How many instructions a run takes."""
-    with tempfile.NamedTemporaryFile() as out:
-        counted = ["valgrind", "--tool=callgrind", "--callgrind-out-file=" + out.name] + command
-        told = subprocess.run(counted, stdout=subprocess.DEVNULL, stderr=subprocess.PIPE, text=True).stderr
-    for line in told.splitlines():
-        if "Collected" in line:
-            return int(line.split(":")[1])
-    sys.exit("not counted: " + " ".join(command))
 
 
 def on_top(clips):
@@ -262,7 +235,7 @@ def main():
     options = parser.parse_args()
     with tempfile.TemporaryDirectory() as scratch:
         folder = options.folder or scratch
-        program, plain = build(folder)
+        program, plain = both(folder)
         unit = "instructions a frame and track" if options.instructions else "M frames*tracks/s"
         print("| Programme | Rattle, %s | C | Ratio |%s" % (unit, " C in 128 bits | Ratio |" if options.fades else ""))
         print("|---|---|---|---|" + ("---|---|" if options.fades else ""))
@@ -288,4 +261,5 @@ def main():
             tell(case.name, "%.0f", [case.sounding * turns / max(more - less, 1e-9) / 1e6 for less, more in zip(few, many)])
 
 
-main()
+if __name__ == "__main__":
+    main()

@@ -1,5 +1,5 @@
 #!/usr/bin/env python3
-"""Times an editor's take and edit by themselves: bench/take [--logs N,N,..] [--shapes NAME,NAME,..] [--programme] [--runs N] [--histories N]
+"""Times an editor's take and edit by themselves: bench/take.py [--logs N,N,..] [--shapes NAME,NAME,..] [--programme] [--runs N] [--histories N]
 [--keep FOLDER]
 
 Makes a program over mt_replica in a folder of its own (a copy of the crates below it, with the work that `rt check` kept), which `rt run` proves
@@ -10,7 +10,7 @@ used, to the nanosecond (/proc/PID/schedstat): so what is told is the time of th
 take hold those of the copy that is taken, and those of an edit that of the title that it is given. Times are
 those of the machine at hand: compare ratios of one run only.
 
-The first table is of logs of bench/view's mixed history: making the editor, beside making the session from nothing (what reading takes is taken off both);
+The first table is of logs of bench/view.py's mixed history: making the editor, beside making the session from nothing (what reading takes is taken off both);
 and for one take: a marker at a place drawn at random, a marker in front of all others, and a new title of one marker; and for one edit: a marker made at a
 place drawn at random, and a title made. `anew` is the same turn after which the session is made from nothing of the log, as an editor did that kept none. The
 second table is of shapes:
@@ -25,7 +25,7 @@ second table is of shapes:
   crowded      a clip added there
   moved        a clip of it moved to another place on it
 
-With --programme a third table tells of bench/view's `programme10` (300 tracks, 20,000 clips, 1,000,000 edits: 1,020,300 operations in 84 MB, which take some 20
+With --programme a third table tells of bench/view.py's `programme10` (300 tracks, 20,000 clips, 1,000,000 edits: 1,020,300 operations in 84 MB, which take some 20
 seconds to write): making the session from nothing and making the editor, in turn, what reading takes taken off both, and how many times the one the other is.
 
 `--logs ""` and `--shapes none` leave the first two out. With --histories it draws so many histories first, as tests/checks/model.py does, lets an editor of
@@ -40,17 +40,15 @@ import subprocess
 import sys
 import tempfile
 import time
-from importlib.machinery import SourceFileLoader
-from importlib.util import module_from_spec, spec_from_loader
 
-TOP = os.path.dirname(os.path.dirname(os.path.abspath(__file__)))
-sys.dont_write_bytecode = True
-sys.path.insert(0, os.path.join(TOP, "tests"))
+import view
+from lib import build
+from checks import model
 from formats.logs import add_clip, add_marker, add_track, log, move_clip, remove, restore, retitle, set_gain
 
-BELOW = ["mt_testalloc", "mt_digests", "mt_stamp", "mt_tracklist", "mt_op", "mt_holdback", "mt_cells", "mt_stampmap", "mt_latch", "mt_opcodec", "mt_items", "mt_sessionview", "mt_mending", "mt_replica"]
+USES = ["mt_testalloc", "mt_stamp", "mt_op", "mt_opcodec", "mt_sessionview", "mt_replica"]
 
-PROGRAM = """//! Takes or makes operations: for `bench/take` alone.
+PROGRAM = """//! Takes or makes operations: for `bench/take.py` alone.
 #![tactic(auto)]
 
 use mt_op::Title;
@@ -265,30 +263,19 @@ fn main(rt: HostRuntime) -> ExitCode {
 """
 
 
-def module_at(name, *path):
-    """A program of this repository as a module."""
-    loader = SourceFileLoader(name, os.path.join(TOP, *path))
-    module = module_from_spec(spec_from_loader(name, loader))
-    loader.exec_module(module)
-    return module
-
-
-VIEW = module_at("bench_view", "bench", "view")
-
-
 def dealt(count, order):
-    """bench/view's mixed history as the operations of one replica, whose numbers are this order of its stamps."""
+    """bench/view.py's mixed history as the operations of one replica, whose numbers are this order of its stamps."""
 
-    class Ordered(VIEW.History):
+    class Ordered(view.History):
         def stamp(self):
             self.clock += 1
             return self.clock, 1000, order[self.clock - 1] + 1
 
-    kept, VIEW.History = VIEW.History, Ordered
+    kept, view.History = view.History, Ordered
     try:
-        return VIEW.operations(count)
+        return view.operations(count)
     finally:
-        VIEW.History = kept
+        view.History = kept
 
 
 def later(turn):
@@ -322,59 +309,27 @@ def shapes():
     length = 10000
     stamps = [(clock, 1, length + 1 - clock) for clock in range(1, length + 1)]
     yield "chain", [], [add_track(own, stamps[index - 1] if index else None, "Voice") for index, own in enumerate(stamps)], None
-    history = VIEW.History(13)
+    history = view.History(13)
     track = history.stamp()
     there = [add_track(track, None, "Voice")]
-    there += [add_clip(history.stamp(), VIEW.SOURCE, track, draw.randrange(2**32), 0, 48000) for _ in range(2000)]
+    there += [add_clip(history.stamp(), view.SOURCE, track, draw.randrange(2**32), 0, 48000) for _ in range(2000)]
     made, tag = [], track
     for turn in range(0, 1000, 2):
         made += [remove(later(turn), track, [tag]), restore(later(turn + 1), track)]
         tag = later(turn + 1)
     yield "returns", there, made, 1000
-    for name, more, log_made in (("gains", "added", VIEW.programme()), ("crowd", "crowded", VIEW.clips())):
+    for name, more, log_made in (("gains", "added", view.programme()), ("crowd", "crowded", view.clips())):
         clips = clip_stamps(log_made)
         tracks = [own for own, text in log_made if text[32] == 1]
         yield name, log_made, [set_gain(later(turn), draw.choice(clips), 1, 2) for turn in range(20000)], 20000
-        adds = [add_clip(later(turn), VIEW.SOURCE, draw.choice(tracks), draw.randrange(3600 * 48000), 0, 480) for turn in range(2000)]
+        adds = [add_clip(later(turn), view.SOURCE, draw.choice(tracks), draw.randrange(3600 * 48000), 0, 480) for turn in range(2000)]
         yield more, log_made, adds, 2000
     moves = [move_clip(later(turn), draw.choice(clips), tracks[0], draw.randrange(2**32)) for turn in range(2000)]
     yield "moved", log_made, moves, 2000
 
 
-def is_text(path, text):
-    """Whether a file holds this text."""
-    with open(path) as file:
-        return file.read() == text
-
-
-def build(folder):
-    """The program, made in this folder."""
-    crates = os.path.join(folder, "crates")
-    here = os.path.join(crates, "bench_take", "src")
-    os.makedirs(here, exist_ok=True)
-    for name in BELOW:
-        if not os.path.exists(os.path.join(crates, name)):
-            subprocess.check_call(["cp", "-a", os.path.join(TOP, "crates", name), crates])
-    with open(os.path.join(TOP, "crates.txt")) as file:
-        lines = [line for line in file if line.split(":")[0] in BELOW]
-    with open(os.path.join(folder, "crates.txt"), "w") as file:
-        file.write("".join(lines) + "bench_take: mt_testalloc mt_stamp mt_op mt_opcodec mt_sessionview mt_replica\n")
-    source = os.path.join(here, "main.rt")
-    program = os.path.join(crates, "bench_take", "out", "bench_take")
-    if os.path.exists(program) and not is_text(source, PROGRAM):
-        os.remove(program)
-    with open(source, "w") as file:
-        file.write(PROGRAM)
-    if not os.path.exists(program):
-        done = subprocess.run(["rt", "run", "--jobs", "1"], cwd=os.path.dirname(here), stdout=subprocess.PIPE, stderr=subprocess.STDOUT)
-        if not os.path.exists(program):
-            sys.exit(done.stdout.decode()[-4000:])
-    return program
-
-
 def compare(program, count, folder):
     """The first of so many histories after which the sessions differ, if there is one."""
-    model = module_at("model", "tests", "checks", "model.py")
     name = os.path.join(folder, "history")
     for seed in range(count):
         draw = random.Random(seed)
@@ -497,7 +452,7 @@ def work_cells(program, folder, runs, doing, turns, anew=0, ops=None):
 
 def log_row(program, folder, runs, size):
     """One log: its editor and its session made, takes and edits."""
-    ops_there = VIEW.operations(size)
+    ops_there = view.operations(size)
     there = written(folder, "log", ops_there)
     item = never_removed(ops_there)
     few, many = (20000, 20000) if size <= 100000 else (2000, 200000)
@@ -529,10 +484,10 @@ def shape_row(program, folder, runs, name, there, ops, turns):
 def programme_row(program, folder, runs):
     """The realistic programme: its session and its editor made."""
     there = os.path.join(folder, "log")
-    VIEW.write_logs(VIEW.programme10, [there])
+    view.write_logs(view.programme10, [there])
     read, scratch, editor = least([[program, there, how] for how in ("read", "scratch", "editor")], runs)
     scratch, editor = scratch - read, editor - read
-    return ["programme10", VIEW.count_of(there), "%.1f" % (1000 * scratch), "%.1f" % (1000 * editor), "%.2f" % (editor / scratch)]
+    return ["programme10", view.count_of(there), "%.1f" % (1000 * scratch), "%.1f" % (1000 * editor), "%.2f" % (editor / scratch)]
 
 
 def print_row(row):
@@ -568,14 +523,14 @@ def main():
     parser = argparse.ArgumentParser()
     parser.add_argument("--logs", default="1000,10000,100000,1000000")
     parser.add_argument("--shapes", help="names, or none", default="")
-    parser.add_argument("--programme", action="store_true", help="also the editor of bench/view's programme10")
+    parser.add_argument("--programme", action="store_true", help="also the editor of bench/view.py's programme10")
     parser.add_argument("--runs", type=int, default=3, help="of how many runs the best counts")
     parser.add_argument("--histories", type=int, default=0)
     parser.add_argument("--keep", help="the folder to build in, which is kept")
     options = parser.parse_args()
     folder = options.keep or tempfile.mkdtemp()
     try:
-        program = build(folder)
+        program = build(folder, "bench_take", PROGRAM, USES)
         make_gates(folder)
         if options.histories:
             differs = compare(program, options.histories, folder)

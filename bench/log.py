@@ -1,5 +1,5 @@
 #!/usr/bin/env python3
-"""Times the log of mt_opcodec: bench/log [--sizes N,N,..] [--only WORD] [--keep FOLDER]
+"""Times the log of mt_opcodec: bench/log.py [--sizes N,N,..] [--only WORD] [--keep FOLDER]
 
 Makes a program over mt_opcodec in a folder of its own (a copy of the crates below it, with the work that `rt check` kept), which `rt run`
 proves and builds optimised; the first build takes some minutes. It adds operations one by one: rising in one replica, in turn over 8 and over
@@ -10,15 +10,13 @@ replica. `deal` is the making of the logs alone. Prints wall time, peak memory a
 ratios of one run only.
 """
 import argparse
-import os
 import shutil
 import subprocess
-import sys
 import tempfile
-import time
 
-TOP = os.path.dirname(os.path.dirname(os.path.abspath(__file__)))
-BELOW = ["mt_testalloc", "mt_digests", "mt_stamp", "mt_op", "mt_latch", "mt_opcodec"]
+from lib import build, run
+
+USES = ["mt_stamp", "mt_op", "mt_opcodec"]
 SHAPES = ["rising", "turn8", "turn1000", "mixed", "replicas", "read", "deal8", "join8", "merge8", "deal64", "join64", "merge64", "apart8"]
 
 PROGRAM = """//! Adds operations of one shape to a log, reads them, or joins logs, for their times.
@@ -168,44 +166,18 @@ fn joined(rt: &HostRuntime, logs: Vec<Log>) -> Option<u64> {
 """
 
 
-def build(folder):
-    """The program, made in this folder."""
-    crates = os.path.join(folder, "crates")
-    here = os.path.join(crates, "bench_log", "src")
-    os.makedirs(here, exist_ok=True)
-    for name in BELOW:
-        if not os.path.exists(os.path.join(crates, name)):
-            subprocess.check_call(["cp", "-a", os.path.join(TOP, "crates", name), crates])
-    with open(os.path.join(TOP, "crates.txt")) as file:
-        lines = [line for line in file if line.split(":")[0] in BELOW]
-    with open(os.path.join(folder, "crates.txt"), "w") as file:
-        file.write("".join(lines) + "bench_log: mt_stamp mt_op mt_opcodec\n")
-    with open(os.path.join(here, "main.rt"), "w") as file:
-        file.write(PROGRAM)
-    at = os.path.dirname(here)
-    done = subprocess.run(["rt", "run", "--jobs", "1", "--", "0", "8"], cwd=at, stdout=subprocess.PIPE, stderr=subprocess.STDOUT)
-    program = os.path.join(at, "out", "bench_log")
-    if done.returncode != 0 or not os.path.exists(program):
-        sys.exit(done.stdout.decode()[-4000:])
-    return program
-
-
-def run(program, shape, count, runs):
+def least(program, shape, count, runs):
     """Seconds, peak MiB and seconds of the joining alone, if any, each the least of so many runs."""
-    least = None
+    found = None
     for _ in range(runs):
-        begun = time.monotonic()
-        child = subprocess.Popen([program, str(SHAPES.index(shape)), str(count)], stdout=subprocess.PIPE)
-        told = child.stdout.read()
-        _, status, used = os.wait4(child.pid, 0)
-        seconds = time.monotonic() - begun
-        if status != 0:
-            sys.exit("failed: %s %d" % (shape, count))
-        found = (seconds, used.ru_maxrss // 1024, int(told) / 1e9 if told else None)
-        least = found if least is None else tuple(None if one is None else min(one, other) for one, other in zip(found, least))
+        words = [program, str(SHAPES.index(shape)), str(count)]
+        seconds, peak, told = run(words, stdout=subprocess.PIPE)
+        one = (seconds, peak, int(told) / 1e9 if told else None)
+        pairs = zip(one, found or one)
+        found = tuple(None if new is None else min(new, old) for new, old in pairs)
         if seconds > 20:
             break
-    return least
+    return found
 
 
 def times_of(now, before):
@@ -222,7 +194,7 @@ def main():
     args = parser.parse_args()
     folder = args.keep or tempfile.mkdtemp()
     try:
-        program = build(folder)
+        program = build(folder, "bench_log", PROGRAM, USES)
         print("| Shape | Number | Seconds | Growth | Peak MiB | Joining | Growth |")
         print("|---|---|---|---|---|---|---|")
         for shape in SHAPES:
@@ -232,7 +204,7 @@ def main():
             for size in [int(word) for word in args.sizes.split(",")]:
                 if shape == "mixed" and size > 200000:
                     continue
-                seconds, peak, joining = run(program, shape, size, args.runs)
+                seconds, peak, joining = least(program, shape, size, args.runs)
                 print("| %s | %d | %s | %s | %d | %s | %s |" % ((shape, size) + times_of(seconds, before) + (peak,) + times_of(joining, joining_before)), flush=True)
                 before, joining_before = seconds, joining
     finally:
