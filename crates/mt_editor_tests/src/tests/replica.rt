@@ -20,14 +20,24 @@ use std::test::Fail;
 #[test]
 fn takes_an_operation_once(rt: HostRuntime) -> Result<(), Fail> {
     let item = Stamp::new(1, A, 1)?;
-    let news = Act::AddMarker(Name::News);
-    let another = Act::AddMarker(Name::X);
     let clash = Err(EditorFault::Conflict(item.dot()));
     let rows = [
-        (Step::Take(item, news), Ok(Answer::Applied(1)), (1, 0, 1)),
-        (Step::Take(item, news), Ok(Answer::Already), (1, 0, 1)),
-        (Step::Take(item, news), Ok(Answer::Already), (1, 0, 1)),
-        (Step::Take(item, another), clash, (1, 0, 1)),
+        (
+            Step::Take(item, Act::AddMarker(Name::News)),
+            Ok(Answer::Applied(1)),
+            (1, 0, 1),
+        ),
+        (
+            Step::Take(item, Act::AddMarker(Name::News)),
+            Ok(Answer::Already),
+            (1, 0, 1),
+        ),
+        (
+            Step::Take(item, Act::AddMarker(Name::News)),
+            Ok(Answer::Already),
+            (1, 0, 1),
+        ),
+        (Step::Take(item, Act::AddMarker(Name::X)), clash, (1, 0, 1)),
     ];
     assert!(rt; is_history(rt.alloc(), &rows));
     Ok(())

@@ -79,10 +79,15 @@ fn retitles(alloc: Global) -> Result<bool, StampFault> {
 // taken_again: a marker three times, and another operation of its stamp.
 fn repeats(alloc: Global) -> Result<bool, StampFault> {
     let item = Stamp::new(1, A, 1)?;
-    let news = Act::AddMarker(Name::News);
-    let other = Act::AddMarker(Name::X);
-    let ops = [(item, news), (item, news), (item, news), (item, other)];
-    Ok(keeps_both_ways(alloc, &ops))
+    Ok(keeps_both_ways(
+        alloc,
+        &[
+            (item, Act::AddMarker(Name::News)),
+            (item, Act::AddMarker(Name::News)),
+            (item, Act::AddMarker(Name::News)),
+            (item, Act::AddMarker(Name::X)),
+        ],
+    ))
 }
 
 // four_places: at the head, two after it, and one more at the head.
