@@ -1,5 +1,6 @@
-//! Calls every public call of the fifteen libraries that programs stand on, with the arguments and the answer that it promises, so that a changed
-//! name or argument is noticed: one module a library, one function a call. What the calls do, the tests of those libraries say.
+//! Calls the public calls of the fifteen libraries that programs use, with their arguments and results, so
+//! that the check fails where a name or an argument changes. There is a module for each library. Left out are
+//! comparisons, the variants of enums, and `number` where the library's own tests call it.
 #![tactic(auto)]
 
 pub mod bwfread;

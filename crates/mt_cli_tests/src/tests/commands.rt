@@ -63,7 +63,7 @@ fn has_file(rt: &HostRuntime, (name, bytes): (&str, &[u8])) -> Result<bool> {
     Ok(fs::read(rt, name)?.as_slice() == bytes)
 }
 
-// Whether a run comes to what it has to.
+// Whether a run ends, prints and writes as it says.
 fn is_so(rt: &HostRuntime, input: &[u8], run: Run) -> Result<bool> {
     match run {
         Run::Prints(words, text) => is_answered(rt, (words, input), 0, (text, "")),
@@ -93,7 +93,7 @@ fn enter_folder(rt: &HostRuntime) -> Result<PathBuf> {
     Ok(folder)
 }
 
-// Whether the runs of a story come to what they have to, one after another, in this folder.
+// Whether each run of a story, one after another in this folder, ends as it says.
 fn come_to_here(rt: &HostRuntime, story: &Story) -> Result<bool> {
     put_files(rt, story.files)?;
     for run in story.runs {

@@ -100,7 +100,7 @@ struct Cut {
     size: usize,
 }
 
-// Whether a talk that is told all in such pieces says what is wanted.
+// Whether a talk that is fed all bytes in such pieces sends what is wanted.
 fn replies<M: Allocator + Clone>(
     talk: &mut Talk<M>,
     editor: &mut Editor<M>,
@@ -184,7 +184,7 @@ fn is_wanted(told: Result<bool, TalkFault>, tally: &Refusing<Global>) -> bool {
     }
 }
 
-// Whether an end ends that is told all in pieces of a size, and in two pieces of which the first has it.
+// Whether an end that is fed all bytes ends: in pieces of a size, and in two pieces of which the first has it.
 fn is_ended(alloc: Global, side: Side, first: usize) -> bool {
     let pieces = Cut { first, size: first };
     let two = Cut {

@@ -159,7 +159,7 @@ fn is_no_world_where_a_growth_is_refused(rt: HostRuntime) {
     assert!(rt; refusals(rt.alloc(), &Run) > Some(50));
 }
 
-// What a history comes to: the operations that were sent, and the markers of each editor, with how many operations it holds back.
+// What a history leaves: the operations that were sent, and the markers of each editor, with how many operations it holds back.
 #[derive(Clone, Copy)]
 struct History<'h> {
     steps: &'h [Step],
@@ -202,7 +202,7 @@ fn editor_shows_all(world: &World, index: usize, (markers, held): (&[(u32, &str)
     }
 }
 
-// Whether a history comes to what it has to.
+// Whether a history leaves what it should.
 fn is_history(alloc: Global, history: &History<'_>) -> Option<bool> {
     let events = events_of(alloc, Stamp::new(1, A, 1).ok()?, history.steps)?;
     match World::run(alloc, &[A, B], &events) {

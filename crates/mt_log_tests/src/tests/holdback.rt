@@ -115,7 +115,7 @@ fn are_released<T: Waits + Drop, M: Allocator>(hold: &HoldBack<T, M>, keys: &[St
     released.len() == keys.len()
 }
 
-// What offers of two items are told, of which those of these keys are then released.
+// What offers of two items return, of which those of these keys are then released.
 fn told_of_two<T: Waits + Drop, M: Allocator + Clone>(
     memory: M,
     (first, second): (T, T),
@@ -149,7 +149,7 @@ fn told_of_three<T: Waits + Drop, M: Allocator + Clone>(
     }
 }
 
-// What offers of three tracks in a row are told, from the last to the first.
+// What offers of three tracks in a row return, from the last to the first.
 fn told_of_tracks(alloc: Global, [p, q, r]: [Stamp; 3]) -> Result<Option<[Told; 3]>, OpFault> {
     let last = add_track(alloc, r, Some(q))?;
     let middle = add_track(alloc, q, Some(p))?;
@@ -167,7 +167,7 @@ fn releases_tracks_from_the_first(rt: HostRuntime) -> Result<(), Fail> {
     Ok(())
 }
 
-// What offers of a gain of a marker, and then of the marker, are told.
+// What offers of a gain of a marker, and then of the marker, return.
 fn told_of_a_gain(alloc: Global, item: Stamp, own: Stamp) -> Result<Option<[Told; 2]>, OpFault> {
     let gain = Gain::UNCHANGED;
     let early = Op::new(own, Body::SetGain { item, gain })?;
