@@ -1,9 +1,10 @@
 #!/usr/bin/env python3
-"""Times the first build: bench/first_build.py [--anyway]
+"""Times the first build: bench/first_build.py [--anyway] [--keep FOLDER]
 
 Runs the build of README.md, the block with `rt run --jobs`, in a fresh clone of the commit at hand with nothing beside it, and writes the
 minutes, the cores and the clock rate into bench/results/first_build.txt, from which tests/docs.py fills the README's sentence. It stops
-where other work runs (a load over 0.5), unless told --anyway, which the file then says.
+where other work runs (a load over 0.5), unless told --anyway, which the file then says. With --keep the clone stays in FOLDER, whose
+built crates (crates/*/out) can be copied into a checkout of the same commit.
 """
 import argparse
 import datetime
@@ -38,11 +39,13 @@ def clock_rate():
 def main():
     parser = argparse.ArgumentParser(description=__doc__.split("\n")[0])
     parser.add_argument("--anyway", action="store_true", help="measure also beside other work")
+    parser.add_argument("--keep", metavar="FOLDER", help="make the clone in FOLDER, which is not there yet, and leave it")
     options = parser.parse_args()
     load = os.getloadavg()[0]
     if load > MOST_LOAD and not options.anyway:
         sys.exit("other work runs: the load is %.1f" % load)
-    with tempfile.TemporaryDirectory() as folder:
+    with tempfile.TemporaryDirectory() as temporary:
+        folder = os.path.abspath(options.keep) if options.keep else os.path.join(temporary, "clone")
         subprocess.run(["git", "clone", "--quiet", "--no-hardlinks", TOP, folder], check=True)
         with open(os.path.join(folder, "README.md")) as file:
             build = build_of(file.read())

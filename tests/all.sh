@@ -12,6 +12,7 @@ python3 tests/checks/case_texts.py
 python3 tests/make_cases.py --check
 python3 tests/docs.py --check
 python3 tests/checks/prose.py
+python3 tests/checks/declared.py
 python3 tests/checks/record.py
 python3 tests/checks/rows.py
 rt ci

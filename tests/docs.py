@@ -93,10 +93,10 @@ def name_faults(texts):
     functions = set(re.findall(r"\bfn (\w+)", " ".join(map(text_of, sources))))
     for page, text in texts.items():
         code = " ".join(re.findall(r"`([^`]*)`", re.sub(r"^```.*?^```$", "", text, flags=re.M | re.S)))
-        names = set(re.findall(r"mt_\w+::laws::\w+", text)) - laws_there
+        names = set(re.findall(r"(?:mt|text)_\w+::laws::\w+", text)) - laws_there
         names |= set(re.findall(r"\b\w+\.(?:rt|antt|py)\b", code)) - files
         names |= {"%s::%s" % pair for pair in re.findall(r"\b([A-Z]\w+)::([a-z]\w+)", code) if pair[1] not in functions}
-        for crate, listed in re.findall(r"(mt_\w+)((?:,?\s+`\w+\.antt`)+)", text):
+        for crate, listed in re.findall(r"((?:mt|text)_\w+)((?:,?\s+`\w+\.antt`)+)", text):
             names |= {"%s of %s" % (name, crate) for name in set(re.findall(r"\w+\.antt", listed)) - definitions(crate)}
         for name in sorted(names):
             yield "%s names %s, which is not there" % (page, name)

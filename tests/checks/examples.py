@@ -63,7 +63,7 @@ def fault_of(block, below):
         return "has no function that is a test"
     if not re.search(r"\bassert(_eq|_ne)?!\(", text):
         return "asserts nothing"
-    for used in re.findall(r"\bmt_\w+(?=::)", text):
+    for used in re.findall(r"\b(?:mt|text)_\w+(?=::)", text):
         if used not in below:
             return "uses %s, which crates.txt does not list above" % used
     return None

@@ -1,7 +1,7 @@
 #!/bin/sh
 # Compares the numbers and names of `radio explain`, docs/use/errors.md and the fault types: sh tests/checks/refusals.sh PROGRAM
-# Each fault type of the libraries gives a variant the number under which the page has its name, or that of both (`TooLong` of `FrameFault`
-# is FrameTooLong).
+# Each fault type of the libraries that the program links gives a variant the number under which the page has its name, or that of both
+# (`TooLong` of `FrameFault` is FrameTooLong).
 set -eu
 program=$1
 top=$(dirname "$0")/../..
@@ -13,7 +13,12 @@ trap 'rm -f "$told" "$written" "$given"' EXIT
 sed -n 's/^- \*\*\([0-9][0-9]*\)\*\* \([^:]*\).*/\1 \2/p' "$top/docs/use/errors.md" | sort > "$written"
 [ -s "$written" ]
 diff "$written" "$told"
-sed -n 's/^ *\([A-Za-z]*\)Fault::\([A-Za-z]*\)[^=]*=> \([0-9][0-9]*\),$/\3 \1 \2/p' "$top"/crates/*/src/*.rt | sort -u > "$given"
+# crates.txt lists each crate below the ones that use it
+linked=$(awk -F: '{ line[NR] = $1; uses[NR] = $2 } END { need["radio"]; for (n = NR; n > 0; n--) if (line[n] in need) {
+  print line[n]; count = split(uses[n], names, " "); for (i = 1; i <= count; i++) need[names[i]] } }' "$top/crates.txt")
+for crate in $linked; do
+  sed -n 's/^ *\([A-Za-z]*\)Fault::\([A-Za-z]*\)[^=]*=> \([0-9][0-9]*\),$/\3 \1 \2/p' "$top/crates/$crate"/src/*.rt
+done | sort -u > "$given"
 [ -s "$given" ]
 while read -r number type name; do
   # which of the causes of Write it is, PartFault tells, whose variants the table does not name

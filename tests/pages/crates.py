@@ -48,6 +48,10 @@ ROOMS = {
         "mt_preflight": "the texts of `radio sources` and `radio check`",
         "mt_timeline": "the text of `radio timeline`",
         "mt_svg": "the picture of `radio timeline --svg`",
+        "text_cues": "cue points as lines of a script",
+        "text_labels": "markers as a label track, and back as lines of a script",
+        "text_csv": "a session as one table",
+        "text_edl": "what is heard of a track as an edit decision list",
         "mt_lines": "lines as JSON, with times, and back from times",
     },
     "program": {

@@ -1,4 +1,5 @@
 mod cuewrite;
 mod growth;
+mod interchange;
 mod render;
 mod script;

@@ -6,12 +6,12 @@ mod messages;
 mod sockets;
 mod streams;
 
-use super::works::{Work, is_done};
+use super::works::{Work, has_news, is_done};
 use mt_opcodec::Log;
 use mt_replica::Editor;
 use mt_stamp::Stamp;
-use mt_sync::{Side, Talk, TalkFault};
-use mt_testkit::{A, Refusing, log_of};
+use mt_sync::{Side, Talk, TalkFault, exchange};
+use mt_testkit::{A, B, Refusing, log_of};
 use std::alloc::{Allocator, Global};
 
 // All that the caller of the log of one marker sends: its Have, 37 bytes, the marker, 51 bytes, and Bye.
@@ -120,7 +120,7 @@ fn replies<M: Allocator + Clone>(
     Ok(rest.is_empty())
 }
 
-// Whether it then has ended, and its editor has the marker.
+// Whether it then has ended, and its editor has the marker and nothing else.
 fn ends<M: Allocator + Clone>(
     talk: &mut Talk<M>,
     editor: &mut Editor<M>,
@@ -128,7 +128,7 @@ fn ends<M: Allocator + Clone>(
     wanted: &[u8],
 ) -> Result<bool, TalkFault> {
     let replied = replies(talk, editor, stream, wanted)?;
-    Ok(replied && talk.ended() && held(editor) == Some(1))
+    Ok(replied && talk.ended() && has_news(editor))
 }
 
 // The same of a new talk; a caller begins with its Have.
@@ -202,4 +202,43 @@ fn ends_however_it_is_cut(rt: HostRuntime) {
             assert!(rt; is_ended(rt.alloc(), side, first), "of {first}");
         }
     }
+}
+
+// Whether both editors have the marker after an exchange, and nothing else.
+fn swap_news<M: Allocator + Copy>(
+    memory: M,
+    caller: &mut Editor<M>,
+    answerer: &mut Editor<M>,
+) -> bool {
+    let is_done = exchange(memory, caller, answerer) == Ok(());
+    is_done && has_news(caller) && has_news(answerer)
+}
+
+// The caller of the conversation, who meets the answerer in memory.
+#[derive(Clone, Copy)]
+struct Meeting;
+
+impl Work for Meeting {
+    fn log<M: Allocator + Copy>(&self, memory: M) -> Option<Log<M>> {
+        log_of_end(memory, Side::Caller)
+    }
+
+    fn is_right<M: Allocator + Copy>(
+        &self,
+        editor: &mut Editor<M>,
+        memory: M,
+        _alloc: Global,
+        _tally: &Refusing<Global>,
+    ) -> Option<bool> {
+        match Editor::from_log(memory, B, Log::new(memory)) {
+            Ok(mut answerer) => Some(swap_news(memory, editor, &mut answerer)),
+            Err(_) => None,
+        }
+    }
+}
+
+// row: conversation
+#[test]
+fn ends_in_memory(rt: HostRuntime) {
+    assert!(rt; is_done(rt.alloc(), &Meeting));
 }

@@ -1,9 +1,11 @@
 //! What is done with an editor that another function owns, since what owns one is dear to prove; once with memory, or with each growth refused in turn.
 
+use mt_op::{Body, Op};
 use mt_opcodec::Log;
 use mt_replica::{Editor, EditorFault};
-use mt_stamp::Replica;
-use mt_testkit::{B, Refusing};
+use mt_sessionview::Session;
+use mt_stamp::{Replica, Stamp};
+use mt_testkit::{A, B, Refusing};
 use std::alloc::{Allocator, Global};
 
 // More growths than a work asks for.
@@ -84,4 +86,36 @@ pub(crate) fn refusals<W: Work>(alloc: Global, work: &W) -> Option<u64> {
         }
     }
     None
+}
+
+// Whether an operation is the marker `News` at 480, the first of A.
+fn is_news<M: Allocator>(op: Option<&Op<M>>) -> bool {
+    match op {
+        Some(op) => {
+            Stamp::new(1, A, 1) == Ok(op.stamp())
+                && matches!(op.body(), Body::AddMarker { at: 480, title } if title.text() == "News")
+        }
+        None => false,
+    }
+}
+
+// Whether a session has a marker `News` at 480, and nothing else.
+fn shows_news<M: Allocator>(session: &Session<M>) -> bool {
+    match session.markers.items() {
+        [marker] => {
+            let is_alone = session.tracks.items().is_empty() && session.held == 0;
+            is_alone && marker.at == 480 && marker.len == 0 && marker.title.text() == "News"
+        }
+        _ => false,
+    }
+}
+
+/// Whether an editor has that marker and nothing else, and shows it.
+pub(crate) fn has_news<M: Allocator + Clone>(editor: &Editor<M>) -> bool {
+    match (editor.log(), editor.session()) {
+        (Some(log), Some(session)) => {
+            log.len() == 1 && is_news(log.op_at(0)) && shows_news(session)
+        }
+        _ => false,
+    }
 }

@@ -159,20 +159,28 @@ fn is_no_world_where_a_growth_is_refused(rt: HostRuntime) {
     assert!(rt; refusals(rt.alloc(), &Run) > Some(50));
 }
 
-// What a history leaves: the operations that were sent, and the markers of each editor, with how many operations it holds back.
+// What a history leaves: the stamps that were sent (clock, replica, number), and the markers of each
+// editor, with how many operations it holds back.
 #[derive(Clone, Copy)]
 struct History<'h> {
     steps: &'h [Step],
-    sent: &'h [(Replica, u64)],
+    sent: &'h [(u64, Replica, u64)],
     first: (&'h [(u32, &'static str)], u64),
     second: (&'h [(u32, &'static str)], u64),
 }
 
-// Whether these are the operations that were sent.
-fn are_sent(world: &World, sent: &[(Replica, u64)]) -> bool {
+// Whether the operation that was sent at this place has this stamp.
+fn is_stamp(world: &World, index: usize, (clock, replica, seq): (u64, Replica, u64)) -> bool {
+    match world.sent().get(index) {
+        Some(op) => Stamp::new(clock, replica, seq) == Ok(op.stamp()),
+        None => false,
+    }
+}
+
+// Whether the operations that were sent have these stamps.
+fn are_sent(world: &World, sent: &[(u64, Replica, u64)]) -> bool {
     for index in 0..sent.len() {
-        let (replica, seq) = sent[index];
-        if !is_sent(world, index, replica, seq) {
+        if !is_stamp(world, index, sent[index]) {
             return false;
         }
     }
@@ -237,7 +245,7 @@ const RESTARTED: [Step; 7] = [
 fn forgets_what_was_not_saved(rt: HostRuntime) {
     let history = History {
         steps: &RESTARTED,
-        sent: &[(A, 1)],
+        sent: &[(1, A, 1)],
         first: (&[Y], 0),
         second: (&[Y], 0),
     };
@@ -260,7 +268,7 @@ const LOSING: [Step; 8] = [
 fn forgets_what_was_taken_and_removed(rt: HostRuntime) {
     let history = History {
         steps: &LOSING,
-        sent: &[(A, 1), (B, 1)],
+        sent: &[(1, A, 1), (1, B, 1)],
         first: (&[X, Y], 0),
         second: (&[Y], 0),
     };
@@ -280,7 +288,7 @@ const RETITLING: [Step; 5] = [
 fn holds_a_title_until_its_marker(rt: HostRuntime) {
     let mut history = History {
         steps: &RETITLING[..4],
-        sent: &[(A, 1), (A, 2)],
+        sent: &[(1, A, 1), (2, A, 2)],
         first: (&[Z], 0),
         second: (&[], 1),
     };
@@ -303,7 +311,7 @@ const SAVING_TWICE: [Step; 5] = [
 fn sends_once_what_is_saved_twice(rt: HostRuntime) {
     let history = History {
         steps: &SAVING_TWICE,
-        sent: &[(A, 1)],
+        sent: &[(1, A, 1)],
         first: (&[Y], 0),
         second: (&[], 0),
     };

@@ -147,6 +147,38 @@ fn reads_the_worked_bodies(rt: HostRuntime) {
     }
 }
 
+/// The Have of the numbers 1, 2 and 4 of A, the operations of one marker, and Bye.
+const BODIES: [&[u8]; 3] = [
+    b"\x01\0\0\0\x01\0\0\0\0\0\0\0\0\0\0\0\0\0\0\0\x0a\0\0\0\0\0\0\0\x02\0\0\0\x01\0\0\0\0\0\0\0\x04",
+    b"\x02\0\0\0\x01\0\0\0\0\0\0\0\x01\0\0\0\0\0\0\0\0\0\0\0\0\0\0\0\x0a\0\0\0\0\0\0\0\x01\x0a\0\0\x01\xe0\x04News",
+    b"\x03",
+];
+
+// Whether a message, where it may be written, is this body.
+fn is_body(alloc: Global, message: &Message, body: &[u8]) -> Result<bool, MessageFault> {
+    if !message.is_well_formed() {
+        return Ok(false);
+    }
+    let written = message.write(alloc)?;
+    Ok(written.as_slice() == body)
+}
+
+// Whether a body is written as it is read.
+fn is_written_again(alloc: Global, body: &[u8]) -> Result<bool, MessageFault> {
+    match Message::read(alloc, body) {
+        Ok(message) => is_body(alloc, &message, body),
+        Err(fault) => Err(fault),
+    }
+}
+
+// row: lacking_operations, message_bodies
+#[test]
+fn writes_each_kind_of_message(rt: HostRuntime) {
+    for body in BODIES {
+        assert!(rt; is_written_again(rt.alloc(), body) == Ok(true));
+    }
+}
+
 // row: damaged_logs_counts
 // A count alone takes no memory: of replicas, of a replica's numbers beside its run, of operations.
 #[test]

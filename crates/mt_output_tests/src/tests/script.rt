@@ -47,16 +47,30 @@ const ONE_MARKER: &[u8] =
 const EMPTY: &[u8] =
     b"RMTS\x01\0\0\0\0\0\0\0\0\x11\x16\xdd\xab\xe2:a\xd2\xbd\xea\xf3\x06\x06\x0d\xd62;\xc4\xbc\xc6\xb9\xeb\xc9\x85\xe13n\x1a>\x85#Q";
 
-// What an editor answers to a script, where it has so many operations then.
+// The log of the four operations that a script makes.
+const FOUR_MADE: &[u8] =
+    b"RMTS\x01\0\0\0\0\0\0\0\x04\0\0\0\0\0\0\0\x01\0\0\0\0\0\0\0\0\0\0\0\0\0\0\0\n\0\0\0\0\0\0\0\x01\x01\0\x05Voice\0\0\0\0\0\0\0\x02\0\0\0\0\0\0\0\0\0\0\0\0\0\0\0\n\0\0\0\0\0\0\0\x02\x03\xbax\x16\xbf\x8f\x01\xcf\xeaAA@\xde]\xae\"#\xb0\x03a\xa3\x96\x17z\x9c\xb4\x10\xffa\xf2\0\x15\xad\0\0\0\0\0\0\0\x01\0\0\0\0\0\0\0\0\0\0\0\0\0\0\0\n\0\0\0\0\0\0\0\x01\0\0\0\0\0\0\0\n\0\0\0\x14\0\0\0\0\0\0\0\x03\0\0\0\0\0\0\0\0\0\0\0\0\0\0\0\n\0\0\0\0\0\0\0\x03\x06\0\0\0\0\0\0\0\x02\0\0\0\0\0\0\0\0\0\0\0\0\0\0\0\n\0\0\0\0\0\0\0\x02\0\x01\0\x02\0\0\0\0\0\0\0\x04\0\0\0\0\0\0\0\0\0\0\0\0\0\0\0\n\0\0\0\0\0\0\0\x04\n\0\0\x01\xe0\x04Newso\0\xd6\x92$\x03X\x0fDg\x8dqtV/\xf5\xb2Y\xd2\xcea\xf2\x03pV\xe4\xd7\xca\xaa\xd9$g";
+
+// Whether an editor has this log.
+fn has_log(editor: &Editor, text: &[u8]) -> bool {
+    match editor.log() {
+        Some(log) => match log.write() {
+            Ok(written) => written.as_slice() == text,
+            Err(_) => false,
+        },
+        None => false,
+    }
+}
+
+// What an editor answers to a script, where it has this log then.
 fn answer_of(
     alloc: Global,
     editor: &mut Editor,
     script: &[u8],
-    left: usize,
+    left: &[u8],
 ) -> Option<Result<usize, ScriptFault>> {
     let answer = run(alloc, editor, script);
-    let log = editor.log()?;
-    if log.len() == left {
+    if has_log(editor, left) {
         Some(answer)
     } else {
         None
@@ -68,7 +82,7 @@ fn answered(
     alloc: Global,
     log: &[u8],
     script: &[u8],
-    left: usize,
+    left: &[u8],
 ) -> Option<Result<usize, ScriptFault>> {
     let log = Log::read(alloc, log).ok()?;
     match Editor::from_log(alloc, A, log) {
@@ -104,13 +118,14 @@ retitle 1.1.00000000-0000-0000-0000-00000000000a x
 #[test]
 fn tells_the_line_at_fault(rt: HostRuntime) -> Result<(), Fail> {
     let item = Stamp::new(1, A, 1)?;
-    assert!(rt; answered(rt.alloc(), EMPTY, FOUR_LINES, 4) == Some(Ok(4)));
+    assert!(rt; answered(rt.alloc(), EMPTY, FOUR_LINES, FOUR_MADE) == Some(Ok(4)));
     let bad = Some(Err(ScriptFault::BadLine(2)));
-    assert!(rt; answered(rt.alloc(), EMPTY, A_BAD_LINE, 0) == bad);
+    assert!(rt; answered(rt.alloc(), EMPTY, A_BAD_LINE, EMPTY) == bad);
     let missing = EditorFault::NoSuchItem(item);
     let refused = Some(Err(ScriptFault::Refused(2, missing)));
-    assert!(rt; answered(rt.alloc(), EMPTY, A_REFUSED_LINE, 0) == refused);
+    assert!(rt; answered(rt.alloc(), EMPTY, A_REFUSED_LINE, EMPTY) == refused);
     let absent = Some(Err(ScriptFault::Refused(3, EditorFault::Absent(item))));
-    assert!(rt; answered(rt.alloc(), ONE_MARKER, AFTER_A_REMOVAL, 1) == absent);
+    let after_a_removal = answered(rt.alloc(), ONE_MARKER, AFTER_A_REMOVAL, ONE_MARKER);
+    assert!(rt; after_a_removal == absent);
     Ok(())
 }

@@ -3,7 +3,7 @@
 ghost use Rattle.std.specs.Prelude.{◌≢◌, None};
 
 use super::histories::{EditorCounts, counts};
-use crate::tests::works::{Work, refusals};
+use crate::tests::works::{Work, has_news, refusals};
 use mt_opcodec::Log;
 use mt_replica::{Change, Draft, Editor, EditorFault};
 use mt_stamp::Stamp;
@@ -100,7 +100,7 @@ fn leaves<M: Allocator + Copy>(
     } else {
         Ok(Some((2, 0, 0)))
     };
-    removed == wanted && counts(editor) == Some((1, 0, 1))
+    removed == wanted && has_news(editor)
 }
 
 impl Work for Made {

@@ -1,7 +1,7 @@
 //! What an editor answers step by step, and what there is after each.
 
 use super::operations::{Act, change_of, op_of};
-use crate::tests::works::{Work, is_done};
+use crate::tests::works::{Work, has_news, is_done};
 use mt_op::{Body, Op};
 use mt_opcodec::Log;
 use mt_replica::{Change, Editor, EditorFault, Taken};
@@ -127,6 +127,16 @@ fn is_answered<M: Allocator + Copy>(editor: &mut Editor<M>, memory: M, row: &Row
     answer == Some(wanted) && counts(editor) == Some(left) && is_alike(memory, editor)
 }
 
+// The same of each row, one after another.
+fn are_answered<M: Allocator + Copy>(editor: &mut Editor<M>, memory: M, rows: &[Row]) -> bool {
+    for row in rows {
+        if !is_answered(editor, memory, row) {
+            return false;
+        }
+    }
+    true
+}
+
 // The editor of this name begins with the log of a marker of this stamp, or with the empty log.
 #[derive(Clone, Copy)]
 struct History<'r> {
@@ -154,13 +164,31 @@ impl Work for History<'_> {
         _alloc: Global,
         _tally: &Refusing<Global>,
     ) -> Option<bool> {
-        for row in self.rows {
-            if !is_answered(editor, memory, row) {
-                return Some(false);
-            }
-        }
-        Some(true)
+        Some(are_answered(editor, memory, self.rows))
     }
+}
+
+// Rows after which an editor of B has the marker `News`, the first of A, and nothing else.
+#[derive(Clone, Copy)]
+struct Repeats<'r> {
+    rows: &'r [Row],
+}
+
+impl Work for Repeats<'_> {
+    fn is_right<M: Allocator + Copy>(
+        &self,
+        editor: &mut Editor<M>,
+        memory: M,
+        _alloc: Global,
+        _tally: &Refusing<Global>,
+    ) -> Option<bool> {
+        Some(are_answered(editor, memory, self.rows) && has_news(editor))
+    }
+}
+
+/// Whether each row is so, and that marker is left, of an editor that begins with the empty log.
+pub(crate) fn leaves_news(alloc: Global, rows: &[Row]) -> bool {
+    is_done(alloc, &Repeats { rows })
 }
 
 /// Whether each row is so, of an editor of B that begins with the empty log.

@@ -3,8 +3,8 @@ use super::{has_the_marker, is_left, log_of_end, said_by, told_to};
 use crate::tests::works::{Work, is_done};
 use mt_opcodec::{Latch, Log};
 use mt_replica::Editor;
-use mt_sync::{Side, converse};
-use mt_testkit::{FailingWriter, Refusing, SlowReader};
+use mt_sync::{Side, SyncFault, converse};
+use mt_testkit::{ChokedWriter, FailingWriter, Refusing, SlowReader};
 use std::alloc::{Allocator, Global};
 use std::io::ErrorKind;
 
@@ -164,5 +164,39 @@ fn each_write_fails_in_turn(rt: HostRuntime) {
         for at in 0..said_by(side).len() {
             assert!(rt; is_stopped(rt.alloc(), side, at), "at {at}");
         }
+    }
+}
+
+// An end whose writer takes no byte.
+#[derive(Clone, Copy)]
+struct Choked {
+    side: Side,
+}
+
+impl Work for Choked {
+    fn log<M: Allocator + Copy>(&self, memory: M) -> Option<Log<M>> {
+        log_of_end(memory, self.side)
+    }
+
+    fn is_right<M: Allocator + Copy>(
+        &self,
+        editor: &mut Editor<M>,
+        memory: M,
+        alloc: Global,
+        _tally: &Refusing<Global>,
+    ) -> Option<bool> {
+        let mut input = Latch::new(told_to(self.side));
+        let mut output = Latch::new(ChokedWriter::new());
+        let answer = converse(memory, alloc, editor, self.side, &mut input, &mut output);
+        let is_refused = answer == Err(SyncFault::Write) && output.failed();
+        Some(is_refused && output.into_inner().asked() == 1)
+    }
+}
+
+// row: each_device_failing
+#[test]
+fn is_refused_where_no_byte_is_taken(rt: HostRuntime) {
+    for side in SIDES {
+        assert!(rt; is_done(rt.alloc(), &Choked { side }));
     }
 }

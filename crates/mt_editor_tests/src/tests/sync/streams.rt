@@ -1,5 +1,5 @@
 //! Streams that a talk refuses.
-use super::held;
+use super::{CALLER, held};
 use crate::tests::works::{Work, is_done};
 use mt_replica::Editor;
 use mt_sync::Talk;
@@ -36,9 +36,10 @@ impl Work for Stop<'_> {
     ) -> Option<bool> {
         let mut talk = Talk::answer(memory, alloc);
         let first = fed(&mut talk, editor, self.piece);
-        let again = fed(&mut talk, editor, &[]);
-        let has_stopped = first == Err(self.number) && again == Err(39) && !talk.ended();
-        Some(has_stopped && held(editor) == Some(0))
+        let nothing = fed(&mut talk, editor, &[]);
+        let again = fed(&mut talk, editor, CALLER);
+        let is_over = nothing == Err(39) && again == Err(39) && !talk.ended();
+        Some(first == Err(self.number) && is_over && held(editor) == Some(0))
     }
 }
 

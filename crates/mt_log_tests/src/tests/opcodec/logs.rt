@@ -1,8 +1,10 @@
 //! Logs as bytes.
-use mt_opcodec::{Log, LogFault, ReadFault, read_op};
-use mt_stamp::Dot;
-use mt_testkit::A;
+use mt_op::{Op, OpFault};
+use mt_opcodec::{Log, LogFault, ReadFault, read_op, write_op};
+use mt_stamp::{Dot, Stamp};
+use mt_testkit::{A, marker};
 use std::alloc::Global;
+use std::test::Fail;
 
 /// The log of no operation.
 const EMPTY: [u8; 45] = [
@@ -35,10 +37,17 @@ fn count_of(alloc: Global, text: &[u8]) -> Result<Option<usize>, LogFault> {
     }
 }
 
+// Whether a new log is written as this text.
+fn is_new(alloc: Global, text: &[u8]) -> Result<bool, LogFault> {
+    let written = Log::new(alloc).write()?;
+    Ok(written.as_slice() == text)
+}
+
 // row: empty_log, one_marker, copies
 // wrong body: always_gives_up
 #[test]
 fn writes_and_reads_logs(rt: HostRuntime) {
+    assert!(rt; is_new(rt.alloc(), &EMPTY) == Ok(true));
     assert!(rt; count_of(rt.alloc(), &EMPTY) == Ok(Some(0)));
     assert!(rt; count_of(rt.alloc(), &ONE_MARKER) == Ok(Some(1)));
 }
@@ -86,6 +95,34 @@ fn refuses_each_cut_operation(rt: HostRuntime) {
         assert!(rt; op_refusal(rt.alloc(), &news[..len]) == 8, "of {len}");
     }
     assert!(rt; op_refusal(rt.alloc(), news) == 255);
+}
+
+// Whether an operation is written as the first 42 of these bytes.
+fn is_written_as(alloc: Global, op: &Op, bytes: &[u8]) -> bool {
+    let mut out = Vec::new(alloc);
+    write_op(op, &mut out).is_ok() && bytes.get(..42) == Some(out.as_slice())
+}
+
+// Whether it is read from them, with bytes behind.
+fn is_read_from(alloc: Global, op: &Op, bytes: &[u8]) -> bool {
+    match read_op(alloc, bytes) {
+        Ok((read, len)) => read == *op && len == 42,
+        Err(_) => false,
+    }
+}
+
+// Whether both are so of the marker `News` at 480 of this stamp.
+fn is_marker(alloc: Global, stamp: Stamp, bytes: &[u8]) -> Result<bool, OpFault> {
+    let news = marker(alloc, stamp, "News")?;
+    Ok(is_written_as(alloc, &news, bytes) && is_read_from(alloc, &news, bytes))
+}
+
+// row: one_marker, operation_bytes
+#[test]
+fn writes_and_reads_the_marker(rt: HostRuntime) -> Result<(), Fail> {
+    let stamp = Stamp::new(1, A, 1)?;
+    assert!(rt; is_marker(rt.alloc(), stamp, &ONE_MARKER[13..]) == Ok(true));
+    Ok(())
 }
 
 // How long the operation is with which bytes begin, or why there is none.
@@ -161,9 +198,17 @@ fn refuses_damaged_logs(rt: HostRuntime) {
     }
 }
 
+// How long the operation is that begins at a place of bytes, or why there is none.
+fn op_len_at(alloc: Global, bytes: &[u8], place: usize) -> Result<usize, ReadFault> {
+    op_len(alloc, bytes.get(place..).unwrap_or(&[]))
+}
+
 // row: log_versions, marker_length_log, fade_limits
 #[test]
 fn tells_which_record_is_none_and_why(rt: HostRuntime) {
+    for (place, len) in [(13, 36), (49, 109), (158, 73)] {
+        assert!(rt; op_len_at(rt.alloc(), A_FADE_IN_VERSION_1, place) == Ok(len));
+    }
     let unknown_fade = log_fault(rt.alloc(), A_FADE_IN_VERSION_1);
     assert!(rt; unknown_fade == Some(LogFault::BadRecord(2, ReadFault::BadTag)));
     let unknown_length = log_fault(rt.alloc(), A_LENGTH_IN_VERSION_2);

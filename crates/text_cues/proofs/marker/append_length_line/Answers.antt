@@ -1,0 +1,16 @@
+use Rattle.std.proofs.Common.{◌∷◌, []}
+use Rattle.std.specs.Prelude.{codes}
+use Rattle.std.specs.Fmt.{decimal}
+use Rattle.std.proofs.lemmas.Result.{on_ok_weaker}
+use Rattle.mt_sessionview.specs.SessionText.{newline}
+use Rattle.text_cues.proofs.Words.{five_pieces, when_ok}
+use Rattle.text_cues.proofs.marker.append_length_line.Goals as goal
+
+pub returns : goal.returns
+returns g c =
+    on_ok_weaker c.extend_from_slice-3.result
+    (five_pieces c.args.text.now.items c.extend_from_slice.new.self.items c.append_decimal.new.text.items c.extend_from_slice-2.new.self.items
+    c.append_number.new.text.items c.extend_from_slice-3.new.self.items
+    (codes "marker-length $") (decimal c.args.line) (codes " ") (decimal c.args.len) (newline ∷ [])
+    c.in_ok-extend_from_slice.ensures.items c.in_ok-append_decimal.ensures.ok c.in_ok-extend_from_slice-2.ensures.items c.in_ok-append_number.ensures)
+    (when_ok c.extend_from_slice-3.result c.append_number.new.text.items c.extend_from_slice-3.new.self.items (newline ∷ []) c.extend_from_slice-3.ensures.items)

@@ -1,0 +1,6 @@
+mod Cuts
+mod Numbers
+mod Frames
+mod ReadBack
+mod Tracks
+mod Words
