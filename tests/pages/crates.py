@@ -92,7 +92,7 @@ def crates(*room):
         if name in ROOMS[" ".join(room)]:
             direct = [one for one in uses[name] if not any(one in all_below(other, uses) for other in uses[name])]
             rows.append(["`%s`" % name, ROOMS[" ".join(room)][name], ", ".join(direct)])
-    return table(["Crate", "Does", "Directly on"], rows)
+    return table(["Crate", "Does", "Depends on"], rows)
 
 
 def laws_of_code():
