@@ -171,10 +171,16 @@ def own_texts(name, top, without):
     return texts
 
 
-def of_names(line, words):
-    """A line of names with those that are among these words; nothing where there are none."""
+def parts_of_use(line):
+    """Such a line as what stands before its names, and these: `use a::B;` as `use a::{B};`."""
     origin, _, listed = line.partition("{") if "{" in line else line.rpartition("::")
     names = [name.strip() for name in listed.rstrip("};\n").split(",")]
+    return origin if "{" in line else origin + "::", names
+
+
+def of_names(line, words):
+    """A line of names with those that are among these words; nothing where there are none."""
+    origin, names = parts_of_use(line)
     used = [name for name in names if name == "*" or name.split(" ")[-1] in words]
     return "%s{%s}\n" % (origin, ", ".join(used)) if used else ""
 
@@ -182,8 +188,7 @@ def of_names(line, words):
 def of_use(line, text):
     """Such a line with those of its names, and of its signs, that a text has; nothing where it has
     none."""
-    origin, _, listed = line.partition("{") if "{" in line else line.rpartition("::")
-    names = [name.strip() for name in listed.rstrip("};\n").split(",")]
+    origin, names = parts_of_use(line)
     words = {name: re.escape(name.split(" ")[-1].strip("◌")) for name in names}
     used = [
         name
