@@ -19,7 +19,7 @@ rt ci
 python3 tests/suite.py "$radio"
 sh tests/checks/refusals.sh "$radio"
 python3 tests/checks/model.py "$radio" --sets 300
-python3 tests/checks/reverted.py "$radio"
+python3 tests/checks/reverted.py "$radio" --logs 10000
 python3 tests/checks/world.py "$PWD/crates/world_histories/out/world_histories"
 python3 tests/checks/outlines.py "$radio"
 python3 tests/checks/real_waves.py "$radio"
