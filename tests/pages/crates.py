@@ -67,8 +67,7 @@ ROOMS = {
         "mt_session_tests": "tests of sessions",
         "mt_editor_tests": "tests of editors, worlds and conversations",
         "mt_output_tests": "tests of mixes, scripts and rendered files",
-        "mt_cli_tests": "tests of the commands and of the texts that they print",
-        "mt_surface_tests": "calls the public calls with their specified arguments",
+        "mt_cli_tests": "tests of the commands and of the texts that they print; calls of every public call",
     },
 }
 

@@ -6,4 +6,5 @@ mod growth;
 mod headline;
 mod running;
 mod several;
+mod surface;
 mod texts;

@@ -2,13 +2,9 @@
 
 use mt_stamp::Stamp;
 use mt_tracklist::{Placed, TrackList, TrackListFault, is_newer};
-use std::alloc::Allocator;
+use std::alloc::{Allocator, Global};
 
-pub fn list_new<A: Allocator>(alloc: A) -> TrackList<A> {
-    TrackList::new(alloc)
-}
-
-pub fn list_insert<A: Allocator + Clone>(
+pub fn calls<A: Allocator + Clone>(
     list: &mut TrackList<A>,
     place: Stamp,
     after: Option<Stamp>,
@@ -26,8 +22,10 @@ pub fn list_insert<A: Allocator + Clone>(
     Ok(is_there && index == Some(0))
 }
 
-pub fn list_try_clone<A: Allocator + Clone>(
-    list: &TrackList<A>,
-) -> Result<TrackList<A>, TrackListFault> {
-    list.try_clone()
+pub fn lists(
+    alloc: Global,
+    list: &TrackList<Global>,
+    fault: TrackListFault,
+) -> (TrackList<Global>, Result<TrackList<Global>, TrackListFault>, u8) {
+    (TrackList::new(alloc), list.try_clone(), fault.number())
 }
