@@ -1,7 +1,8 @@
 -- Sessions that are checked before they are rendered.
-use Rattle.std.proofs.Common.{◌≡◌, ℕ, List, Option, Result, Ok, Err, inr, subst}
+use Rattle.std.proofs.Common.{◌≡◌, ℕ, List, Option, Result, Ok, Err, inr, subst, sym}
 use Rattle.std.specs.Prelude.{OnOk, IfErr}
 use Rattle.std.specs.Io.KnownBytes.{Appends}
+use Rattle.mt_latch.specs.Latch.{Latched}
 use Rattle.mt_op.specs.declared.digest.Digest.{Digest}
 use Rattle.mt_op.specs.Operation.{Operation}
 use Rattle.mt_opcodec.specs.LogValue.{LogMap, operations}
@@ -17,9 +18,10 @@ use Rattle.mt_preflight.proofs.Alike.{only_audible_are_told}
 use Rattle.mt_cli.specs.declared.fault.CliFault.{CliFault}
 use Rattle.mt_cli.specs.declared.fault.CliFault.TheVariants as cli
 use Rattle.mt_cli.specs.Checking.{warnings, SessionChecked, SessionNotChecked, FilesChecked, FilesNotChecked}
+use Rattle.mt_cli.specs.Bouncing.{CanBounce}
 use Rattle.mt_cli.specs.Headline.{HearAlike, RenderAlike}
 use Rattle.mt_cli.specs.LogAndFiles.{FilesLent}
-use Rattle.mt_cli.specs.OneLog.{HasFailed}
+use Rattle.mt_cli.specs.OneLog.{HasWritten, HasFailed}
 use Rattle.mt_cli.specs.Reading.{AreRead}
 use Rattle.mt_cli.specs.Sources.{GaveKept}
 use Rattle.mt_cli.proofs.Headline.{render_alike}
@@ -28,6 +30,19 @@ use Rattle.mt_cli.proofs.Keeping.{heard_alike}
 -- only what is found under digests counts of the recordings
 pub warnings_same : (a b : Sources) → ((d : Digest) → found a d ≡ found b d) → (tracks : List Track) (layout : Layout) (markers : List Marker) (ops : List Operation) → warnings_text (over tracks layout a) markers ops ≡ warnings_text (over tracks layout b) markers ops
 warnings_same a b same tracks layout markers ops = only_audible_are_told tracks layout a b markers ops (λ c _. same c.source)
+
+-- ---- a text that was made, and then written
+
+module _ {W : Type 0} (contents : W → Option (List ℕ)) (session : Content) (ops : List Operation) (layout : Layout) (head : HeadText) (kept : List (List ℕ)) (old new : Latched W) where
+  pub checked : (result : Result (Unit {0}) CliFault) (shown : List ℕ) → CanBounce session kept layout head → shown ≡ warnings session ops kept layout → OnOk result (HasWritten contents shown old new)
+      → OnOk result (SessionChecked contents session ops layout head kept old new)
+  checked (Ok unit) shown can same put = (can, subst (λ (l : List ℕ). Appends (contents old.inner) (contents new.inner) l) same put.1)
+  checked (Err fault) shown can same put = put
+
+  pub not_checked : (result : Result (Unit {0}) CliFault) (shown : List ℕ) → CanBounce session kept layout head → shown ≡ warnings session ops kept layout
+      → IfErr result (λ fault. (fault ≡ cli.Write) × HasFailed contents shown old new) → IfErr result (SessionNotChecked contents session ops layout head kept old new)
+  not_checked (Ok unit) shown can same put = put
+  not_checked (Err fault) shown can same put = subst (SessionNotChecked contents session ops layout head kept old new) (sym put.0) (can, subst (λ (l : List ℕ). HasFailed contents l old new) same put.1)
 
 -- ---- of a log and the recordings that files gave
 

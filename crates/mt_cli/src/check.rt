@@ -8,14 +8,15 @@ ghost use Rattle.mt_cli.specs.LogAndFiles.{lent_files, lent_log_and_files, LogDo
 ghost use Rattle.mt_cli.specs.Reading.{IsRead, AreRead};
 
 use crate::fault::CliFault;
+use crate::put::put_bytes;
 use crate::read::read_log;
 use crate::render::{refused_file, refused_mix};
 use crate::sources::{catalogue_of, read_audible};
 use mt_cuewrite::{Head, check_size};
 use mt_opcodec::{Latch, Log};
-use mt_preflight::{Audible, write_warnings};
+use mt_preflight::{Audible, warnings_text};
 use mt_render::{Format, HashedFile, Mix};
-use mt_sessionview::{Session, SessionFault, from_scratch};
+use mt_sessionview::{Session, from_scratch};
 use std::alloc::Allocator;
 use std::io::{Read, Write};
 
@@ -44,11 +45,8 @@ fn check_session<A: Allocator + Clone, W: Write>(
     if let Err(fault) = check_size(&mix, session.markers.items(), head) {
         return Err(refused_file(fault));
     }
-    match write_warnings(alloc, log, session, &catalogue, format, output) {
-        Ok(()) => Ok(()),
-        Err(SessionFault::Memory) => Err(CliFault::Memory),
-        Err(SessionFault::Write) => Err(CliFault::Write),
-    }
+    let text = warnings_text(alloc, log, session, &catalogue, format)?;
+    put_bytes(text.as_bytes(), output)
 }
 
 // Reads recordings, and checks the session of a log over those that are audible.
@@ -101,7 +99,7 @@ fn check_files<A: Allocator + Clone, R: Read, W: Write>(
 }
 
 /// Writes what sounds otherwise than one may think where the session of the log of an input is rendered from recordings, in a format and with a head: the
-/// text of mt_preflight's `write_warnings`, and nothing else.
+/// text of mt_preflight's `warnings_text`, and nothing else.
 ///
 /// Refused as `bounce_logs` is, in its order: `Read` with index 0 where the latch of the log's input has failed, or `Log` with index 0 where its bytes are no
 /// log's text; `Read` with the index of a recording's input whose latch has failed, counted behind the log, or `Source` with the index of a recording that

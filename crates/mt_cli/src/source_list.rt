@@ -14,13 +14,14 @@ ghost use Rattle.mt_cli.specs.SourcesListing.{given_files, listing, GaveRecordin
 
 use crate::fault::CliFault;
 use crate::pull::count_pairs;
+use crate::put::put_bytes;
 use crate::read::{read_log, read_outline};
 use mt_bwfread::{Wave, WaveFault};
 use mt_op::Digest;
 use mt_opcodec::{Latch, Log};
 use mt_outline::Outline;
-use mt_preflight::{Given, Listing, Recording, write_sources};
-use mt_sessionview::{SessionFault, from_scratch};
+use mt_preflight::{Given, Listing, Recording, sources_text};
+use mt_sessionview::from_scratch;
 use std::alloc::{AllocError, Allocator};
 use std::io::{Read, Write};
 
@@ -111,11 +112,8 @@ fn put_listing<A: Allocator + Clone, W: Write>(
     let Ok(session) = from_scratch(alloc.clone()?, log) else {
         return Err(CliFault::Memory);
     };
-    match write_sources(alloc, which, &session, files, output) {
-        Ok(()) => Ok(()),
-        Err(SessionFault::Memory) => Err(CliFault::Memory),
-        Err(SessionFault::Write) => Err(CliFault::Write),
-    }
+    let text = sources_text(alloc, which, &session, files)?;
+    put_bytes(text.as_bytes(), output)
 }
 
 // Writes the text on the recordings of a log's session and on files of these names.
