@@ -69,14 +69,6 @@ fn as_objects<A: Allocator>(
     json_text(memory, &timed)
 }
 
-/// What came of writing in memory: a growth is all that is refused there.
-pub(crate) fn made_in_memory(done: Result<(), CliFault>) -> Result<(), CliFault> {
-    match done {
-        Err(CliFault::Write) => Err(CliFault::Memory),
-        other => other,
-    }
-}
-
 /// Writes a text in a form, and nothing else. Refused as `Write` where the output's latch has failed, which then holds a prefix of it, and as `Memory` where a
 /// growth was refused, with the output as it was.
 pub(crate) fn put_in_form<A: Allocator + Clone, W: Write>(

@@ -13,7 +13,7 @@ pub returns-in-Err-check_size-clause-err : goal.returns-in-Err-check_size-clause
 returns-in-Err-check_size-clause-err g c =
     let markers = c.items.ensures ∙ ap (λ (s : Content). s.markers) c.session.view_is in
     let long = c.in-Err-check_size.ensures.err in
-    subst (λ (f : CliFault). SessionNotChecked g.W.Write.contents c.args.session.now (operations c.args.log.now) c.args.format c.args.head.now c.args.kept.now c.args.output.now c.args.output.now f) (sym (c.refused_file.ensures ∙ ap file_fault long.0))
+    subst (λ (f : CliFault). SessionNotChecked g.W.Write.contents c.args.form c.args.session.now (operations c.args.log.now) c.args.format c.args.head.now c.args.kept.now c.args.output.now c.args.output.now f) (sym (c.refused_file.ensures ∙ ap file_fault long.0))
     (too_long c.in-Ok.mix c.args.session.now c.items.result.now c.in_ok-catalogue.catalogue c.args.kept.now c.args.format c.args.head.now c.in-Ok.ensures.value markers c.in_ok-catalogue.ensures.ok c.in-Ok.ensures.ok long.1, refl)
 
 pub returns-clause-ok : goal.returns-clause-ok
@@ -21,13 +21,13 @@ returns-clause-ok g c =
     let markers = c.items.ensures ∙ ap (λ (s : Content). s.markers) c.session.view_is in
     let can = can_bounce c.in-Ok.mix c.args.session.now c.items.result.now c.in_ok-catalogue.catalogue c.args.kept.now c.args.format c.args.head.now c.in-Ok.ensures.value markers c.in_ok-catalogue.ensures.ok c.in-Ok.ensures.ok c.in_default.ensures.fits in
     let text = warnings_same c.in_ok-catalogue.catalogue (sources_of c.args.kept.now) c.in_ok-catalogue.ensures.ok c.args.session.now.tracks c.args.format c.args.session.now.markers (operations c.args.log.now) in
-    checked g.W.Write.contents c.args.session.now (operations c.args.log.now) c.args.format c.args.head.now c.args.kept.now c.args.output.now c.put_bytes.new.output c.put_bytes.result c.as_bytes.result.now can
-    (c.as_bytes.ensures.value ∙ c.in_ok-text.ensures ∙ text) c.put_bytes.ensures.ok
+    checked g.W.Write.contents c.args.form c.args.session.now (operations c.args.log.now) c.args.format c.args.head.now c.args.kept.now c.args.output.now c.put_in_form.new.output c.put_in_form.result c.as_bytes.result.now can
+    (c.as_bytes.ensures.value ∙ c.in_ok-text.ensures ∙ text) c.put_in_form.ensures.ok
 
 pub returns-clause-err : goal.returns-clause-err
 returns-clause-err g c =
     let markers = c.items.ensures ∙ ap (λ (s : Content). s.markers) c.session.view_is in
     let can = can_bounce c.in-Ok.mix c.args.session.now c.items.result.now c.in_ok-catalogue.catalogue c.args.kept.now c.args.format c.args.head.now c.in-Ok.ensures.value markers c.in_ok-catalogue.ensures.ok c.in-Ok.ensures.ok c.in_default.ensures.fits in
     let text = warnings_same c.in_ok-catalogue.catalogue (sources_of c.args.kept.now) c.in_ok-catalogue.ensures.ok c.args.session.now.tracks c.args.format c.args.session.now.markers (operations c.args.log.now) in
-    not_checked g.W.Write.contents c.args.session.now (operations c.args.log.now) c.args.format c.args.head.now c.args.kept.now c.args.output.now c.put_bytes.new.output c.put_bytes.result c.as_bytes.result.now can
-    (c.as_bytes.ensures.value ∙ c.in_ok-text.ensures ∙ text) c.put_bytes.ensures.err
+    not_checked g.W.Write.contents c.args.form c.args.session.now (operations c.args.log.now) c.args.format c.args.head.now c.args.kept.now c.args.output.now c.put_in_form.new.output c.put_in_form.result c.as_bytes.result.now can
+    (c.as_bytes.ensures.value ∙ c.in_ok-text.ensures ∙ text) c.put_in_form.ensures.err
