@@ -12,8 +12,8 @@ use Rattle.mt_logtext.proofs.log_text.append_log.Goals as goal
 pub append_lines-requires : goal.append_lines-requires
 append_lines-requires g c = record { rise = sorted_rise (stamps_of (ready_ops (operations c.args.log.now))) c.deref-2.result.now (c.deref-2.ensures.value ∙ c.in_ok-ready.ensures.ok) }
 
-pub returns-clause-text : goal.returns-clause-text
-returns-clause-text g c =
+pub returns : goal.returns
+returns g c =
     let now : List (Bor (Op g.row.A.Denot)) → List Operation = λ l. map (λ (o : Bor (Op g.row.A.Denot)). o.now) l in
     let refs = c.deref.result.now in
     text_is (operations c.args.log.now) c.runs.ensures.logged c.deref-2.result.now (c.deref-2.ensures.value ∙ c.in_ok-ready.ensures.ok) (now refs) (ap now c.deref.ensures.value ∙ c.in_ok-sorted.ensures) c.len.result
