@@ -4,7 +4,6 @@ ghost use Rattle.std.specs.Prelude.{◌≡◌};
 ghost use Rattle.mt_revert.specs.Faults.{number_of};
 ghost use Rattle.mt_revert.specs.declared.fault.RevertFault.TheVariants.{Memory};
 
-use mt_items::ItemsFault;
 use mt_stamp::Stamp;
 use std::alloc::{AllocError, AllocFailed};
 use thiserror::Error;
@@ -40,14 +39,6 @@ impl From<AllocError> for RevertFault {
     ghost from_gives = { λ _ e. e ≡ Memory };
 
     fn from(_error: AllocError) -> RevertFault {
-        RevertFault::Memory
-    }
-}
-
-impl From<ItemsFault> for RevertFault {
-    ghost from_gives = { λ _ e. e ≡ Memory };
-
-    fn from(_error: ItemsFault) -> RevertFault {
         RevertFault::Memory
     }
 }

@@ -56,9 +56,8 @@ fn append_script<A: Allocator + Clone, B: Allocator>(
     text: &mut String<B>,
     log: &Log<A>,
     stamps: &[Stamp],
-) -> Result<(), RevertFault>
+) -> Result<(), AllocError>
     ensures text { OnOk result (string_bytes text.new ≡ string_bytes text.old ++ revert_text log.now stamps.now) }
-    ensures err { IfErr result (λ fault. fault ≡ RevertFault.Memory) }
 {
     let stamps = sorted(alloc.clone()?, stamps)?;
     let ops = sorted_ops(alloc.clone()?, log)?;
