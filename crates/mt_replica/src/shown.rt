@@ -71,9 +71,7 @@ pub(crate) fn shown_of<A: Allocator + Clone>(
     ensures held { IfOk result (λ shown. shown.session.held ≡ held) }
 {
     let refs = by_stamp(alloc.clone()?, ready)?;
-    let Ok((session, placed)) = session_of_ready(alloc.clone()?, &refs, items, held) else {
-        return Err(AllocError);
-    };
+    let (session, placed) = session_of_ready(alloc.clone()?, &refs, items, held)?;
     let places = places_of(alloc.clone()?, &placed)?;
     Ok(Shown {
         places: TrackList::from_ordered(places),
