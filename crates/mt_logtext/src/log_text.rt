@@ -25,7 +25,8 @@ fn append_log<A: Allocator + Clone, B: Allocator>(
     };
     let sorted = sorted_ops(alloc.clone()?, log)?;
     append_lines(alloc, text, &sorted, &ready)?;
-    append_count(text, sorted.len())
+    append_count(text, sorted.len())?;
+    Ok(())
 }
 
 /// The operations of a log, a line each, by rising stamp: `STAMP ready` or `STAMP held`, and then what
