@@ -26,6 +26,10 @@ pub fn lists(
     alloc: Global,
     list: &TrackList<Global>,
     fault: TrackListFault,
-) -> (TrackList<Global>, Result<TrackList<Global>, TrackListFault>, u8) {
+) -> (
+    TrackList<Global>,
+    Result<TrackList<Global>, TrackListFault>,
+    u8,
+) {
     (TrackList::new(alloc), list.try_clone(), fault.number())
 }
