@@ -10,7 +10,7 @@ ghost use Rattle.mt_logtext.specs.LogText.{log_text};
 use crate::line::{append_count, append_lines};
 use mt_opcodec::{Latch, Log};
 use mt_sessionview::{SessionFault, ready_stamps, sorted_ops};
-use std::alloc::Allocator;
+use std::alloc::{AllocError, Allocator};
 use std::io::Write;
 
 // Writes a log after what `text` holds.
@@ -18,13 +18,14 @@ fn append_log<A: Allocator + Clone, B: Allocator>(
     alloc: &A,
     text: &mut String<B>,
     log: &Log<A>,
-) -> Result<(), SessionFault>
+) -> Result<(), AllocError>
     ensures text { OnOk result (string_bytes text.new ≡ string_bytes text.old ++ log_text (operations log.now)) }
-    ensures err { IfErr result (λ fault. fault ≡ SessionFault.Memory) }
 {
     // for the proof: that the dots of a log's operations differ
     let _ = log.runs();
-    let ready = ready_stamps(alloc.clone()?, log)?;
+    let Ok(ready) = ready_stamps(alloc.clone()?, log) else {
+        return Err(AllocError);
+    };
     let sorted = sorted_ops(alloc.clone()?, log)?;
     append_lines(alloc, text, &sorted, &ready)?;
     append_count(text, sorted.len())?;

@@ -1,12 +1,11 @@
 //! The list of segments, as it grows.
 
-ghost use Rattle.std.specs.Prelude.{◌≡◌, ℕ, ◌<◌, ◌≤◌, ◌⊎◌, ◌↔◌, OnOk, IfErr, IsTrue};
+ghost use Rattle.std.specs.Prelude.{◌≡◌, ℕ, ◌<◌, ◌≤◌, ◌⊎◌, ◌↔◌, OnOk, IsTrue};
 ghost use Rattle.mt_overlap.specs.Overlap.{Says, AreTidy};
 ghost use Rattle.mt_overlap.specs.Sweep.{IsLast, EndBy};
 
-use crate::fault::OverlapFault;
 use crate::span::Segment;
-use std::alloc::Allocator;
+use std::alloc::{AllocError, Allocator};
 
 // Whether the last segment ends at this frame and is of this span.
 fn is_last(segments: &[Segment], start: u64, which: usize) -> bool
@@ -24,7 +23,7 @@ pub(crate) fn emit<A: Allocator>(
     start: u64,
     end: u64,
     which: usize,
-) -> Result<(), OverlapFault>
+) -> Result<(), AllocError>
     requires some { start < end }
     requires tidy { AreTidy segments.old.items }
     requires ended { EndBy segments.old.items start }
@@ -33,7 +32,6 @@ pub(crate) fn emit<A: Allocator>(
     ensures said { OnOk result ((f w : ℕ) → Says segments.new.items f w → Says segments.old.items f w ⊎ ((start ≤ f) × (f < end) × (w ≡ which))) }
     ensures kept { OnOk result ((f w : ℕ) → Says segments.old.items f w → Says segments.new.items f w) }
     ensures told { OnOk result ((f : ℕ) → start ≤ f → f < end → Says segments.new.items f which) }
-    ensures err { IfErr result (λ fault. fault ≡ OverlapFault.Memory) }
 {
     if is_last(segments.as_slice(), start, which) {
         let last = segments.len() - 1;

@@ -11,7 +11,7 @@ use crate::fault::OverlapFault;
 use crate::growth::emit;
 use crate::span::{Segment, Span};
 use mt_stamp::Stamp;
-use std::alloc::Allocator;
+use std::alloc::{AllocError, Allocator};
 use std::collections::BTreeMap;
 
 // Where no frame is covered any more: every span ends below.
@@ -54,11 +54,10 @@ fn settle<A: Allocator>(
     segments: &mut Vec<Segment, A>,
     from: u64,
     limit: u64,
-) -> Result<(), OverlapFault>
+) -> Result<(), AllocError>
     requires swept { Swept spans.now (Begun order.now begun) from (get stamp_cmp active.old) segments.old.items }
     requires order { from ≤ limit }
     ensures ok { OnOk result (Swept spans.now (Begun order.now begun) limit (get stamp_cmp active.new) segments.new.items) }
-    ensures err { IfErr result (λ fault. fault ≡ OverlapFault.Memory) }
 {
     let mut now = from;
     while now < limit {
@@ -94,9 +93,8 @@ fn end_of(span: &Span) -> u64
 }
 
 // The starts and indexes of spans, by start.
-fn by_start<A: Allocator>(alloc: A, spans: &[Span]) -> Result<Vec<(u32, usize), A>, OverlapFault>
+fn by_start<A: Allocator>(alloc: A, spans: &[Span]) -> Result<Vec<(u32, usize), A>, AllocError>
     ensures ok { IfOk result (λ order. IsOrder spans.now order.items) }
-    ensures err { IfErr result (λ fault. fault ≡ OverlapFault.Memory) }
 {
     let mut order = Vec::new(alloc);
     for index in 0..spans.len() {
@@ -111,11 +109,10 @@ fn sweep<A: Allocator + Clone>(
     alloc: &A,
     spans: &[Span],
     order: &[(u32, usize)],
-) -> Result<Vec<Segment, A>, OverlapFault>
+) -> Result<Vec<Segment, A>, AllocError>
     requires order { IsOrder spans.now order.now }
     requires differ { PlacesDiffer spans.now }
     ensures ok { IfOk result (λ segments. AreSegments spans.now segments.items) }
-    ensures err { IfErr result (λ fault. fault ≡ OverlapFault.Memory) }
 {
     let mut active = BTreeMap::new(alloc.clone()?);
     let mut segments = Vec::new(alloc.clone()?);
@@ -153,5 +150,5 @@ pub fn segments<A: Allocator + Clone>(
     ensures err { IfErr result (λ fault. fault ≡ OverlapFault.Memory) }
 {
     let order = by_start(alloc.clone()?, spans)?;
-    sweep(&alloc, spans, &order)
+    Ok(sweep(&alloc, spans, &order)?)
 }

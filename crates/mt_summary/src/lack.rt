@@ -10,7 +10,7 @@ use crate::summary::Summary;
 use mt_op::Op;
 use mt_opcodec::Log;
 use mt_stamp::{Dot, Replica};
-use std::alloc::Allocator;
+use std::alloc::{AllocError, Allocator};
 
 /// Copies of a log's operations that a summary does not cover, by rising dot, in one walk of the log and the summary together.
 /// Refused only as `Memory` (0).
@@ -64,15 +64,14 @@ fn push_unless<A: Allocator + Clone>(
     ops: &mut Vec<Op<A>, A>,
     is_covered: bool,
     op: &Op<A>,
-) -> Result<(), MessageFault>
+) -> Result<(), AllocError>
     ensures ok { OnOk result (ops.new.items ≡ ops.old.items ++ (if is_covered then [] else op.now ∷ [])) }
-    ensures err { IfErr result (λ fault. fault ≡ MessageFault.Memory) }
 {
     if is_covered {
         return Ok(());
     }
     let Ok(copy) = op.try_clone() else {
-        return Err(MessageFault::Memory);
+        return Err(AllocError);
     };
     ops.push(copy)?;
     Ok(())

@@ -1,12 +1,11 @@
 //! What a summary says of one replica.
 
-ghost use Rattle.std.specs.Prelude.{◌≡◌, ℕ, ◌==◌, [], IfOk, IfErr};
+ghost use Rattle.std.specs.Prelude.{◌≡◌, ℕ, ◌==◌, [], IfOk};
 ghost use Rattle.mt_summary.specs.Summary.{with_number, numbers_of, has_number, covers_dot, AreNumbers, ExtrasRise};
 ghost use Rattle.std.specs.List.{list_any};
 
-use crate::fault::MessageFault;
 use mt_stamp::{Dot, Replica};
-use std::alloc::{Allocator, Global};
+use std::alloc::{AllocError, Allocator, Global};
 use std::marker::Model;
 
 /// Which numbers of one replica's operations are there: those from 1 to `run`, and the extras, which rise. Seen as the record of
@@ -39,17 +38,15 @@ impl<A: Allocator> Numbers<A> {
     }
 
     // The numbers of a replica that has this one.
-    pub(crate) fn of(alloc: A, dot: Dot) -> Result<Self, MessageFault>
+    pub(crate) fn of(alloc: A, dot: Dot) -> Result<Self, AllocError>
         ensures ok { IfOk result (λ numbers. numbers ≡ numbers_of dot) }
-        ensures err { IfErr result (λ fault. fault ≡ MessageFault.Memory) }
     {
         Numbers::new(dot.replica, 0, Vec::new(alloc)).with(dot.seq)
     }
 
     // One number more, greater than all before.
-    pub(crate) fn with(self, seq: u64) -> Result<Self, MessageFault>
+    pub(crate) fn with(self, seq: u64) -> Result<Self, AllocError>
         ensures ok { IfOk result (λ numbers. numbers ≡ with_number self seq) }
-        ensures err { IfErr result (λ fault. fault ≡ MessageFault.Memory) }
     {
         let Numbers {
             replica,

@@ -9,7 +9,7 @@ use crate::numbers::Numbers;
 use mt_op::Op;
 use mt_opcodec::Log;
 use mt_stamp::Dot;
-use std::alloc::{Allocator, Global};
+use std::alloc::{AllocError, Allocator, Global};
 use std::marker::Model;
 
 /// Which operations a log has, by their dots: of each replica, by rising replica, the longest run of numbers from 1 on, and the
@@ -99,9 +99,8 @@ impl<A: Allocator + Clone> Summary<A> {
 fn summary_of_ops<A: Allocator + Clone, B: Allocator>(
     alloc: A,
     ops: &[&Op<B>],
-) -> Result<Vec<Numbers<A>, A>, MessageFault>
+) -> Result<Vec<Numbers<A>, A>, AllocError>
     ensures ok { IfOk result (λ all. all.items ≡ summary_after None (map (λ o. o.now) ops.now)) }
-    ensures err { IfErr result (λ fault. fault ≡ MessageFault.Memory) }
 {
     let mut all = Vec::new(alloc.clone()?);
     let mut last = None;
@@ -116,9 +115,8 @@ fn summary_of_ops<A: Allocator + Clone, B: Allocator>(
 fn put_last<A: Allocator>(
     all: &mut Vec<Numbers<A>, A>,
     last: Option<Numbers<A>>,
-) -> Result<(), MessageFault>
+) -> Result<(), AllocError>
     ensures ok { OnOk result (all.new.items ≡ all.old.items ++ summary_after last []) }
-    ensures err { IfErr result (λ fault. fault ≡ MessageFault.Memory) }
 {
     if let Some(numbers) = last {
         all.push(numbers)?;
@@ -132,9 +130,8 @@ fn next<A: Allocator + Clone>(
     all: &mut Vec<Numbers<A>, A>,
     last: Option<Numbers<A>>,
     dot: Dot,
-) -> Result<Numbers<A>, MessageFault>
+) -> Result<Numbers<A>, AllocError>
     ensures ok { IfOk result (λ numbers. Continues last dot numbers all.old.items all.new.items) }
-    ensures err { IfErr result (λ fault. fault ≡ MessageFault.Memory) }
 {
     match last {
         Some(numbers) if numbers.replica() == dot.replica => numbers.with(dot.seq),

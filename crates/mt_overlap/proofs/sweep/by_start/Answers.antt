@@ -2,7 +2,8 @@ use Rattle.std.proofs.Common.{arith}
 use Rattle.mt_overlap.proofs.Ordering.{order_is}
 use Rattle.mt_overlap.proofs.sweep.by_start.Goals as goal
 
-pub returns-clause-ok : goal.returns-clause-ok
-returns-clause-ok g c =
-    order_is c.args.spans.now c.loop-index.order.items c.sort_unstable.new.self.items (omega (arith, c.loop-index.invariant.0))
-    (λ k h. c.loop-index.invariant.1 k (omega arith)) c.sort_unstable.ensures.permutation c.sort_unstable.ensures.sorted
+pub returns : goal.returns
+returns g c = record {
+  ok = order_is c.args.spans.now c.loop-index.order.items c.sort_unstable.new.self.items (omega (arith, c.loop-index.invariant.0))
+      (λ k h. c.loop-index.invariant.1 k (omega arith)) c.sort_unstable.ensures.permutation c.sort_unstable.ensures.sorted;
+}

@@ -5,9 +5,10 @@ use Rattle.mt_overlap.specs.Sweep.{Begun}
 use Rattle.mt_overlap.proofs.Sweeping.{taken_out, idle, sounded}
 use Rattle.mt_overlap.proofs.sweep.settle.Goals as goal
 
-pub returns-in_default-clause-ok : goal.returns-in_default-clause-ok
-returns-in_default-clause-ok g c =
-    idle c.args.spans.now c.loop-now.segments.items (Begun c.args.order.now c.args.begun) c.loop-now.now c.args.limit (get stamp_cmp c.loop-now.active) c.loop-now.invariant.1 (omega arith) c.in_default.ensures.none
+pub returns-in_default : goal.returns-in_default
+returns-in_default g c = record {
+  ok = idle c.args.spans.now c.loop-now.segments.items (Begun c.args.order.now c.args.begun) c.loop-now.now c.args.limit (get stamp_cmp c.loop-now.active) c.loop-now.invariant.1 (omega arith) c.in_default.ensures.none;
+}
 
 pub loop-now-preserved : goal.loop-now-preserved
 loop-now-preserved g c =

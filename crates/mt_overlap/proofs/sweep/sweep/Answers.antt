@@ -26,9 +26,11 @@ loop-next-preserved g c =
       below_more _ _ c.loop-next.invariant.3 (rw (← end_is) end.end_fits),
     )
 
-pub returns-clause-ok : goal.returns-clause-ok
-returns-clause-ok g c =
+pub returns : goal.returns
+returns g c =
     let order = c.args.order.now in
-    finished c.args.spans.now c.settle-2.new.segments.items 8589934592 (Begun order (length order)) (get stamp_cmp c.settle-2.new.active) c.in_ok-settle-2.ensures.ok
-    c.requires.order.all (λ i b. begun_within c.args.spans.now order (length order) i c.requires.order (omega arith) b)
-    (λ i b. let e = c.loop-next.invariant.3 b.0 (omega (arith, b.1)) in subst (λ w. end_of (span_at c.args.spans.now w) ≤ 8589934592) b.2 (omega arith))
+    record {
+      ok = finished c.args.spans.now c.settle-2.new.segments.items 8589934592 (Begun order (length order)) (get stamp_cmp c.settle-2.new.active) c.in_ok-settle-2.ensures.ok
+          c.requires.order.all (λ i b. begun_within c.args.spans.now order (length order) i c.requires.order (omega arith) b)
+          (λ i b. let e = c.loop-next.invariant.3 b.0 (omega (arith, b.1)) in subst (λ w. end_of (span_at c.args.spans.now w) ≤ 8589934592) b.2 (omega arith));
+    }

@@ -14,8 +14,10 @@ loop-op-preserved g c =
     (within (λ (o : Bor (Op g.row.B.Denot)). o.now) refs c.loop-op.op-index c.loop-op-test.true) (at_ref (λ (o : Bor (Op g.row.B.Denot)). o.now) refs c.loop-op.op-index c.op-item.result c.loop-op-test.true c.op-item.is)
     c.dot.ensures.value c.in_ok-next.ensures.ok.0 c.in_ok-next.ensures.ok.1 c.loop-op.invariant
 
-pub returns-clause-ok : goal.returns-clause-ok
-returns-clause-ok g c =
+pub returns : goal.returns
+returns g c =
     let refs = c.args.ops.now in
     let ops : List Operation = map (λ (o : Bor (Op g.row.B.Denot)). o.now) refs in
-    counts_all c.loop-op.all.items c.put_last.new.all.items c.loop-op.last ops c.loop-op.op-index (summary_after None ops) (past_end (λ (o : Bor (Op g.row.B.Denot)). o.now) refs c.loop-op.op-index c.loop-op-test.false) c.in_ok-put_last.ensures.ok c.loop-op.invariant
+    record {
+      ok = counts_all c.loop-op.all.items c.put_last.new.all.items c.loop-op.last ops c.loop-op.op-index (summary_after None ops) (past_end (λ (o : Bor (Op g.row.B.Denot)). o.now) refs c.loop-op.op-index c.loop-op-test.false) c.in_ok-put_last.ensures.ok c.loop-op.invariant;
+    }
