@@ -4,8 +4,9 @@ of these for tests/wrong_bodies.tried.
 The sum covers the wrong bodies; the functions that they edit, or that have to be refused, with
 their proofs; of all other functions of the crate and of those below it what a caller can know,
 where those that are edited or the wrong bodies may call them by name; all that is no function; the
-definitions and proofs that any of this names; the lines of crates.txt; what counts as refused; and
-the toolchain's logic. It covers no tests and no remarks."""
+definitions and proofs that any of this names; the crate's line of crates.txt; what counts as
+refused; and the toolchain's logic. It covers no tests, no remarks, and of the crates below neither
+what they stand on nor names that they export and the crate does not name."""
 import functools
 import hashlib
 import os
@@ -28,6 +29,9 @@ OF_TESTS = re.compile(r"/(src|proofs)/(\w+_)?tests(\.rt$|/)")
 
 # A line that brings names into a file, and into no other.
 IMPORT = r"(?m)^(ghost )?use [^;]*;\n"
+
+# A line that gives names of a file to those who use its crate.
+EXPORT = r"(?m)^pub use [^;]*;\n"
 
 
 def text_of(path):
@@ -87,7 +91,11 @@ def for_callers(path, text, words, whole=None):
     for names that none of this has; of a file that has nothing else, nothing. Of the crate's own
     files the functions of some names are whole, and each may be called."""
     named = frozenset(one.name for one in functions(path, text))
-    return kept_lines(path, text, named & words, None if whole is None else named & whole)
+    kept = kept_lines(path, text, named & words, None if whole is None else named & whole)
+    if whole is not None:
+        return kept
+    kept = re.sub(EXPORT, lambda line: of_names(line.group(), words), kept)
+    return kept if kept.strip() else ""
 
 
 @functools.lru_cache(maxsize=None)
@@ -163,6 +171,14 @@ def own_texts(name, top, without):
     return texts
 
 
+def of_names(line, words):
+    """A line of names with those that are among these words; nothing where there are none."""
+    origin, _, listed = line.partition("{") if "{" in line else line.rpartition("::")
+    names = [name.strip() for name in listed.rstrip("};\n").split(",")]
+    used = [name for name in names if name == "*" or name.split(" ")[-1] in words]
+    return "%s{%s}\n" % (origin, ", ".join(used)) if used else ""
+
+
 def of_use(line, text):
     """Such a line with those of its names, and of its signs, that a text has; nothing where it has
     none."""
@@ -221,7 +237,7 @@ def without_remarks(path, text):
 
 def covered(name, top=TOP, without=()):
     """All that the wrong bodies of a crate, but for some, rest on: texts by their paths below `top`,
-    and the lines of crates.txt."""
+    and its line of crates.txt."""
     lines = crate_lines(top)
     reached = sorted(crates_below(name, lines))
     texts = own_texts(name, top, without)
@@ -233,9 +249,7 @@ def covered(name, top=TOP, without=()):
             texts[path] = told
     texts = with_what_they_name(texts, top)
     texts = {path: without_remarks(path, text) for path, text in sorted(texts.items())}
-    return {os.path.relpath(path, top): text for path, text in texts.items()}, [
-        lines[one] for one in reached
-    ]
+    return {os.path.relpath(path, top): text for path, text in texts.items()}, [lines[name]]
 
 
 def sum_of(name, top=TOP):
