@@ -182,11 +182,7 @@ fn rewritten<A: Allocator>(
 /// 2^50 becomes the time that so many frames last at `rate` frames a second, 1 and more, as
 /// `H:MM:SS.mmm`, rounded down; all else is as it was, and so are the line feeds. In time linear in the
 /// text. Fails where memory runs out.
-pub fn timed_text<A: Allocator>(
-    alloc: A,
-    rate: u32,
-    text: &[u8],
-) -> Result<Vec<u8, A>, AllocError>
+pub fn timed_text<A: Allocator>(alloc: A, rate: u32, text: &[u8]) -> Result<Vec<u8, A>, AllocError>
     requires { 1 ≤ rate }
     ensures { IfOk result (λ timed. timed.items ≡ timed_text rate text.now) }
 {

@@ -49,7 +49,11 @@ pub(crate) fn run<F: Files + AllocGlobal, W: Write>(
     output: &mut Latch<W>,
 ) -> Result<(), CliFault> {
     let form = LineForm {
-        rate: if words.get_flag("times") { words.get_one::<u32>("rate") } else { None },
+        rate: if words.get_flag("times") {
+            words.get_one::<u32>("rate")
+        } else {
+            None
+        },
         json: None,
     };
     let head = head_of(words)?;
