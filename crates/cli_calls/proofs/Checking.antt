@@ -48,11 +48,10 @@ module _ (form : LineForm) (layout : Layout) (head : HeadText) (session : Conten
 pub turned : {R A : Type 0} (remaining : R → Option (List ℕ)) (form : LineForm) (layout : Layout) (head : HeadText) (inputs : List (Latched R)) (p : Programme A) → GaveProgramme remaining inputs p
     → (given : LogAndWaves) × (GaveLogAndWaves remaining inputs given × ((made : Result (List ℕ) CliFault) → ChecksProgramme form layout head p made → Checks form layout head given made))
 turned remaining form layout head [] p gave = absurd gave
-turned remaining form layout head (log ∷ files) p (gave, (is, (texts, (waves, holds)))) =
-    (
-      record { log = p.log; texts = texts },
-      (
-        (gave, waves),
-        λ made checks. subst (λ (s : Content). ChecksSession form layout head s (operations p.log) texts made) is (checks_alike form layout head p.session (operations p.log) p.kept.items texts holds made checks),
-      ),
-    )
+turned remaining form layout head (log ∷ files) p (gave, (is, (texts, (waves, holds)))) = (
+  record { log = p.log; texts = texts },
+  (
+    (gave, waves),
+    λ made checks. subst (λ (s : Content). ChecksSession form layout head s (operations p.log) texts made) is (checks_alike form layout head p.session (operations p.log) p.kept.items texts holds made checks),
+  ),
+)

@@ -49,8 +49,7 @@ module _ (layout : Layout) (head : HeadText) (session : Content) (kept texts : L
 pub turned : {R A : Type 0} (remaining : R → Option (List ℕ)) (layout : Layout) (head : HeadText) (inputs : RenderInputs R) (m : Material A) → GaveMaterial remaining inputs m
     → (given : LogsAndWaves) × (GaveLogsAndWaves remaining inputs given × ((made : Result (List ℕ) CliFault) → Renders layout head m.session m.kept.items made → RendersLogs layout head given made))
 turned remaining layout head inputs m (all, (union, (is, (texts, (waves, holds))))) =
-    let session_is : m.session ≡ session_of_logs union.0 = is ∙ ap (λ (l : LogMap). session_of (operations l)) union.1.2 in
-    (
+    let session_is : m.session ≡ session_of_logs union.0 = is ∙ ap (λ (l : LogMap). session_of (operations l)) union.1.2 in (
       record { logs = union.0; texts = texts },
       (
         (union.1.0, (union.1.1, waves)),

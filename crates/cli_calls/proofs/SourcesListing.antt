@@ -10,4 +10,3 @@ pub mapped_more : {X Y : Type 0} (f : X → Y) (xs : List X) (i : ℕ) (x : X) �
 mapped_more {X} f xs i x at =
     let front = take_more xs i x (slice_get_within xs i x at) ∙ ap (λ (y : X). take i xs ++ y ∷ []) (get_or_from_slice_get xs i x x at) in
     sym (ap (map f) front ∙ map-append f (take i xs) (x ∷ []))
-

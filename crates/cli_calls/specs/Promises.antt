@@ -18,7 +18,6 @@ use Rattle.cli_calls.specs.Reading.{GaveLogs, AreRead}
 use Rattle.cli_calls.specs.Running.{Lent}
 use Rattle.cli_calls.specs.Sources.{GaveWaves}
 
-
 -- a text of the union of logs, as `view_logs` and `merge_logs` write it
 pub record WritesUnion {R W : Type 0} (remaining : R → Option (List ℕ)) (contents : W → Option (List ℕ)) (text : LogMap → List ℕ) (before after : Lent (List (Latched R)) (Latched W)) (result : Result (Unit {0}) CliFault) : Type 0 where
   -- Where it answers Ok, the inputs gave logs that agree, and the text of their union was written, and nothing else.

@@ -30,14 +30,12 @@ impl<A: Allocator + Clone> Input<A> for LogThenBytes {
     type Value = Both<A>;
 
     ghost fits = { λ s R inputs. length inputs ≡ 2 };
+
     ghost given = { λ s R remaining. GaveBoth remaining };
+
     ghost cause = { λ s R remaining. BothCause remaining };
 
-    fn read_from<R: Read>(
-        &self,
-        alloc: &A,
-        inputs: &mut [Latch<R>],
-    ) -> Result<Both<A>, CliFault> {
+    fn read_from<R: Read>(&self, alloc: &A, inputs: &mut [Latch<R>]) -> Result<Both<A>, CliFault> {
         let log = match read_log(alloc, 0, &mut inputs[0]) {
             Ok(log) => log,
             Err(fault) => return Err(fault),

@@ -39,7 +39,9 @@ impl<A: Allocator + Clone> Input<A> for LogThenRecordings {
     type Value = Programme<A>;
 
     ghost fits = { λ s R inputs. 1 ≤ length inputs };
+
     ghost given = { λ s R remaining. GaveProgramme remaining };
+
     ghost cause = { λ s R remaining. LogAndWavesCause remaining };
 
     fn read_from<R: Read>(
@@ -111,7 +113,16 @@ impl<A: Allocator + Clone> Command<A, Programme<A>> for Check<'_, '_> {
         output: &mut Latch<W>,
     ) -> Result<(), CliFault> {
         let Programme { log, session, kept } = programme;
-        check_session(alloc, self.form, &log, &session, &kept, self.head, self.format, output)
+        check_session(
+            alloc,
+            self.form,
+            &log,
+            &session,
+            &kept,
+            self.head,
+            self.format,
+            output,
+        )
     }
 }
 

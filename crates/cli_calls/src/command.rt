@@ -19,7 +19,9 @@ pub(crate) trait Input<A: Allocator> {
     type Value;
 
     ghost fits: { Self → (R : Type 0) → List (Latched R) → Type 0 };
+
     ghost given: { Self → (R : Type 0) → (R → Option (List ℕ)) → List (Latched R) → Self.Value → Type 0 };
+
     ghost cause: { Self → (R : Type 0) → (R → Option (List ℕ)) → List (Latched R) → List (Latched R) → Fault → Type 0 };
 
     /// Reads them, from left to right.

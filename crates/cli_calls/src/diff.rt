@@ -114,7 +114,9 @@ impl<A: Allocator + Clone> Input<A> for LeftAndRight {
     type Value = TwoLogs<A>;
 
     ghost fits = { λ s R inputs. length inputs ≡ 2 };
+
     ghost given = { λ s R remaining. GaveTwoLogs remaining };
+
     ghost cause = { λ s R remaining. TwoLogsCause remaining };
 
     fn read_from<R: Read>(
@@ -179,5 +181,11 @@ pub fn diff_logs<A: Allocator + Clone, R: Read, W: Write>(
     ensures { Ran R.remaining (GaveTwoLogs R.remaining {Z = A}) (TwoLogsCause R.remaining) (Prints (diff_in lines form))
         W.contents (lent inputs.old output.old) (lent inputs.new output.new) result }
 {
-    run(&LeftAndRight { frames }, &Diff { form, lines }, alloc, inputs, output)
+    run(
+        &LeftAndRight { frames },
+        &Diff { form, lines },
+        alloc,
+        inputs,
+        output,
+    )
 }

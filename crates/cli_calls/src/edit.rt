@@ -140,5 +140,12 @@ pub fn edit_log<A: Allocator + Clone, R: Read, W: Write, T: Write>(
         W.contents T.contents (lent inputs.old (outputs output.old printed.old))
         (lent inputs.new (outputs output.new printed.new)) result }
 {
-    run_and_print(&LogThenBytes, &Edit { name, rate }, alloc, inputs, output, printed)
+    run_and_print(
+        &LogThenBytes,
+        &Edit { name, rate },
+        alloc,
+        inputs,
+        output,
+        printed,
+    )
 }

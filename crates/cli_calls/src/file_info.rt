@@ -84,7 +84,9 @@ impl<A: Allocator + Clone> Input<A> for OneOutline {
     type Value = Outline<A>;
 
     ghost fits = { λ s R inputs. length inputs ≡ 1 };
+
     ghost given = { λ s R remaining. GaveOutline remaining };
+
     ghost cause = { λ s R remaining. BytesCause remaining };
 
     fn read_from<R: Read>(

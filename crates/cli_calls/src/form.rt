@@ -8,8 +8,8 @@ ghost use Rattle.cli_calls.specs.Writing.{Exactly, Wrote};
 
 use crate::fault::CliFault;
 use crate::put::put_bytes;
-use mt_lines::{json_text, timed_text};
 use mt_latch::Latch;
+use mt_lines::{json_text, timed_text};
 use std::alloc::{AllocError, Allocator, Global};
 use std::io::Write;
 

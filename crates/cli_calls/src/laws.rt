@@ -85,7 +85,7 @@ pub fn merge_logs<R: Read, W: Write>()
 pub fn bounce_logs<R: Read, W: Write>()
     ensures { (layout : Layout) (head : HeadText) (before after : Lent (RenderInputs R) (Latched W)) (result : Result (Unit {0}) Fault)
         → RanOn (GaveLogsAndWaves R.remaining) (RenderCause R.remaining) (AreInputsRead R.remaining) (RendersLogs layout head)
-            W.contents before after result
+        W.contents before after result
         → WritesFile R.remaining W.contents layout head before after result }
 {}
 

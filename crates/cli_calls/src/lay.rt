@@ -48,6 +48,7 @@ impl<A: Allocator + Clone> OneInput<A> for SoundInput {
     type Value = Sound;
 
     ghost gives = { λ s R remaining. GaveSound remaining };
+
     ghost cause = { λ s R remaining. IsSourceCause remaining 0 };
 
     fn read_one<R: Read>(
@@ -79,7 +80,9 @@ impl<A: Allocator + Clone> Input<A> for Sounds {
     type Value = Vec<Sound, A>;
 
     ghost fits = { λ s R inputs. Unit {0} };
+
     ghost given = { λ s R remaining. GaveSounds remaining };
+
     ghost cause = { λ s R remaining. HasWaveCause remaining };
 
     fn read_from<R: Read>(

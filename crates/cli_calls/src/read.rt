@@ -138,6 +138,7 @@ pub(crate) trait OneInput<A: Allocator> {
     type Value;
 
     ghost gives: { Self → (R : Type 0) → (R → Option (List ℕ)) → Latched R → Self.Value → Type 0 };
+
     ghost cause: { Self → (R : Type 0) → (R → Option (List ℕ)) → ℕ → Latched R → Latched R → Fault → Type 0 };
 
     /// Reads the input of this index.
@@ -191,6 +192,7 @@ impl<A: Allocator + Clone> OneInput<A> for LogInput {
     type Value = Log<A>;
 
     ghost gives = { λ s R remaining. GaveLog remaining };
+
     ghost cause = { λ s R remaining. IsCause remaining };
 
     fn read_one<R: Read>(

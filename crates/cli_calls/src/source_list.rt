@@ -47,6 +47,7 @@ impl<A: Allocator + Clone> OneInput<A> for FileInput {
     type Value = Result<Recording, WaveFault>;
 
     ghost gives = { λ s R remaining. GaveRecording remaining };
+
     ghost cause = { λ s R remaining. IsFileCause remaining };
 
     fn read_one<R: Read>(
@@ -81,7 +82,9 @@ impl<A: Allocator + Clone> Input<A> for LogThenFiles {
     type Value = Listed<A>;
 
     ghost fits = { λ s R inputs. 1 ≤ length inputs };
+
     ghost given = { λ s R remaining. GaveListed remaining };
+
     ghost cause = { λ s R remaining. ListedCause remaining };
 
     fn read_from<R: Read>(
@@ -173,5 +176,11 @@ pub fn list_sources<A: Allocator + Clone, R: Read, W: Write>(
         (Prints (sources_in form which (map (λ n. n.now) names.now))) W.contents (lent inputs.old output.old)
         (lent inputs.new output.new) result }
 {
-    run(&LogThenFiles, &SourceList { form, which, names }, alloc, inputs, output)
+    run(
+        &LogThenFiles,
+        &SourceList { form, which, names },
+        alloc,
+        inputs,
+        output,
+    )
 }

@@ -17,7 +17,6 @@ use mt_bwfread::Wave;
 use mt_digests::digests_of;
 use mt_latch::Latch;
 use mt_op::Digest;
-
 use mt_preflight::Audible;
 use mt_render::{Catalogue, HashedFile};
 use std::alloc::{AllocError, Allocator};

@@ -22,14 +22,12 @@ impl<A: Allocator + Clone> Input<A> for OneLog {
     type Value = Log<A>;
 
     ghost fits = { λ s R inputs. length inputs ≡ 1 };
+
     ghost given = { λ s R remaining. GaveOne remaining };
+
     ghost cause = { λ s R remaining. OneCause remaining };
 
-    fn read_from<R: Read>(
-        &self,
-        alloc: &A,
-        inputs: &mut [Latch<R>],
-    ) -> Result<Log<A>, CliFault> {
+    fn read_from<R: Read>(&self, alloc: &A, inputs: &mut [Latch<R>]) -> Result<Log<A>, CliFault> {
         read_log(alloc, 0, &mut inputs[0])
     }
 }
@@ -44,7 +42,9 @@ impl<A: Allocator + Clone> Input<A> for EachLog {
     type Value = Vec<Log<A>, A>;
 
     ghost fits = { λ s R inputs. Unit {0} };
+
     ghost given = { λ s R remaining. GaveAll remaining };
+
     ghost cause = { λ s R remaining. HasCause remaining 0 };
 
     fn read_from<R: Read>(
@@ -80,14 +80,12 @@ impl<A: Allocator + Clone> Input<A> for UnionOfLogs {
     type Value = Log<A>;
 
     ghost fits = { λ s R inputs. Unit {0} };
+
     ghost given = { λ s R remaining. GaveUnion remaining };
+
     ghost cause = { λ s R remaining. UnionFails remaining };
 
-    fn read_from<R: Read>(
-        &self,
-        alloc: &A,
-        inputs: &mut [Latch<R>],
-    ) -> Result<Log<A>, CliFault> {
+    fn read_from<R: Read>(&self, alloc: &A, inputs: &mut [Latch<R>]) -> Result<Log<A>, CliFault> {
         match read_each(&LogInput, alloc, inputs) {
             Ok(logs) => join_all(alloc, logs),
             Err(fault) => Err(fault),

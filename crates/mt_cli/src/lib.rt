@@ -55,11 +55,10 @@ mod stop;
 mod why;
 mod words;
 
-pub use cli_calls::laws;
 pub use cli_calls::{
     CliFault, DiffForm, Drawing, InfoForm, InfoUnit, LayFault, Laying, LineForm, PartFault,
     SessionDrawing, Wanted, bounce_logs, check_log, diff_logs, draw_logs, edit_log, find_items,
-    have_log, info_file, lack_log, lay_files, list_logs, list_sources, merge_logs, pull_logs,
+    have_log, info_file, lack_log, laws, lay_files, list_logs, list_sources, merge_logs, pull_logs,
     read_growing, revert_log, swap_log, take_log, view_logs, view_logs_in, write_info,
     write_outline,
 };

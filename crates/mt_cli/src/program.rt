@@ -8,13 +8,13 @@ use crate::commands::{
     check, completions, diff, edit, explain, find, have, id, info, lack, lay, log, man, meet,
     merge, pull, render, revert, serve, sources, take, timeline, view,
 };
-use crate::runtime::Runtime;
 use crate::refusal_lines::{asks_why, put_cause, put_refusal, put_text};
+use crate::runtime::Runtime;
 use crate::stop::{Stop, refused, stopped_by};
 use crate::why::explained;
 use clap::{ArgMatches, Command};
-use cli_words::{ABOUT, Lists, NUMBER, Words, bare, why_flag, with_all};
 use cli_calls::CliFault;
+use cli_words::{ABOUT, Lists, NUMBER, Words, bare, why_flag, with_all};
 use mt_latch::Latch;
 use std::alloc::{AllocError, Global};
 use std::io::{Read, Write};
@@ -158,11 +158,7 @@ fn print<F: Runtime, R: Read, W: Write, E: Write>(
 
 // The commands that make a file of files, and all others.
 #[tactic(auto, using(crate::proofs::Telling::no_cause))]
-fn make<
-    F: Runtime,
-    W: Write,
-    E: Write,
->(
+fn make<F: Runtime, W: Write, E: Write>(
     rt: &F,
     name: &str,
     words: &ArgMatches<'_>,
@@ -184,10 +180,7 @@ fn make<
 
 // The commands by which editors swap operations.
 #[tactic(auto, using(crate::proofs::Telling::no_cause))]
-fn swap<
-    F: Runtime,
-    E: Write,
->(
+fn swap<F: Runtime, E: Write>(
     rt: &F,
     name: &str,
     words: &ArgMatches<'_>,

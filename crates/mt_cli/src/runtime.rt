@@ -7,19 +7,14 @@ use std::rt::Files;
 
 /// All that the commands take from the runtime: files, the network, random bytes and memory. Every
 /// runtime that has these is one.
-pub trait Runtime:
-    Files<File = File>
+pub trait Runtime: Files<File = File>
     + Net<Listener = TcpListener, Stream = TcpStream>
     + RandomSource
-    + AllocGlobal
-{
-}
+    + AllocGlobal {}
 
 impl<
     T: Files<File = File>
         + Net<Listener = TcpListener, Stream = TcpStream>
         + RandomSource
         + AllocGlobal,
-> Runtime for T
-{
-}
+> Runtime for T {}

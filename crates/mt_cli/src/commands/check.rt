@@ -1,14 +1,14 @@
 //! `radio check`.
 
+use super::log_and_others;
 use super::render::{
     BITS, CHANNELS, DATE, DESCRIPTION, ORIGINATOR, RATE, REFERENCE, TIME, TIME_REFERENCE,
     format_of, head_of,
 };
-use super::log_and_others;
 use crate::files::open_all;
-use cli_words::{Word, Words};
 use clap::ArgMatches;
 use cli_calls::{CliFault, LineForm, check_log};
+use cli_words::{Word, Words};
 use mt_latch::Latch;
 use std::io::Write;
 use std::rt::Files;

@@ -1,8 +1,8 @@
 //! `radio completions`.
 
-use cli_words::{Lists, Shell, Word, Words, put_script};
 use clap::ArgMatches;
 use cli_calls::CliFault;
+use cli_words::{Lists, Shell, Word, Words, put_script};
 use mt_latch::Latch;
 use std::io::Write;
 

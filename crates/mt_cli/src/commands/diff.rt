@@ -2,9 +2,9 @@
 
 use super::form_of;
 use crate::files::open;
-use cli_words::{AS_JSON, AS_TIMES, TIMES_RATE, Word, Words};
 use clap::ArgMatches;
 use cli_calls::{CliFault, DiffForm, diff_logs};
+use cli_words::{AS_JSON, AS_TIMES, TIMES_RATE, Word, Words};
 use mt_latch::Latch;
 use std::io::Write;
 use std::rt::Files;

@@ -3,9 +3,9 @@
 use super::rate_of_times;
 use crate::files::{OpenLog, open, open_log};
 use crate::part::{Naming, Part};
-use cli_words::{NEW, NO_SYNC, TIMES_RATE, Word, Words};
 use clap::ArgMatches;
 use cli_calls::{CliFault, edit_log};
+use cli_words::{NEW, NO_SYNC, TIMES_RATE, Word, Words};
 use mt_latch::Latch;
 use mt_stamp::Replica;
 use std::fs::File;

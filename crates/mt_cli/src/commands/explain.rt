@@ -5,9 +5,9 @@ ghost use Rattle.mt_cli.specs.Mistakes.{IsMistake};
 
 use crate::refusals::{Refusal, find_refusal};
 use crate::stop::{Stop, refused, stopped_by};
-use cli_words::{Word, Words};
 use clap::ArgMatches;
 use cli_calls::CliFault;
+use cli_words::{Word, Words};
 use mt_latch::{BufferedLatch, Latch};
 use std::alloc::Global;
 use std::io::Write;

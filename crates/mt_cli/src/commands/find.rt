@@ -5,11 +5,11 @@ ghost use Rattle.mt_cli.specs.Mistakes.{IsMistake};
 
 use crate::files::open;
 use crate::stop::{Stop, refused, stopped_by};
-use cli_words::{Word, Words};
 use clap::ArgMatches;
 use cli_calls::{CliFault, Wanted, find_items, read_digest};
-use mt_op::Digest;
+use cli_words::{Word, Words};
 use mt_latch::Latch;
+use mt_op::Digest;
 use std::alloc::Global;
 use std::io::Write;
 use std::rt::Files;
@@ -72,7 +72,13 @@ fn find<F: Files + AllocGlobal, W: Write>(
 ) -> Result<(), CliFault> {
     let wanted = wanted(rt, words)?;
     let log = open(rt, 0, words.get_str("LOG").unwrap_or(""))?;
-    find_items(rt.alloc(), words.get_flag("one"), &wanted, &mut [log], output)
+    find_items(
+        rt.alloc(),
+        words.get_flag("one"),
+        &wanted,
+        &mut [log],
+        output,
+    )
 }
 
 // What is told where a file is named, and no clips are looked for, as the parser tells of a mistake.

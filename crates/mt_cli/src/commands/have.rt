@@ -2,9 +2,9 @@
 
 use crate::files::open;
 use crate::part::{Naming, Part};
-use cli_words::{NEW, NO_SYNC, Word, Words};
 use clap::ArgMatches;
 use cli_calls::{CliFault, have_log};
+use cli_words::{NEW, NO_SYNC, Word, Words};
 use std::fs::File;
 use std::rt::Files;
 

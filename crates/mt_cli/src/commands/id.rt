@@ -1,7 +1,7 @@
 //! `radio id`.
 
-use cli_words::Words;
 use cli_calls::CliFault;
+use cli_words::Words;
 use mt_latch::Latch;
 use mt_stamp::Replica;
 use std::io::Write;

@@ -1,9 +1,9 @@
 //! `radio lay`.
 
 use crate::files::late_files;
-use cli_words::{Word, Words};
 use clap::ArgMatches;
 use cli_calls::{CliFault, Laying, lay_files};
+use cli_words::{Word, Words};
 use mt_latch::Latch;
 use mt_stamp::{Stamp, StampFault};
 use std::io::Write;

@@ -1,7 +1,7 @@
 //! `radio man`.
 
-use cli_words::{Lists, Words, put_page};
 use cli_calls::CliFault;
+use cli_words::{Lists, Words, put_page};
 use mt_latch::Latch;
 use std::io::Write;
 

@@ -2,9 +2,9 @@
 
 use super::{limit, open_growing, swap, wait_of};
 use crate::part::Naming;
-use cli_words::{NEW, NO_SYNC, WAIT, Word, Words};
 use clap::ArgMatches;
 use cli_calls::CliFault;
+use cli_words::{NEW, NO_SYNC, WAIT, Word, Words};
 use mt_sync::Side;
 use std::fs::File;
 use std::net::{Net, TcpStream, ToSocketAddrs};

@@ -2,9 +2,9 @@
 
 use crate::files::open_all;
 use crate::part::{Naming, Part};
-use cli_words::{NEW, NO_SYNC, Word, Words};
 use clap::ArgMatches;
 use cli_calls::{CliFault, bounce_logs};
+use cli_words::{NEW, NO_SYNC, Word, Words};
 use mt_cuewrite::Head;
 use mt_render::Format;
 use std::fs::File;

@@ -1,9 +1,9 @@
 //! `radio revert`.
 
 use crate::files::open;
-use cli_words::{Word, Words};
 use clap::ArgMatches;
 use cli_calls::{CliFault, revert_log};
+use cli_words::{Word, Words};
 use mt_latch::Latch;
 use mt_stamp::Stamp;
 use std::alloc::Global;

@@ -2,9 +2,9 @@
 
 use super::{log_and_others, memory_of_objects};
 use crate::files::late_files;
-use cli_words::{Word, Words};
 use clap::ArgMatches;
 use cli_calls::{CliFault, LineForm, list_sources};
+use cli_words::{Word, Words};
 use mt_latch::Latch;
 use mt_preflight::Listing;
 use std::io::Write;
@@ -65,5 +65,12 @@ pub(crate) fn run<F: Files + AllocGlobal, W: Write>(
     let names = words.get_strs("WAVE").unwrap_or(&[]);
     let log = words.get_str("LOG").unwrap_or("");
     let mut inputs = late_files(rt, &log_and_others(rt.alloc(), log, names)?)?;
-    list_sources(rt.alloc(), form, asked_for(words), names, &mut inputs, output)
+    list_sources(
+        rt.alloc(),
+        form,
+        asked_for(words),
+        names,
+        &mut inputs,
+        output,
+    )
 }

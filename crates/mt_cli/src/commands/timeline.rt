@@ -4,9 +4,9 @@ ghost use Rattle.std.specs.Prelude.{◌≤◌};
 ghost use Rattle.cli_calls.specs.Drawing.{columns_of};
 
 use crate::files::{in_latch, open_all};
-use cli_words::{Word, Words};
 use clap::ArgMatches;
 use cli_calls::{CliFault, Drawing, SessionDrawing, catalogue_of, draw_logs, read_all_sources};
+use cli_words::{Word, Words};
 use mt_latch::Latch;
 use mt_render::HashedFile;
 use mt_timeline::Lengths;

@@ -195,14 +195,7 @@ fn edit<M: Allocator + Clone, R: Read + Drop, W: Write>(
     let mut inputs = [Latch::new(log), Latch::new(script)];
     let mut other = Latch::new(Vec::new(alloc));
     if told {
-        let answer = edit_log(
-            memory,
-            A,
-            Some(48_000),
-            &mut inputs,
-            &mut other,
-            output,
-        );
+        let answer = edit_log(memory, A, Some(48_000), &mut inputs, &mut other, output);
         return beside(answer, other, NEWS);
     }
     let answer = edit_log(memory, A, None, &mut inputs, output, &mut other);
@@ -313,14 +306,7 @@ fn render<M: Allocator + Clone, R: Read + Drop, W: Write>(
     let format = Format::new(48000, 24, 1).ok()?;
     if call == Call::Check {
         let mut inputs = two(alloc, (log, source))?;
-        return Some(check_log(
-            memory,
-            LineForm::PLAIN,
-            &head,
-            format,
-            &mut inputs,
-            output,
-        ));
+        return Some(check_log(memory, LineForm::PLAIN, &head, format, &mut inputs, output));
     }
     let mut sources = one(alloc, source)?;
     let mut logs = one(alloc, log)?;
