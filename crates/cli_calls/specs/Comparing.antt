@@ -43,10 +43,10 @@ IsLogOf bytes m = IsLogAs (begins_as_frame bytes) bytes m
 
 -- why the bytes of the input of an index are no log, where it is not that memory ran out
 abbrev pub IsNoLogAs : Bool → ℕ → List ℕ → CliFault → Type 0
-IsNoLogAs b index bytes Memory = Unit {0}
 IsNoLogAs true index bytes fault = NotTaken map.empty bytes fault
+IsNoLogAs false index bytes Memory = Unit {0}
 IsNoLogAs false index bytes (Log place fault) = (place ≡ index) × ((fault ≢ log.Memory) × LogFails fault (log_at bytes))
-IsNoLogAs b index bytes _ = ⊥
+IsNoLogAs false index bytes _ = ⊥
 
 abbrev pub IsNoLogOf : ℕ → List ℕ → CliFault → Type 0
 IsNoLogOf index bytes fault = IsNoLogAs (begins_as_frame bytes) index bytes fault
