@@ -6,6 +6,7 @@ use Rattle.mt_opcodec.specs.LogValue.{LogMap}
 use Rattle.mt_summary.specs.declared.fault.MessageFault.{MessageFault}
 use Rattle.mt_summary.specs.declared.fault.MessageFault.TheVariants as message
 use Rattle.mt_sync.specs.declared.fault.Side.{Side}
+use Rattle.mt_sync.specs.declared.fault.TalkFault.{TalkFault}
 use Rattle.mt_sync.specs.declared.fault.TalkFault.TheVariants as talk
 use Rattle.mt_sync.specs.declared.fault.SyncFault.{SyncFault}
 use Rattle.mt_sync.specs.declared.fault.SyncFault.TheVariants as sync
@@ -44,9 +45,9 @@ pub not_taken : (kept set : Option LogMap) (log : LogMap) (sent : List ℕ) (fau
 not_taken kept set log sent (sync.Talk talk.Memory) is takes_all = tt
 not_taken kept set log sent (sync.Talk fault) is takes_all = by fault takes_all
   where
-    by : (f : _) → TakesAll (hears (end_at (awaits_ops None) [] kept) sent) (Err (sync.Talk f)) set → NotTaken log sent (sync_fault (sync.Talk f))
+    by : (f : TalkFault) → TakesAll (hears (end_at (awaits_ops None) [] kept) sent) (Err (sync.Talk f)) set → NotTaken log sent (sync_fault (sync.Talk f))
     by talk.Memory takes = tt
-    by _ takes = ((λ same. cc same), (set, subst (λ (o : Option LogMap). TakesAll (hears (end_at (awaits_ops None) [] o) sent) (Err _) set) is takes))
+    by f takes = ((λ same. cc same), (set, subst (λ (o : Option LogMap). TakesAll (hears (end_at (awaits_ops None) [] o) sent) (Err (sync.Talk f)) set) is takes))
 not_taken kept set log sent sync.Write is takes_all = absurd takes_all
 not_taken kept set log sent sync.Read is takes_all = absurd takes_all
 not_taken kept set log sent sync.Ended is takes_all =

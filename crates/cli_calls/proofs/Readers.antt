@@ -5,10 +5,12 @@ use Rattle.std.proofs.lemmas.List.{drop-drop, drop-set-lt, get_or-drop, length-s
 use Rattle.std.proofs.KnownBytes.{Consumes-nil}
 use Rattle.std.proofs.Math.ListN.{set}
 use Rattle.mt_latch.specs.Latch.{Latched}
+use Rattle.mt_opcodec.specs.LogValue.{LogMap}
 use Rattle.cli_calls.specs.declared.fault.CliFault.{CliFault}
 use Rattle.cli_calls.specs.declared.fault.CliFault.TheVariants.{Memory}
 use Rattle.std.specs.List.{AllByRecursion}
-use Rattle.cli_calls.specs.Reading.{GaveEach, FirstCause, IsRead, IsRest, AreRead}
+use Rattle.cli_calls.specs.Reading.{GaveEach, FirstCause, IsRead, IsRest, AreRead, GaveLog, IsReadCause, BothCause}
+use Rattle.cli_calls.specs.Comparing.{GaveLogOf, GaveNoLog, TwoLogsCause}
 
 module _ {L X : Type 0} (Gives : L → X → Type 0) where
   gave_one_more : (latches : List L) (xs : List X) (i : ℕ) (latch : L) (x : X) → i < length latches → latch ≡ get_or latches i latch
@@ -93,3 +95,19 @@ module _ {R : Type 0} (remaining : R → Option (List ℕ)) (entry inputs : List
   read_more read is =
       let next : suc i ≡ i + 1 = omega arith in
       subst (λ (n : ℕ). AreRead remaining (take n (set inputs i after))) next (all_more (IsRead remaining) i inputs after within read is)
+
+-- two inputs, of which the second gave nothing
+module _ {R : Type 0} (remaining : R → Option (List ℕ)) where
+  pub other_cause : (inputs : List (Latched R)) (a b a' b' : Latched R) (fault : CliFault) (m : LogMap) → length inputs ≡ 2 → GaveLog remaining (get_or inputs 0 a) m → IsRead remaining a' → IsReadCause 1 b' fault
+      → IsRest remaining (get_or (set inputs 0 a') 1 b) b' → BothCause remaining inputs (set (set inputs 0 a') 1 b') fault
+  other_cause [] a b a' b' fault m two gave read cause rest = cc two
+  other_cause (x ∷ []) a b a' b' fault m two gave read cause rest = cc two
+  other_cause (x ∷ (y ∷ [])) a b a' b' fault m two gave read cause rest = inr (m, (gave, (read, (cause, rest))))
+  other_cause (x ∷ (y ∷ (z ∷ more))) a b a' b' fault m two gave read cause rest = cc two
+
+  pub right_cause : (inputs : List (Latched R)) (a b a' b' : Latched R) (fault : CliFault) (m : LogMap) → length inputs ≡ 2 → GaveLogOf remaining (get_or inputs 0 a) m → IsRead remaining a'
+      → GaveNoLog remaining 1 (get_or (set inputs 0 a') 1 b) b' fault → TwoLogsCause remaining inputs (set (set inputs 0 a') 1 b') fault
+  right_cause [] a b a' b' fault m two gave read cause = cc two
+  right_cause (x ∷ []) a b a' b' fault m two gave read cause = cc two
+  right_cause (x ∷ (y ∷ [])) a b a' b' fault m two gave read cause = inr (m, (gave, (read, cause)))
+  right_cause (x ∷ (y ∷ (z ∷ more))) a b a' b' fault m two gave read cause = cc two
