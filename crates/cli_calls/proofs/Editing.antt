@@ -1,6 +1,7 @@
 -- What an edit makes, writes and tells.
 use Rattle.std.proofs.Common.{◌≡◌, ℕ, List, [], ◌∷◌, length, Option, Some, Result, Ok, Err, inr, refl, sym, ap, subst, ◌∙◌}
-use Rattle.std.specs.Prelude.{OnOk, IfErr, option_map}
+use Rattle.std.specs.Prelude.{OnOk, IfOk, IfErr, option_map}
+use Rattle.std.specs.String.{string_bytes}
 use Rattle.mt_stamp.specs.declared.name.Replica.{Replica}
 use Rattle.mt_op.specs.Operation.{Operation}
 use Rattle.mt_opcodec.specs.LogValue.{LogMap}
@@ -8,6 +9,8 @@ use Rattle.mt_replica.specs.Kept.{Kept, with_op, kept_with}
 use Rattle.mt_script.specs.declared.fault.ScriptFault.{ScriptFault}
 use Rattle.mt_script.specs.declared.fault.ScriptFault.TheVariants as script
 use Rattle.mt_script.specs.Script.{scripted, scripted_in, with_ops, counted, kept_with_ops, kept_with_all, RunGives}
+use Rattle.cli_calls.specs.declared.command.Made.{Made}
+use Rattle.cli_calls.specs.declared.fault.CliFault.{CliFault}
 use Rattle.cli_calls.specs.Writing.{Refuses}
 use Rattle.cli_calls.specs.Faults.{script_fault}
 use Rattle.cli_calls.specs.Reading.{text_of}
@@ -50,6 +53,11 @@ pub edit_made : (name : Replica) (log : LogMap) (text : List ℕ) (count : ℕ) 
     → bytes ≡ text_of set → line ≡ ops_line count → EditMakes name log text (Ok (bytes, line))
 edit_made name log text count after set bytes line r is all told =
     (r.ops, (r.made, (all ∙ ap text_of (cc (sym is ∙ r.holds)), told ∙ ap ops_line r.counts)))
+
+pub edited_as : {Z : Type 0} (name : Replica) (log : LogMap) (text : List ℕ) (count : ℕ) (after : Option LogMap) → Ran name log text count after → (result : Result (Made Z) CliFault)
+    → IfOk result (λ made. (set : LogMap) × ((after ≡ Some set) × ((made.bytes.items ≡ text_of set) × (string_bytes made.text ≡ ops_line count)))) → IfOk result (λ made. EditMakes name log text (Ok (made.bytes.items, string_bytes made.text)))
+edited_as name log text count after r (Ok made) (set, (is, (all, told))) = edit_made name log text count after set made.bytes.items (string_bytes made.text) r is all told
+edited_as name log text count after r (Err fault) told = told
 
 -- a script that is refused
 module _ (name : Replica) (log : LogMap) (text : List ℕ) (before : Kept) (is : before ≡ draft_of name log) where
