@@ -13,7 +13,7 @@ TOP = os.path.dirname(os.path.dirname(os.path.dirname(os.path.abspath(__file__))
 sys.path.insert(0, os.path.join(TOP, "tests"))
 from pages.commands import commands  # noqa: E402
 
-# files of cases that are about the program as a whole, and commands whose cases are among those of others
+# a file of cases that are about the program as a whole
 WITHOUT_COMMAND = {"radio"}
 
 

@@ -67,7 +67,7 @@ ROOMS = {
         "mt_session_tests": "tests of sessions",
         "mt_editor_tests": "tests of editors, worlds and conversations",
         "mt_output_tests": "tests of mixes, scripts and rendered files",
-        "mt_cli_tests": "tests of the commands and of the texts that they print; calls of every public call",
+        "mt_cli_tests": "tests of the commands and of the texts that they print; public calls with their arguments",
     },
 }
 
