@@ -133,14 +133,11 @@ def difference(name, names, old_top, new_top=TOP, body=None):
     else:
         others = [one for one in bodies_of(name, new_top) if one != body]
         old_others = [one for one in bodies_of(old_name, old_top) if one != old_path(body, names)]
-    texts, lines = covered(name, new_top, others)
-    old_texts, old_lines = covered(old_name, old_top, old_others)
-    both = both_names({"crates.txt": "".join(lines), **texts}, names)
+    texts = covered(name, new_top, others)
+    old_texts = covered(old_name, old_top, old_others)
+    both = both_names(texts, names)
     if both:
         return both
-    was = sorted(tokens_of("crates.antt", line, {}) for line in old_lines)
-    if sorted(tokens_of("crates.antt", line, names) for line in lines) != was:
-        return "crates.txt: other lines"
     paths = {old_path(path, names): path for path in texts}
     for path in sorted(paths.keys() ^ old_texts.keys()):
         return "%s: %s" % (path, "it is new" if path in paths else "it is gone")

@@ -3,10 +3,10 @@ of these for tests/wrong_bodies.tried.
 
 The sum covers the wrong bodies; the functions that they edit, or that have to be refused, with
 their proofs; of all other functions of the crate and of those below it what a caller can know,
-where those that are edited or the wrong bodies may call them by name; all that is no function; the
-definitions and proofs that any of this names; the crate's line of crates.txt; what counts as
-refused; and the toolchain's logic. It covers no tests, no remarks, and of the crates below neither
-what they stand on nor names that they export and the crate does not name."""
+where those that are edited or the wrong bodies may call them by name; the types, constants and
+interfaces that any of this names, and what these name (tests/bodies/items.py); the definitions and
+proofs that any of it names; what counts as refused; and the toolchain's logic. It covers no tests,
+no remarks, and nothing that none of this can name."""
 import functools
 import hashlib
 import os
@@ -16,6 +16,7 @@ import threading
 
 from bodies.edits import edits_of, texts_of
 from bodies.edits import functions as functions_read
+from bodies.items import NAMED, head_words, reached, words_in
 
 TOP = os.path.dirname(os.path.dirname(os.path.dirname(os.path.abspath(__file__))))
 TRIED = os.path.join(TOP, "tests", "wrong_bodies.tried")
@@ -32,6 +33,10 @@ IMPORT = r"(?m)^(ghost )?use [^;]*;\n"
 
 # A line that gives names of a file to those who use its crate.
 EXPORT = r"(?m)^pub use [^;]*;\n"
+
+# A struct, and its fields that only its own crate can name.
+STRUCT = r"(?m)^(?:pub(?:\(\w+\))? )?struct [^;]*?\{\n(?:[ #].*\n|\n)*\}\n"
+PRIVATE = r"(?m)^    (?:pub\(crate\) )?(?!pub |ghost )\w+: [^\n]*,\n"
 
 
 def text_of(path):
@@ -87,14 +92,15 @@ def hidden_lines(lines, one, words):
 
 def for_callers(path, text, words, whole=None):
     """What a crate above that has these words rests on in a source file: of a function its head and
-    its clauses, and nothing of one that the crate cannot or does not name; no remark, and no line
-    for names that none of this has; of a file that has nothing else, nothing. Of the crate's own
+    its clauses, and nothing of one that the crate cannot or does not name; no private field, no
+    remark, and no line for names that none of this has; of a file that has nothing else, nothing. Of the crate's own
     files the functions of some names are whole, and each may be called."""
     named = frozenset(one.name for one in functions(path, text))
     kept = kept_lines(path, text, named & words, None if whole is None else named & whole)
     if whole is not None:
         return kept
     kept = re.sub(EXPORT, lambda line: of_names(line.group(), words), kept)
+    kept = re.sub(STRUCT, lambda one: re.sub(PRIVATE, "", one.group()), kept)
     return kept if kept.strip() else ""
 
 
@@ -137,12 +143,15 @@ def path_of(name, body):
 
 
 def edited_names(names, crate):
-    """The names of the functions that wrong bodies edit, or that have to be refused."""
-    found = set()
+    """The names of the functions that wrong bodies edit, or that have to be refused, and the files
+    in which one edits something else."""
+    found, files = set(), set()
     for edit in edits_of(crate, names):
         found.update(one.name for one in edit.functions())
         found.update([edit.refused] if edit.refused else [])
-    return found
+        if edit.is_alone():
+            files.update(os.path.join(crate, file) for file, _, _ in edit.pairs)
+    return found, files
 
 
 def own_texts(name, top, without):
@@ -151,24 +160,28 @@ def own_texts(name, top, without):
     crate = os.path.join(top, "crates", name)
     bodies = {one: text for one, text in texts_of(crate).items() if one not in without}
     texts = {os.path.join(top, path_of(name, one)): text for one, text in bodies.items()}
-    whole = edited_names(bodies, crate)
+    whole, files = edited_names(bodies, crate)
     for path in files_below(crate, "proofs"):
         folders = os.path.relpath(path, crate).split(os.sep)[1:-1]
         if {one.lstrip("+") for one in folders} & whole:
             texts[path] = text_of(path)
     sources = {path: text_of(path) for path in files_below(crate, "src")}
-    words = set(re.findall(r"\w+", " ".join(texts.values())))
+    words = set(words_in("\n".join(texts.values())))
     for path, text in sources.items():
         lines = text.split("\n")
         for one in (one for one in functions(path, text) if one.name in whole):
-            words.update(re.findall(r"\w+", "\n".join(lines[one.first - 1 : one.last])))
+            words |= words_in("\n".join(lines[one.first - 1 : one.last]))
+            words |= head_words(one.head) if one.head else set()
+        if path in files:
+            words.update(found.group(1) for line in lines for found in [NAMED.match(line)] if found)
+    kept = {}
     for path, text in sources.items():
-        kept = for_callers(path, text, words, whole)
         # an attribute names the crate's own proofs and definitions so
-        kept = re.sub(r"\bcrate::(proofs|specs)::", name + r"::\1::", kept)
-        if kept:
-            texts[path] = kept
-    return texts
+        one = for_callers(path, text, words, whole)
+        one = re.sub(r"\bcrate::(proofs|specs)::", name + r"::\1::", one)
+        if one:
+            kept[path] = one
+    return texts, reached(kept, words, lambda text: modules(text, top))
 
 
 def parts_of_use(line):
@@ -182,7 +195,7 @@ def of_names(line, words):
     """A line of names with those that are among these words; nothing where there are none."""
     origin, names = parts_of_use(line)
     used = [name for name in names if name == "*" or name.split(" ")[-1] in words]
-    return "%s{%s}\n" % (origin, ", ".join(used)) if used else ""
+    return "%s{%s};\n" % (origin, ", ".join(used)) if used else ""
 
 
 def of_use(line, text):
@@ -195,7 +208,7 @@ def of_use(line, text):
         for name in names
         if name == "*" or re.search(r"(?<!\w)%s(?!\w)" % words[name], text)
     ]
-    return "%s{%s}\n" % (origin, ", ".join(used)) if used else ""
+    return "%s{%s};\n" % (origin, ", ".join(used)) if used else ""
 
 
 @functools.lru_cache(maxsize=None)
@@ -215,14 +228,9 @@ def modules_named(text, top):
     return found
 
 
-def with_what_they_name(texts, top):
-    """Texts by their files, with those of the modules that they name, and that these name."""
-    texts, wanted = dict(texts), list(texts)
-    while wanted:
-        for path in modules_named(texts[wanted.pop()], top) - texts.keys():
-            texts[path] = text_of(path)
-            wanted.append(path)
-    return texts
+def modules(text, top):
+    """The modules that a text names, by their paths, without remarks."""
+    return {path: without_remarks(path, text_of(path)) for path in modules_named(text, top)}
 
 
 def files_below(top, *folders):
@@ -241,29 +249,31 @@ def without_remarks(path, text):
 
 
 def covered(name, top=TOP, without=()):
-    """All that the wrong bodies of a crate, but for some, rest on: texts by their paths below `top`,
-    and its line of crates.txt."""
+    """All that the wrong bodies of a crate, but for some, rest on: texts by their paths below
+    `top`."""
     lines = crate_lines(top)
-    reached = sorted(crates_below(name, lines))
-    texts = own_texts(name, top, without)
-    words = set(re.findall(r"\w+", " ".join(texts.values())))
-    others = [os.path.join("crates", one, "src") for one in reached if one != name]
-    for path in files_below(top, *others):
-        told = for_callers(path, text_of(path), words)
-        if told:
-            texts[path] = told
-    texts = with_what_they_name(texts, top)
+    others = [one for one in crates_below(name, lines) if one != name]
+    fixed, own = own_texts(name, top, without)
+    words = words_in("\n".join([*fixed.values(), *own.values()]))
+    sources = files_below(top, *(os.path.join("crates", one, "src") for one in others))
+    below = {path: for_callers(path, text_of(path), words) for path in sources}
+    for path in own:
+        below.pop(path, None)
+    below = {path: text for path, text in below.items() if text}
+    # what the wrong bodies and the proofs name, and all that is reached from it
+    for text in [*fixed.values(), *own.values()]:
+        below.update(modules(text, top))
+    texts = {**reached(below, words, lambda text: modules(text, top)), **own, **fixed}
     texts = {path: without_remarks(path, text) for path, text in sorted(texts.items())}
-    return {os.path.relpath(path, top): text for path, text in texts.items()}, [lines[name]]
+    return {os.path.relpath(path, top): text for path, text in texts.items()}
 
 
 def sum_of(name, top=TOP):
     """A sum of all that the wrong bodies of a crate rest on."""
-    texts, lines = covered(name, top)
+    texts = covered(name, top)
     version = subprocess.run(["rt", "version"], capture_output=True, check=True, text=True).stdout
     made = hashlib.sha256(version.partition("logic ")[2].encode())
-    for line in lines + [RULES]:
-        made.update(line.encode())
+    made.update(RULES.encode())
     for path, text in texts.items():
         one = hashlib.sha256(text.encode()).hexdigest()
         made.update(("%s %s\n" % (path, one)).encode())

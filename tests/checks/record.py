@@ -4,8 +4,8 @@
 A small made-up tree is renamed: names, a file, a folder, a crate; imports in another order, a
 list on several lines, another remark. That is the same tokens, and each crate gets its line.
 Then one thing more changes: a body, a clause, two names that change places, a definition, a
-proof, a wrong body, what a crate stands on. Each of these has to be told, and the crate has to
-stay as it is. So do maps that do not lead back without a doubt. Of two wrong bodies in one crate
+proof, a wrong body. Each of these has to be told, and the crate has to stay as it is; what none of
+its wrong bodies can name may change. So do maps that do not lead back without a doubt. Of two wrong bodies in one crate
 that one is tried which rests on what changed. At last the whole command runs
 in a repository, and so does `--changed`, with a stand-in for rt that refuses a body, admits it,
 or refuses it by an answer that fits no longer or by names alone: a drawn body that is not
@@ -48,8 +48,9 @@ ANSWERS = (
     "pub returns-then-one : Goal\nreturns-then-one = rw total\n"
 )
 HIGH = (
-    "use low::{Hand, added};\n\npub fn twice(one: u32) -> u32\n"
-    "    ensures Rattle.low.specs.Sums.total one one ≡ result\n{\n    added(one, one)\n}\n"
+    "use low::{Hand, added};\n\npub fn both(one: Hand) -> u32\n"
+    "    ensures Rattle.low.specs.Sums.total one.left one.right ≡ result\n{\n"
+    "    added(one.left, one.right)\n}\n"
 )
 EDIT = "edit: takes_away\nfile: src/lib.rt\nold:     one + other //\nnew:     one - other //\n"
 OLD = {
@@ -64,7 +65,7 @@ OLD = {
     "crates/low/wrong-bodies.txt": EDIT,
     "crates/high/src/lib.rt": HIGH,
     "crates/high/wrong-bodies.txt": (
-        "edit: thrice\nfile: src/lib.rt\nold: added(one, one)\nnew: 0\n"
+        "edit: neither\nfile: src/lib.rt\nold: added(one.left, one.right)\nnew: 0\n"
     ),
 }
 NAMES = {
@@ -98,10 +99,10 @@ def renamed_tree():
 CHANGES = {
     "a body": ("base", "crates/base/src/lib.rt", "first + other //", "other + first //"),
     "a sign": ("base", "crates/base/src/lib.rt", "first + other //", "first - other //"),
-    "a type": ("base high", "crates/base/src/arm.rt", "u32", "u64"),
+    "a type": ("high", "crates/base/src/arm.rt", "u32", "u64"),
     "a clause": ("base high", "crates/base/src/lib.rt", "ensures result ≡ first + other", ""),
     "a premise": ("base high", "crates/base/src/lib.rt", "4294967296", "4294967295"),
-    "swapped names": ("base high", "crates/base/src/arm.rt", "left: u32,\n    pub right",
+    "swapped names": ("high", "crates/base/src/arm.rt", "left: u32,\n    pub right",
                       "right: u32,\n    pub left"),
     "a definition": ("base high", "crates/base/specs/Whole.antt", "b = a + b", "b = b + a"),
     "a proof": ("base", "crates/base/proofs/summed/Answers.antt", "rw entire", "rw"),
@@ -109,7 +110,12 @@ CHANGES = {
                "returns - then-first ="),
     "a wrong body": ("base", "crates/base/wrong-bodies.txt", "- other", "* other"),
     "an old name": ("base high", "crates/base/src/lib.rt", "pub fn summed(", "pub fn added("),
-    "a crate below": ("high", "crates.txt", "high: base", "high: base std"),
+    "a private field": ("", "crates/base/src/arm.rt", "    pub right: u32,\n",
+                        "    pub right: u32,\n    own: u32,\n"),
+    "a definition that nothing names": ("", "crates/base/specs/Whole.antt", "abbrev pub entire",
+                                        "abbrev pub more : ℕ\nmore = 0\n\nabbrev pub entire"),
+    "a type that nothing names": ("", "crates/base/src/arm.rt", "pub struct Arm {",
+                                  "pub struct Leg {\n    pub long: u32,\n}\n\npub struct Arm {"),
 }
 BAD_MAPS = {
     "two to one": "low base\nhigh base\n",
@@ -191,7 +197,7 @@ os.makedirs("out/incremental", exist_ok=True)
 with open("src/lib.rt") as file:
     lines = file.read().split("\\n")
 head = [k for k, line in enumerate(lines) if line.startswith("pub fn")][0]
-edited = not any("one + other //" in line or "added(one, one)" in line for line in lines)
+edited = not any("one + other //" in line or "added(one.left, one.right)" in line for line in lines)
 how = os.environ["HOW"] if os.path.exists("proofs") else "refused"
 answers = "proofs/added/Answers.antt"
 told = "fn added: proved"
