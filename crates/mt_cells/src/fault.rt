@@ -1,6 +1,6 @@
 //! Why a cell could not grow.
 
-ghost use Rattle.std.specs.Prelude.{◌≡◌};
+ghost use Rattle.std.specs.Prelude.{◌≡◌, alloc_error};
 ghost use Rattle.mt_cells.specs.declared.fault.CellFault.TheVariants.{Memory};
 
 use std::alloc::{AllocError, AllocFailed};
@@ -29,6 +29,14 @@ impl From<AllocError> for CellFault {
 
     fn from(_error: AllocError) -> CellFault {
         CellFault::Memory
+    }
+}
+
+impl From<CellFault> for AllocError {
+    ghost from_gives = { λ _ e. e ≡ alloc_error };
+
+    fn from(_error: CellFault) -> AllocError {
+        AllocError
     }
 }
 

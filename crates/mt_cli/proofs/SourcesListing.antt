@@ -12,6 +12,7 @@ use Rattle.mt_preflight.specs.declared.given.Recording.{Recording}
 use Rattle.mt_preflight.specs.declared.listing.Listing.{Listing}
 use Rattle.mt_cli.specs.declared.fault.CliFault.{CliFault}
 use Rattle.mt_cli.specs.declared.fault.CliFault.TheVariants.{Memory}
+use Rattle.mt_cli.specs.declared.form.LineForm.{LineForm}
 use Rattle.mt_cli.specs.LogAndFiles.{FilesLent, TextFails}
 use Rattle.mt_cli.specs.Reading.{GaveEach, AreRead}
 use Rattle.mt_cli.specs.SourcesListing.{listing, GaveRecording, HasFileCause, FilesListed, FilesFail}
@@ -28,13 +29,13 @@ mapped_more {X} f xs i x at =
     let front = take_more xs i x (slice_get_within xs i x at) ∙ ap (λ (y : X). take i xs ++ y ∷ []) (get_or_from_slice_get xs i x x at) in
     sym (ap (map f) front ∙ map-append f (take i xs) (x ∷ []))
 
-module _ {R W : Type 0} (remaining : R → Option (List ℕ)) (contents : W → Option (List ℕ)) (which : Listing) (names : List (List ℕ)) (log : LogMap) (before after : FilesLent R W) (recordings : List (Result Recording WaveFault)) where
+module _ {R W : Type 0} (remaining : R → Option (List ℕ)) (contents : W → Option (List ℕ)) (form : LineForm) (which : Listing) (names : List (List ℕ)) (log : LogMap) (before after : FilesLent R W) (recordings : List (Result Recording WaveFault)) where
   pub files_listed : (result : Result (Unit {0}) CliFault) → GaveEach (GaveRecording remaining) before.files recordings
-      → OnOk result (Appends (contents before.output.inner) (contents after.output.inner) (listing which log names recordings)) → OnOk result (FilesListed remaining contents which names log before after)
+      → OnOk result (Appends (contents before.output.inner) (contents after.output.inner) (listing form which log names recordings)) → OnOk result (FilesListed remaining contents form which names log before after)
   files_listed (Ok unit) gave put = (recordings, (gave, put))
   files_listed (Err fault) gave put = put
 
   pub files_not_listed : (result : Result (Unit {0}) CliFault) → GaveEach (GaveRecording remaining) before.files recordings → AreRead remaining after.files
-      → IfErr result (TextFails contents (listing which log names recordings) before.output after.output) → IfErr result (FilesFail remaining contents which names log before after)
+      → IfErr result (TextFails contents (listing form which log names recordings) before.output after.output) → IfErr result (FilesFail remaining contents form which names log before after)
   files_not_listed (Ok unit) gave read fails = fails
   files_not_listed (Err fault) gave read fails = inr (recordings, (gave, (read, fails)))

@@ -1,12 +1,27 @@
 -- Texts that are written or refused.
-use Rattle.std.proofs.Common.{◌≡◌, ℕ, List, Option, Result, Ok, Err, inr}
+use Rattle.std.proofs.Common.{◌≡◌, ℕ, List, Option, Result, Ok, Err, inr, subst, sym}
 use Rattle.std.specs.Prelude.{OnOk, IfErr}
 use Rattle.mt_latch.specs.Latch.{Latched}
 use Rattle.mt_opcodec.specs.LogValue.{LogMap}
 use Rattle.mt_opcodec.specs.Union.{union_all, AllAgree}
 use Rattle.mt_cli.specs.declared.fault.CliFault.{CliFault}
+use Rattle.mt_cli.specs.declared.fault.CliFault.TheVariants as cli
+use Rattle.mt_cli.specs.LogAndFiles.{TextFails}
+use Rattle.mt_cli.specs.OneLog.{HasFailed}
 use Rattle.mt_cli.specs.Reading.{GaveLog, GaveLogs, IsRead}
 use Rattle.mt_cli.specs.Writing.{WriteFails, InputFails}
+
+-- ---- a text that was made, and then written
+
+pub text_not_written : {W : Type 0} (contents : W → Option (List ℕ)) (old new : Latched W) (result : Result (Unit {0}) CliFault) {shown text : List ℕ} → shown ≡ text
+    → IfErr result (λ fault. (fault ≡ cli.Write) × HasFailed contents shown old new) → IfErr result (TextFails contents text old new)
+text_not_written contents old new (Ok unit) same failed = failed
+text_not_written contents old new (Err fault) {shown} {text} same failed = subst (TextFails contents text old new) (sym failed.0) (subst (λ (l : List ℕ). HasFailed contents l old new) same failed.1)
+
+pub bytes_not_written : {W : Type 0} (text : LogMap → List ℕ) (contents : W → Option (List ℕ)) (log : LogMap) (old new : Latched W) (result : Result (Unit {0}) CliFault) {shown : List ℕ} → shown ≡ text log
+    → IfErr result (λ fault. (fault ≡ cli.Write) × HasFailed contents shown old new) → IfErr result (WriteFails text contents log old new)
+bytes_not_written text contents log old new (Ok unit) same failed = failed
+bytes_not_written text contents log old new (Err fault) {shown} same failed = subst (WriteFails text contents log old new) (sym failed.0) (subst (λ (l : List ℕ). HasFailed contents l old new) same failed.1)
 
 pub log_written : (result : Result (Unit {0}) CliFault) (log : LogMap) (Given : LogMap → Type 0) (Writes : LogMap → Type 0) → Given log → OnOk result (Writes log) → OnOk result ((m : LogMap) × (Given m × Writes m))
 log_written (Ok unit) log Given Writes given writes = (log, (given, writes))

@@ -12,6 +12,8 @@ use Rattle.mt_preflight.specs.declared.given.Recording.{Recording}
 use Rattle.mt_preflight.specs.declared.listing.Listing.{Listing}
 use Rattle.mt_sessionview.specs.Session.{session_of}
 use Rattle.mt_cli.specs.declared.fault.CliFault.{CliFault}
+use Rattle.mt_cli.specs.declared.form.LineForm.{LineForm}
+use Rattle.mt_cli.specs.Form.{in_form}
 use Rattle.mt_cli.specs.LogAndFiles.{FilesLent, TextFails}
 use Rattle.mt_cli.specs.Reading.{Gave, GaveEach, FirstCause, IsRead, IsReadCause, IsRest, AreRead}
 
@@ -22,9 +24,9 @@ given (name, r) = record { name = name; recording = r }
 abbrev pub given_files : List (List ℕ) → List (Result Recording WaveFault) → List GivenFile
 given_files names recordings = map given (zip names recordings)
 
--- the text on a log's session and files of these names
-abbrev pub listing : Listing → LogMap → List (List ℕ) → List (Result Recording WaveFault) → List ℕ
-listing which log names recordings = listing_text which (session_of (operations log)).tracks (given_files names recordings)
+-- the text on a log's session and files of these names, in a form of lines
+abbrev pub listing : LineForm → Listing → LogMap → List (List ℕ) → List (Result Recording WaveFault) → List ℕ
+listing form which log names recordings = in_form form (listing_text which (session_of (operations log)).tracks (given_files names recordings))
 
 module _ {R : Type 0} (remaining : R → Option (List ℕ)) where
   -- the reader gave bytes that are this recording, or no wave file for this reason
@@ -39,16 +41,16 @@ module _ {R : Type 0} (remaining : R → Option (List ℕ)) where
   abbrev pub HasFileCause : List (Latched R) → List (Latched R) → CliFault → Type 0
   HasFileCause = FirstCause (IsRead remaining) GaveRecording IsFileCause 0
 
-module _ {R W : Type 0} (remaining : R → Option (List ℕ)) (contents : W → Option (List ℕ)) (which : Listing) (names : List (List ℕ)) where
+module _ {R W : Type 0} (remaining : R → Option (List ℕ)) (contents : W → Option (List ℕ)) (form : LineForm) (which : Listing) (names : List (List ℕ)) where
   -- the text on a log's session and files was appended, and nothing else
   abbrev pub FilesListed : LogMap → FilesLent R W → FilesLent R W → Type 0
   FilesListed log before after =
       (recordings : List (Result Recording WaveFault))
-      × (GaveEach (GaveRecording remaining) before.files recordings × Appends (contents before.output.inner) (contents after.output.inner) (listing which log names recordings))
+      × (GaveEach (GaveRecording remaining) before.files recordings × Appends (contents before.output.inner) (contents after.output.inner) (listing form which log names recordings))
 
   -- a file was not read: the output is as it was; or all were, and the text was not written
   abbrev pub FilesFail : LogMap → FilesLent R W → FilesLent R W → CliFault → Type 0
   FilesFail log before after fault =
       (HasFileCause remaining before.files after.files fault × (after.output ≡ before.output))
       ⊎ ((recordings : List (Result Recording WaveFault))
-      × (GaveEach (GaveRecording remaining) before.files recordings × (AreRead remaining after.files × TextFails contents (listing which log names recordings) before.output after.output fault)))
+      × (GaveEach (GaveRecording remaining) before.files recordings × (AreRead remaining after.files × TextFails contents (listing form which log names recordings) before.output after.output fault)))

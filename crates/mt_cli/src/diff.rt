@@ -3,7 +3,6 @@
 ghost use Rattle.std.specs.Prelude.{◌≡◌, ℕ, true, false, Some, Ok, OnOk, IfOk, IfErr};
 ghost use Rattle.mt_sync.specs.Conversation.{hears};
 ghost use Rattle.mt_sync.specs.Conversing.{TakesAll};
-ghost use Rattle.mt_logdiff.specs.DiffText.{IsTold, IsToldInPart};
 ghost use Rattle.mt_cli.specs.Comparing.{diff_by, begins_as_frame, without_operations, IsLogOf, IsNoLogAs, IsNoLogOf};
 ghost use Rattle.mt_cli.specs.Comparing.{GaveLogOf, GaveNoLog, TextFails, DiffWritten, DiffFails};
 ghost use Rattle.mt_cli.specs.Form.{in_form};
@@ -15,66 +14,40 @@ use crate::form::{LineForm, put_in_form};
 use crate::laws::log_in_memory;
 use crate::read::{read_all, refused};
 use crate::take::refused_sync;
-use mt_logdiff::{write_diff, write_diff_with_fields, write_view_diff};
+use mt_logdiff::{diff_text, diff_with_fields_text, view_diff_text};
 use mt_opcodec::{Latch, Log};
-use mt_sessionview::SessionFault;
 use mt_sync::{GrowingLog, take_ops};
-use std::alloc::{Allocator, Global};
+use std::alloc::{AllocError, Allocator, Global};
 use std::io::{Read, Write};
 
 /// What is told of two logs beside each other.
 #[derive(Clone, Copy, Debug, PartialEq, Eq)]
 pub enum DiffForm {
-    /// The operations that one of them alone has: the text of `write_diff`.
+    /// The operations that one of them alone has: the text of `diff_text`.
     Operations,
-    /// The same, and the fields that both alone write: the text of `write_diff_with_fields`.
+    /// The same, and the fields that both alone write: the text of `diff_with_fields_text`.
     Fields,
-    /// The lines of the session that go and those that come: the text of `write_view_diff`.
+    /// The lines of the session that go and those that come: the text of `view_diff_text`.
     View,
 }
 
-// Writes what is asked for of two logs.
-fn write_by<A: Allocator + Clone, W: Write>(
+// What is asked for of two logs.
+fn diff_of<A: Allocator + Clone>(
     alloc: A,
     form: DiffForm,
     left: &Log<A>,
     right: &Log<A>,
-    output: &mut Latch<W>,
-) -> Result<(), SessionFault>
-    ensures whole { OnOk result (IsTold W.contents output.old output.new (diff_by form left.now right.now)) }
-    ensures prefix { IsToldInPart W.contents output.old output.new (diff_by form left.now right.now) }
-    ensures sound { OnOk result (output.new.failed ≡ false) }
-    ensures write { IfErr result (λ fault. fault ≡ SessionFault.Write → output.new.failed ≡ true) }
-    ensures stays_failed { output.old.failed ≡ true → output.new ≡ output.old }
-    ensures memory { IfErr result (λ fault. fault ≡ SessionFault.Memory → output.new ≡ output.old) }
+) -> Result<Vec<u8, A>, AllocError>
+    ensures { IfOk result (λ text. text.items ≡ diff_by form left.now right.now) }
 {
     match form {
-        DiffForm::Operations => write_diff(alloc, left, right, output),
-        DiffForm::Fields => write_diff_with_fields(alloc, left, right, output),
-        DiffForm::View => write_view_diff(alloc, left, right, output),
+        DiffForm::Operations => Ok(diff_text(alloc, left, right)?.into_bytes()),
+        DiffForm::Fields => Ok(diff_with_fields_text(alloc, left, right)?.into_bytes()),
+        DiffForm::View => view_diff_text(alloc, left, right),
     }
 }
 
-// The same, refused as commands are.
-fn put_diff<A: Allocator + Clone, W: Write>(
-    alloc: A,
-    form: DiffForm,
-    left: &Log<A>,
-    right: &Log<A>,
-    output: &mut Latch<W>,
-) -> Result<(), CliFault>
-    ensures ok { OnOk result (HasWritten W.contents (diff_by form left.now right.now) output.old output.new) }
-    ensures err { IfErr result (TextFails W.contents (diff_by form left.now right.now) output.old output.new) }
-    ensures stays_failed { output.old.failed ≡ true → output.new ≡ output.old }
-{
-    match write_by(alloc, form, left, right, output) {
-        Ok(()) => Ok(()),
-        Err(SessionFault::Memory) => Err(CliFault::Memory),
-        Err(SessionFault::Write) => Err(CliFault::Write),
-    }
-}
-
-// The same in a form of lines.
+// Writes it in a form of lines.
 fn put_lines<A: Allocator + Clone, W: Write>(
     alloc: A,
     form: DiffForm,
@@ -87,14 +60,8 @@ fn put_lines<A: Allocator + Clone, W: Write>(
     ensures err { IfErr result (TextFails W.contents (in_form lines (diff_by form left.now right.now)) output.old output.new) }
     ensures stays_failed { output.old.failed ≡ true → output.new ≡ output.old }
 {
-    if lines.is_plain() {
-        return put_diff(alloc, form, left, right, output);
-    }
-    let mut made = Latch::new(Vec::new(alloc.clone()?));
-    match put_diff(alloc.clone()?, form, left, right, &mut made) {
-        Ok(()) => put_in_form(alloc, lines, &made.into_inner(), output),
-        Err(_) => Err(CliFault::Memory),
-    }
+    let text = diff_of(alloc.clone()?, form, left, right)?;
+    put_in_form(alloc, lines, &text, output)
 }
 
 // Whether bytes begin with the length of a frame.

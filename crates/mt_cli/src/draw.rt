@@ -1,22 +1,22 @@
 //! Drawing the sessions of logs.
 
-ghost use Rattle.std.specs.Prelude.{◌≡◌, ◌≤◌, false, true, IfErr, OnOk, List};
+ghost use Rattle.std.specs.Prelude.{◌≡◌, ◌≤◌, false, true, IfErr, IfOk, OnOk, List};
 ghost use Rattle.std.specs.Io.KnownBytes.{Appends};
 ghost use Rattle.mt_opcodec.specs.LogValue.{LogMap};
 ghost use Rattle.mt_opcodec.specs.Union.{AllAgree};
-ghost use Rattle.mt_latch.specs.Latch.{AppendsPrefix};
 ghost use Rattle.mt_cli.specs.Drawing.{columns_of, drawing_text, log_drawing, drawn_text};
 ghost use Rattle.mt_cli.specs.Reading.{GaveLog, GaveLogs, IsRead, AreRead};
 ghost use Rattle.mt_cli.specs.Writing.{WriteFails, InputsFail, InputFails};
 
 use crate::fault::CliFault;
+use crate::put::put_bytes;
 use crate::tell::{Telling, tell_log, tell_logs};
 use mt_opcodec::{Latch, Log};
 use mt_render::Catalogue;
-use mt_sessionview::{Session, SessionFault, of_log};
-use mt_svg::write_svg;
-use mt_timeline::{Lengths, write_timeline};
-use std::alloc::Allocator;
+use mt_sessionview::{Session, of_log};
+use mt_svg::svg_text;
+use mt_timeline::{Lengths, timeline_text};
+use std::alloc::{AllocError, Allocator};
 use std::io::{Read, Write};
 
 /// How a session is drawn.
@@ -28,31 +28,21 @@ pub enum Drawing {
     Svg,
 }
 
-// Draws a session.
-fn put_drawing<A: Allocator + Clone, B: Allocator, C: Allocator, W: Write>(
+// The drawing of a session.
+fn drawing_of<A: Allocator + Clone, B: Allocator, C: Allocator>(
     alloc: A,
     drawing: Drawing,
     rate: u32,
     recordings: &Catalogue<'_, C>,
     session: &Session<B>,
-    output: &mut Latch<W>,
-) -> Result<(), SessionFault>
+) -> Result<Vec<u8, A>, AllocError>
     requires columns { 1 ≤ columns_of drawing }
     requires rate { 1 ≤ rate }
-    ensures whole { OnOk result (Appends (W.contents output.old.inner) (W.contents output.new.inner)
-        (drawing_text drawing rate recordings.now session.now)) }
-    ensures prefix { AppendsPrefix (W.contents output.old.inner) (W.contents output.new.inner)
-        (drawing_text drawing rate recordings.now session.now) }
-    ensures sound { OnOk result (output.new.failed ≡ false) }
-    ensures write { IfErr result (λ fault. fault ≡ SessionFault.Write → output.new.failed ≡ true) }
-    ensures stays_failed { output.old.failed ≡ true → output.new ≡ output.old }
-    ensures memory { IfErr result (λ fault. fault ≡ SessionFault.Memory → output.new ≡ output.old) }
+    ensures { IfOk result (λ text. text.items ≡ drawing_text drawing rate recordings.now session.now) }
 {
     match drawing {
-        Drawing::Text { width, lengths } => {
-            write_timeline(alloc, width, lengths, rate, session, output)
-        }
-        Drawing::Svg => write_svg(alloc, rate, recordings, session, output),
+        Drawing::Text { width, lengths } => timeline_text(alloc, width, lengths, rate, session),
+        Drawing::Svg => Ok(svg_text(alloc, rate, recordings, session)?.into_bytes()),
     }
 }
 
@@ -89,18 +79,9 @@ impl<C: Allocator> Telling for Drawn<'_, '_, '_, C> {
         let Ok(session) = of_log(alloc.clone()?, log) else {
             return Err(CliFault::Memory);
         };
-        match put_drawing(
-            alloc,
-            self.how.drawing,
-            self.how.rate,
-            self.how.recordings,
-            &session,
-            output,
-        ) {
-            Ok(()) => Ok(()),
-            Err(SessionFault::Memory) => Err(CliFault::Memory),
-            Err(SessionFault::Write) => Err(CliFault::Write),
-        }
+        let how = self.how;
+        let text = drawing_of(alloc, how.drawing, how.rate, how.recordings, &session)?;
+        put_bytes(&text, output)
     }
 }
 

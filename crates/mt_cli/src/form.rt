@@ -1,6 +1,6 @@
 //! The forms in which lines are told.
 
-ghost use Rattle.std.specs.Prelude.{◌≡◌, ◌≤◌, true, max, None, IsTrue, IfErr, OnOk};
+ghost use Rattle.std.specs.Prelude.{◌≡◌, ◌≤◌, true, max, None, IsTrue, IfErr, IfOk, OnOk};
 ghost use Rattle.mt_lines.specs.Json.{json_text};
 ghost use Rattle.mt_lines.specs.Saying.{timed_text};
 ghost use Rattle.mt_cli.specs.Form.{in_form, with_times};
@@ -9,9 +9,9 @@ ghost use Rattle.mt_cli.specs.OneLog.{HasWritten};
 
 use crate::fault::CliFault;
 use crate::put::put_bytes;
-use mt_lines::{LinesFault, write_json, write_times};
+use mt_lines::{json_text, timed_text};
 use mt_opcodec::Latch;
-use std::alloc::{Allocator, Global};
+use std::alloc::{AllocError, Allocator, Global};
 use std::io::Write;
 
 /// The form in which the lines of a text are told: as they are, or otherwise in one or both of two ways.
@@ -38,19 +38,6 @@ impl LineForm {
     }
 }
 
-// Writes a text, each line as a JSON object.
-fn put_json<W: Write>(memory: Global, text: &[u8], output: &mut Latch<W>) -> Result<(), CliFault>
-    ensures ok { OnOk result (HasWritten W.contents (json_text text.now) output.old output.new) }
-    ensures err { IfErr result (TextFails W.contents (json_text text.now) output.old output.new) }
-    ensures stays_failed { output.old.failed ≡ true → output.new ≡ output.old }
-{
-    match write_json(memory, text, output) {
-        Ok(()) => Ok(()),
-        Err(LinesFault::Memory) => Err(CliFault::Memory),
-        Err(LinesFault::Write) => Err(CliFault::Write),
-    }
-}
-
 /// A rate, of which 0 counts as 1.
 pub(crate) fn at_least_one(rate: u32) -> u32
     ensures value { result ≡ max rate 1 }
@@ -59,52 +46,27 @@ pub(crate) fn at_least_one(rate: u32) -> u32
     if rate == 0 { 1 } else { rate }
 }
 
-// Writes a text, its positions and lengths as times.
-fn put_times<A: Allocator + Clone, W: Write>(
-    alloc: A,
-    rate: u32,
-    text: &[u8],
-    output: &mut Latch<W>,
-) -> Result<(), CliFault>
-    ensures ok { OnOk result (HasWritten W.contents (timed_text (max rate 1) text.now) output.old output.new) }
-    ensures err { IfErr result (TextFails W.contents (timed_text (max rate 1) text.now) output.old output.new) }
-    ensures stays_failed { output.old.failed ≡ true → output.new ≡ output.old }
+// A text with times at a rate, of which 0 counts as 1.
+fn timed_at<A: Allocator>(alloc: A, rate: u32, text: &[u8]) -> Result<Vec<u8, A>, AllocError>
+    ensures { IfOk result (λ timed. timed.items ≡ timed_text (max rate 1) text.now) }
 {
-    match write_times(alloc, at_least_one(rate), text, output) {
-        Ok(()) => Ok(()),
-        Err(LinesFault::Memory) => Err(CliFault::Memory),
-        Err(LinesFault::Write) => Err(CliFault::Write),
-    }
+    timed_text(alloc, at_least_one(rate), text)
 }
 
-// Writes a text, each line as a JSON object, with times or without.
-fn put_objects<A: Allocator + Clone, W: Write>(
+// A text with a JSON object for each line, with times or without.
+fn as_objects<A: Allocator>(
     alloc: A,
     memory: Global,
     rate: Option<u32>,
     text: &[u8],
-    output: &mut Latch<W>,
-) -> Result<(), CliFault>
-    ensures ok { OnOk result (HasWritten W.contents (json_text (with_times rate text.now)) output.old output.new) }
-    ensures err { IfErr result (TextFails W.contents (json_text (with_times rate text.now)) output.old output.new) }
-    ensures stays_failed { output.old.failed ≡ true → output.new ≡ output.old }
+) -> Result<Vec<u8>, AllocError>
+    ensures { IfOk result (λ json. json.items ≡ json_text (with_times rate text.now)) }
 {
     let Some(rate) = rate else {
-        return put_json(memory, text, output);
+        return json_text(memory, text);
     };
-    let mut timed = Latch::new(Vec::new(alloc.clone()?));
-    match put_times(alloc, rate, text, &mut timed) {
-        Ok(()) => put_json(memory, &timed.into_inner(), output),
-        Err(_) => Err(CliFault::Memory),
-    }
-}
-
-/// What came of writing in memory: a growth is all that is refused there.
-pub(crate) fn made_in_memory(done: Result<(), CliFault>) -> Result<(), CliFault> {
-    match done {
-        Err(CliFault::Write) => Err(CliFault::Memory),
-        other => other,
-    }
+    let timed = timed_at(alloc, rate, text)?;
+    json_text(memory, &timed)
 }
 
 /// Writes a text in a form, and nothing else. Refused as `Write` where the output's latch has failed, which then holds a prefix of it, and as `Memory` where a
@@ -120,10 +82,12 @@ pub(crate) fn put_in_form<A: Allocator + Clone, W: Write>(
     ensures stays_failed { output.old.failed ≡ true → output.new ≡ output.old }
 {
     if let Some(memory) = form.json {
-        return put_objects(alloc, memory, form.rate, text, output);
+        let json = as_objects(alloc, memory, form.rate, text)?;
+        return put_bytes(&json, output);
     }
-    match form.rate {
-        Some(rate) => put_times(alloc, rate, text, output),
-        None => put_bytes(text, output),
-    }
+    let Some(rate) = form.rate else {
+        return put_bytes(text, output);
+    };
+    let timed = timed_at(alloc, rate, text)?;
+    put_bytes(&timed, output)
 }

@@ -11,10 +11,10 @@ ghost use Rattle.mt_cli.specs.Writing.{WriteFails, InputsFail, InputFails};
 
 use crate::fault::CliFault;
 use crate::form::LineForm;
+use crate::put::put_bytes;
 use crate::tell::{InForm, Telling, tell_log, tell_logs};
-use mt_logtext::write_log_text;
+use mt_logtext::operations_text;
 use mt_opcodec::{Latch, Log};
-use mt_sessionview::SessionFault;
 use std::alloc::Allocator;
 use std::io::{Read, Write};
 
@@ -33,11 +33,8 @@ impl Telling for Operations {
         log: Log<A>,
         output: &mut Latch<W>,
     ) -> Result<(), CliFault> {
-        match write_log_text(alloc, &log, output) {
-            Ok(()) => Ok(()),
-            Err(SessionFault::Memory) => Err(CliFault::Memory),
-            Err(SessionFault::Write) => Err(CliFault::Write),
-        }
+        let text = operations_text(alloc, &log)?;
+        put_bytes(text.as_bytes(), output)
     }
 }
 

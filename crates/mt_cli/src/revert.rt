@@ -6,9 +6,10 @@ ghost use Rattle.mt_cli.specs.Reading.{IsRead};
 ghost use Rattle.mt_cli.specs.Reverting.{Reverting};
 
 use crate::fault::CliFault;
+use crate::put::put_bytes;
 use crate::read::read_log;
 use mt_opcodec::{Latch, Log};
-use mt_revert::{RevertFault, write_revert};
+use mt_revert::{RevertFault, revert_text};
 use mt_stamp::Stamp;
 use std::alloc::Allocator;
 use std::io::{Read, Write};
@@ -24,11 +25,10 @@ fn put_script<A: Allocator + Clone, W: Write>(
     ensures err { IfErr result (MadeFails W.contents (Reverting stamps.now log.now) output.old output.new) }
     ensures stays_failed { output.old.failed ≡ true → output.new ≡ output.old }
 {
-    match write_revert(alloc, log, stamps, output) {
-        Ok(()) => Ok(()),
+    match revert_text(alloc, log, stamps) {
+        Ok(text) => put_bytes(text.as_bytes(), output),
         Err(RevertFault::Memory) => Err(CliFault::Memory),
         Err(RevertFault::NoSuchItem(_)) => Err(CliFault::NoSuchItem(0)),
-        Err(RevertFault::Write) => Err(CliFault::Write),
     }
 }
 

@@ -8,19 +8,21 @@ ghost use Rattle.mt_opcodec.specs.LogValue.{operations};
 ghost use Rattle.mt_preflight.specs.Files.{recording_of};
 ghost use Rattle.mt_preflight.specs.SourcesText.{listing_text};
 ghost use Rattle.mt_sessionview.specs.Session.{session_of};
+ghost use Rattle.mt_cli.specs.Form.{in_form};
 ghost use Rattle.mt_cli.specs.LogAndFiles.{lent_files, lent_log_and_files, TextFails, LogDone, LogNotDone};
 ghost use Rattle.mt_cli.specs.Reading.{GaveEach, IsRead, IsRest, AreRead};
 ghost use Rattle.mt_cli.specs.SourcesListing.{given_files, listing, GaveRecording, IsFileCause, HasFileCause, FilesListed, FilesFail};
 
 use crate::fault::CliFault;
+use crate::form::{LineForm, put_in_form};
 use crate::pull::count_pairs;
 use crate::read::{read_log, read_outline};
 use mt_bwfread::{Wave, WaveFault};
 use mt_op::Digest;
 use mt_opcodec::{Latch, Log};
 use mt_outline::Outline;
-use mt_preflight::{Given, Listing, Recording, write_sources};
-use mt_sessionview::{SessionFault, from_scratch};
+use mt_preflight::{Given, Listing, Recording, sources_text};
+use mt_sessionview::from_scratch;
 use std::alloc::{AllocError, Allocator};
 use std::io::{Read, Write};
 
@@ -96,31 +98,30 @@ fn given_files<'n, A: Allocator>(
 // Writes the text on the recordings of a log's session and on these files.
 fn put_listing<A: Allocator + Clone, W: Write>(
     alloc: A,
+    form: LineForm,
     which: Listing,
     log: &Log<A>,
     files: &[Given<'_>],
     output: &mut Latch<W>,
 ) -> Result<(), CliFault>
     ensures ok { OnOk result (Appends (W.contents output.old.inner) (W.contents output.new.inner)
-        (listing_text which (session_of (operations log.now)).tracks files.now)) }
+        (in_form form (listing_text which (session_of (operations log.now)).tracks files.now))) }
     ensures err { IfErr result (TextFails W.contents
-        (listing_text which (session_of (operations log.now)).tracks files.now) output.old output.new) }
+        (in_form form (listing_text which (session_of (operations log.now)).tracks files.now)) output.old output.new) }
     ensures sound { OnOk result (output.new.failed ≡ false) }
     ensures stays_failed { output.old.failed ≡ true → output.new ≡ output.old }
 {
     let Ok(session) = from_scratch(alloc.clone()?, log) else {
         return Err(CliFault::Memory);
     };
-    match write_sources(alloc, which, &session, files, output) {
-        Ok(()) => Ok(()),
-        Err(SessionFault::Memory) => Err(CliFault::Memory),
-        Err(SessionFault::Write) => Err(CliFault::Write),
-    }
+    let text = sources_text(alloc.clone()?, which, &session, files)?;
+    put_in_form(alloc, form, text.as_bytes(), output)
 }
 
 // Writes the text on the recordings of a log's session and on files of these names.
 fn put_named<A: Allocator + Clone, W: Write>(
     alloc: A,
+    form: LineForm,
     which: Listing,
     log: &Log<A>,
     names: &[&str],
@@ -128,41 +129,42 @@ fn put_named<A: Allocator + Clone, W: Write>(
     output: &mut Latch<W>,
 ) -> Result<(), CliFault>
     ensures ok { OnOk result (Appends (W.contents output.old.inner) (W.contents output.new.inner)
-        (listing which log.now (map (λ n. n.now) names.now) recordings.now)) }
+        (listing form which log.now (map (λ n. n.now) names.now) recordings.now)) }
     ensures err { IfErr result (TextFails W.contents
-        (listing which log.now (map (λ n. n.now) names.now) recordings.now) output.old output.new) }
+        (listing form which log.now (map (λ n. n.now) names.now) recordings.now) output.old output.new) }
     ensures sound { OnOk result (output.new.failed ≡ false) }
     ensures stays_failed { output.old.failed ≡ true → output.new ≡ output.old }
 {
     let files = given_files(alloc.clone()?, names, recordings)?;
-    put_listing(alloc, which, log, &files, output)
+    put_listing(alloc, form, which, log, &files, output)
 }
 
 // Reads files of these names, and writes the text on the recordings of a log's session and on them.
 fn list_files<A: Allocator + Clone, R: Read, W: Write>(
     alloc: A,
+    form: LineForm,
     which: Listing,
     log: &Log<A>,
     names: &[&str],
     files: &mut [Latch<R>],
     output: &mut Latch<W>,
 ) -> Result<(), CliFault>
-    ensures ok { OnOk result (FilesListed R.remaining W.contents which (map (λ n. n.now) names.now) log.now
+    ensures ok { OnOk result (FilesListed R.remaining W.contents form which (map (λ n. n.now) names.now) log.now
         (lent_files files.old output.old) (lent_files files.new output.new)) }
     ensures read { OnOk result (AreRead R.remaining files.new) }
-    ensures err { IfErr result (FilesFail R.remaining W.contents which (map (λ n. n.now) names.now) log.now
+    ensures err { IfErr result (FilesFail R.remaining W.contents form which (map (λ n. n.now) names.now) log.now
         (lent_files files.old output.old) (lent_files files.new output.new)) }
     ensures sound { OnOk result (output.new.failed ≡ false) }
     ensures stays_failed { output.old.failed ≡ true → output.new ≡ output.old }
 {
     match read_recordings(alloc.clone()?, files) {
-        Ok(recordings) => put_named(alloc, which, log, names, &recordings, output),
+        Ok(recordings) => put_named(alloc, form, which, log, names, &recordings, output),
         Err(fault) => Err(fault),
     }
 }
 
-/// Writes which recordings the clips of the session of the log of an input name, and which of the files these are, in one of the ways of `mt_preflight`,
-/// and nothing else. `names` are those of the files, as they are printed, one for each.
+/// Writes which recordings the clips of the session of the log of an input name, and which of the files these are, in one of the ways of `mt_preflight`
+/// and in a form of lines, and nothing else. `names` are those of the files, as they are printed, one for each.
 ///
 /// Refused, in this order: `Read` with index 0 where the latch of the log's input has failed, or `Log` with index 0 where its bytes are no log's text;
 /// `Read` with the index of a file whose latch has failed, counted behind the log; `Write` where the output's latch has failed, which then holds a prefix
@@ -173,6 +175,7 @@ fn list_files<A: Allocator + Clone, R: Read, W: Write>(
 /// The memory is that of the log, of its session and of the outline of one file at a time.
 pub fn list_sources<A: Allocator + Clone, R: Read, W: Write>(
     alloc: A,
+    form: LineForm,
     which: Listing,
     log: &mut Latch<R>,
     names: &[&str],
@@ -180,19 +183,19 @@ pub fn list_sources<A: Allocator + Clone, R: Read, W: Write>(
     output: &mut Latch<W>,
 ) -> Result<(), CliFault>
     requires named { length files.old ≡ length names.now }
-    ensures ok { OnOk result (LogDone R.remaining (FilesListed R.remaining W.contents which
+    ensures ok { OnOk result (LogDone R.remaining (FilesListed R.remaining W.contents form which
         (map (λ n. n.now) names.now))
         (lent_log_and_files log.old files.old output.old) (lent_log_and_files log.new files.new output.new)) }
     ensures read_log { OnOk result (IsRead R.remaining log.new) }
     ensures read_files { OnOk result (AreRead R.remaining files.new) }
     ensures err { IfErr result (LogNotDone R.remaining
-        (FilesFail R.remaining W.contents which (map (λ n. n.now) names.now))
+        (FilesFail R.remaining W.contents form which (map (λ n. n.now) names.now))
         (lent_log_and_files log.old files.old output.old) (lent_log_and_files log.new files.new output.new)) }
     ensures sound { OnOk result (output.new.failed ≡ false) }
     ensures stays_failed { output.old.failed ≡ true → output.new ≡ output.old }
 {
     match read_log(alloc.clone()?, 0, log) {
-        Ok(log) => list_files(alloc, which, &log, names, files, output),
+        Ok(log) => list_files(alloc, form, which, &log, names, files, output),
         Err(fault) => Err(fault),
     }
 }

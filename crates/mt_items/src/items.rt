@@ -1,6 +1,6 @@
 //! The state of items.
 
-ghost use Rattle.std.specs.Prelude.{◌≡◌, false, List, [], ◌∷◌, Some, ◌≤◌, IfOk, IfErr, IfSome, MatchOption, option_map};
+ghost use Rattle.std.specs.Prelude.{◌≡◌, false, List, [], ◌∷◌, Some, ◌≤◌, IfOk, IfSome, MatchOption, option_map};
 ghost use Rattle.std.specs.Map.{keys_of};
 ghost use Rattle.std.specs.List.{AllByRecursion};
 ghost use Rattle.std.specs.List.Sorted.{IsStrictlySortedBy};
@@ -18,7 +18,6 @@ ghost use Rattle.mt_items.specs.Cells.{HoldsTrack, HoldsClip, HoldsMarker, Holds
 use crate::ahead::NOWHERE;
 use crate::cells::{ClipCells, MarkerCells, TrackCells};
 use crate::clip::note as note_clip;
-use crate::fault::ItemsFault;
 use crate::history::History;
 use crate::listing::stamps_of;
 use crate::marker::note as note_marker;
@@ -29,7 +28,7 @@ use mt_cells::Register;
 use mt_op::{Digest, FadeLengths, Gain, Op, Placement, Title, TrimRange};
 use mt_stamp::Stamp;
 use mt_stampmap::StampMap;
-use std::alloc::{Allocator, Global};
+use std::alloc::{AllocError, Allocator, Global};
 use std::marker::Model;
 
 /// What noted operations leave of tracks, clips and markers: the last write of each field, and the tags of each item.
@@ -65,11 +64,10 @@ impl<A: Allocator> Model for Items<A> {
 
 impl<A: Allocator> Items<A> {
     // Nothing noted, with memory for so many items.
-    fn with_room(alloc: A, room: Room) -> Result<Self, ItemsFault>
+    fn with_room(alloc: A, room: Room) -> Result<Self, AllocError>
     where
         A: Clone,
         ensures ok { IfOk result (λ items. items ≡ []) }
-        ensures err { IfErr result (λ fault. fault ≡ ItemsFault.Memory) }
     {
         Ok(Items {
             tracks: StampMap::with_capacity(alloc.clone()?, room.tracks)?,
@@ -81,49 +79,45 @@ impl<A: Allocator> Items<A> {
         })
     }
 
-    /// Nothing noted. Refused only as `Memory` (0), where a growth was refused.
-    pub fn new(alloc: A) -> Result<Self, ItemsFault>
+    /// Nothing noted. Refused only as `AllocError`, where a growth was refused.
+    pub fn new(alloc: A) -> Result<Self, AllocError>
     where
         A: Clone,
         ensures ok { IfOk result (λ items. items ≡ []) }
-        ensures err { IfErr result (λ fault. fault ≡ ItemsFault.Memory) }
     {
         Items::with_room(alloc, Room::NONE)
     }
 
     /// Nothing noted, with memory for the items that these operations add: while they are noted, no item moves. That is memory for one item,
-    /// or a place, for each of them that adds one, and what is not used of it is not touched. Refused only as `Memory` (0), where a growth was
+    /// or a place, for each of them that adds one, and what is not used of it is not touched. Refused only as `AllocError`, where a growth was
     /// refused.
-    pub fn with_room_for(alloc: A, ops: &[&Op<A>]) -> Result<Self, ItemsFault>
+    pub fn with_room_for(alloc: A, ops: &[&Op<A>]) -> Result<Self, AllocError>
     where
         A: Clone,
         ensures ok { IfOk result (λ items. items ≡ []) }
-        ensures err { IfErr result (λ fault. fault ≡ ItemsFault.Memory) }
     {
         Items::with_room(alloc, room_for(ops))
     }
 
     /// Notes an operation of a new stamp whose needs are met by noted ones. `are_needs_met` tells the latter;
     /// `laws::new_stamps` says of which facts that a caller has a stamp is known to be new. In whatever order
-    /// operations are noted, each takes at worst the logarithm of the number of items. Refused only as `Memory` (0), where a
+    /// operations are noted, each takes at worst the logarithm of the number of items. Refused only as `AllocError`, where a
     /// growth was refused; what was noted is then dropped.
-    pub fn note(self, op: &Op<A>) -> Result<Self, ItemsFault>
+    pub fn note(self, op: &Op<A>) -> Result<Self, AllocError>
     where
         A: Clone,
         requires follows { MayFollow self op.now }
         ensures ok { IfOk result (λ items. items ≡ op.now ∷ self) }
-        ensures err { IfErr result (λ fault. fault ≡ ItemsFault.Memory) }
     {
         self.note_near(NOWHERE, op)
     }
 
     /// Notes an operation as `note` does, and looks for the cells of its item at an index first, as `look_ahead` told it.
-    pub fn note_near(self, near: usize, op: &Op<A>) -> Result<Self, ItemsFault>
+    pub fn note_near(self, near: usize, op: &Op<A>) -> Result<Self, AllocError>
     where
         A: Clone,
         requires follows { MayFollow self op.now }
         ensures ok { IfOk result (λ items. items ≡ op.now ∷ self) }
-        ensures err { IfErr result (λ fault. fault ≡ ItemsFault.Memory) }
     {
         let Items {
             alloc,
@@ -158,13 +152,12 @@ impl<A: Allocator> Items<A> {
     }
 
     /// The live tags of an item, each once, from the least stamp to the greatest: what a Remove of it lists. What is
-    /// no item has none. Refused only as `Memory` (0), where a growth was refused.
-    pub fn live_tags(&self, item: Stamp) -> Result<Vec<Stamp, A>, ItemsFault>
+    /// no item has none. Refused only as `AllocError`, where a growth was refused.
+    pub fn live_tags(&self, item: Stamp) -> Result<Vec<Stamp, A>, AllocError>
     where
         A: Clone,
         ensures rising { IfOk result (λ tags. IsStrictlySortedBy stamp_cmp tags.items) }
         ensures live { IfOk result (λ tags. (tag : Moment) → is_listed tags.items tag ≡ is_listed (live_tags item self.now) tag) }
-        ensures err { IfErr result (λ fault. fault ≡ ItemsFault.Memory) }
         ensures noted { AreNoted self.now }
     {
         // for the proof: that the cells are those of the operations noted
@@ -345,35 +338,32 @@ impl<A: Allocator> Items<A> {
         (tracks, markers.into_entries())
     }
 
-    /// The stamps of the tracks, present or not, from the least to the greatest. Refused only as `Memory` (0), where
+    /// The stamps of the tracks, present or not, from the least to the greatest. Refused only as `AllocError`, where
     /// a growth was refused.
-    pub fn tracks(&self) -> Result<Vec<Stamp, A>, ItemsFault>
+    pub fn tracks(&self) -> Result<Vec<Stamp, A>, AllocError>
     where
         A: Clone,
         ensures ok { IfOk result (λ stamps. stamps.items ≡ rising_items Track self.now) }
-        ensures err { IfErr result (λ fault. fault ≡ ItemsFault.Memory) }
     {
         stamps_of(self.alloc.clone()?, self.tracks.entries())
     }
 
-    /// The stamps of the clips, present or not, from the least to the greatest. Refused only as `Memory` (0), where a
+    /// The stamps of the clips, present or not, from the least to the greatest. Refused only as `AllocError`, where a
     /// growth was refused.
-    pub fn clips(&self) -> Result<Vec<Stamp, A>, ItemsFault>
+    pub fn clips(&self) -> Result<Vec<Stamp, A>, AllocError>
     where
         A: Clone,
         ensures ok { IfOk result (λ stamps. stamps.items ≡ rising_items Clip self.now) }
-        ensures err { IfErr result (λ fault. fault ≡ ItemsFault.Memory) }
     {
         stamps_of(self.alloc.clone()?, self.clips.entries())
     }
 
-    /// The stamps of the markers, present or not, from the least to the greatest. Refused only as `Memory` (0), where
+    /// The stamps of the markers, present or not, from the least to the greatest. Refused only as `AllocError`, where
     /// a growth was refused.
-    pub fn markers(&self) -> Result<Vec<Stamp, A>, ItemsFault>
+    pub fn markers(&self) -> Result<Vec<Stamp, A>, AllocError>
     where
         A: Clone,
         ensures ok { IfOk result (λ stamps. stamps.items ≡ rising_items Marker self.now) }
-        ensures err { IfErr result (λ fault. fault ≡ ItemsFault.Memory) }
     {
         stamps_of(self.alloc.clone()?, self.markers.entries())
     }

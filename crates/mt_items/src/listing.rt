@@ -1,18 +1,16 @@
 //! The items of a kind, as a list.
 
-ghost use Rattle.std.specs.Prelude.{◌≡◌, IfOk, IfErr};
+ghost use Rattle.std.specs.Prelude.{◌≡◌, IfOk};
 ghost use Rattle.std.specs.Map.{keys_of};
 ghost use Rattle.mt_stamp.specs.Moment.{stamp_cmp};
 ghost use Rattle.mt_stamp.specs.Sorting.{sort_by};
 
-use crate::fault::ItemsFault;
 use mt_stamp::Stamp;
-use std::alloc::Allocator;
+use std::alloc::{AllocError, Allocator};
 
 // The stamps of entries, in their order.
-fn keys_of<C, A: Allocator>(alloc: A, entries: &[(Stamp, C)]) -> Result<Vec<Stamp, A>, ItemsFault>
+fn keys_of<C, A: Allocator>(alloc: A, entries: &[(Stamp, C)]) -> Result<Vec<Stamp, A>, AllocError>
     ensures ok { IfOk result (λ stamps. stamps.items ≡ keys_of entries.now) }
-    ensures err { IfErr result (λ fault. fault ≡ ItemsFault.Memory) }
 {
     let mut stamps = Vec::new(alloc);
     for (stamp, _) in entries {
@@ -25,9 +23,8 @@ fn keys_of<C, A: Allocator>(alloc: A, entries: &[(Stamp, C)]) -> Result<Vec<Stam
 pub(crate) fn stamps_of<C, A: Allocator>(
     alloc: A,
     entries: &[(Stamp, C)],
-) -> Result<Vec<Stamp, A>, ItemsFault>
+) -> Result<Vec<Stamp, A>, AllocError>
     ensures ok { IfOk result (λ stamps. stamps.items ≡ sort_by stamp_cmp (keys_of entries.now)) }
-    ensures err { IfErr result (λ fault. fault ≡ ItemsFault.Memory) }
 {
     let mut stamps = keys_of(alloc, entries)?;
     stamps.sort()?;

@@ -1,6 +1,6 @@
 //! The cells of a marker.
 
-ghost use Rattle.std.specs.Prelude.{◌≡◌, false, None, IfErr, OnOk, IfOk, MatchOption, is_some};
+ghost use Rattle.std.specs.Prelude.{◌≡◌, false, None, OnOk, IfOk, MatchOption, is_some};
 ghost use Rattle.std.specs.Map.{lookup};
 ghost use Rattle.mt_stamp.specs.Moment.{stamp_eq};
 ghost use Rattle.mt_op.specs.Needs.{adds_marker};
@@ -8,19 +8,17 @@ ghost use Rattle.mt_items.specs.Keeping.{Makes, Keeps, KeepsAll};
 ghost use Rattle.mt_items.specs.Cells.{HoldsMarker, HoldsMarkers};
 
 use crate::cells::{MarkerCells, mark, subject};
-use crate::fault::ItemsFault;
 use crate::fields::{write, written_marker_length, written_position, written_title};
 use crate::marks::ItemMarks;
 use mt_cells::Register;
 use mt_op::{Body, Op};
 use mt_stampmap::StampMap;
-use std::alloc::Allocator;
+use std::alloc::{AllocError, Allocator};
 
 // The cells of the marker that an operation adds, where it adds one.
-fn added<A: Allocator + Clone>(op: &Op<A>) -> Result<Option<MarkerCells<A>>, ItemsFault>
+fn added<A: Allocator + Clone>(op: &Op<A>) -> Result<Option<MarkerCells<A>>, AllocError>
     ensures ok { IfOk result (λ cells. MatchOption cells (adds_marker op.now.act ≡ false) (Makes HoldsMarker op.now)) }
     ensures adds { IfOk result (λ cells. is_some cells ≡ adds_marker op.now.act) }
-    ensures err { IfErr result (λ fault. fault ≡ ItemsFault.Memory) }
 {
     let Body::AddMarker { at, title } = op.body() else {
         return Ok(None);
@@ -28,7 +26,7 @@ fn added<A: Allocator + Clone>(op: &Op<A>) -> Result<Option<MarkerCells<A>>, Ite
     let own = op.stamp();
     let title = match title.try_clone() {
         Ok(title) => title,
-        Err(_) => return Err(ItemsFault::Memory),
+        Err(_) => return Err(AllocError),
     };
     Ok(Some(MarkerCells {
         position: Register::new(own, *at),
@@ -43,9 +41,8 @@ fn change<A: Allocator + Clone>(
     alloc: &A,
     cells: &mut MarkerCells<A>,
     op: &Op<A>,
-) -> Result<(), ItemsFault>
+) -> Result<(), AllocError>
     ensures ok { OnOk result (Keeps HoldsMarker op.now cells.old cells.new) }
-    ensures err { IfErr result (λ fault. fault ≡ ItemsFault.Memory) }
 {
     let stamp = op.stamp();
     write(&mut cells.position, stamp, written_position(op))?;
@@ -60,10 +57,9 @@ pub(crate) fn note<A: Allocator + Clone>(
     markers: &mut StampMap<MarkerCells<A>, A>,
     near: usize,
     op: &Op<A>,
-) -> Result<(), ItemsFault>
+) -> Result<(), AllocError>
     requires new { lookup (stamp_eq op.now.stamp) markers.old ≡ None }
     ensures ok { OnOk result (KeepsAll HoldsMarkers op.now markers.old markers.new) }
-    ensures err { IfErr result (λ fault. fault ≡ ItemsFault.Memory) }
 {
     if let Some(cells) = added(op)? {
         markers.insert(op.stamp(), cells)?;

@@ -1,6 +1,6 @@
 //! The tags of an item.
 
-ghost use Rattle.std.specs.Prelude.{◌≡◌, ◌↔◌, IsTrue, IfOk, IfErr, OnOk, box_value, option_map};
+ghost use Rattle.std.specs.Prelude.{◌≡◌, ◌↔◌, IsTrue, IfOk, OnOk, box_value, option_map};
 ghost use Rattle.std.specs.List.Sorted.{IsStrictlySortedBy};
 ghost use Rattle.std.specs.Ordering.{eq_by_cmp};
 ghost use Rattle.std.specs.FinSet as set;
@@ -9,10 +9,9 @@ ghost use Rattle.mt_cells.specs.Folds.{is_in};
 ghost use Rattle.mt_cells.specs.Marks.{is_live, IsPresent};
 ghost use Rattle.mt_items.specs.Tags.{marks_from};
 
-use crate::fault::ItemsFault;
 use mt_cells::Presence;
 use mt_stamp::Stamp;
-use std::alloc::Allocator;
+use std::alloc::{AllocError, Allocator};
 use std::marker::Model;
 
 /// The tags of an item that was added, and those that were removed. Its own stamp is its first tag; it takes memory from the
@@ -64,12 +63,11 @@ impl<A: Allocator> ItemMarks<A> {
     }
 
     // The live tags, each once, from the least stamp to the greatest.
-    pub(crate) fn live_tags(&self, alloc: &A) -> Result<Vec<Stamp, A>, ItemsFault>
+    pub(crate) fn live_tags(&self, alloc: &A) -> Result<Vec<Stamp, A>, AllocError>
     where
         A: Clone,
         ensures rising { IfOk result (λ tags. IsStrictlySortedBy stamp_cmp tags.items) }
         ensures live { IfOk result (λ tags. (stamp : Moment) → is_in (eq_by_cmp stamp_cmp) tags.items stamp ≡ is_live self.now stamp) }
-        ensures err { IfErr result (λ fault. fault ≡ ItemsFault.Memory) }
     {
         let Some(presence) = &self.noted else {
             let mut tags = Vec::new(alloc.clone()?);
@@ -80,11 +78,10 @@ impl<A: Allocator> ItemMarks<A> {
     }
 
     // Tags the item with a stamp.
-    pub(crate) fn add_tag(&mut self, alloc: &A, stamp: Stamp) -> Result<(), ItemsFault>
+    pub(crate) fn add_tag(&mut self, alloc: &A, stamp: Stamp) -> Result<(), AllocError>
     where
         A: Clone,
         ensures tagged { OnOk result (self.new ≡ record { tags = set.insert self.old.tags stamp; removed = self.old.removed }) }
-        ensures err { IfErr result (λ fault. fault ≡ ItemsFault.Memory) }
     {
         let mut marks = marks_of(alloc, self.own, self.noted.take())?;
         marks.add_tag(stamp)?;
@@ -93,11 +90,10 @@ impl<A: Allocator> ItemMarks<A> {
     }
 
     // Removes the tag of a stamp.
-    pub(crate) fn remove_tag(&mut self, alloc: &A, stamp: Stamp) -> Result<(), ItemsFault>
+    pub(crate) fn remove_tag(&mut self, alloc: &A, stamp: Stamp) -> Result<(), AllocError>
     where
         A: Clone,
         ensures removed { OnOk result (self.new ≡ record { tags = self.old.tags; removed = set.insert self.old.removed stamp }) }
-        ensures err { IfErr result (λ fault. fault ≡ ItemsFault.Memory) }
     {
         let mut marks = marks_of(alloc, self.own, self.noted.take())?;
         marks.remove_tag(stamp)?;
@@ -111,9 +107,8 @@ fn marks_of<A: Allocator + Clone>(
     alloc: &A,
     own: Stamp,
     noted: Option<Box<Presence<A>, A>>,
-) -> Result<Box<Presence<A>, A>, ItemsFault>
+) -> Result<Box<Presence<A>, A>, AllocError>
     ensures ok { IfOk result (λ marks. marks.value ≡ marks_from own (option_map box_value noted)) }
-    ensures err { IfErr result (λ fault. fault ≡ ItemsFault.Memory) }
 {
     if let Some(marks) = noted {
         return Ok(marks);

@@ -1,6 +1,6 @@
 //! The items that the ready operations of a set leave.
 
-ghost use Rattle.std.specs.Prelude.{◌≡◌, [], IfOk, IfErr, IsTrue, map, reverse};
+ghost use Rattle.std.specs.Prelude.{◌≡◌, [], IfOk, IsTrue, map, reverse};
 ghost use Rattle.std.specs.List.{AllByRecursion};
 ghost use Rattle.mt_stamp.specs.Sorting.{RisesStrictly};
 ghost use Rattle.mt_op.specs.ByStamp.{op_cmp};
@@ -9,17 +9,15 @@ ghost use Rattle.mt_op.specs.Ready.{ready};
 ghost use Rattle.mt_items.specs.Noting.{one_pass};
 
 use crate::ahead::AHEAD;
-use crate::fault::ItemsFault;
 use crate::items::Items;
 use mt_op::Op;
-use std::alloc::Allocator;
+use std::alloc::{AllocError, Allocator};
 
 // Notes each of these operations whose needs the noted ones meet.
-fn pass<A: Allocator + Clone>(alloc: A, ops: &[&Op<A>]) -> Result<Items<A>, ItemsFault>
+fn pass<A: Allocator + Clone>(alloc: A, ops: &[&Op<A>]) -> Result<Items<A>, AllocError>
     requires rising { RisesStrictly op_cmp (map (λ o. o.now) ops.now) }
     ensures ok { IfOk result (λ items. items ≡ one_pass [] (map (λ o. o.now) ops.now)) }
     ensures older { IfOk result (λ items. AllByRecursion (λ o. IsTrue (names_are_older o)) (map (λ o. o.now) ops.now)) }
-    ensures err { IfErr result (λ fault. fault ≡ ItemsFault.Memory) }
 {
     let mut items = Items::with_room_for(alloc, ops)?;
     let mut near = [0; AHEAD];
@@ -39,14 +37,13 @@ fn pass<A: Allocator + Clone>(alloc: A, ops: &[&Op<A>]) -> Result<Items<A>, Item
 
 /// The items that the ready ones of these operations leave, which rise by stamp, each stamp once. The ready ones are
 /// noted, from the least stamp to the greatest; those that are held change nothing. n operations cost n log n.
-/// Refused only as `Memory` (0), where a growth was refused.
+/// Refused only as `AllocError`, where a growth was refused.
 pub fn items_of_ready<A: Allocator + Clone>(
     alloc: A,
     ops: &[&Op<A>],
-) -> Result<Items<A>, ItemsFault>
+) -> Result<Items<A>, AllocError>
     requires rising { RisesStrictly op_cmp (map (λ o. o.now) ops.now) }
     ensures ok { IfOk result (λ items. items ≡ reverse (ready clock_of needs meets (map (λ o. o.now) ops.now))) }
-    ensures err { IfErr result (λ fault. fault ≡ ItemsFault.Memory) }
 {
     pass(alloc, ops)
 }

@@ -2,12 +2,10 @@
 use Rattle.std.specs.Prelude.{ℕ, ◌^◌, true, false, ◌&&◌, nat_lt, List, [], ◌∷◌, ◌++◌, Option, Some, None, if◌then◌else◌, codes}
 use Rattle.std.specs.List.{flat_map}
 use Rattle.std.specs.Fmt.{decimal}
-use Rattle.std.specs.Io.KnownBytes.{Appends}
 use Rattle.std.specs.Str.{bytes_eq, is_utf8}
 use Rattle.std.specs.Str.Parse.{digits_value}
 use Rattle.serde_json.specs.Data.{unsigned, Data, null, boolean, number, string, array, object, Items, no_items, item, Members, no_members, member}
 use Rattle.serde_json.specs.Written.{compact_text}
-use Rattle.mt_latch.specs.Latch.{Latched, AppendsPrefix}
 use Rattle.mt_lines.specs.declared.slot.Kind.{Kind}
 use Rattle.mt_lines.specs.declared.slot.Kind.TheVariants.{Plain, Number, Frames, Flag, Gain}
 use Rattle.mt_lines.specs.Cutting.{newline, lines}
@@ -69,12 +67,3 @@ json_line line = compact_text (line_data line) ++ newline ∷ []
 -- The lines of a text as JSON.
 abbrev pub json_text : List ℕ → List ℕ
 json_text text = flat_map json_line (lines text)
-
-module _ {W : Type 0} (contents : W → Option (List ℕ)) where
-  -- an output holds the JSON of a text behind what it held before
-  abbrev pub IsTold : List ℕ → Latched W → Latched W → Type 0
-  IsTold text old new = Appends (contents old.inner) (contents new.inner) (json_text text)
-
-  -- the same of a prefix of it
-  abbrev pub IsToldInPart : List ℕ → Latched W → Latched W → Type 0
-  IsToldInPart text old new = AppendsPrefix (contents old.inner) (contents new.inner) (json_text text)

@@ -6,5 +6,4 @@ pub mod Seen
 pub mod Json
 pub mod Saying
 pub mod Writing
-pub mod Faults
 pub mod Laws

@@ -1,8 +1,6 @@
 -- Lines of which some words are said otherwise, and all else is as it was (profile).
 use Rattle.std.specs.Prelude.{ℕ, ◌+◌, ◌*◌, ◌/◌, ◌^◌, zero, suc, min, nat_lt, nat_le, List, ◌++◌, map, Option, Some, None, option_map, if◌then◌else◌, codes}
 use Rattle.std.specs.Fmt.{decimal}
-use Rattle.std.specs.Io.KnownBytes.{Appends}
-use Rattle.mt_latch.specs.Latch.{Latched, AppendsPrefix}
 use Rattle.mt_times.specs.declared.fraction.Fraction.{Fraction}
 use Rattle.mt_times.specs.Decibels.{unit, amplitude_of}
 use Rattle.mt_times.specs.Nearest.{off}
@@ -93,12 +91,3 @@ plain_word rate Gain w = gain_or_word (fraction w) w
 -- The lines of a script with frames in the place of times.
 abbrev pub plain_script : ℕ → List ℕ → List ℕ
 plain_script rate script = said_text (plain_word rate) script_parts script
-
-module _ {W : Type 0} (contents : W → Option (List ℕ)) where
-  -- an output holds a text with times behind what it held before
-  abbrev pub IsTimed : ℕ → List ℕ → Latched W → Latched W → Type 0
-  IsTimed rate text old new = Appends (contents old.inner) (contents new.inner) (timed_text rate text)
-
-  -- the same of a prefix of it
-  abbrev pub IsTimedInPart : ℕ → List ℕ → Latched W → Latched W → Type 0
-  IsTimedInPart rate text old new = AppendsPrefix (contents old.inner) (contents new.inner) (timed_text rate text)

@@ -1,9 +1,6 @@
-//! What holds of lines, of what is said of them, and of refusals, as the contracts of functions.
+//! What holds of lines, and of what is said of them, as the contracts of functions.
 
-ghost use Rattle.std.specs.Prelude.{◌≡◌, ◌↔◌, IsTrue};
 ghost use Rattle.mt_lines.specs.Laws.{LinesAreKept, TextsStay, NumbersAreSpelled, LevelsAreNearest, ObjectsAreRead};
-
-use crate::fault::LinesFault;
 
 /// Nothing of a line is lost: the words of its parts, with one space between each two, are the line.
 pub fn lines_kept()
@@ -29,10 +26,3 @@ pub fn levels()
 pub fn objects_read()
     ensures { ObjectsAreRead }
 {}
-
-/// Refusals are equal where they are of one case.
-pub fn equal_lines_faults(fault: &LinesFault, other: &LinesFault) -> bool
-    ensures { IsTrue result ↔ (fault.now ≡ other.now) }
-{
-    fault == other
-}

@@ -2,8 +2,7 @@
 //! with frames in their place.
 //!
 //! ```rust
-//! use mt_latch::Latch;
-//! use mt_lines::{with_frames, write_json, write_times};
+//! use mt_lines::{json_text, timed_text, with_frames};
 //! use std::test::Fail;
 //!
 //! const VIEW: &[u8] = b"\
@@ -22,13 +21,9 @@
 //! ";
 //!
 //! fn tells_a_view(rt: HostRuntime) -> Result<(), Fail> {
-//!     let mut output = Latch::new(Vec::new(rt.alloc()));
-//!     write_json(rt.alloc(), VIEW, &mut output)?;
-//!     assert!(rt; output.into_inner().as_slice() == JSON);
+//!     assert!(rt; json_text(rt.alloc(), VIEW)?.as_slice() == JSON);
 //!     // at 48000 frames a second
-//!     let mut output = Latch::new(Vec::new(rt.alloc()));
-//!     write_times(rt.alloc(), 48000, VIEW, &mut output)?;
-//!     assert!(rt; output.into_inner().as_slice() == TIMED);
+//!     assert!(rt; timed_text(rt.alloc(), 48000, VIEW)?.as_slice() == TIMED);
 //!     Ok(())
 //! }
 //!
@@ -45,7 +40,6 @@
 #![tactic(auto)]
 
 mod cut;
-mod fault;
 pub mod laws;
 mod number;
 mod object;
@@ -55,6 +49,5 @@ mod say;
 mod slot;
 mod table;
 
-pub use fault::LinesFault;
-pub use object::write_json;
-pub use rewrite::{with_frames, write_times};
+pub use object::json_text;
+pub use rewrite::{timed_text, with_frames};

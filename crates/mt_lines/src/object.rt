@@ -1,21 +1,18 @@
 //! Lines as JSON.
 
-ghost use Rattle.std.specs.Prelude.{◌≡◌, ◌++◌, ◌∷◌, [], true, false, codes, IfErr, IfOk, OnOk};
+ghost use Rattle.std.specs.Prelude.{◌≡◌, ◌++◌, ◌∷◌, [], true, false, codes, IfOk, OnOk};
 ghost use Rattle.serde_json.specs.Data.{string, array};
 ghost use Rattle.serde_json.specs.Written.{compact_text, items_text};
 ghost use Rattle.mt_lines.specs.Cutting.{words};
-ghost use Rattle.mt_lines.specs.Json.{text_data, word_data, items_data, value_data, called, line_data, json_line, json_text, IsTold, IsToldInPart};
+ghost use Rattle.mt_lines.specs.Json.{text_data, word_data, items_data, value_data, called, line_data, json_line, json_text};
 ghost use Rattle.mt_lines.specs.Seen.{value_of, part_of};
 ghost use Rattle.mt_lines.specs.Writing.{item_text, member_text};
 
 use crate::cut::{cut_line, cut_word};
-use crate::fault::LinesFault;
 use crate::number::number_of;
 use crate::part::{Part, Pending, Value, read_word};
 use crate::slot::Kind;
-use mt_latch::Latch;
 use std::alloc::{AllocError, Global};
-use std::io::Write;
 
 // Writes a text in quotes.
 fn append_quoted(alloc: Global, json: &mut Vec<u8>, text: &str) -> Result<(), AllocError>
@@ -187,8 +184,14 @@ fn append_line(alloc: Global, json: &mut Vec<u8>, line: &[u8]) -> Result<(), All
     json.extend_from_slice(b"\n")
 }
 
-// The lines of a text as JSON.
-fn json_of(alloc: Global, text: &[u8]) -> Result<Vec<u8>, AllocError>
+/// The lines of a text as JSON, an object and a line feed for each.
+///
+/// The text is one that `radio` prints; the page on output says how its lines are read, and a last line
+/// feed ends the last one. The members of an object are in the order of the line, each called as its
+/// key or its slot is. Numbers, positions and lengths are numbers, `on` and `off` true and false, fades
+/// and tags arrays, a key that nothing follows true, all else strings, and what is no UTF-8 null. In
+/// time linear in the text. Fails where memory runs out.
+pub fn json_text(alloc: Global, text: &[u8]) -> Result<Vec<u8>, AllocError>
     ensures { IfOk result (λ json. json.items ≡ json_text text.now) }
 {
     let mut json = Vec::new(alloc);
@@ -199,32 +202,4 @@ fn json_of(alloc: Global, text: &[u8]) -> Result<Vec<u8>, AllocError>
         rest = others;
     }
     Ok(json)
-}
-
-/// Writes the lines of a text as JSON, an object and a line feed for each.
-///
-/// The text is one that `radio` prints: its lines are read as `docs/formats.md` says what they are, and a last line feed ends the last one. The members of an object
-/// are in the order of the line, and each is called as its key or its slot is: `marker 1.1.00000000-0000-0000-0000-00000000000a at 480 title News` gives `{"marker":"1.1.00000000-0000-0000-0000-00000000000a","at":480,"title":"News"}`. A number of 64 bits
-/// and a position are numbers, `on` and `off` are true and false, two fades and the tags of a remove are arrays, a key that nothing follows is true, and all else is a
-/// string; what is no UTF-8 is null. In time linear in the text.
-///
-/// `Write` (37) where the output's latch has failed, before or in this call; the output then holds a prefix of the JSON, and is as it was where the latch had failed
-/// before. `Memory` (0) where a growth was refused; the output is then as it was.
-pub fn write_json<W: Write>(
-    alloc: Global,
-    text: &[u8],
-    output: &mut Latch<W>,
-) -> Result<(), LinesFault>
-    ensures whole { OnOk result (IsTold W.contents text.now output.old output.new) }
-    ensures prefix { IsToldInPart W.contents text.now output.old output.new }
-    ensures sound { OnOk result (output.new.failed ≡ false) }
-    ensures write { IfErr result (λ fault. fault ≡ LinesFault.Write → output.new.failed ≡ true) }
-    ensures stays_failed { output.old.failed ≡ true → output.new ≡ output.old }
-    ensures memory { IfErr result (λ fault. fault ≡ LinesFault.Memory → output.new ≡ output.old) }
-{
-    let json = json_of(alloc, text)?;
-    match output.put(&json) {
-        Ok(()) => Ok(()),
-        Err(_) => Err(LinesFault::Write),
-    }
 }

@@ -1,20 +1,17 @@
 //! Lines of which some words are said otherwise.
 
-ghost use Rattle.std.specs.Prelude.{◌≡◌, ◌≤◌, ◌++◌, ◌∷◌, [], true, false, map, IfErr, IfOk, OnOk};
+ghost use Rattle.std.specs.Prelude.{◌≡◌, ◌≤◌, ◌++◌, ◌∷◌, [], true, false, map, IfOk, OnOk};
 ghost use Rattle.mt_lines.specs.Cutting.{words};
 ghost use Rattle.mt_lines.specs.Line.{value_words, part_words};
-ghost use Rattle.mt_lines.specs.Saying.{said_value, said_part, plain_script, IsTimed, IsTimedInPart};
+ghost use Rattle.mt_lines.specs.Saying.{said_value, said_part, plain_script, timed_text};
 ghost use Rattle.mt_lines.specs.Seen.{value_of, part_of};
 ghost use Rattle.mt_lines.specs.Writing.{word_text, words_text, said_word, line_by, piece_text, text_by};
 
 use crate::cut::{cut_piece, cut_word};
-use crate::fault::LinesFault;
 use crate::part::{Part, Value, read_word};
 use crate::say::{Telling, append_word, begin_of};
 use crate::slot::Kind;
-use mt_latch::Latch;
 use std::alloc::{AllocError, Allocator};
-use std::io::Write;
 
 // Writes a word as it is, behind a space where another stands before it.
 fn append_plain<A: Allocator>(
@@ -179,32 +176,17 @@ fn rewritten<A: Allocator>(
     Ok(said)
 }
 
-/// Writes the lines of a text with times in the place of frames.
+/// The lines of a text with times in the place of frames.
 ///
-/// The text is one that `radio` prints. Each position and length of it that is a decimal number up to 2^50 is written as the time that so many frames last at `rate` frames a second, 1 and
-/// more, as `H:MM:SS.mmm`, rounded down; all else is as it was, and so are the line feeds. In time linear in the text.
-///
-/// `Write` (37) where the output's latch has failed, before or in this call; the output then holds a prefix of the text, and is as it was where the latch had failed
-/// before. `Memory` (0) where a growth was refused; the output is then as it was.
-pub fn write_times<A: Allocator, W: Write>(
-    alloc: A,
-    rate: u32,
-    text: &[u8],
-    output: &mut Latch<W>,
-) -> Result<(), LinesFault>
+/// The text is one that `radio` prints. Each position and length in it that is a decimal number up to
+/// 2^50 becomes the time that so many frames last at `rate` frames a second, 1 and more, as
+/// `H:MM:SS.mmm`, rounded down; all else is as it was, and so are the line feeds. In time linear in the
+/// text. Fails where memory runs out.
+pub fn timed_text<A: Allocator>(alloc: A, rate: u32, text: &[u8]) -> Result<Vec<u8, A>, AllocError>
     requires { 1 ≤ rate }
-    ensures whole { OnOk result (IsTimed W.contents rate text.now output.old output.new) }
-    ensures prefix { IsTimedInPart W.contents rate text.now output.old output.new }
-    ensures sound { OnOk result (output.new.failed ≡ false) }
-    ensures write { IfErr result (λ fault. fault ≡ LinesFault.Write → output.new.failed ≡ true) }
-    ensures stays_failed { output.old.failed ≡ true → output.new ≡ output.old }
-    ensures memory { IfErr result (λ fault. fault ≡ LinesFault.Memory → output.new ≡ output.old) }
+    ensures { IfOk result (λ timed. timed.items ≡ timed_text rate text.now) }
 {
-    let said = rewritten(alloc, Telling::InTimes, rate, text)?;
-    match output.put(&said) {
-        Ok(()) => Ok(()),
-        Err(_) => Err(LinesFault::Write),
-    }
+    rewritten(alloc, Telling::InTimes, rate, text)
 }
 
 /// A script with frames in the place of times, and fractions in the place of decibels.

@@ -1,9 +1,7 @@
 -- How two logs are written beside each other (profile): a line for each operation that one of them alone has, and for both operations of a dot that
 -- names another one in each, by rising stamp; where it is asked for, one for each field that both write; and one for how many operations there are.
-use Rattle.std.specs.Prelude.{ℕ, List, [], ◌∷◌, ◌++◌, Option, codes, if◌then◌else◌}
-use Rattle.std.specs.Io.KnownBytes.{Appends}
+use Rattle.std.specs.Prelude.{ℕ, List, [], ◌∷◌, ◌++◌, codes, if◌then◌else◌}
 use Rattle.std.specs.List.{flat_map}
-use Rattle.mt_latch.specs.Latch.{Latched, AppendsPrefix}
 use Rattle.mt_stamp.specs.Texts.{stamp_text}
 use Rattle.mt_opcodec.specs.LogValue.{LogMap}
 use Rattle.mt_sessionview.specs.SessionText.{newline}
@@ -32,14 +30,3 @@ diff_text left right = flat_map told_line (told left right) ++ last_line left ri
 abbrev pub diff_text_with_fields : LogMap → LogMap → List ℕ
 diff_text_with_fields left right =
     flat_map told_line (told left right) ++ (flat_map both_line (both_wrote (alone left right) (alone right left)) ++ last_line left right)
-
--- ---- what is written
-
-module _ {W : Type 0} (contents : W → Option (List ℕ)) where
-  -- an output has all of a text behind what it held
-  abbrev pub IsTold : Latched W → Latched W → List ℕ → Type 0
-  IsTold old new text = Appends (contents old.inner) (contents new.inner) text
-
-  -- it has the text up to some place
-  abbrev pub IsToldInPart : Latched W → Latched W → List ℕ → Type 0
-  IsToldInPart old new text = AppendsPrefix (contents old.inner) (contents new.inner) text

@@ -1,9 +1,9 @@
 //! Two logs beside each other as text: the operations that one of them alone has, the fields that both write, or what changes in the session.
 //!
 //! ```rust
-//! use mt_logdiff::{write_diff, write_diff_with_fields, write_view_diff};
+//! use mt_logdiff::{diff_text, diff_with_fields_text, view_diff_text};
 //! use mt_op::{Body, Op, Title};
-//! use mt_opcodec::{Latch, Log};
+//! use mt_opcodec::Log;
 //! use mt_stamp::{Replica, Stamp};
 //! use std::test::Fail;
 //!
@@ -33,15 +33,9 @@
 //!     let mut home = desk.try_clone()?;
 //!     let _new = desk.add(Op::new(Stamp::new(2, Replica(11), 1)?, Body::MoveMarker { marker, at: 960 })?)?;
 //!     let _new = home.add(Op::new(Stamp::new(2, Replica(12), 1)?, Body::MoveMarker { marker, at: 720 })?)?;
-//!     let mut output = Latch::new(Vec::new(rt.alloc()));
-//!     write_diff(rt.alloc(), &desk, &home, &mut output)?;
-//!     assert!(rt; output.into_inner().as_slice() == OPERATIONS);
-//!     let mut output = Latch::new(Vec::new(rt.alloc()));
-//!     write_diff_with_fields(rt.alloc(), &desk, &home, &mut output)?;
-//!     assert!(rt; output.into_inner().as_slice() == FIELDS);
-//!     let mut output = Latch::new(Vec::new(rt.alloc()));
-//!     write_view_diff(rt.alloc(), &desk, &home, &mut output)?;
-//!     assert!(rt; output.into_inner().as_slice() == SESSIONS);
+//!     assert!(rt; diff_text(rt.alloc(), &desk, &home)?.as_bytes() == OPERATIONS);
+//!     assert!(rt; diff_with_fields_text(rt.alloc(), &desk, &home)?.as_bytes() == FIELDS);
+//!     assert!(rt; view_diff_text(rt.alloc(), &desk, &home)?.as_slice() == SESSIONS);
 //!     Ok(())
 //! }
 //! ```
@@ -57,12 +51,11 @@ mod field;
 pub mod laws;
 mod lines;
 mod parts;
-mod put;
 mod text;
 mod told;
 mod view;
 mod view_lines;
 mod writes;
 
-pub use text::{write_diff, write_diff_with_fields};
-pub use view::write_view_diff;
+pub use text::{diff_text, diff_with_fields_text};
+pub use view::view_diff_text;

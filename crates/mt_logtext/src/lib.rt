@@ -1,9 +1,9 @@
 //! The operations of a log as text, a line each: who did what, in which order, and what waits.
 //!
 //! ```rust
-//! use mt_logtext::write_log_text;
+//! use mt_logtext::operations_text;
 //! use mt_op::{Body, Op, Title};
-//! use mt_opcodec::{Latch, Log};
+//! use mt_opcodec::Log;
 //! use mt_stamp::{Replica, Stamp};
 //! use std::test::Fail;
 //!
@@ -19,9 +19,7 @@
 //!     let mut log = Log::new(rt.alloc());
 //!     let _new = log.add(Op::new(item, Body::AddMarker { at: 480, title: news })?)?;
 //!     let _new = log.add(Op::new(Stamp::new(2, Replica(11), 1)?, Body::Retitle { item, title: late })?)?;
-//!     let mut output = Latch::new(Vec::new(rt.alloc()));
-//!     write_log_text(rt.alloc(), &log, &mut output)?;
-//!     assert!(rt; output.into_inner().as_slice() == TEXT);
+//!     assert!(rt; operations_text(rt.alloc(), &log)?.as_bytes() == TEXT);
 //!     Ok(())
 //! }
 //! ```
@@ -36,4 +34,4 @@ mod line;
 mod log_text;
 
 pub use act::append_act;
-pub use log_text::write_log_text;
+pub use log_text::operations_text;

@@ -1,6 +1,6 @@
 //! The clips of a session, mended by one operation more.
 
-ghost use Rattle.std.specs.Prelude.{◌≡◌, false, map, IfOk, IfErr, IfSome, OnOk, OnErr};
+ghost use Rattle.std.specs.Prelude.{◌≡◌, false, map, IfOk, IfSome, OnOk, OnErr};
 ghost use Rattle.mt_stamp.specs.Sorting.{DifferBy};
 ghost use Rattle.mt_op.specs.declared.need.Role.TheVariants.{Track as TrackRole};
 ghost use Rattle.mt_op.specs.Needs.{need_of};
@@ -14,9 +14,9 @@ ghost use Rattle.mt_mending.specs.Before.{ClipsStood, placed_clip, clip_off, cli
 use crate::read::value_or;
 use mt_items::Items;
 use mt_op::{FadeLengths, Gain};
-use mt_sessionview::{ClipView, Session, SessionFault};
+use mt_sessionview::{ClipView, Session};
 use mt_stamp::Stamp;
-use std::alloc::Allocator;
+use std::alloc::{AllocError, Allocator};
 
 /// A clip, and the track that it is on.
 #[derive(Clone, Copy, Debug)]
@@ -103,11 +103,10 @@ fn take_stood<A: Allocator>(session: &mut Session<A>, stood: Option<PlacedClip>)
 }
 
 // Puts a clip on its track, where that is shown.
-fn put_on<A: Allocator>(session: &mut Session<A>, found: PlacedClip) -> Result<(), SessionFault>
+fn put_on<A: Allocator>(session: &mut Session<A>, found: PlacedClip) -> Result<(), AllocError>
     requires once { DifferBy (λ (t : Track). t.track) session.old.tracks }
     requires new { IsNew found session.old.tracks }
     ensures ok { OnOk result (session.new ≡ record session.old { tracks = map (clip_to found) session.old.tracks }) }
-    ensures err { IfErr result (λ fault. fault ≡ SessionFault.Memory) }
     ensures kept { OnErr result (session.new ≡ session.old) }
 {
     match session.index_of_track(found.track) {
@@ -148,13 +147,12 @@ fn put_in<A: Allocator>(
     session: &mut Session<A>,
     stood: Option<PlacedClip>,
     found: PlacedClip,
-) -> Result<(), SessionFault>
+) -> Result<(), AllocError>
     requires once { DifferBy (λ (t : Track). t.track) session.old.tracks }
     requires there { IfSome stood (λ was. IsThere was session.old.tracks) }
     requires new { IsNew found (tracks_without stood session.old.tracks) }
     ensures ok { OnOk result (session.new ≡ record session.old
         { tracks = map (clip_to found) (tracks_without stood session.old.tracks) }) }
-    ensures err { IfErr result (λ fault. fault ≡ SessionFault.Memory) }
     ensures left { OnErr result (session.new ≡ record session.old
         { tracks = tracks_without stood session.old.tracks }) }
 {
@@ -171,17 +169,16 @@ fn put_in<A: Allocator>(
 /// the one on which it is now, where this is shown; where it stays at its position on its track, put there by the same
 /// operation, it is rewritten in its place: nothing moves, and no memory is taken. Looks at one track after another, and takes
 /// as many comparisons as the logarithm of the number of clips and items; what follows the clip moves else. Refused only as
-/// `Memory` (0), where a growth was refused: the session then lacks the clip, if it stood there, and is else as it was.
+/// `AllocError`, where a growth was refused: the session then lacks the clip, if it stood there, and is else as it was.
 pub fn mend_clips<A: Allocator>(
     session: &mut Session<A>,
     stood: Option<PlacedClip>,
     items: &Items<A>,
     item: Stamp,
-) -> Result<(), SessionFault>
+) -> Result<(), AllocError>
     requires before { ClipsStood items.now item stood session.old.tracks }
     requires no_track { is_need_met items.now (need_of TrackRole item) ≡ false }
     ensures ok { OnOk result (session.new ≡ record session.old { tracks = tracks_in items.now }) }
-    ensures err { IfErr result (λ fault. fault ≡ SessionFault.Memory) }
     ensures left { OnErr result (session.new ≡ record session.old
         { tracks = tracks_without stood session.old.tracks }) }
 {

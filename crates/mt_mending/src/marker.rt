@@ -1,6 +1,6 @@
 //! The markers of a session, mended by one operation more.
 
-ghost use Rattle.std.specs.Prelude.{◌≡◌, true, false, ◌&&◌, Option, None, option_map, if◌then◌else◌, IfOk, IfErr, IfSome, OnOk, OnErr, ◌⊎◌};
+ghost use Rattle.std.specs.Prelude.{◌≡◌, true, false, ◌&&◌, Option, None, option_map, if◌then◌else◌, IfOk, IfSome, OnOk, OnErr, ◌⊎◌};
 ghost use Rattle.std.specs.List.{list_any};
 ghost use Rattle.mt_stamp.specs.Moment.{stamp_eq};
 ghost use Rattle.mt_op.specs.declared.need.Role.TheVariants.{Marker as MarkerRole};
@@ -19,9 +19,9 @@ use crate::read::value_or;
 use mt_cells::Register;
 use mt_items::Items;
 use mt_op::{Need, Role, Title};
-use mt_sessionview::{MarkerView, Session, SessionFault};
+use mt_sessionview::{MarkerView, Session};
 use mt_stamp::Stamp;
-use std::alloc::Allocator;
+use std::alloc::{AllocError, Allocator};
 
 // The title of a marker, where one of this stamp is present.
 fn marker_title<A: Allocator>(items: &Items<A>, item: Stamp) -> Option<&Register<Title<A>>>
@@ -42,15 +42,14 @@ fn marker_title<A: Allocator>(items: &Items<A>, item: Stamp) -> Option<&Register
 fn marker_at<A: Allocator + Clone>(
     items: &Items<A>,
     item: Stamp,
-) -> Result<Option<MarkerView<A>>, SessionFault>
+) -> Result<Option<MarkerView<A>>, AllocError>
     ensures ok { IfOk result (λ view. view ≡ marker_entry items.now item) }
-    ensures err { IfErr result (λ fault. fault ≡ SessionFault.Memory) }
 {
     let Some(title) = marker_title(items, item) else {
         return Ok(None);
     };
     let Ok(title) = title.get().try_clone() else {
-        return Err(SessionFault::Memory);
+        return Err(AllocError);
     };
     Ok(Some(MarkerView {
         marker: item,
@@ -85,13 +84,12 @@ fn put_in<A: Allocator>(
     session: &mut Session<A>,
     stood: Option<u32>,
     view: MarkerView<A>,
-) -> Result<(), SessionFault>
+) -> Result<(), AllocError>
     requires there { IfSome stood (λ at. list_any (is_marker_at at view.marker) session.old.markers ≡ true) }
     requires new { list_any (λ x. stamp_eq view.marker x.marker) (without_stood stood view.marker session.old.markers)
         ≡ false }
     ensures ok { OnOk result (session.new ≡ record session.old
         { markers = insert_by marker_cmp view (without_stood stood view.marker session.old.markers) }) }
-    ensures err { IfErr result (λ fault. fault ≡ SessionFault.Memory) }
     ensures left { OnErr result (session.new ≡ record session.old
         { markers = without_stood stood view.marker session.old.markers }) }
 {
@@ -107,16 +105,15 @@ fn put_in<A: Allocator>(
 /// position at which it stood before (`marker_position` of the operations before), and puts in the one that the operations
 /// show now; where that stands at the same position it takes its place, and nothing moves. Takes as many comparisons as the
 /// logarithm of the number of markers and items, and moves what follows else. Refused
-/// only as `Memory` (0), where a growth was refused: the session is then as it was, or lacks the marker that stood there, and that alone.
+/// only as `AllocError`, where a growth was refused: the session is then as it was, or lacks the marker that stood there, and that alone.
 pub fn mend_markers<A: Allocator + Clone>(
     session: &mut Session<A>,
     stood: Option<u32>,
     items: &Items<A>,
     item: Stamp,
-) -> Result<(), SessionFault>
+) -> Result<(), AllocError>
     requires before { MarkersStood items.now item stood session.old.markers }
     ensures ok { OnOk result (session.new ≡ record session.old { markers = markers_in items.now }) }
-    ensures err { IfErr result (λ fault. fault ≡ SessionFault.Memory) }
     ensures left { OnErr result ((session.new ≡ session.old)
         ⊎ (session.new ≡ record session.old { markers = without_stood stood item session.old.markers })) }
 {

@@ -1,6 +1,6 @@
 //! The tracks of a session, mended by one operation more.
 
-ghost use Rattle.std.specs.Prelude.{◌≡◌, ◌≢◌, [], true, false, ◌&&◌, find, IfOk, IfErr, IfSome, OnOk, OnErr};
+ghost use Rattle.std.specs.Prelude.{◌≡◌, ◌≢◌, [], true, false, ◌&&◌, find, IfOk, IfSome, OnOk, OnErr};
 ghost use Rattle.std.specs.List.{AllByRecursion, list_any};
 ghost use Rattle.std.specs.Ordering.{nat_cmp, is_lt};
 ghost use Rattle.std.specs.declared.cmp.Ordering.TheVariants.{Equal};
@@ -17,10 +17,10 @@ ghost use Rattle.mt_mending.specs.Before.{ArePlacesOf, TracksStood, place_index,
 
 use crate::track::{shown_with, whole_track};
 use mt_items::Items;
-use mt_sessionview::{Session, SessionFault, TrackView};
+use mt_sessionview::{Session, TrackView};
 use mt_stamp::{List, Stamp};
 use mt_tracklist::{Placed, TrackList};
-use std::alloc::Allocator;
+use std::alloc::{AllocError, Allocator};
 
 // Takes the track of a stamp out, where it is shown, and gives it back.
 fn take_out<A: Allocator>(session: &mut Session<A>, item: Stamp) -> Option<TrackView<A>>
@@ -43,12 +43,11 @@ fn track_now<A: Allocator + Clone>(
     item: Stamp,
     known: bool,
     taken: Option<TrackView<A>>,
-) -> Result<Option<TrackView<A>>, SessionFault>
+) -> Result<Option<TrackView<A>>, AllocError>
     requires noted { AreNoted items.now }
     requires clips { IfSome taken (λ t. t.clips ≡ clips_in items.now item) }
     requires none { known ≡ false → clips_in items.now item ≡ [] }
     ensures ok { IfOk result (λ view. view ≡ track_entry items.now item) }
-    ensures err { IfErr result (λ fault. fault ≡ SessionFault.Memory) }
 {
     match taken {
         Some(view) => {
@@ -126,14 +125,13 @@ fn put_shown<A: Allocator>(
     items: &Items<A>,
     places: &[Placed],
     shown: Option<TrackView<A>>,
-) -> Result<(), SessionFault>
+) -> Result<(), AllocError>
     requires rise { RisesStrictly (index_order places.now items.now) session.old.tracks }
     requires apart { IfSome shown (λ t. AllByRecursion
         (λ x. index_order places.now items.now x t ≢ Equal) session.old.tracks) }
     requires new { IfSome shown (λ t. list_any (is_track_of t.track) session.old.tracks ≡ false) }
     ensures ok { OnOk result (session.new ≡ record session.old
         { tracks = put (index_order places.now items.now) shown session.old.tracks }) }
-    ensures err { IfErr result (λ fault. fault ≡ SessionFault.Memory) }
     ensures kept { OnErr result (session.new ≡ session.old) }
 {
     match shown {
@@ -150,7 +148,7 @@ fn put_shown<A: Allocator>(
 /// its clips anew, which takes a look at every clip; and one that was not `known` before (whether it was added, as `stood`
 /// tells) has none. `list` has the places of all noted operations (`add_place`). Looks at one track after another, and at one
 /// place after another as many times as the logarithm of the number of tracks; what follows the track moves. Refused only as
-/// `Memory` (0), where a growth was refused: the session then lacks the track with its clips, if it stood there, and is else as it was.
+/// `AllocError`, where a growth was refused: the session then lacks the track with its clips, if it stood there, and is else as it was.
 pub fn mend_tracks<A: Allocator + Clone>(
     alloc: &A,
     session: &mut Session<A>,
@@ -158,12 +156,11 @@ pub fn mend_tracks<A: Allocator + Clone>(
     items: &Items<A>,
     list: &TrackList<A>,
     item: Stamp,
-) -> Result<(), SessionFault>
+) -> Result<(), AllocError>
     requires before { TracksStood items.now item known session.old.tracks }
     requires track { is_need_met items.now (need_of TrackRole item) ≡ true }
     requires places { ArePlacesOf list.now items.now }
     ensures ok { OnOk result (session.new ≡ record session.old { tracks = tracks_in items.now }) }
-    ensures err { IfErr result (λ fault. fault ≡ SessionFault.Memory) }
     ensures left { OnErr result (session.new ≡ record session.old
         { tracks = without (λ (t : Track). t.track) item session.old.tracks }) }
 {

@@ -1,6 +1,6 @@
 //! The list of the places of tracks, with the place that one operation more gives.
 
-ghost use Rattle.std.specs.Prelude.{◌≡◌, ◌∷◌, ◌+◌, false, option_map, IfErr, OnErr, OnOk, ℕ};
+ghost use Rattle.std.specs.Prelude.{◌≡◌, ◌∷◌, ◌+◌, false, option_map, OnErr, OnOk, ℕ};
 ghost use Rattle.std.specs.List.{sum_by};
 ghost use Rattle.mt_stamp.specs.Tree.{TreePlace};
 ghost use Rattle.mt_tracklist.specs.Ordered.{IsNewer, has_place, tree_of, tree_place};
@@ -12,9 +12,9 @@ ghost use Rattle.mt_mending.specs.Before.{ArePlacesOf, placed_of, with_placed};
 
 use mt_items::Items;
 use mt_op::{Body, Op};
-use mt_sessionview::{SessionFault, placed_by};
+use mt_sessionview::placed_by;
 use mt_tracklist::{Placed, TrackList, TrackListFault};
-use std::alloc::Allocator;
+use std::alloc::{AllocError, Allocator};
 
 // The place that an operation gives a track, if it gives one.
 fn place_given<A: Allocator>(op: &Op<A>) -> Option<Placed>
@@ -29,35 +29,33 @@ fn place_given<A: Allocator>(op: &Op<A>) -> Option<Placed>
 }
 
 // Puts a new place into a list that has what it was put after.
-fn put_place<A: Allocator>(list: &mut TrackList<A>, placed: Placed) -> Result<(), SessionFault>
+fn put_place<A: Allocator>(list: &mut TrackList<A>, placed: Placed) -> Result<(), AllocError>
     requires new { has_place list.old placed.place ≡ false }
     requires reference { IsReferenceThere list.old placed.after }
     requires newer { IsNewer placed.place placed.after }
     ensures ok { OnOk result ((f : TreePlace → ℕ)
         → sum_by f (tree_of list.new) ≡ f (tree_place placed) + sum_by f (tree_of list.old)) }
     ensures put_in { OnOk result (list.new ≡ inserted list.old placed) }
-    ensures err { IfErr result (λ fault. fault ≡ SessionFault.Memory) }
     ensures refused { OnErr result (list.new ≡ list.old) }
 {
     match list.insert(placed.place, placed.after, placed.track) {
         Ok(()) => Ok(()),
-        Err(TrackListFault::Memory) => Err(SessionFault::Memory),
+        Err(TrackListFault::Memory) => Err(AllocError),
         Err(_) => unreachable!(),
     }
 }
 
 /// Puts the place that an operation gives a track, if it gives one, into the list of the places of those noted before it. Looks
-/// at one place after another. Refused only as `Memory` (0), where a growth was refused; the list is then unchanged.
+/// at one place after another. Refused only as `AllocError`, where a growth was refused; the list is then unchanged.
 pub fn add_place<A: Allocator>(
     list: &mut TrackList<A>,
     items: &Items<A>,
     op: &Op<A>,
-) -> Result<(), SessionFault>
+) -> Result<(), AllocError>
     requires follows { AreNoted (op.now ∷ items.now) }
     requires places { ArePlacesOf list.old items.now }
     ensures ok { OnOk result (ArePlacesOf list.new (op.now ∷ items.now)) }
     ensures put_in { OnOk result (list.new ≡ with_placed (placed_of op.now.stamp op.now.act) list.old) }
-    ensures err { IfErr result (λ fault. fault ≡ SessionFault.Memory) }
     ensures refused { OnErr result (list.new ≡ list.old) }
 {
     match place_given(op) {

@@ -1,6 +1,6 @@
 //! The track that a session shows of a stamp, made anew.
 
-ghost use Rattle.std.specs.Prelude.{◌≡◌, true, false, ◌&&◌, Option, None, option_map, if◌then◌else◌, IfOk, IfErr};
+ghost use Rattle.std.specs.Prelude.{◌≡◌, true, false, ◌&&◌, Option, None, option_map, if◌then◌else◌, IfOk};
 ghost use Rattle.std.specs.List.{filter_map};
 ghost use Rattle.std.specs.List.Sorted.{IsPermutation, IsSorted};
 ghost use Rattle.mt_op.specs.declared.need.Role.TheVariants.{Clip as ClipRole, Track as TrackRole};
@@ -17,9 +17,9 @@ use crate::clip::placed_clip;
 use crate::read::value_or;
 use mt_items::Items;
 use mt_op::{Gain, Need, Role};
-use mt_sessionview::{ClipView, SessionFault, TrackView};
+use mt_sessionview::{ClipView, TrackView};
 use mt_stamp::{List, Stamp};
-use std::alloc::Allocator;
+use std::alloc::{AllocError, Allocator};
 
 // The clip of a stamp, where it is present and on a track.
 fn clip_on<A: Allocator>(items: &Items<A>, track: Stamp, clip: Stamp) -> Option<ClipView>
@@ -36,10 +36,9 @@ fn clips_on<A: Allocator + Clone>(
     alloc: A,
     items: &Items<A>,
     track: Stamp,
-) -> Result<Vec<ClipView, A>, SessionFault>
+) -> Result<Vec<ClipView, A>, AllocError>
     ensures ok { IfOk result (λ clips. clips.items
         ≡ filter_map (clip_on items.now track) (items_of ClipRole items.now)) }
-    ensures err { IfErr result (λ fault. fault ≡ SessionFault.Memory) }
 {
     let mut clips = Vec::new(alloc);
     for (clip, _) in items.clip_cells() {
@@ -51,10 +50,9 @@ fn clips_on<A: Allocator + Clone>(
 }
 
 // Puts clips in order: by position, then by the stamp that gave their place.
-fn sort_clips<A: Allocator>(clips: Vec<ClipView, A>) -> Result<Vec<ClipView, A>, SessionFault>
+fn sort_clips<A: Allocator>(clips: Vec<ClipView, A>) -> Result<Vec<ClipView, A>, AllocError>
     ensures moved { IfOk result (λ sorted. IsPermutation clips.items sorted.items) }
     ensures sorted { IfOk result (λ sorted. IsSorted clip_cmp sorted.items) }
-    ensures err { IfErr result (λ fault. fault ≡ SessionFault.Memory) }
 {
     let mut sorted = clips;
     sorted.sort_by_key(|view| (view.at, view.place))?;
@@ -62,15 +60,14 @@ fn sort_clips<A: Allocator>(clips: Vec<ClipView, A>) -> Result<Vec<ClipView, A>,
 }
 
 /// The clips that are present and on a track, in order: by position, and then by the stamp that gave their place. Looks at
-/// every clip, and takes n log n for the n that are on the track. Refused only as `Memory` (0).
+/// every clip, and takes n log n for the n that are on the track. Refused only as `AllocError`.
 pub fn track_clips<A: Allocator + Clone>(
     alloc: A,
     items: &Items<A>,
     track: Stamp,
-) -> Result<Vec<ClipView, A>, SessionFault>
+) -> Result<Vec<ClipView, A>, AllocError>
     requires noted { AreNoted items.now }
     ensures ok { IfOk result (λ clips. clips.items ≡ clips_in items.now track) }
-    ensures err { IfErr result (λ fault. fault ≡ SessionFault.Memory) }
 {
     let clips = clips_on(alloc, items, track)?;
     let sorted = sort_clips(clips)?;
@@ -93,11 +90,10 @@ pub(crate) fn shown_with<A: Allocator + Clone>(
     items: &Items<A>,
     item: Stamp,
     clips: List<ClipView, A>,
-) -> Result<Option<TrackView<A>>, SessionFault>
+) -> Result<Option<TrackView<A>>, AllocError>
     requires clips { clips ≡ clips_in items.now item }
     requires noted { AreNoted items.now }
     ensures ok { IfOk result (λ view. view ≡ track_entry items.now item) }
-    ensures err { IfErr result (λ fault. fault ≡ SessionFault.Memory) }
 {
     if !is_shown(items, item) {
         return Ok(None);
@@ -106,7 +102,7 @@ pub(crate) fn shown_with<A: Allocator + Clone>(
         return Ok(None);
     };
     let Ok(title) = title.get().try_clone() else {
-        return Err(SessionFault::Memory);
+        return Err(AllocError);
     };
     Ok(Some(TrackView {
         track: item,
@@ -118,15 +114,14 @@ pub(crate) fn shown_with<A: Allocator + Clone>(
 }
 
 /// The track of a stamp with all its clips, where the session of the noted operations shows one: one that was added or that
-/// returns. Looks at every clip, and takes n log n for the n that are on the track. Refused only as `Memory` (0).
+/// returns. Looks at every clip, and takes n log n for the n that are on the track. Refused only as `AllocError`.
 pub fn whole_track<A: Allocator + Clone>(
     alloc: A,
     items: &Items<A>,
     item: Stamp,
-) -> Result<Option<TrackView<A>>, SessionFault>
+) -> Result<Option<TrackView<A>>, AllocError>
     requires noted { AreNoted items.now }
     ensures ok { IfOk result (λ view. view ≡ track_entry items.now item) }
-    ensures err { IfErr result (λ fault. fault ≡ SessionFault.Memory) }
 {
     if !is_shown(items, item) {
         return Ok(None);

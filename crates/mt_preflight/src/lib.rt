@@ -2,8 +2,7 @@
 //! than one may think.
 //!
 //! ```rust
-//! use mt_opcodec::Latch;
-//! use mt_preflight::{Listing, describe, write_sources};
+//! use mt_preflight::{Listing, describe, sources_text};
 //! use mt_sessionview::from_scratch;
 //! use mt_testkit::{RECORDING, log_of_a_clip};
 //! use std::test::Fail;
@@ -17,9 +16,8 @@
 //!     let log = log_of_a_clip(rt.alloc(), 3)?;
 //!     let session = from_scratch(rt.alloc(), &log)?;
 //!     let files = [describe("voice.wav", RECORDING)];
-//!     let mut output = Latch::new(Vec::new(rt.alloc()));
-//!     write_sources(rt.alloc(), Listing::All, &session, &files, &mut output)?;
-//!     assert!(rt; output.into_inner().as_slice() == TEXT);
+//!     let text = sources_text(rt.alloc(), Listing::All, &session, &files)?;
+//!     assert!(rt; text.as_bytes() == TEXT);
 //!     Ok(())
 //! }
 //! ```
@@ -27,11 +25,10 @@
 //! A file is described by `describe`, which reads its bytes and keeps none of them: so as many recordings can be looked at as there are, one after
 //! another. `specs/SourcesText.antt` is the text.
 //!
-//! `write_warnings` looks at a session, at the log that it is of, and at a catalogue of its recordings, as a mix of mt_render is made of them:
+//! `warnings_text` looks at a session, at the log that it is of, and at a catalogue of its recordings, as a mix of mt_render is made of them:
 //!
 //! ```rust
-//! use mt_opcodec::Latch;
-//! use mt_preflight::write_warnings;
+//! use mt_preflight::warnings_text;
 //! use mt_render::{Catalogue, Format};
 //! use mt_sessionview::from_scratch;
 //! use mt_testkit::{RECORDING, log_of_a_clip};
@@ -49,9 +46,8 @@
 //!     let mut catalogue = Catalogue::new(rt.alloc());
 //!     let _digest = catalogue.add(RECORDING)?;
 //!     let format = Format::new(48000, 24, 1)?;
-//!     let mut output = Latch::new(Vec::new(rt.alloc()));
-//!     write_warnings(rt.alloc(), &log, &session, &catalogue, format, &mut output)?;
-//!     assert!(rt; output.into_inner().as_slice() == WARNINGS);
+//!     let text = warnings_text(rt.alloc(), &log, &session, &catalogue, format)?;
+//!     assert!(rt; text.as_bytes() == WARNINGS);
 //!     Ok(())
 //! }
 //! ```
@@ -82,5 +78,5 @@ mod warnings;
 pub use audible::Audible;
 pub use given::{Given, Recording, describe};
 pub use listing::Listing;
-pub use sources::write_sources;
-pub use warnings::write_warnings;
+pub use sources::sources_text;
+pub use warnings::warnings_text;

@@ -1,12 +1,10 @@
 //! The recordings of a session as text.
 
-ghost use Rattle.std.specs.Prelude.{◌≡◌, ◌++◌, ◌∷◌, [], true, false, filter, if◌then◌else◌, IfErr, OnOk, IfOk};
+ghost use Rattle.std.specs.Prelude.{◌≡◌, ◌++◌, ◌∷◌, [], filter, if◌then◌else◌, OnOk, IfOk};
 ghost use Rattle.std.specs.BTreeMap.{get};
-ghost use Rattle.std.specs.Io.KnownBytes.{Appends};
 ghost use Rattle.std.specs.List.{flat_map};
 ghost use Rattle.std.specs.Option.{is_none};
 ghost use Rattle.std.specs.String.{string_bytes};
-ghost use Rattle.mt_latch.specs.Latch.{AppendsPrefix};
 ghost use Rattle.mt_op.specs.Digest.{digest_text};
 ghost use Rattle.mt_render.specs.Sources.{digest_cmp};
 ghost use Rattle.mt_sessionview.specs.SessionText.{newline};
@@ -24,11 +22,9 @@ use crate::source_line::{
 };
 use crate::uses::{Use, digest_at, named_by, noted, uses_by};
 use mt_op::Digest;
-use mt_opcodec::Latch;
-use mt_sessionview::{Session, SessionFault, TrackView};
+use mt_sessionview::{Session, TrackView};
 use std::alloc::{AllocError, Allocator};
 use std::collections::BTreeMap;
-use std::io::Write;
 
 // What is noted of the recordings of a session: the digests that clips name, what is made of each, and its first file.
 #[derive(Drop)]
@@ -250,37 +246,21 @@ fn append_listing<A: Allocator + Clone, B: Allocator, C: Allocator>(
     }
 }
 
-/// Writes which recordings the clips of a session name, and which of the files these are, in one of three ways:
+/// Which recordings the clips of a session name, and which of the files these are. `All` has a line for
+/// each digest that a clip names, with the first of the files that has it, and one for each file that no
+/// clip plays or that is no wave file; `Missing` has the digests that no file has, and `Files` the names
+/// of the first files. The page on output describes them.
 ///
-/// - `All`: for each digest that a clip names, by rising digest, `source DIGEST clips N audible N end N rate N channels N frames N file NAME`, with the
-///   first of the files that has it, or `source DIGEST clips N audible N end N missing`; then, in the order of the files, `unused DIGEST file NAME` of
-///   each that no clip plays, and `refused N file NAME`, N from 26 to 32, of each that is no wave file; last `missing N`.
-/// - `Missing`: the digests that no file has, rising.
-/// - `Files`: the names of the first files, in the order of their digests.
-///
-/// Each line is ended by a line feed. A clip is audible where neither it nor its track is muted; `end`, in frames of the recording, is the greatest
-/// offset and length together of its clips. In a time of n log n for n clips and files.
-///
-/// `Write` (37) where the output's latch has failed, before or in this call; the output then holds a prefix of the text, and is as
-/// it was where the latch had failed before. `Memory` (0) where a growth was refused; the output is then as it was.
-pub fn write_sources<A: Allocator + Clone, B: Allocator, W: Write>(
+/// In a time of n log n for n clips and files. Fails where memory runs out.
+pub fn sources_text<A: Allocator + Clone, B: Allocator>(
     alloc: A,
     listing: Listing,
     session: &Session<B>,
     files: &[Given<'_>],
-    output: &mut Latch<W>,
-) -> Result<(), SessionFault>
-    ensures whole { OnOk result (Appends (W.contents output.old.inner) (W.contents output.new.inner) (listing_text listing session.now.tracks files.now)) }
-    ensures prefix { AppendsPrefix (W.contents output.old.inner) (W.contents output.new.inner) (listing_text listing session.now.tracks files.now) }
-    ensures sound { OnOk result (output.new.failed ≡ false) }
-    ensures write { IfErr result (λ fault. fault ≡ SessionFault.Write → output.new.failed ≡ true) }
-    ensures stays_failed { output.old.failed ≡ true → output.new ≡ output.old }
-    ensures memory { IfErr result (λ fault. fault ≡ SessionFault.Memory → output.new ≡ output.old) }
+) -> Result<String<A>, AllocError>
+    ensures { IfOk result (λ text. string_bytes text ≡ listing_text listing session.now.tracks files.now) }
 {
-    let mut text = String::new(&alloc);
+    let mut text = String::new(alloc.clone()?);
     append_listing(&alloc, &mut text, listing, session.tracks.items(), files)?;
-    match output.put(text.as_bytes()) {
-        Ok(()) => Ok(()),
-        Err(_) => Err(SessionFault::Write),
-    }
+    Ok(text)
 }

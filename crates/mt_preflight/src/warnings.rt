@@ -1,9 +1,7 @@
 //! What sounds otherwise than one may think, as text.
 
-ghost use Rattle.std.specs.Prelude.{◌≡◌, true, false, IfErr, IfOk, OnOk};
-ghost use Rattle.std.specs.Io.KnownBytes.{Appends};
+ghost use Rattle.std.specs.Prelude.{◌≡◌, IfOk, OnOk};
 ghost use Rattle.std.specs.String.{string_bytes};
-ghost use Rattle.mt_latch.specs.Latch.{AppendsPrefix};
 ghost use Rattle.mt_opcodec.specs.LogValue.{operations};
 ghost use Rattle.mt_render.specs.Alike.{over};
 ghost use Rattle.mt_preflight.specs.Lines.{with_lines};
@@ -18,11 +16,10 @@ use crate::lines::Lines;
 use crate::past_ends::append_past_ends;
 use crate::uses::named_by;
 use crate::warning_line::append_warnings_line;
-use mt_opcodec::{Latch, Log};
+use mt_opcodec::Log;
 use mt_render::{Catalogue, Format};
-use mt_sessionview::{MarkerView, Session, SessionFault, TrackView};
+use mt_sessionview::{MarkerView, Session, TrackView};
 use std::alloc::{AllocError, Allocator};
-use std::io::Write;
 
 // Writes all lines but the last.
 fn append_lines<A: Allocator + Clone, B: Allocator, C: Allocator, D: Allocator>(
@@ -64,44 +61,24 @@ fn text_of<A: Allocator + Clone, C: Allocator, D: Allocator>(
     Ok(text)
 }
 
-/// Writes what sounds otherwise than one may think where a session is put out in a format, its clips playing the recordings of a catalogue, as
-/// `Mix` of mt_render mixes it and `bounce` of mt_cuewrite writes it: a line for each such thing, in this order.
+/// What sounds otherwise than one may think where a session is put out in a format, its clips playing
+/// the recordings of a catalogue: a line for each clip past its recording's end, each that is covered,
+/// each recording of which some channels are not heard, each marker at or after the end, and each
+/// operation that is held; last `warnings N`. The page on output describes them. Of a recording that is
+/// not in the catalogue nothing is said.
 ///
-/// - `past-end CLIP end N frames N`: an audible clip whose offset and length together, its end, are more than the frames of its recording. The rest
-///   of it is silence.
-/// - `covered CLIP`: an audible clip that is on top at none of its frames, so that nothing of it is heard: others on its track lie over it.
-/// - `one-channel DIGEST channels N`: a recording that an audible clip plays, of more channels than the format has. Of N channels that are put out each
-///   plays that of its number, or the last of a recording that has fewer.
-/// - `behind MARKER at N`: a marker that stands at the programme's end or behind it, so that a file has no cue point of it.
-/// - `held STAMP needs STAMP`: an operation that is held, and the first of its needs that no ready operation meets, as a body names them.
-/// - `warnings N`: how many lines stand before it. It comes always, and last.
-///
-/// Clips stand in the order of the tracks and of the clips on them, recordings by rising digest, each once, markers in their order and operations by
-/// rising stamp. Positions, ends and frames are in frames: `end` and `frames` in those of the recording, `at` in those of the session. A clip is audible where neither it
-/// nor its track is muted. Each line is ended by a line feed. Of a recording that is not in the catalogue nothing is told. In a time of
-/// n log n for n clips, markers and operations, and the tags that these list.
-///
-/// `Write` (37) where the output's latch has failed, before or in this call; the output then holds a prefix of the text, and is as
-/// it was where the latch had failed before. `Memory` (0) where a growth was refused; the output is then as it was.
-pub fn write_warnings<A: Allocator + Clone, B: Allocator, C: Allocator, W: Write>(
+/// In a time of n log n for n clips, markers and operations, and the tags that these list. Fails where
+/// memory runs out.
+pub fn warnings_text<A: Allocator + Clone, B: Allocator, C: Allocator>(
     alloc: A,
     log: &Log<A>,
     session: &Session<B>,
     catalogue: &Catalogue<'_, C>,
     format: Format,
-    output: &mut Latch<W>,
-) -> Result<(), SessionFault>
-    ensures whole { OnOk result (Appends (W.contents output.old.inner) (W.contents output.new.inner) (warnings_text (over session.now.tracks format catalogue.now) session.now.markers (operations log.now))) }
-    ensures prefix { AppendsPrefix (W.contents output.old.inner) (W.contents output.new.inner) (warnings_text (over session.now.tracks format catalogue.now) session.now.markers (operations log.now)) }
-    ensures sound { OnOk result (output.new.failed ≡ false) }
-    ensures write { IfErr result (λ fault. fault ≡ SessionFault.Write → output.new.failed ≡ true) }
-    ensures stays_failed { output.old.failed ≡ true → output.new ≡ output.old }
-    ensures memory { IfErr result (λ fault. fault ≡ SessionFault.Memory → output.new ≡ output.old) }
+) -> Result<String<A>, AllocError>
+    ensures { IfOk result (λ text. string_bytes text
+        ≡ warnings_text (over session.now.tracks format catalogue.now) session.now.markers (operations log.now)) }
 {
     let (tracks, markers) = (session.tracks.items(), session.markers.items());
-    let text = text_of(&alloc, log, tracks, markers, catalogue, format)?;
-    match output.put(text.as_bytes()) {
-        Ok(()) => Ok(()),
-        Err(_) => Err(SessionFault::Write),
-    }
+    text_of(&alloc, log, tracks, markers, catalogue, format)
 }

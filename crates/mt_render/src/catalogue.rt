@@ -6,14 +6,13 @@ ghost use Rattle.sha2.specs.Sha256.{sha256};
 ghost use Rattle.mt_op.specs.declared.digest.Digest.{Digest as DigestOf};
 ghost use Rattle.mt_bwfread.specs.Wave.{IsWave};
 ghost use Rattle.mt_render.specs.Faults.{IsSourceFault};
-ghost use Rattle.mt_render.specs.declared.fault.SourceFault.TheVariants as source;
 
 use crate::fault::SourceFault;
 use crate::hashed::HashedFile;
 use mt_bwfread::Wave;
 use mt_digests::digests_of;
 use mt_op::Digest;
-use std::alloc::{Allocator, Global};
+use std::alloc::{AllocError, Allocator, Global};
 use std::collections::BTreeMap;
 use std::marker::Model;
 
@@ -66,12 +65,11 @@ impl<'a, A: Allocator> Catalogue<'a, A> {
     }
 
     // Puts a wave file under a digest, unless one is there.
-    fn keep(&mut self, digest: Digest, wave: Wave<'a>) -> Result<(), SourceFault>
+    fn keep(&mut self, digest: Digest, wave: Wave<'a>) -> Result<(), AllocError>
     where
         A: Clone,
         ensures first { OnOk result (found self.new digest ≡ Some (unwrap_or (found self.old digest) wave.entry)) }
         ensures others { OnOk result ((e : DigestOf) → e ≢ digest → found self.new e ≡ found self.old e) }
-        ensures fault { IfErr result (λ fault. fault ≡ source.Memory) }
         ensures refused { OnErr result ((e : DigestOf) → found self.new e ≡ found self.old e) }
     {
         if !self.waves.contains_key(&digest) {

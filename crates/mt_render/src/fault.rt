@@ -7,7 +7,6 @@ ghost use Rattle.mt_render.specs.Refusals.{mix_number};
 
 use mt_bwfread::WaveFault;
 use mt_op::Digest;
-use mt_overlap::OverlapFault;
 use std::alloc::{AllocError, AllocFailed};
 use thiserror::Error;
 
@@ -33,12 +32,12 @@ impl SourceFault {
     }
 }
 
-impl<T: Drop> From<AllocFailed<T>> for SourceFault {
+impl From<AllocError> for SourceFault {
     ghost use Rattle.mt_render.specs.declared.fault.SourceFault.TheVariants as source;
 
     ghost from_gives = { λ _ e. e ≡ source.Memory };
 
-    fn from(_error: AllocFailed<T>) -> SourceFault {
+    fn from(_error: AllocError) -> SourceFault {
         SourceFault::Memory
     }
 }
@@ -97,16 +96,6 @@ impl From<AllocError> for MixFault {
     ghost from_gives = { λ _ e. e ≡ mix.Memory };
 
     fn from(_error: AllocError) -> MixFault {
-        MixFault::Memory
-    }
-}
-
-impl From<OverlapFault> for MixFault {
-    ghost use Rattle.mt_render.specs.declared.fault.MixFault.TheVariants as mix;
-
-    ghost from_gives = { λ _ e. e ≡ mix.Memory };
-
-    fn from(_error: OverlapFault) -> MixFault {
         MixFault::Memory
     }
 }

@@ -1,6 +1,6 @@
 //! The lane of a track: a part for each segment of its clips.
 
-ghost use Rattle.std.specs.Prelude.{◌≡◌, ℕ, ◌+◌, ◌-◌, ◌*◌, ◌<◌, ◌≤◌, false, if◌then◌else◌, length, [], ◌∷◌, ◌++◌, ℤ, pos, ◌+ℤ◌, ◌*ℤ◌, OnOk, IfOk, IfErr};
+ghost use Rattle.std.specs.Prelude.{◌≡◌, ℕ, ◌+◌, ◌-◌, ◌*◌, ◌<◌, ◌≤◌, false, if◌then◌else◌, length, [], ◌∷◌, ◌++◌, ℤ, pos, ◌+ℤ◌, ◌*ℤ◌, OnOk, IfOk};
 ghost use Rattle.mt_overlap.specs.Overlap.{segment_at};
 ghost use Rattle.mt_render.specs.Lanes.{clip_at, is_in, clip_value};
 ghost use Rattle.mt_render.specs.Fading.{loudness, most};
@@ -12,7 +12,6 @@ ghost use Rattle.mt_render.specs.Sources.{source_of};
 
 use crate::catalogue::Catalogue;
 use crate::fade::Fades;
-use crate::fault::MixFault;
 use crate::lane::Lane;
 use crate::part::Part;
 use crate::scale::Scale;
@@ -21,7 +20,7 @@ use mt_bwfread::Wave;
 use mt_op::Gain;
 use mt_overlap::{Segment, segments};
 use mt_sessionview::{ClipView, TrackView};
-use std::alloc::Allocator;
+use std::alloc::{AllocError, Allocator};
 
 // The segment of an index.
 fn segment_at(segments: &[Segment], index: usize) -> Segment
@@ -64,17 +63,16 @@ fn add_part<'c, 'a, A: Allocator>(
     gain: Gain,
     segment: Segment,
     parts: &mut Vec<Part<'c, 'a>, A>,
-) -> Result<(), MixFault>
+) -> Result<(), AllocError>
     requires there { is_missing catalogue.now clip.source ≡ false }
     requires begun { clip.at ≤ segment.start }
     requires ended { segment.end ≤ clip.at + clip.len }
     ensures ok { OnOk result ((f c : ℕ) → all_give f c parts.new.items ≡ all_give f c parts.old.items
         +ℤ (if is_in segment f then contribution clip gain (f - clip.at) (heard (source_of catalogue.now clip.source) clip f c) else pos 0)) }
     ensures pushed { OnOk result ((p : PartOf) × (parts.new.items ≡ parts.old.items ++ p ∷ []) × (p.start ≡ segment.start) × (p.end ≡ segment.end)) }
-    ensures err { IfErr result (λ fault. fault ≡ MixFault.Memory) }
 {
     let Some(wave) = catalogue.find(&clip.source) else {
-        return Err(MixFault::MissingSource(clip.source));
+        unreachable!()
     };
     parts.push(part_of(wave, clip, gain, segment))?;
     Ok(())
@@ -85,14 +83,15 @@ fn lane_of<'c, 'a, A: Allocator + Clone>(
     alloc: &A,
     catalogue: &'c Catalogue<'a, A>,
     track: &TrackView<A>,
-) -> Result<Lane<'c, 'a, A>, MixFault>
+) -> Result<Lane<'c, 'a, A>, AllocError>
     requires there { (i : ℕ) → i < length track.now.clips → (clip_at track.now.clips i).mute ≡ false → is_missing catalogue.now (clip_at track.now.clips i).source ≡ false }
     ensures ok { IfOk result (λ lane. (f c : ℕ) → all_give f c lane ≡ clip_sample catalogue.now track.now.gain f c (sounding track.now.clips f)) }
-    ensures err { IfErr result (λ fault. fault ≡ MixFault.Memory) }
 {
     let clips = track.clips.items();
     let spans = spans_of(alloc.clone()?, clips)?;
-    let segments = segments(alloc.clone()?, &spans)?;
+    let Ok(segments) = segments(alloc.clone()?, &spans) else {
+        return Err(AllocError);
+    };
     let mut parts = Vec::new(alloc.clone()?);
     for index in 0..segments.len() {
         let segment = segment_at(&segments, index);
@@ -108,10 +107,9 @@ pub(crate) fn add_audible<'c, 'a, A: Allocator + Clone>(
     catalogue: &'c Catalogue<'a, A>,
     track: &TrackView<A>,
     lanes: &mut Vec<Lane<'c, 'a, A>, A>,
-) -> Result<(), MixFault>
+) -> Result<(), AllocError>
     requires there { track.now.mute ≡ false → (i : ℕ) → i < length track.now.clips → (clip_at track.now.clips i).mute ≡ false → is_missing catalogue.now (clip_at track.now.clips i).source ≡ false }
     ensures ok { OnOk result ((f c : ℕ) → lanes_give f c lanes.new.items ≡ lanes_give f c lanes.old.items +ℤ track_sample catalogue.now f c track.now) }
-    ensures err { IfErr result (λ fault. fault ≡ MixFault.Memory) }
 {
     if track.mute {
         return Ok(());

@@ -1,17 +1,16 @@
 //! What a change does to a session.
 
-ghost use Rattle.std.specs.Prelude.{◌≡◌, option_map, IfOk, IfErr};
+ghost use Rattle.std.specs.Prelude.{◌≡◌, option_map, IfOk};
 ghost use Rattle.mt_op.specs.Bodies.{act_of};
 ghost use Rattle.mt_replica.specs.Changes.{edit_of};
 ghost use Rattle.mt_replica.specs.Made.{plays, fades_fit, current_place, rising_tags, made_act};
 ghost use Rattle.mt_replica.specs.State.{lists_few};
 
 use crate::change::Change;
-use crate::fault::EditorFault;
 use mt_items::Items;
 use mt_op::{Body, LONGEST_FADE, Title};
 use mt_stamp::{List, Stamp};
-use std::alloc::Allocator;
+use std::alloc::{AllocError, Allocator};
 
 /// Whether a clip that a change adds or trims would play at least one frame.
 pub(crate) fn plays<A: Allocator>(change: &Change<A>) -> bool
@@ -61,23 +60,19 @@ fn place_after<A: Allocator>(items: &Items<A>, after: Option<Stamp>) -> Option<S
 fn tags_of<A: Allocator + Clone>(
     items: &Items<A>,
     item: Stamp,
-) -> Result<List<Stamp, A>, EditorFault>
+) -> Result<List<Stamp, A>, AllocError>
     ensures ok { IfOk result (λ tags. tags ≡ rising_tags items.now item) }
-    ensures err { IfErr result (λ fault. fault ≡ EditorFault.Memory) }
 {
-    match items.live_tags(item) {
-        Ok(tags) => Ok(List::new(tags)),
-        Err(_) => Err(EditorFault::Memory),
-    }
+    let tags = items.live_tags(item)?;
+    Ok(List::new(tags))
 }
 
-/// What a change does where these operations are ready. Refused as `Memory` (0) where a growth was refused.
+/// What a change does where these operations are ready. `AllocError` where a growth was refused.
 pub(crate) fn body_of<A: Allocator + Clone>(
     items: &Items<A>,
     change: &Change<A>,
-) -> Result<Body<A>, EditorFault>
+) -> Result<Body<A>, AllocError>
     ensures ok { IfOk result (λ body. act_of body ≡ made_act items.now (edit_of change.now)) }
-    ensures err { IfErr result (λ fault. fault ≡ EditorFault.Memory) }
 {
     Ok(match change {
         Change::AddTrack { after, title } => Body::AddTrack {
@@ -163,12 +158,11 @@ pub(crate) fn lists_few<A: Allocator>(body: &Body<A>) -> bool
 }
 
 // A copy of a title.
-fn copied<A: Allocator + Clone>(title: &Title<A>) -> Result<Title<A>, EditorFault>
+fn copied<A: Allocator + Clone>(title: &Title<A>) -> Result<Title<A>, AllocError>
     ensures ok { IfOk result (λ copy. copy ≡ title.now) }
-    ensures err { IfErr result (λ fault. fault ≡ EditorFault.Memory) }
 {
     match title.try_clone() {
         Ok(copy) => Ok(copy),
-        Err(_) => Err(EditorFault::Memory),
+        Err(_) => Err(AllocError),
     }
 }

@@ -1,6 +1,6 @@
 //! What an editor keeps beside a log.
 
-ghost use Rattle.std.specs.Prelude.{◌≡◌, ℕ, [], map, false, IfOk, IfErr, IfSome, OnOk};
+ghost use Rattle.std.specs.Prelude.{◌≡◌, ℕ, [], map, false, IfOk, IfSome, OnOk};
 ghost use Rattle.std.specs.List.{AllByRecursion, sum_by};
 ghost use Rattle.std.specs.declared.cmp.Ordering.TheVariants.{Less};
 ghost use Rattle.mt_stamp.specs.Sorting.{RisesStrictly};
@@ -11,15 +11,13 @@ ghost use Rattle.mt_replica.specs.State.{HoldsBack};
 ghost use Rattle.mt_replica.specs.Holding.{is_offered, with_offered, HaveOwnStamps, AreOffered};
 ghost use Rattle.mt_sessionview.specs.Session.{ready_ops};
 
-use crate::fault::EditorFault;
 use crate::holding::{copied, offer_met, offer_new};
-use crate::view::noted;
 use mt_holdback::HoldBack;
 use mt_items::{Items, items_of_ready};
 use mt_op::Op;
 use mt_opcodec::Log;
 use mt_sessionview::sorted_ops;
-use std::alloc::Allocator;
+use std::alloc::{AllocError, Allocator};
 
 // Offers an operation of a greater stamp than those that wait, and notes it where its needs are met by what was released, which is
 // what was noted.
@@ -27,7 +25,7 @@ fn take_next<A: Allocator + Clone>(
     waiting: &mut HoldBack<Op<A>, A>,
     items: Items<A>,
     op: &Op<A>,
-) -> Result<Items<A>, EditorFault>
+) -> Result<Items<A>, AllocError>
     requires whole { waiting.old.failed ≡ false }
     requires unknown { is_offered waiting.old.contents op.now.stamp ≡ false }
     requires above { AllByRecursion (λ u. op_cmp u op.now ≡ Less) waiting.old.contents.waiting }
@@ -36,12 +34,11 @@ fn take_next<A: Allocator + Clone>(
         ≡ record { contents = with_offered waiting.old.contents op.now; failed = false }) }
     ensures same { IfOk result (λ after. (f : Operation → ℕ)
         → sum_by f after ≡ sum_by f waiting.new.contents.released) }
-    ensures err { IfErr result (λ fault. fault ≡ EditorFault.Memory) }
 {
     // for the proof: that what was released is what is ready, and that the operation names older ones
     let (_released, _stamp) = (waiting.released(), op.stamp());
     if items.are_needs_met(op) {
-        let items = noted(items, op)?;
+        let items = items.note(op)?;
         offer_met(waiting, copied(op)?)?;
         return Ok(items);
     }
@@ -53,52 +50,44 @@ fn take_next<A: Allocator + Clone>(
 fn all_taken<A: Allocator + Clone>(
     alloc: &A,
     ops: &[&Op<A>],
-) -> Result<(HoldBack<Op<A>, A>, Items<A>), EditorFault>
+) -> Result<(HoldBack<Op<A>, A>, Items<A>), AllocError>
     requires rising { RisesStrictly op_cmp (map (λ o. o.now) ops.now) }
     requires own { HaveOwnStamps (map (λ o. o.now) ops.now) }
     ensures offered { IfOk result (λ both. AreOffered both.0 [] (map (λ o. o.now) ops.now)) }
     ensures noted { IfOk result (λ both. (f : Operation → ℕ) → sum_by f both.1 ≡ sum_by f both.0.contents.released) }
-    ensures err { IfErr result (λ fault. fault ≡ EditorFault.Memory) }
 {
     let mut waiting = HoldBack::new(alloc.clone()?);
-    let Ok(mut items) = Items::with_room_for(alloc.clone()?, ops) else {
-        return Err(EditorFault::Memory);
-    };
+    let mut items = Items::with_room_for(alloc.clone()?, ops)?;
     for op in ops {
         items = take_next(&mut waiting, items, op)?;
     }
     Ok((waiting, items))
 }
 
-/// The items that the ready operations of a log leave: each is noted where it is ready, by rising stamp. n operations cost n log n. Refused
-/// as `Memory` (0) where a growth was refused.
+/// The items that the ready operations of a log leave: each is noted where it is ready, by rising stamp. n operations cost n log n.
+/// `AllocError` where a growth was refused.
 pub(crate) fn items_beside<A: Allocator + Clone>(
     alloc: &A,
     log: &Log<A>,
-) -> Result<Items<A>, EditorFault>
+) -> Result<Items<A>, AllocError>
     ensures noted { IfOk result (λ items. (f : Operation → ℕ) → sum_by f items
         ≡ sum_by f (ready_ops (operations log.now))) }
-    ensures err { IfErr result (λ fault. fault ≡ EditorFault.Memory) }
 {
     // for the proof: that the dots of a log's operations differ
     let _ = log.runs();
     let sorted = sorted_ops(alloc.clone()?, log)?;
-    match items_of_ready(alloc.clone()?, &sorted) {
-        Ok(items) => Ok(items),
-        Err(_) => Err(EditorFault::Memory),
-    }
+    Ok(items_of_ready(alloc.clone()?, &sorted)?)
 }
 
 /// What holds the operations of a log back, and the items that the ready ones leave: each operation is offered, and noted where it
-/// is ready, by rising stamp. n operations cost n log n. Refused as `Memory` (0) where a growth was refused.
+/// is ready, by rising stamp. n operations cost n log n. `AllocError` where a growth was refused.
 pub(crate) fn beside_log<A: Allocator + Clone>(
     alloc: &A,
     log: &Log<A>,
-) -> Result<(HoldBack<Op<A>, A>, Items<A>), EditorFault>
+) -> Result<(HoldBack<Op<A>, A>, Items<A>), AllocError>
     ensures waits { IfOk result (λ both. HoldsBack log.now both.0) }
     ensures noted { IfOk result (λ both. (f : Operation → ℕ) → sum_by f both.1
         ≡ sum_by f (ready_ops (operations log.now))) }
-    ensures err { IfErr result (λ fault. fault ≡ EditorFault.Memory) }
 {
     // for the proof: that the dots of a log's operations differ
     let _ = log.runs();
@@ -109,16 +98,14 @@ pub(crate) fn beside_log<A: Allocator + Clone>(
     Ok((waiting, items))
 }
 
-/// What holds the operations of a log back, which is made of the log where it is not there yet. Refused as `Memory` (0) where a growth was
-/// refused.
+/// What holds the operations of a log back, which is made of the log where it is not there yet. `AllocError` where a growth was refused.
 pub(crate) fn held_back<A: Allocator + Clone>(
     alloc: &A,
     log: &Log<A>,
     waiting: Option<HoldBack<Op<A>, A>>,
-) -> Result<HoldBack<Op<A>, A>, EditorFault>
+) -> Result<HoldBack<Op<A>, A>, AllocError>
     requires waits { IfSome waiting (HoldsBack log.now) }
     ensures waits { IfOk result (HoldsBack log.now) }
-    ensures err { IfErr result (λ fault. fault ≡ EditorFault.Memory) }
 {
     match waiting {
         Some(waiting) => Ok(waiting),

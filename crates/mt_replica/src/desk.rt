@@ -1,6 +1,6 @@
 //! The log that is edited: an editor, which has its session, and a draft, which has none.
 
-ghost use Rattle.std.specs.Prelude.{◌≡◌, ◌≢◌, ◌↔◌, IsErrOf, IfOk, IfErr, OnOk, Ok, None, Some, Bool, true, false};
+ghost use Rattle.std.specs.Prelude.{◌≡◌, ◌≢◌, ◌↔◌, IsErrOf, IfOk, IfErr, OnOk, OnErr, Ok, None, Some, Bool, true, false};
 ghost use Rattle.std.specs.Option.{option_copied};
 ghost use Rattle.std.specs.Prelude.{nat_eq};
 ghost use Rattle.std.specs.Cmp.Lexicographic.{pointwise};
@@ -16,7 +16,7 @@ use mt_op::Op;
 use mt_opcodec::Log;
 use mt_sessionview::Session;
 use mt_stamp::Replica;
-use std::alloc::{Allocator, Global};
+use std::alloc::{AllocError, Allocator, Global};
 use std::marker::{Model, PhantomData};
 
 /// Whether a desk has the session of its log.
@@ -99,7 +99,7 @@ impl<A: Allocator + Clone> Draft<A> {
         ensures ok { IfOk result (λ draft. draft ≡ record { name = name; log = Some log; joins = 0 }) }
         ensures err { IfErr result (λ fault. fault ≡ EditorFault.Memory) }
     {
-        Desk::of_log(alloc, name, log)
+        Ok(Desk::of_log(alloc, name, log)?)
     }
 }
 
@@ -111,7 +111,7 @@ impl<A: Allocator + Clone> Editor<A> {
         ensures ok { IfOk result (λ editor. editor ≡ record { name = name; log = Some log; joins = 0 }) }
         ensures err { IfErr result (λ fault. fault ≡ EditorFault.Memory) }
     {
-        Desk::of_log(alloc, name, log)
+        Ok(Desk::of_log(alloc, name, log)?)
     }
 
     /// The editor of a draft, which has not failed. Refused only as `Memory` (0).
@@ -155,10 +155,9 @@ impl<A: Allocator + Clone, S: Sessions> Desk<A, S> {
     ghost use Rattle.mt_replica.specs.Kept.{Kept, kept_with, failed, copied, EditGives, after_edit, TakeGives, after_take};
     ghost use Rattle.mt_replica.specs.State.{IsMadeOf, IsNewTo};
 
-    // A desk that has taken a log's operations. Refused only as `Memory` (0).
-    fn of_log(alloc: A, name: Replica, log: Log<A>) -> Result<Self, EditorFault>
+    // A desk that has taken a log's operations. `AllocError` where a growth was refused.
+    fn of_log(alloc: A, name: Replica, log: Log<A>) -> Result<Self, AllocError>
         ensures ok { IfOk result (λ desk. desk ≡ record { name = name; log = Some log; joins = 0 }) }
-        ensures err { IfErr result (λ fault. fault ≡ EditorFault.Memory) }
     {
         let state = if S::SHOWN {
             State::shown_of(&alloc, name, log)?
@@ -184,7 +183,7 @@ impl<A: Allocator + Clone, S: Sessions> Desk<A, S> {
             return Err(EditorFault::Failed);
         };
         match state.log().try_clone() {
-            Ok(log) => Desk::of_log(self.alloc.clone()?, self.name, log),
+            Ok(log) => Ok(Desk::of_log(self.alloc.clone()?, self.name, log)?),
             Err(_) => Err(EditorFault::Memory),
         }
     }
@@ -249,12 +248,11 @@ impl<A: Allocator + Clone, S: Sessions> Desk<A, S> {
     }
 
     // Keeps an operation that a change made.
-    fn keep(&mut self, op: Op<A>) -> Result<Op<A>, EditorFault>
+    fn keep(&mut self, op: Op<A>) -> Result<Op<A>, AllocError>
         requires made { IsMadeOf self.old op }
         ensures ok { IfOk result (λ kept. kept ≡ op) }
         ensures kept { OnOk result (self.new ≡ kept_with self.old op) }
-        ensures err { IfErr result (λ fault. fault ≡ EditorFault.Memory) }
-        ensures failed { IfErr result (λ fault. self.new ≡ failed self.old) }
+        ensures failed { OnErr result (self.new ≡ failed self.old) }
     {
         match self.state.take() {
             Some(state) => {
@@ -284,7 +282,7 @@ impl<A: Allocator + Clone, S: Sessions> Desk<A, S> {
             None => return Err(EditorFault::Failed),
         };
         match made {
-            Ok(op) => self.keep(op),
+            Ok(op) => Ok(self.keep(op)?),
             Err(EditorFault::Memory) => {
                 self.state = None;
                 Err(EditorFault::Memory)
@@ -294,12 +292,11 @@ impl<A: Allocator + Clone, S: Sessions> Desk<A, S> {
     }
 
     // Takes an operation under a new dot.
-    fn add(&mut self, op: Op<A>) -> Result<Taken<A>, EditorFault>
+    fn add(&mut self, op: Op<A>) -> Result<Taken<A>, AllocError>
         requires new { IsNewTo self.old.log op }
         ensures ok { IfOk result (λ taken. TakeGives self.old.log op (Ok taken)) }
         ensures kept { OnOk result (self.new ≡ kept_with self.old op) }
-        ensures err { IfErr result (λ fault. fault ≡ EditorFault.Memory) }
-        ensures failed { IfErr result (λ fault. self.new ≡ failed self.old) }
+        ensures failed { OnErr result (self.new ≡ failed self.old) }
     {
         match self.state.take() {
             Some(state) => {
@@ -332,7 +329,7 @@ impl<A: Allocator + Clone, S: Sessions> Desk<A, S> {
         match found {
             Some(true) => Ok(Taken::Already),
             Some(false) => Err(EditorFault::Conflict(op.dot())),
-            None => self.add(op),
+            None => Ok(self.add(op)?),
         }
     }
 }

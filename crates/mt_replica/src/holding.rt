@@ -1,25 +1,23 @@
 //! Operations are offered to what holds them back until they are ready.
 
-ghost use Rattle.std.specs.Prelude.{◌≡◌, ◌≤◌, drop, length, true, false, IfOk, IfErr, OnOk};
+ghost use Rattle.std.specs.Prelude.{◌≡◌, ◌≤◌, drop, length, true, false, IfOk, OnOk};
 ghost use Rattle.mt_op.specs.Needs.{fits};
 ghost use Rattle.mt_holdback.specs.HoldBack.{IsHoldBack};
 ghost use Rattle.mt_holdback.specs.Laws.{is_met_by};
 ghost use Rattle.mt_holdback.specs.Ops.{op_key, op_needs};
 ghost use Rattle.mt_replica.specs.Holding.{is_offered, newly_released, with_offered, offer_gives, StampsRise};
 
-use crate::fault::EditorFault;
 use mt_holdback::{HoldBack, HoldBackFault, Offered};
 use mt_op::Op;
-use std::alloc::Allocator;
+use std::alloc::{AllocError, Allocator};
 
 /// A copy of an operation.
-pub(crate) fn copied<A: Allocator + Clone>(op: &Op<A>) -> Result<Op<A>, EditorFault>
+pub(crate) fn copied<A: Allocator + Clone>(op: &Op<A>) -> Result<Op<A>, AllocError>
     ensures ok { IfOk result (λ copy. copy ≡ op.now) }
-    ensures err { IfErr result (λ fault. fault ≡ EditorFault.Memory) }
 {
     match op.try_clone() {
         Ok(copy) => Ok(copy),
-        Err(_) => Err(EditorFault::Memory),
+        Err(_) => Err(AllocError),
     }
 }
 
@@ -27,18 +25,17 @@ pub(crate) fn copied<A: Allocator + Clone>(op: &Op<A>) -> Result<Op<A>, EditorFa
 pub(crate) fn offer_new<A: Allocator + Clone>(
     waiting: &mut HoldBack<Op<A>, A>,
     op: Op<A>,
-) -> Result<Offered, EditorFault>
+) -> Result<Offered, AllocError>
     requires whole { waiting.old.failed ≡ false }
     requires unknown { is_offered waiting.old.contents op.stamp ≡ false }
     ensures answered { IfOk result (λ offered. offered ≡ offer_gives waiting.old.contents op) }
     ensures kept { OnOk result (waiting.new
         ≡ record { contents = with_offered waiting.old.contents op; failed = false }) }
     ensures rising { OnOk result (StampsRise (newly_released waiting.old.contents op)) }
-    ensures err { IfErr result (λ fault. fault ≡ EditorFault.Memory) }
 {
     match waiting.offer(op) {
         Ok(offered) => Ok(offered),
-        Err(HoldBackFault::Memory) => Err(EditorFault::Memory),
+        Err(HoldBackFault::Memory) => Err(AllocError),
         Err(HoldBackFault::Failed) => unreachable!(),
     }
 }
@@ -47,17 +44,16 @@ pub(crate) fn offer_new<A: Allocator + Clone>(
 pub(crate) fn offer_met<A: Allocator + Clone>(
     waiting: &mut HoldBack<Op<A>, A>,
     op: Op<A>,
-) -> Result<(), EditorFault>
+) -> Result<(), AllocError>
     requires whole { waiting.old.failed ≡ false }
     requires unknown { is_offered waiting.old.contents op.stamp ≡ false }
     requires met { is_met_by op_key op_needs fits waiting.old.contents.released op ≡ true }
     ensures kept { OnOk result (waiting.new
         ≡ record { contents = with_offered waiting.old.contents op; failed = false }) }
-    ensures err { IfErr result (λ fault. fault ≡ EditorFault.Memory) }
 {
     match waiting.offer_met(op) {
         Ok(_) => Ok(()),
-        Err(HoldBackFault::Memory) => Err(EditorFault::Memory),
+        Err(HoldBackFault::Memory) => Err(AllocError),
         Err(HoldBackFault::Failed) => unreachable!(),
     }
 }

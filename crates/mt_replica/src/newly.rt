@@ -1,13 +1,12 @@
 //! What became of an operation that was offered, and of the operations that became ready by it.
 
-ghost use Rattle.std.specs.Prelude.{◌≡◌, ◌≤◌, drop, length, option_map, IfOk, IfErr};
+ghost use Rattle.std.specs.Prelude.{◌≡◌, ◌≤◌, drop, length, option_map, IfOk};
 ghost use Rattle.std.specs.List.{sum_by};
 ghost use Rattle.std.specs.Io.Iter.{u64_saturate};
 ghost use Rattle.mt_sessionview.specs.Session.{stamps_of};
 ghost use Rattle.mt_replica.specs.Holding.{MayAllFollow, noted_after, TakenGives};
 ghost use Rattle.mt_replica.specs.Joins.{joins_of};
 
-use crate::fault::EditorFault;
 use crate::holding::released_from;
 use crate::joins::joins_of_all;
 use crate::taken::Taken;
@@ -30,10 +29,9 @@ fn all_noted<A: Allocator + Clone>(
     alloc: &A,
     view: View<A>,
     ops: &[Op<A>],
-) -> Result<View<A>, EditorFault>
+) -> Result<View<A>, AllocError>
     requires follow { MayAllFollow view.ops ops.now }
     ensures ok { IfOk result (λ after. after ≡ record { ops = noted_after view.ops ops.now; held = view.held }) }
-    ensures err { IfErr result (λ fault. fault ≡ EditorFault.Memory) }
 {
     let mut view = view;
     for op in ops {
@@ -58,9 +56,8 @@ fn taken_as<A: Allocator + Clone>(
     alloc: &A,
     offered: Offered,
     newly: &[Op<A>],
-) -> Result<Taken<A>, EditorFault>
+) -> Result<Taken<A>, AllocError>
     ensures ok { IfOk result (TakenGives offered newly.now) }
-    ensures err { IfErr result (λ fault. fault ≡ EditorFault.Memory) }
 {
     match offered {
         Offered::Held => Ok(Taken::Held),
@@ -78,7 +75,7 @@ pub(crate) fn outcome_of<A: Allocator + Clone>(
     first: usize,
     offered: Offered,
     view: View<A>,
-) -> Result<Outcome<A>, EditorFault>
+) -> Result<Outcome<A>, AllocError>
     requires bound { first ≤ length waiting.now.contents.released }
     requires follow { MayAllFollow view.ops (drop first waiting.now.contents.released) }
     ensures view { IfOk result (λ outcome. outcome.view
@@ -91,7 +88,6 @@ pub(crate) fn outcome_of<A: Allocator + Clone>(
         TakenGives offered (drop first waiting.now.contents.released) outcome.taken) }
     ensures joins { IfOk result (λ outcome. outcome.joins
         ≡ u64_saturate (sum_by joins_of (drop first waiting.now.contents.released))) }
-    ensures err { IfErr result (λ fault. fault ≡ EditorFault.Memory) }
 {
     let newly = released_from(waiting, first);
     let joins = joins_of_all(newly);

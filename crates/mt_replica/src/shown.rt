@@ -1,6 +1,6 @@
 //! The session that is kept, and the places of tracks beside it.
 
-ghost use Rattle.std.specs.Prelude.{◌≡◌, ℕ, map, IfOk, IfErr};
+ghost use Rattle.std.specs.Prelude.{◌≡◌, ℕ, map, IfOk};
 ghost use Rattle.std.specs.List.{sum_by};
 ghost use Rattle.mt_stamp.specs.Sorting.{sort_by};
 ghost use Rattle.mt_stamp.specs.Tree.{IsTree};
@@ -13,7 +13,6 @@ ghost use Rattle.mt_sessionview.specs.Read.{tree_place};
 ghost use Rattle.mt_replica.specs.Holding.{HaveOwnStamps};
 ghost use Rattle.mt_replica.specs.Viewed.{AreShown};
 
-use crate::fault::EditorFault;
 use mt_items::Items;
 use mt_op::Op;
 use mt_sessionview::{Session, placed_by, session_of_ready};
@@ -58,24 +57,21 @@ fn places_of<A: Allocator, B: Allocator>(
 }
 
 /// What ready operations show, from the items that they leave, noted in whatever order, with this many others held: in n log n for n
-/// operations and items. Refused as `Memory` (0) where a growth was refused.
+/// operations and items. `AllocError` where a growth was refused.
 pub(crate) fn shown_of<A: Allocator + Clone>(
     alloc: &A,
     ready: &[Op<A>],
     items: &Items<A>,
     held: u64,
-) -> Result<Shown<A>, EditorFault>
+) -> Result<Shown<A>, AllocError>
     requires noted { AreNoted items.now }
     requires same { (f : Operation → ℕ) → sum_by f items.now ≡ sum_by f ready.now }
     requires tree { IsTree (places_in ready.now) }
     ensures shown { IfOk result (λ shown. AreShown items.now shown.places shown.session) }
     ensures held { IfOk result (λ shown. shown.session.held ≡ held) }
-    ensures err { IfErr result (λ fault. fault ≡ EditorFault.Memory) }
 {
     let refs = by_stamp(alloc.clone()?, ready)?;
-    let Ok((session, placed)) = session_of_ready(alloc.clone()?, &refs, items, held) else {
-        return Err(EditorFault::Memory);
-    };
+    let (session, placed) = session_of_ready(alloc.clone()?, &refs, items, held)?;
     let places = places_of(alloc.clone()?, &placed)?;
     Ok(Shown {
         places: TrackList::from_ordered(places),

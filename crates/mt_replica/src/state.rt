@@ -36,7 +36,7 @@ use mt_op::{Body, Op};
 use mt_opcodec::{Log, LogFault};
 use mt_sessionview::Session;
 use mt_stamp::{Replica, Stamp};
-use std::alloc::Allocator;
+use std::alloc::{AllocError, Allocator};
 use std::marker::Model;
 
 // A log with the name of its editor, the items that its ready operations leave, where it is kept the session that they show, its greatest
@@ -131,21 +131,19 @@ impl<A: Allocator + Clone> State<A> {
         }
     }
 
-    /// The state of a log. Refused as `Memory` (0) where a growth was refused.
-    pub fn of(alloc: &A, name: Replica, log: Log<A>) -> Result<Self, EditorFault>
+    /// The state of a log. `AllocError` where a growth was refused.
+    pub fn of(alloc: &A, name: Replica, log: Log<A>) -> Result<Self, AllocError>
         ensures ok { IfOk result (λ state. state ≡ record
             { named = record { name = name; log = log }; shown = false }) }
-        ensures err { IfErr result (λ fault. fault ≡ EditorFault.Memory) }
     {
         let items = items_beside(alloc, &log)?;
         Ok(State::beside(name, log, None, View::without_session(items)))
     }
 
-    /// The state of a log with its session. Refused as `Memory` (0) where a growth was refused.
-    pub fn shown_of(alloc: &A, name: Replica, log: Log<A>) -> Result<Self, EditorFault>
+    /// The state of a log with its session. `AllocError` where a growth was refused.
+    pub fn shown_of(alloc: &A, name: Replica, log: Log<A>) -> Result<Self, AllocError>
         ensures ok { IfOk result (λ state. state ≡ record
             { named = record { name = name; log = log }; shown = true }) }
-        ensures err { IfErr result (λ fault. fault ≡ EditorFault.Memory) }
     {
         let (waiting, items) = beside_log(alloc, &log)?;
         // for the proof: that the log's operations rise by dot
@@ -212,13 +210,12 @@ impl<A: Allocator + Clone> State<A> {
         Ok(Op::new(stamp, body).unwrap())
     }
 
-    /// The state with an operation that a change made of it, by which nothing else becomes ready. Refused as `Memory` (0) where a growth was refused.
-    pub fn with(self, alloc: &A, op: &Op<A>) -> Result<Self, EditorFault>
+    /// The state with an operation that a change made of it, by which nothing else becomes ready. `AllocError` where a growth was refused.
+    pub fn with(self, alloc: &A, op: &Op<A>) -> Result<Self, AllocError>
         requires made { IsMade self.named op.now }
         ensures ok { IfOk result (λ state. state ≡ record
             { named = record { name = self.named.name; log = with_op self.named.log op.now }; shown = self.shown }) }
         ensures alone { IfOk result (λ state. joins_by (Some self.named.log) op.now ≡ joins_of op.now) }
-        ensures err { IfErr result (λ fault. fault ≡ EditorFault.Memory) }
     {
         let State {
             name,
@@ -253,8 +250,8 @@ impl<A: Allocator + Clone> State<A> {
         }
     }
 
-    /// The state with an operation under a new dot, what became of it, and how many cells that joined. Refused as `Memory` (0) where a growth was refused.
-    pub fn taking(self, alloc: &A, op: Op<A>) -> Result<Step<A>, EditorFault>
+    /// The state with an operation under a new dot, what became of it, and how many cells that joined. `AllocError` where a growth was refused.
+    pub fn taking(self, alloc: &A, op: Op<A>) -> Result<Step<A>, AllocError>
         requires new { map.get self.named.log (op_dot op) ≡ None }
         ensures state { IfOk result (λ step. step.state
             ≡ record {
@@ -263,7 +260,6 @@ impl<A: Allocator + Clone> State<A> {
             }) }
         ensures taken { IfOk result (λ step. TakeOf self.named.log op (Ok step.taken)) }
         ensures joins { IfOk result (λ step. step.joins ≡ u64_saturate (joins_by (Some self.named.log) op)) }
-        ensures err { IfErr result (λ fault. fault ≡ EditorFault.Memory) }
     {
         let State {
             name,
@@ -296,15 +292,14 @@ impl<A: Allocator + Clone> State<A> {
 }
 
 // Adds a copy of an operation under a new dot.
-fn add_copy<A: Allocator + Clone>(log: &mut Log<A>, op: &Op<A>) -> Result<(), EditorFault>
+fn add_copy<A: Allocator + Clone>(log: &mut Log<A>, op: &Op<A>) -> Result<(), AllocError>
     requires new { map.get log.old (op_dot op.now) ≡ None }
     ensures added { OnOk result (log.new ≡ with_op log.old op.now) }
-    ensures err { IfErr result (λ fault. fault ≡ EditorFault.Memory) }
 {
     let copy = copied(op)?;
     match log.add(copy) {
         Ok(_) => Ok(()),
-        Err(LogFault::Memory) => Err(EditorFault::Memory),
+        Err(LogFault::Memory) => Err(AllocError),
         Err(_) => unreachable!(),
     }
 }
@@ -314,7 +309,7 @@ fn taken_in<A: Allocator + Clone>(
     log: &mut Log<A>,
     waiting: &mut HoldBack<Op<A>, A>,
     op: Op<A>,
-) -> Result<Offered, EditorFault>
+) -> Result<Offered, AllocError>
     requires new { map.get log.old (op_dot op) ≡ None }
     requires waits { HoldsBack log.old waiting.old }
     ensures added { OnOk result (log.new ≡ with_op log.old op) }
@@ -324,7 +319,6 @@ fn taken_in<A: Allocator + Clone>(
     ensures answered { IfOk result (λ offered. offered ≡ offer_gives waiting.old.contents op) }
     ensures rising { OnOk result (StampsRise (newly_released waiting.old.contents op)) }
     ensures exact { OnOk result (IsHoldBack op_key op_needs fits waiting.new.contents) }
-    ensures err { IfErr result (λ fault. fault ≡ EditorFault.Memory) }
 {
     add_copy(log, &op)?;
     // for the proof: that the log's operations have stamps of their own
@@ -340,13 +334,12 @@ fn made_in<A: Allocator + Clone>(
     log: &mut Log<A>,
     waiting: Option<HoldBack<Op<A>, A>>,
     op: &Op<A>,
-) -> Result<Option<HoldBack<Op<A>, A>>, EditorFault>
+) -> Result<Option<HoldBack<Op<A>, A>>, AllocError>
     requires new { map.get log.old (op_dot op.now) ≡ None }
     requires waits { IfSome waiting (HoldsBack log.old) }
     ensures added { OnOk result (log.new ≡ with_op log.old op.now) }
     ensures logged { OnOk result (AreLogged (operations (with_op log.old op.now))) }
     ensures waits { IfOk result (λ after. IfSome after (HoldsBack (with_op log.old op.now))) }
-    ensures err { IfErr result (λ fault. fault ≡ EditorFault.Memory) }
 {
     match waiting {
         Some(mut waiting) => {

@@ -1,25 +1,21 @@
 //! The items that ready operations leave, and the session that they show.
 
-ghost use Rattle.std.specs.Prelude.{◌≡◌, ◌∷◌, ℕ, Some, None, Option, option_map, length, map, IfOk, IfErr, OnOk};
+ghost use Rattle.std.specs.Prelude.{◌≡◌, ◌∷◌, ℕ, Some, None, Option, option_map, length, map, IfOk};
 ghost use Rattle.std.specs.Option.{option_copied};
 ghost use Rattle.std.specs.List.{sum_by};
 ghost use Rattle.mt_stamp.specs.Tree.{IsTree};
 ghost use Rattle.mt_op.specs.Operation.{Operation};
 ghost use Rattle.mt_items.specs.Noting.{AreNoted, MayFollow};
 ghost use Rattle.mt_sessionview.specs.Noted.{places_in};
-ghost use Rattle.mt_mending.specs.Before.{ArePlacesOf, SessionStood};
 ghost use Rattle.mt_mending.specs.Mending.{session_in};
 ghost use Rattle.mt_replica.specs.Viewed.{AreShown};
 
-use crate::fault::EditorFault;
 use crate::shown::{Shown, shown_of};
 use mt_items::Items;
-use mt_mending::{Stood, add_place, mend, stood, subject_of};
+use mt_mending::{add_place, mend, stood, subject_of};
 use mt_op::Op;
 use mt_sessionview::Session;
-use mt_stamp::Stamp;
-use mt_tracklist::TrackList;
-use std::alloc::Allocator;
+use std::alloc::{AllocError, Allocator};
 use std::marker::Model;
 
 /// The items that operations leave which were noted one after another, and beside them, where it is kept, the session that they
@@ -89,12 +85,11 @@ impl<A: Allocator> View<A> {
 
 impl<A: Allocator + Clone> View<A> {
     /// The same with the session kept, which is read off the items: of these operations, noted in whatever order, with this many
-    /// others held. Refused as `Memory` (0) where a growth was refused.
-    pub(crate) fn show(self, alloc: &A, ready: &[Op<A>], held: u64) -> Result<Self, EditorFault>
+    /// others held. `AllocError` where a growth was refused.
+    pub(crate) fn show(self, alloc: &A, ready: &[Op<A>], held: u64) -> Result<Self, AllocError>
         requires same { (f : Operation → ℕ) → sum_by f self.ops ≡ sum_by f ready.now }
         requires tree { IsTree (places_in ready.now) }
         ensures ok { IfOk result (λ view. view ≡ record { ops = self.ops; held = Some held }) }
-        ensures err { IfErr result (λ fault. fault ≡ EditorFault.Memory) }
     {
         let items = self.items;
         let shown = shown_of(alloc, ready, &items, held)?;
@@ -104,12 +99,10 @@ impl<A: Allocator + Clone> View<A> {
         })
     }
 
-    /// The same with an operation noted, and the session mended by it where it is kept. Refused as `Memory` (0) where a growth was
-    /// refused.
-    pub(crate) fn note(self, alloc: &A, op: &Op<A>) -> Result<Self, EditorFault>
+    /// The same with an operation noted, and the session mended by it where it is kept. `AllocError` where a growth was refused.
+    pub(crate) fn note(self, alloc: &A, op: &Op<A>) -> Result<Self, AllocError>
         requires follows { MayFollow self.ops op.now }
         ensures ok { IfOk result (λ view. view ≡ record { ops = op.now ∷ self.ops; held = self.held }) }
-        ensures err { IfErr result (λ fault. fault ≡ EditorFault.Memory) }
     {
         let View { items, shown } = self;
         match shown {
@@ -121,62 +114,10 @@ impl<A: Allocator + Clone> View<A> {
                 })
             }
             None => Ok(View {
-                items: noted(items, op)?,
+                items: items.note(op)?,
                 shown: None,
             }),
         }
-    }
-}
-
-/// The items with an operation noted.
-pub(crate) fn noted<A: Allocator + Clone>(
-    items: Items<A>,
-    op: &Op<A>,
-) -> Result<Items<A>, EditorFault>
-    requires follows { MayFollow items op.now }
-    ensures ok { IfOk result (λ after. after ≡ op.now ∷ items) }
-    ensures err { IfErr result (λ fault. fault ≡ EditorFault.Memory) }
-{
-    match items.note(op) {
-        Ok(items) => Ok(items),
-        Err(_) => Err(EditorFault::Memory),
-    }
-}
-
-// Puts the place that an operation gives a track, if it gives one, into the list of those that the items before it have.
-fn with_place<A: Allocator>(
-    places: &mut TrackList<A>,
-    items: &Items<A>,
-    op: &Op<A>,
-) -> Result<(), EditorFault>
-    requires follows { AreNoted (op.now ∷ items.now) }
-    requires places { ArePlacesOf places.old items.now }
-    ensures ok { OnOk result (ArePlacesOf places.new (op.now ∷ items.now)) }
-    ensures err { IfErr result (λ fault. fault ≡ EditorFault.Memory) }
-{
-    match add_place(places, items, op) {
-        Ok(()) => Ok(()),
-        Err(_) => Err(EditorFault::Memory),
-    }
-}
-
-// Mends the session at the item of the operation that was noted last.
-fn mended<A: Allocator + Clone>(
-    alloc: &A,
-    session: &mut Session<A>,
-    stood: Stood,
-    items: &Items<A>,
-    places: &TrackList<A>,
-    item: Stamp,
-) -> Result<(), EditorFault>
-    requires stood { SessionStood items.now item stood session.old }
-    requires places { ArePlacesOf places.now items.now }
-    ensures ok { OnOk result (session.new ≡ session_in items.now session.old.held) }
-    ensures err { IfErr result (λ fault. fault ≡ EditorFault.Memory) }
-{
-    match mend(alloc, session, stood, items, places, item) {
-        Ok(()) => Ok(()),
-        Err(_) => Err(EditorFault::Memory),
     }
 }
 
@@ -186,13 +127,12 @@ fn note_shown<A: Allocator + Clone>(
     items: Items<A>,
     shown: Shown<A>,
     op: &Op<A>,
-) -> Result<(Items<A>, Shown<A>), EditorFault>
+) -> Result<(Items<A>, Shown<A>), AllocError>
     requires follows { MayFollow items op.now }
     requires shown { AreShown items shown.places shown.session }
     ensures items { IfOk result (λ both. both.0 ≡ op.now ∷ items) }
     ensures shown { IfOk result (λ both. AreShown both.0 both.1.places both.1.session) }
     ensures held { IfOk result (λ both. both.1.session.held ≡ shown.session.held) }
-    ensures err { IfErr result (λ fault. fault ≡ EditorFault.Memory) }
 {
     let item = subject_of(op);
     let stood = stood(&items, item);
@@ -200,8 +140,8 @@ fn note_shown<A: Allocator + Clone>(
         mut places,
         mut session,
     } = shown;
-    with_place(&mut places, &items, op)?;
-    let items = noted(items, op)?;
-    mended(alloc, &mut session, stood, &items, &places, item)?;
+    add_place(&mut places, &items, op)?;
+    let items = items.note(op)?;
+    mend(alloc, &mut session, stood, &items, &places, item)?;
     Ok((items, Shown { places, session }))
 }

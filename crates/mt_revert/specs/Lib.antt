@@ -1,6 +1,5 @@
 pub mod Before
 pub mod Revert
-pub mod Written
 pub mod Laws
 pub mod Examples
 pub mod Faults

@@ -4,12 +4,11 @@ ghost use Rattle.std.specs.Prelude.{◌≡◌};
 ghost use Rattle.mt_revert.specs.Faults.{number_of};
 ghost use Rattle.mt_revert.specs.declared.fault.RevertFault.TheVariants.{Memory};
 
-use mt_items::ItemsFault;
 use mt_stamp::Stamp;
 use std::alloc::{AllocError, AllocFailed};
 use thiserror::Error;
 
-/// Why the script that takes operations back was not written. Each refusal has a number that never changes.
+/// Why there is no script that takes operations back. Each refusal has a number that never changes.
 #[derive(Clone, Copy, Debug, PartialEq, Eq, Error)]
 pub enum RevertFault {
     /// A growth was refused.
@@ -18,20 +17,16 @@ pub enum RevertFault {
     /// No operation of the log has this stamp, and one has each stamp that was given before it.
     #[error("no operation has this stamp")]
     NoSuchItem(Stamp),
-    /// The output's latch has failed.
-    #[error("the text could not be written")]
-    Write,
 }
 
 impl RevertFault {
-    /// The refusal's number: 0, 21 or 37.
+    /// The refusal's number: 0 or 21.
     pub fn number(&self) -> u8
         ensures { result ≡ number_of self.now }
     {
         match self {
             RevertFault::Memory => 0,
             RevertFault::NoSuchItem(_) => 21,
-            RevertFault::Write => 37,
         }
     }
 }
@@ -40,14 +35,6 @@ impl From<AllocError> for RevertFault {
     ghost from_gives = { λ _ e. e ≡ Memory };
 
     fn from(_error: AllocError) -> RevertFault {
-        RevertFault::Memory
-    }
-}
-
-impl From<ItemsFault> for RevertFault {
-    ghost from_gives = { λ _ e. e ≡ Memory };
-
-    fn from(_error: ItemsFault) -> RevertFault {
         RevertFault::Memory
     }
 }

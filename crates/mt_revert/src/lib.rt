@@ -1,10 +1,9 @@
 //! The script that takes operations of a log back: what stood before each is written again, the newest first.
 //!
 //! ```rust
-//! use mt_latch::Latch;
 //! use mt_op::{Body, Op, Title};
 //! use mt_opcodec::Log;
-//! use mt_revert::{RevertFault, write_revert};
+//! use mt_revert::{RevertFault, revert_text};
 //! use mt_stamp::{Replica, Stamp};
 //! use std::test::Fail;
 //!
@@ -26,20 +25,13 @@
 //!     let _new = log.add(Op::new(marker, Body::AddMarker { at: 480, title })?)?;
 //!     let _new = log.add(Op::new(first, Body::MoveMarker { marker, at: 960 })?)?;
 //!     let _new = log.add(Op::new(last, Body::MoveMarker { marker, at: 720 })?)?;
-//!     let mut output = Latch::new(Vec::new(rt.alloc()));
-//!     write_revert(rt.alloc(), &log, &[last], &mut output)?;
-//!     assert!(rt; output.into_inner().as_slice() == LAST);
-//!     let mut output = Latch::new(Vec::new(rt.alloc()));
-//!     write_revert(rt.alloc(), &log, &[first, last], &mut output)?;
-//!     assert!(rt; output.into_inner().as_slice() == BOTH);
+//!     assert!(rt; revert_text(rt.alloc(), &log, &[last])?.as_bytes() == LAST);
+//!     assert!(rt; revert_text(rt.alloc(), &log, &[first, last])?.as_bytes() == BOTH);
 //!     // what another one wrote since is not taken back
-//!     let mut output = Latch::new(Vec::new(rt.alloc()));
-//!     write_revert(rt.alloc(), &log, &[first], &mut output)?;
-//!     assert!(rt; output.into_inner().as_slice() == FIRST);
+//!     assert!(rt; revert_text(rt.alloc(), &log, &[first])?.as_bytes() == FIRST);
 //!     // no operation has this stamp
 //!     let other = Stamp::new(4, Replica(10), 2)?;
-//!     let mut output = Latch::new(Vec::new(rt.alloc()));
-//!     assert!(rt; write_revert(rt.alloc(), &log, &[other], &mut output) == Err(RevertFault::NoSuchItem(other)));
+//!     assert!(rt; revert_text(rt.alloc(), &log, &[other]).err() == Some(RevertFault::NoSuchItem(other)));
 //!     Ok(())
 //! }
 //! ```
@@ -57,4 +49,4 @@ mod standing;
 mod taken;
 
 pub use fault::RevertFault;
-pub use revert::write_revert;
+pub use revert::revert_text;

@@ -1,13 +1,12 @@
 //! The operations that are taken back, and what stood before each.
 
-ghost use Rattle.std.specs.Prelude.{◌≡◌, [], ◌∷◌, ◌++◌, map, filter, IfOk, IfErr, OnOk};
+ghost use Rattle.std.specs.Prelude.{◌≡◌, [], ◌∷◌, ◌++◌, map, filter, IfOk, OnOk};
 ghost use Rattle.mt_stamp.specs.Moment.{stamp_cmp};
 ghost use Rattle.mt_stamp.specs.Sorting.{Rises};
 ghost use Rattle.mt_op.specs.Presence.{is_listed};
 ghost use Rattle.mt_items.specs.Noting.{subject};
 ghost use Rattle.mt_revert.specs.Before.{by_stamp, now, taken_after, all_taken_back};
 
-use crate::fault::RevertFault;
 use crate::standing::{StandingAct, standing};
 use mt_items::Items;
 use mt_op::{Body, Op};
@@ -108,12 +107,11 @@ pub(crate) fn taken_of<'a, A: Allocator + Clone>(
     log: &Log<A>,
     ops: &[&'a Op<A>],
     stamps: &[Stamp],
-) -> Result<Taken<'a, A>, RevertFault>
+) -> Result<Taken<'a, A>, AllocError>
     requires rise { Rises stamp_cmp stamps.now }
     requires ops { map (λ o. o.now) ops.now ≡ by_stamp log.now }
     ensures all { IfOk result (λ taken. taken.all.items ≡ all_taken_back log.now stamps.now) }
     ensures items { IfOk result (λ taken. taken.items ≡ now log.now) }
-    ensures err { IfErr result (λ fault. fault ≡ RevertFault.Memory) }
 {
     // for the proof: that the stamps of a log's operations differ
     let _ = log.runs();

@@ -1,6 +1,6 @@
 //! The session of operations, from nothing.
 
-ghost use Rattle.std.specs.Prelude.{◌≡◌, ◌-◌, ◌≤◌, ℕ, List as ListOf, length, map, IfOk, IfErr};
+ghost use Rattle.std.specs.Prelude.{◌≡◌, ◌-◌, ◌≤◌, ℕ, List as ListOf, length, map, IfOk};
 ghost use Rattle.std.specs.List.{sum_by};
 ghost use Rattle.mt_stamp.specs.Sorting.{RisesStrictly};
 ghost use Rattle.mt_stamp.specs.Tree.{IsTree};
@@ -13,7 +13,6 @@ ghost use Rattle.mt_sessionview.specs.Parts.{session_in, ArePartsOf, ArePartsOfS
 
 use crate::by_stamp::sorted_ops;
 use crate::clip::clips_by_track;
-use crate::fault::SessionFault;
 use crate::marker::{markers, sort_markers, taken_markers};
 use crate::placed::placed_ops;
 use crate::ready::{Ready, ready_of};
@@ -24,18 +23,17 @@ use mt_items::{Items, MarkerCells};
 use mt_op::Op;
 use mt_opcodec::Log;
 use mt_stamp::{List, Stamp};
-use std::alloc::Allocator;
+use std::alloc::{AllocError, Allocator};
 
 // The tracks that noted operations leave, in the order of their places, from the operations that gave these, in order.
 fn tracks_of<A: Allocator + Clone>(
     alloc: &A,
     items: &Items<A>,
     placed: &[&Op<A>],
-) -> Result<Vec<TrackView<A>, A>, SessionFault>
+) -> Result<Vec<TrackView<A>, A>, AllocError>
     requires noted { AreNoted items.now }
     requires placed { map (λ o. o.now) placed.now ≡ placed_in items.now }
     ensures ok { IfOk result (λ tracks. tracks.items ≡ tracks_in items.now) }
-    ensures err { IfErr result (λ fault. fault ≡ SessionFault.Memory) }
 {
     let clips = clips_by_track(alloc, items)?;
     tracks(alloc, items, clips, placed)
@@ -46,14 +44,13 @@ fn placed_tracks<'a, A: Allocator + Clone>(
     alloc: &A,
     ready: &[&'a Op<A>],
     items: &Items<A>,
-) -> Result<(Vec<TrackView<A>, A>, Vec<&'a Op<A>, A>), SessionFault>
+) -> Result<(Vec<TrackView<A>, A>, Vec<&'a Op<A>, A>), AllocError>
     requires noted { AreNoted items.now }
     requires same { (f : Operation → ℕ) → sum_by f items.now ≡ sum_by f (map (λ o. o.now) ready.now) }
     requires rising { RisesStrictly op_cmp (map (λ o. o.now) ready.now) }
     requires tree { IsTree (places_in (map (λ o. o.now) ready.now)) }
     ensures tracks { IfOk result (λ both. both.0.items ≡ tracks_in items.now) }
     ensures placed { IfOk result (λ both. map (λ o. o.now) both.1.items ≡ placed_in items.now) }
-    ensures err { IfErr result (λ fault. fault ≡ SessionFault.Memory) }
 {
     let placed = placed_ops(alloc, ready)?;
     let tracks = tracks_of(alloc, items, &placed)?;
@@ -64,10 +61,9 @@ fn placed_tracks<'a, A: Allocator + Clone>(
 fn markers_of<A: Allocator + Clone>(
     alloc: &A,
     items: &Items<A>,
-) -> Result<Vec<MarkerView<A>, A>, SessionFault>
+) -> Result<Vec<MarkerView<A>, A>, AllocError>
     requires noted { AreNoted items.now }
     ensures ok { IfOk result (λ markers. markers.items ≡ markers_in items.now) }
-    ensures err { IfErr result (λ fault. fault ≡ SessionFault.Memory) }
 {
     let mut markers = markers(alloc.clone()?, items)?;
     sort_markers(&mut markers)?;
@@ -76,20 +72,19 @@ fn markers_of<A: Allocator + Clone>(
 
 /// The session that ready operations show, from these by rising stamp and the items that they leave, noted in whatever order, with a
 /// number of others held; beside it the operations that give tracks their places, in the order of these. In a time of n log n for
-/// n operations and items. Refused only as `Memory` (0).
+/// n operations and items. Refused only as `AllocError`.
 pub fn session_of_ready<'a, A: Allocator + Clone>(
     alloc: A,
     ready: &[&'a Op<A>],
     items: &Items<A>,
     held: u64,
-) -> Result<(Session<A>, Vec<&'a Op<A>, A>), SessionFault>
+) -> Result<(Session<A>, Vec<&'a Op<A>, A>), AllocError>
     requires noted { AreNoted items.now }
     requires same { (f : Operation → ℕ) → sum_by f items.now ≡ sum_by f (map (λ o. o.now) ready.now) }
     requires rising { RisesStrictly op_cmp (map (λ o. o.now) ready.now) }
     requires tree { IsTree (places_in (map (λ o. o.now) ready.now)) }
     ensures session { IfOk result (λ both. both.0 ≡ record { tracks = tracks_in items.now; markers = markers_in items.now; held = held }) }
     ensures placed { IfOk result (λ both. map (λ o. o.now) both.1.items ≡ placed_in items.now) }
-    ensures err { IfErr result (λ fault. fault ≡ SessionFault.Memory) }
 {
     let (tracks, placed) = placed_tracks(&alloc, ready, items)?;
     let markers = markers_of(&alloc, items)?;
@@ -116,14 +111,13 @@ fn parts_of_items<A: Allocator + Clone>(
     ready: &[&Op<A>],
     items: Items<A>,
     held: u64,
-) -> Result<Parts<A>, SessionFault>
+) -> Result<Parts<A>, AllocError>
     requires noted { AreNoted items }
     requires same { (f : Operation → ℕ) → sum_by f items ≡ sum_by f (map (λ o. o.now) ready.now) }
     requires rising { RisesStrictly op_cmp (map (λ o. o.now) ready.now) }
     requires tree { IsTree (places_in (map (λ o. o.now) ready.now)) }
     ensures parts { IfOk result (λ parts. ArePartsOf items parts.tracks.items parts.cells.items) }
     ensures held { IfOk result (λ parts. parts.held ≡ held) }
-    ensures err { IfErr result (λ fault. fault ≡ SessionFault.Memory) }
 {
     let (tracks, cells) = taken_tracks(alloc, ready, items)?;
     Ok(Parts {
@@ -142,14 +136,13 @@ fn count_held<A: Allocator>(count: usize, ready: &[&Op<A>]) -> u64
 }
 
 /// What the session of a log's operations is made of: in a time of n log n for n of them and of the tags that they list. Refused only as
-/// `Memory` (0).
+/// `AllocError`.
 pub(crate) fn parts_of_log<A: Allocator + Clone>(
     alloc: &A,
     log: &Log<A>,
-) -> Result<Parts<A>, SessionFault>
+) -> Result<Parts<A>, AllocError>
     ensures ok { IfOk result (λ parts. ArePartsOfSession (operations log.now) parts.tracks.items parts.cells.items
         parts.held) }
-    ensures err { IfErr result (λ fault. fault ≡ SessionFault.Memory) }
 {
     // for the proof: that the dots of a log's operations differ
     let _ = log.runs();
@@ -161,15 +154,14 @@ pub(crate) fn parts_of_log<A: Allocator + Clone>(
     Ok(parts)
 }
 
-/// The session that is made of parts. Refused only as `Memory` (0).
+/// The session that is made of parts. Refused only as `AllocError`.
 pub(crate) fn session_of_parts<A: Allocator + Clone>(
     alloc: A,
     parts: Parts<A>,
-) -> Result<Session<A>, SessionFault>
+) -> Result<Session<A>, AllocError>
     requires { (items : ListOf Operation) × ArePartsOf items parts.tracks.items parts.cells.items }
     ensures ok { IfOk result (λ session. (items : ListOf Operation) → ArePartsOf items parts.tracks.items parts.cells.items
         → session ≡ session_in items parts.held) }
-    ensures err { IfErr result (λ fault. fault ≡ SessionFault.Memory) }
 {
     let Parts {
         tracks,

@@ -1,15 +1,14 @@
 //! One clip of a track of a session, put in or taken out.
 
-ghost use Rattle.std.specs.Prelude.{◌≡◌, ◌<◌, true, false, length, slice_get, Some, IfErr, IfNone, IfSome, OnErr, OnOk, find, option_and_then};
+ghost use Rattle.std.specs.Prelude.{◌≡◌, ◌<◌, true, false, length, slice_get, Some, IfNone, IfSome, OnErr, OnOk, find, option_and_then};
 ghost use Rattle.std.specs.List.{list_any};
 ghost use Rattle.mt_stamp.specs.Sorting.{RisesStrictly};
 ghost use Rattle.mt_sessionview.specs.Content.{Track, clip_cmp};
 ghost use Rattle.mt_sessionview.specs.Changing.{changed_at, is_clip_at, is_placed_by, with_clip, without_clip, clip_beside, IsPlace, StandsAt, IsNowhere};
 
-use crate::fault::SessionFault;
 use crate::session::{ClipView, Session, TrackView};
 use mt_stamp::Stamp;
-use std::alloc::Allocator;
+use std::alloc::{AllocError, Allocator};
 
 // The place of the first clip that does not come before a position and the stamp of a place.
 fn clip_place(clips: &[ClipView], at: u32, place: Stamp) -> usize
@@ -44,10 +43,9 @@ fn clip_index(clips: &[ClipView], at: u32, place: Stamp) -> Option<usize>
 
 impl<A: Allocator> TrackView<A> {
     // Puts a clip in where its position and the stamp of its place say.
-    fn put_clip(&mut self, clip: ClipView) -> Result<(), SessionFault>
+    fn put_clip(&mut self, clip: ClipView) -> Result<(), AllocError>
         requires { list_any (is_placed_by clip.place) self.old.clips ≡ false }
         ensures ok { OnOk result (self.new ≡ with_clip clip self.old) }
-        ensures err { IfErr result (λ fault. fault ≡ SessionFault.Memory) }
         ensures kept { OnErr result (self.new ≡ self.old) }
     {
         let index = clip_place(self.clips.items(), clip.at, clip.place);
@@ -79,13 +77,12 @@ impl<A: Allocator> TrackView<A> {
 impl<A: Allocator> Session<A> {
     /// Puts a clip in on the track at an index, counted from 0, where its position, in frames, and the stamp of its place
     /// say. Finding the place takes as many comparisons as the logarithm of how many clips the track has, and what follows
-    /// moves. No clip of the track may have its place already. Refused only as `Memory` (0), where a growth was refused,
-    /// and then the session is unchanged.
-    pub fn put_clip(&mut self, index: usize, clip: ClipView) -> Result<(), SessionFault>
+    /// moves. No clip of the track may have its place already. Refused only as `AllocError`, where a growth was
+    /// refused, and then the session is unchanged.
+    pub fn put_clip(&mut self, index: usize, clip: ClipView) -> Result<(), AllocError>
         requires inside { index < length self.old.tracks }
         requires new { (t : Track) → slice_get self.old.tracks index ≡ Some t → list_any (is_placed_by clip.place) t.clips ≡ false }
         ensures ok { OnOk result (self.new ≡ record self.old { tracks = changed_at index (with_clip clip) self.old.tracks }) }
-        ensures err { IfErr result (λ fault. fault ≡ SessionFault.Memory) }
         ensures kept { OnErr result (self.new ≡ self.old) }
     {
         let track = self.tracks.item_mut(index);

@@ -1,15 +1,14 @@
 //! One marker of a session, put in or taken out.
 
-ghost use Rattle.std.specs.Prelude.{◌≡◌, true, false, IfErr, IfNone, IfSome, OnErr, OnOk, find, filter, not};
+ghost use Rattle.std.specs.Prelude.{◌≡◌, true, false, IfNone, IfSome, OnErr, OnOk, find, filter, not};
 ghost use Rattle.std.specs.List.{list_any};
 ghost use Rattle.mt_stamp.specs.Sorting.{RisesStrictly, insert_by};
 ghost use Rattle.mt_sessionview.specs.Content.{marker_cmp};
 ghost use Rattle.mt_sessionview.specs.Changing.{is_marker_at, marker_beside, IsPlace, StandsAt, IsNowhere};
 
-use crate::fault::SessionFault;
 use crate::session::{MarkerView, Session};
 use mt_stamp::Stamp;
-use std::alloc::Allocator;
+use std::alloc::{AllocError, Allocator};
 
 // The place of the first marker that does not come before a position and a stamp.
 fn marker_place<A: Allocator>(markers: &[MarkerView<A>], at: u32, marker: Stamp) -> usize
@@ -45,11 +44,10 @@ fn marker_index<A: Allocator>(markers: &[MarkerView<A>], at: u32, marker: Stamp)
 impl<A: Allocator> Session<A> {
     /// Puts a marker in where its position, in frames, and its stamp say. Finding the place takes as many comparisons as the
     /// logarithm of how many markers there are, and what follows moves. No marker with its position and stamp may be there.
-    /// Refused only as `Memory` (0), where a growth was refused, and then the session is unchanged.
-    pub fn put_marker(&mut self, marker: MarkerView<A>) -> Result<(), SessionFault>
+    /// Refused only as `AllocError`, where a growth was refused, and then the session is unchanged.
+    pub fn put_marker(&mut self, marker: MarkerView<A>) -> Result<(), AllocError>
         requires { list_any (is_marker_at marker.at marker.marker) self.old.markers ≡ false }
         ensures ok { OnOk result (self.new ≡ record self.old { markers = insert_by marker_cmp marker self.old.markers }) }
-        ensures err { IfErr result (λ fault. fault ≡ SessionFault.Memory) }
         ensures kept { OnErr result (self.new ≡ self.old) }
     {
         let place = marker_place(self.markers.items(), marker.at, marker.marker);

@@ -1,15 +1,14 @@
 //! One track of a session, put in, taken out or rewritten, and the number held.
 
-ghost use Rattle.std.specs.Prelude.{◌≡◌, ◌<◌, ◌≤◌, false, length, slice_get, Some, IfErr, OnErr, OnOk, insert, remove, position};
+ghost use Rattle.std.specs.Prelude.{◌≡◌, ◌<◌, ◌≤◌, false, length, slice_get, Some, OnErr, OnOk, insert, remove, position};
 ghost use Rattle.std.specs.List.{list_any};
 ghost use Rattle.mt_sessionview.specs.Content.{Track};
 ghost use Rattle.mt_sessionview.specs.Changing.{changed_at, is_track_of, with_fields};
 
-use crate::fault::SessionFault;
 use crate::session::{Session, TrackView};
 use mt_op::{Gain, Title};
 use mt_stamp::Stamp;
-use std::alloc::Allocator;
+use std::alloc::{AllocError, Allocator};
 
 impl<A: Allocator> Session<A> {
     /// Where the track of a stamp stands, counted from 0; `None` where it is not there. Looks at one track after another.
@@ -23,13 +22,12 @@ impl<A: Allocator> Session<A> {
     }
 
     /// Puts a track in at an index of at most the number of tracks, before what stands there. No track of its stamp may be
-    /// there. What follows moves. Refused only as `Memory` (0), where a growth was refused, and then the session is
+    /// there. What follows moves. Refused only as `AllocError`, where a growth was refused, and then the session is
     /// unchanged.
-    pub fn put_track(&mut self, index: usize, track: TrackView<A>) -> Result<(), SessionFault>
+    pub fn put_track(&mut self, index: usize, track: TrackView<A>) -> Result<(), AllocError>
         requires inside { index ≤ length self.old.tracks }
         requires new { list_any (is_track_of track.track) self.old.tracks ≡ false }
         ensures ok { OnOk result (self.new ≡ record self.old { tracks = insert self.old.tracks index track }) }
-        ensures err { IfErr result (λ fault. fault ≡ SessionFault.Memory) }
         ensures kept { OnErr result (self.new ≡ self.old) }
     {
         self.tracks.insert(index, track)?;

@@ -1,6 +1,6 @@
 //! Clips.
 
-ghost use Rattle.std.specs.Prelude.{◌≡◌, ◌≤◌, ◌++◌, List as ListOf, [], ◌∷◌, unwrap_or, if◌then◌else◌, IfOk, IfErr, OnOk};
+ghost use Rattle.std.specs.Prelude.{◌≡◌, ◌≤◌, ◌++◌, List as ListOf, [], ◌∷◌, unwrap_or, if◌then◌else◌, IfOk, OnOk};
 ghost use Rattle.std.specs.BTreeMap.{get};
 ghost use Rattle.std.specs.List.Sorted.{IsPermutation, IsSorted};
 ghost use Rattle.mt_stamp.specs.Moment.{Moment, stamp_cmp, stamp_eq};
@@ -10,11 +10,10 @@ ghost use Rattle.mt_items.specs.Cells.{HoldsClip};
 ghost use Rattle.mt_sessionview.specs.Content.{clip_cmp};
 ghost use Rattle.mt_sessionview.specs.Read.{clip_read, AreTheClips};
 
-use crate::fault::SessionFault;
 use crate::session::ClipView;
 use mt_items::{ClipCells, Items};
 use mt_stamp::{List, Stamp};
-use std::alloc::Allocator;
+use std::alloc::{AllocError, Allocator};
 use std::collections::BTreeMap;
 
 // A clip, and the track that it is on.
@@ -58,9 +57,8 @@ fn note_clip<A: Allocator + Clone>(
     alloc: &A,
     table: &mut BTreeMap<Stamp, List<ClipView, A>, A>,
     found: OnTrack,
-) -> Result<(), SessionFault>
+) -> Result<(), AllocError>
     ensures ok { OnOk result ((track : Moment) → unwrap_or (get stamp_cmp table.new track) [] ≡ unwrap_or (get stamp_cmp table.old track) [] ++ (if stamp_eq found.track track then found.clip ∷ [] else [])) }
-    ensures err { IfErr result (λ fault. fault ≡ SessionFault.Memory) }
 {
     if let Some(clips) = table.get_mut(&found.track) {
         clips.insert(clips.items().len(), found.clip)?;
@@ -76,9 +74,8 @@ fn note_clip<A: Allocator + Clone>(
 pub(crate) fn clips_by_track<A: Allocator + Clone>(
     alloc: &A,
     items: &Items<A>,
-) -> Result<BTreeMap<Stamp, List<ClipView, A>, A>, SessionFault>
+) -> Result<BTreeMap<Stamp, List<ClipView, A>, A>, AllocError>
     ensures ok { IfOk result (AreTheClips items.now) }
-    ensures err { IfErr result (λ fault. fault ≡ SessionFault.Memory) }
 {
     let mut table = BTreeMap::new(alloc.clone()?);
     for (clip, cells) in items.clip_cells() {
@@ -93,10 +90,9 @@ pub(crate) fn clips_by_track<A: Allocator + Clone>(
 pub(crate) fn sorted_clips<A: Allocator + Clone>(
     alloc: &A,
     clips: Option<List<ClipView, A>>,
-) -> Result<Vec<ClipView, A>, SessionFault>
+) -> Result<Vec<ClipView, A>, AllocError>
     ensures moved { IfOk result (λ sorted. IsPermutation (unwrap_or clips []) sorted.items) }
     ensures sorted { IfOk result (λ sorted. IsSorted clip_cmp sorted.items) }
-    ensures err { IfErr result (λ fault. fault ≡ SessionFault.Memory) }
 {
     let Some(clips) = clips else {
         return Ok(Vec::new(alloc.clone()?));

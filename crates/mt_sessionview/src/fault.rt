@@ -4,7 +4,6 @@ ghost use Rattle.std.specs.Prelude.{◌≡◌};
 ghost use Rattle.mt_sessionview.specs.Faults.{number_of};
 ghost use Rattle.mt_sessionview.specs.declared.fault.SessionFault.TheVariants.{Memory};
 
-use mt_items::ItemsFault;
 use std::alloc::{AllocError, AllocFailed};
 use thiserror::Error;
 
@@ -33,14 +32,6 @@ impl From<AllocError> for SessionFault {
     ghost from_gives = { λ _ e. e ≡ Memory };
 
     fn from(_e: AllocError) -> SessionFault {
-        SessionFault::Memory
-    }
-}
-
-impl From<ItemsFault> for SessionFault {
-    ghost from_gives = { λ _ e. e ≡ Memory };
-
-    fn from(_e: ItemsFault) -> SessionFault {
         SessionFault::Memory
     }
 }

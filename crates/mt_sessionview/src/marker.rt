@@ -1,6 +1,6 @@
 //! Markers.
 
-ghost use Rattle.std.specs.Prelude.{◌≡◌, List, IfOk, IfErr, OnOk};
+ghost use Rattle.std.specs.Prelude.{◌≡◌, List, IfOk, OnOk};
 ghost use Rattle.std.specs.List.{AllByRecursion, filter_map};
 ghost use Rattle.std.specs.Map.{keys_of};
 ghost use Rattle.std.specs.List.Sorted.{IsPermutation, IsSorted};
@@ -10,25 +10,23 @@ ghost use Rattle.mt_items.specs.Cells.{HoldsMarker, items_of};
 ghost use Rattle.mt_sessionview.specs.Content.{marker_cmp};
 ghost use Rattle.mt_sessionview.specs.Read.{marker_read};
 
-use crate::fault::SessionFault;
 use crate::session::MarkerView;
 use mt_items::{Items, MarkerCells};
 use mt_stamp::Stamp;
-use std::alloc::Allocator;
+use std::alloc::{AllocError, Allocator};
 
 // A marker, from its cells, where it is present.
 fn marker_at<A: Allocator + Clone>(
     marker: Stamp,
     cells: &MarkerCells<A>,
-) -> Result<Option<MarkerView<A>>, SessionFault>
+) -> Result<Option<MarkerView<A>>, AllocError>
     ensures ok { IfOk result (λ view. (ops : List Operation) → HoldsMarker marker ops cells.now → view ≡ marker_read ops marker) }
-    ensures err { IfErr result (λ fault. fault ≡ SessionFault.Memory) }
 {
     if !cells.presence.is_present() {
         return Ok(None);
     }
     let Ok(title) = cells.title.get().try_clone() else {
-        return Err(SessionFault::Memory);
+        return Err(AllocError);
     };
     Ok(Some(MarkerView {
         marker,
@@ -42,9 +40,8 @@ fn marker_at<A: Allocator + Clone>(
 pub(crate) fn markers<A: Allocator + Clone>(
     alloc: A,
     items: &Items<A>,
-) -> Result<Vec<MarkerView<A>, A>, SessionFault>
+) -> Result<Vec<MarkerView<A>, A>, AllocError>
     ensures ok { IfOk result (λ markers. markers.items ≡ filter_map (marker_read items.now) (items_of Marker items.now)) }
-    ensures err { IfErr result (λ fault. fault ≡ SessionFault.Memory) }
 {
     let cells = items.marker_cells();
     let mut markers = Vec::with_capacity(alloc, cells.len())?;
@@ -81,9 +78,8 @@ fn marker_from<A: Allocator>(marker: Stamp, cells: MarkerCells<A>) -> Option<Mar
 pub(crate) fn taken_markers<A: Allocator + Clone>(
     alloc: A,
     cells: Vec<(Stamp, MarkerCells<A>), A>,
-) -> Result<Vec<MarkerView<A>, A>, SessionFault>
+) -> Result<Vec<MarkerView<A>, A>, AllocError>
     ensures ok { IfOk result (λ markers. (ops : List Operation) → AllByRecursion (λ e. HoldsMarker e.0 ops e.1) cells.items → markers.items ≡ filter_map (marker_read ops) (keys_of cells.items)) }
-    ensures err { IfErr result (λ fault. fault ≡ SessionFault.Memory) }
 {
     let mut markers = Vec::with_capacity(alloc, cells.len())?;
     for (marker, cells) in cells {
@@ -97,10 +93,9 @@ pub(crate) fn taken_markers<A: Allocator + Clone>(
 // Puts markers in order: by position, then by stamp.
 pub(crate) fn sort_markers<A: Allocator>(
     markers: &mut Vec<MarkerView<A>, A>,
-) -> Result<(), SessionFault>
+) -> Result<(), AllocError>
     ensures moved { OnOk result (IsPermutation markers.old.items markers.new.items) }
     ensures sorted { OnOk result (IsSorted marker_cmp markers.new.items) }
-    ensures err { IfErr result (λ fault. fault ≡ SessionFault.Memory) }
 {
     markers.sort_by_key(|view| (view.at, view.marker))?;
     Ok(())

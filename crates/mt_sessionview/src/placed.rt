@@ -1,13 +1,12 @@
 //! The operations that give tracks their places, in the order of these.
 
-ghost use Rattle.std.specs.Prelude.{◌≡◌, ◌<◌, ℕ, map, length, slice_get, Some, IfOk, IfErr};
+ghost use Rattle.std.specs.Prelude.{◌≡◌, ◌<◌, ℕ, map, length, slice_get, Some, IfOk};
 ghost use Rattle.mt_stamp.specs.Sorting.{RisesStrictly};
 ghost use Rattle.mt_stamp.specs.Tree.{IsTree};
 ghost use Rattle.mt_op.specs.ByStamp.{op_cmp};
 ghost use Rattle.mt_sessionview.specs.Noted.{places_in, placed_in};
 ghost use Rattle.mt_sessionview.specs.Read.{ops_at};
 
-use crate::fault::SessionFault;
 use crate::places::{place_ops, places_of};
 use mt_op::Op;
 use mt_tracklist::order_of;
@@ -33,15 +32,14 @@ fn ops_at<'a, A: Allocator, B: Allocator>(
 pub(crate) fn placed_ops<'a, A: Allocator + Clone>(
     alloc: &A,
     ops: &[&'a Op<A>],
-) -> Result<Vec<&'a Op<A>, A>, SessionFault>
+) -> Result<Vec<&'a Op<A>, A>, AllocError>
     requires rising { RisesStrictly op_cmp (map (λ o. o.now) ops.now) }
     requires tree { IsTree (places_in (map (λ o. o.now) ops.now)) }
     ensures ok { IfOk result (λ placed. map (λ o. o.now) placed.items ≡ placed_in (map (λ o. o.now) ops.now)) }
-    ensures err { IfErr result (λ fault. fault ≡ SessionFault.Memory) }
 {
     let ops = place_ops(alloc, ops)?;
     let places = places_of(alloc.clone()?, &ops)?;
     let order = order_of(alloc, &places)?;
     drop(places);
-    Ok(ops_at(alloc.clone()?, &ops, &order)?)
+    ops_at(alloc.clone()?, &ops, &order)
 }

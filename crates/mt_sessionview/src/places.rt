@@ -1,13 +1,12 @@
 //! The operations that give tracks their places, and these places.
 
-ghost use Rattle.std.specs.Prelude.{◌≡◌, map, IfOk, IfErr};
+ghost use Rattle.std.specs.Prelude.{◌≡◌, map, IfOk};
 ghost use Rattle.std.specs.List.{filter};
 ghost use Rattle.mt_op.specs.declared.need.Role.TheVariants.{Place};
 ghost use Rattle.mt_op.specs.Needs.{fits};
 ghost use Rattle.mt_tracklist.specs.Rising.{given_tree};
 ghost use Rattle.mt_sessionview.specs.Read.{place_after, placed_by, tree_place};
 
-use crate::fault::SessionFault;
 use crate::track::placed_track;
 use mt_op::{Body, Op, Role};
 use mt_stamp::Stamp;
@@ -18,9 +17,8 @@ use std::alloc::{AllocError, Allocator};
 pub(crate) fn place_ops<'a, A: Allocator + Clone>(
     alloc: &A,
     ops: &[&'a Op<A>],
-) -> Result<Vec<&'a Op<A>, A>, SessionFault>
+) -> Result<Vec<&'a Op<A>, A>, AllocError>
     ensures ok { IfOk result (λ places. map (λ o. o.now) places.items ≡ filter (fits Place) (map (λ o. o.now) ops.now)) }
-    ensures err { IfErr result (λ fault. fault ≡ SessionFault.Memory) }
 {
     let mut places = Vec::with_capacity(alloc.clone()?, ops.len())?;
     for op in ops {

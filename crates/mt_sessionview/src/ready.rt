@@ -1,15 +1,14 @@
 //! The ready ones of operations, and the items that they leave.
 
-ghost use Rattle.std.specs.Prelude.{◌≡◌, IfOk, IfErr, map, reverse};
+ghost use Rattle.std.specs.Prelude.{◌≡◌, IfOk, map, reverse};
 ghost use Rattle.mt_stamp.specs.Sorting.{RisesStrictly};
 ghost use Rattle.mt_op.specs.ByStamp.{op_cmp};
 ghost use Rattle.mt_items.specs.Noting.{AreNoted};
 ghost use Rattle.mt_sessionview.specs.Session.{ready_ops};
 
-use crate::fault::SessionFault;
 use mt_items::{AHEAD, Items};
 use mt_op::Op;
-use std::alloc::Allocator;
+use std::alloc::{AllocError, Allocator};
 
 // Operations that are ready, and the items that they leave.
 #[derive(Drop)]
@@ -23,12 +22,11 @@ pub(crate) struct Ready<'a, A: Allocator> {
 pub(crate) fn ready_of<'a, A: Allocator + Clone>(
     alloc: &A,
     ops: Vec<&'a Op<A>, A>,
-) -> Result<Ready<'a, A>, SessionFault>
+) -> Result<Ready<'a, A>, AllocError>
     requires rising { RisesStrictly op_cmp (map (λ o. o.now) ops.items) }
     ensures ops { IfOk result (λ ready. map (λ o. o.now) ready.ops.items ≡ ready_ops (map (λ o. o.now) ops.entry.items)) }
     ensures items { IfOk result (λ ready. ready.items ≡ reverse (ready_ops (map (λ o. o.now) ops.entry.items))) }
     ensures noted { IfOk result (λ ready. AreNoted ready.items) }
-    ensures err { IfErr result (λ fault. fault ≡ SessionFault.Memory) }
 {
     let mut sifted = ops;
     let mut items = Items::with_room_for(alloc.clone()?, &sifted)?;

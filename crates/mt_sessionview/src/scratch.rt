@@ -12,7 +12,7 @@ use crate::fault::SessionFault;
 use crate::session::Session;
 use crate::text::put_session;
 use mt_opcodec::{BufferedLatch, Latch, Log};
-use std::alloc::Allocator;
+use std::alloc::{AllocError, Allocator};
 use std::io::Write;
 
 /// The session of a log's operations, in a time of n log n for n of them and of the tags that they list. Refused only
@@ -25,13 +25,13 @@ pub fn from_scratch<A: Allocator + Clone>(
     ensures err { IfErr result (λ fault. fault ≡ SessionFault.Memory) }
 {
     let parts = parts_of_log(&alloc, log)?;
-    session_of_parts(alloc, parts)
+    Ok(session_of_parts(alloc, parts)?)
 }
 
-/// The same of a log by value, which is let go before the session's markers are made: so it takes less memory.
-pub fn of_log<A: Allocator + Clone>(alloc: A, log: Log<A>) -> Result<Session<A>, SessionFault>
+/// The same of a log by value, which is let go before the session's markers are made: so it takes less memory. Refused
+/// only as `AllocError`.
+pub fn of_log<A: Allocator + Clone>(alloc: A, log: Log<A>) -> Result<Session<A>, AllocError>
     ensures ok { IfOk result (λ session. session ≡ session_of (operations log)) }
-    ensures err { IfErr result (λ fault. fault ≡ SessionFault.Memory) }
 {
     let parts = parts_of_log(&alloc, &log)?;
     drop(log);

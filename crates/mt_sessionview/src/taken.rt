@@ -1,6 +1,6 @@
 //! Tracks of items that are let go, with the titles that their cells held.
 
-ghost use Rattle.std.specs.Prelude.{◌≡◌, ◌≢◌, ℕ, true, List as ListOf, Some, is_some, map, IfOk, IfErr, OnOk, IfSome};
+ghost use Rattle.std.specs.Prelude.{◌≡◌, ◌≢◌, ℕ, true, List as ListOf, Some, is_some, map, IfOk, OnOk, IfSome};
 ghost use Rattle.std.specs.List.{AllByRecursion, filter_map, sum_by};
 ghost use Rattle.std.specs.Map.{keys_of, lookup};
 ghost use Rattle.mt_stamp.specs.Moment.{Moment, stamp_eq};
@@ -17,7 +17,6 @@ ghost use Rattle.mt_sessionview.specs.Noted.{places_in, tracks_in};
 ghost use Rattle.mt_sessionview.specs.Read.{standing, track_from, track_read, HoldStands};
 
 use crate::clip::{clips_by_track, sorted_clips};
-use crate::fault::SessionFault;
 use crate::placed::placed_ops;
 use crate::session::{ClipView, TrackView};
 use crate::track::{placed_track, stands_at, track_with};
@@ -25,7 +24,7 @@ use mt_items::{Items, MarkerCells, TrackCells};
 use mt_op::Op;
 use mt_stamp::Stamp;
 use mt_stampmap::StampMap;
-use std::alloc::Allocator;
+use std::alloc::{AllocError, Allocator};
 
 // The present track that stands where an operation put it, from the cells of all tracks.
 fn standing_track<A: Allocator>(tracks: &StampMap<TrackCells<A>, A>, op: &Op<A>) -> Option<Stamp>
@@ -46,13 +45,12 @@ fn taken_track<A: Allocator + Clone>(
     tracks: &mut StampMap<TrackCells<A>, A>,
     track: Stamp,
     clips: Vec<ClipView, A>,
-) -> Result<TrackView<A>, SessionFault>
+) -> Result<TrackView<A>, AllocError>
     requires there { is_some (lookup (stamp_eq track) tracks.old) ≡ true }
     requires clips { AreClips clips.items }
     ensures ok { IfOk result (λ view. IfSome (lookup (stamp_eq track) tracks.old) (λ cells. (ops : ListOf Operation) → HoldsTrack track ops cells → Some view ≡ track_from ops track clips.items (last_write title_written track ops))) }
     ensures stand { OnOk result ((ops : ListOf Operation) → HoldStands ops tracks.old → HoldStands ops tracks.new) }
     ensures others { OnOk result ((other : Moment) → track ≢ other → lookup (stamp_eq other) tracks.new ≡ lookup (stamp_eq other) tracks.old) }
-    ensures err { IfErr result (λ fault. fault ≡ SessionFault.Memory) }
 {
     let Some(cells) = tracks.get_mut(track) else {
         unreachable!()
@@ -67,13 +65,12 @@ fn tracks_in_order<A: Allocator + Clone>(
     alloc: &A,
     items: Items<A>,
     ops: &[&Op<A>],
-) -> Result<(Vec<TrackView<A>, A>, Vec<(Stamp, MarkerCells<A>), A>), SessionFault>
+) -> Result<(Vec<TrackView<A>, A>, Vec<(Stamp, MarkerCells<A>), A>), AllocError>
     requires noted { AreNoted items }
     requires differ { DifferBy stamp_of (map (λ o. o.now) ops.now) }
     ensures tracks { IfOk result (λ both. both.0.items ≡ filter_map (track_read items) (map (λ o. o.now) ops.now)) }
     ensures markers { IfOk result (λ both. keys_of both.1.items ≡ items_of Marker items) }
     ensures each_marker { IfOk result (λ both. AllByRecursion (λ e. HoldsMarker e.0 items e.1) both.1.items) }
-    ensures err { IfErr result (λ fault. fault ≡ SessionFault.Memory) }
 {
     let mut clips = clips_by_track(alloc, &items)?;
     let (mut cells, markers) = items.into_tracks_and_markers();
@@ -93,7 +90,7 @@ pub(crate) fn taken_tracks<A: Allocator + Clone>(
     alloc: &A,
     ready: &[&Op<A>],
     items: Items<A>,
-) -> Result<(Vec<TrackView<A>, A>, Vec<(Stamp, MarkerCells<A>), A>), SessionFault>
+) -> Result<(Vec<TrackView<A>, A>, Vec<(Stamp, MarkerCells<A>), A>), AllocError>
     requires noted { AreNoted items }
     requires same { (f : Operation → ℕ) → sum_by f items ≡ sum_by f (map (λ o. o.now) ready.now) }
     requires rising { RisesStrictly op_cmp (map (λ o. o.now) ready.now) }
@@ -101,7 +98,6 @@ pub(crate) fn taken_tracks<A: Allocator + Clone>(
     ensures tracks { IfOk result (λ both. both.0.items ≡ tracks_in items) }
     ensures markers { IfOk result (λ both. keys_of both.1.items ≡ items_of Marker items) }
     ensures each_marker { IfOk result (λ both. AllByRecursion (λ e. HoldsMarker e.0 items e.1) both.1.items) }
-    ensures err { IfErr result (λ fault. fault ≡ SessionFault.Memory) }
 {
     let placed = placed_ops(alloc, ready)?;
     tracks_in_order(alloc, items, &placed)

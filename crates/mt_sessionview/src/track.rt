@@ -1,6 +1,6 @@
 //! Tracks.
 
-ghost use Rattle.std.specs.Prelude.{◌≡◌, ◌≢◌, List as ListOf, Some, None, map, IfOk, IfErr, OnOk, IfSome, IfNone};
+ghost use Rattle.std.specs.Prelude.{◌≡◌, ◌≢◌, List as ListOf, Some, None, map, IfOk, OnOk, IfSome, IfNone};
 ghost use Rattle.std.specs.BTreeMap.{get};
 ghost use Rattle.std.specs.List.{filter_map};
 ghost use Rattle.mt_stamp.specs.Moment.{Moment, stamp_cmp};
@@ -16,12 +16,11 @@ ghost use Rattle.mt_sessionview.specs.Content.{AreClips};
 ghost use Rattle.mt_sessionview.specs.Read.{placed_track, stands_at, standing, track_from, HasClips, AreTheClips, track_read};
 
 use crate::clip::sorted_clips;
-use crate::fault::SessionFault;
 use crate::session::{ClipView, TrackView};
 use mt_items::{Items, TrackCells};
 use mt_op::{Body, Op, Title};
 use mt_stamp::{List, Stamp};
-use std::alloc::Allocator;
+use std::alloc::{AllocError, Allocator};
 use std::collections::BTreeMap;
 
 // A track, and its cells.
@@ -66,13 +65,12 @@ fn track_from<A: Allocator + Clone>(
     track: Stamp,
     cells: &TrackCells<A>,
     clips: Vec<ClipView, A>,
-) -> Result<TrackView<A>, SessionFault>
+) -> Result<TrackView<A>, AllocError>
     requires clips { AreClips clips.items }
     ensures ok { IfOk result (λ view. (ops : ListOf Operation) → HoldsTrack track ops cells.now → Some view ≡ track_from ops track clips.items (last_write title_written track ops)) }
-    ensures err { IfErr result (λ fault. fault ≡ SessionFault.Memory) }
 {
     let Ok(title) = cells.title.get().try_clone() else {
-        return Err(SessionFault::Memory);
+        return Err(AllocError);
     };
     Ok(track_with(track, cells, title, clips))
 }
@@ -104,12 +102,11 @@ fn track_at<A: Allocator + Clone>(
     items: &Items<A>,
     clips: &mut BTreeMap<Stamp, List<ClipView, A>, A>,
     op: &Op<A>,
-) -> Result<Option<TrackView<A>>, SessionFault>
+) -> Result<Option<TrackView<A>>, AllocError>
     requires noted { AreNoted items.now }
     requires clips { IfSome (standing items.now op.now) (HasClips items.now clips.old) }
     ensures ok { IfOk result (λ view. view ≡ track_read items.now op.now) }
     ensures others { OnOk result ((track : Moment) → standing items.now op.now ≢ Some track → get stamp_cmp clips.new track ≡ get stamp_cmp clips.old track) }
-    ensures err { IfErr result (λ fault. fault ≡ SessionFault.Memory) }
 {
     let Some(here) = standing(items, op) else {
         return Ok(None);
@@ -124,12 +121,11 @@ pub(crate) fn tracks<A: Allocator + Clone>(
     items: &Items<A>,
     mut clips: BTreeMap<Stamp, List<ClipView, A>, A>,
     ops: &[&Op<A>],
-) -> Result<Vec<TrackView<A>, A>, SessionFault>
+) -> Result<Vec<TrackView<A>, A>, AllocError>
     requires noted { AreNoted items.now }
     requires clips { AreTheClips items.now clips }
     requires differ { DifferBy stamp_of (map (λ o. o.now) ops.now) }
     ensures ok { IfOk result (λ tracks. tracks.items ≡ filter_map (track_read items.now) (map (λ o. o.now) ops.now)) }
-    ensures err { IfErr result (λ fault. fault ≡ SessionFault.Memory) }
 {
     let mut tracks = Vec::with_capacity(alloc.clone()?, ops.len())?;
     for op in ops {

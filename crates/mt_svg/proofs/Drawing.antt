@@ -1,7 +1,5 @@
 -- The whole picture.
-use Rattle.std.proofs.Common.{◌≡◌, ◌++◌, ◌∙◌, ℕ, List, [], length, subst}
-use Rattle.std.specs.Io.KnownBytes.{Appends}
-use Rattle.std.specs.Prelude.{Option}
+use Rattle.std.proofs.Common.{◌≡◌, ◌++◌, ◌∙◌, ℕ, List, [], length}
 use Rattle.std.specs.String.{string_bytes}
 use Rattle.std.specs.declared.string.String.{String}
 use Rattle.mt_render.specs.Sources.{Sources}
@@ -14,8 +12,3 @@ use Rattle.mt_svg.specs.Svg.{picture, svg_text}
 pub whole_picture : {Z : Type 0} (sources : Sources) (c : Content) (rate frames bottom : ℕ) {start new : String Z} → string_bytes start ≡ [] → frames ≡ span c.tracks c.markers → bottom ≡ row_top (length c.tracks)
     → Adds start new (picture rate frames bottom sources c) → string_bytes new ≡ svg_text rate sources c
 whole_picture sources c rate frames bottom {start} {new} none is_span is_bottom step = step.bytes ∙ (λ i. none i ++ picture rate (is_span i) (is_bottom i) sources c)
-
--- where its text was put
-pub drawn : (sources : Sources) (c : Content) (rate : ℕ) (text shown : List ℕ) (old new : Option (List ℕ)) → text ≡ svg_text rate sources c → shown ≡ text → Appends old new shown
-    → Appends old new (svg_text rate sources c)
-drawn sources c rate text shown old new is same put = subst (λ (l : List ℕ). Appends old new l) (same ∙ is) put

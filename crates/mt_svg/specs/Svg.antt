@@ -1,10 +1,8 @@
 -- A session as a picture (profile; Scalable Vector Graphics 1.1): times along the top, a row with its clips for each track, and over them the markers.
-use Rattle.std.specs.Prelude.{ℕ, ◌+◌, ◌*◌, ◌-◌, ◌/◌, ◌%◌, ◌==◌, ◌&&◌, Bool, List, [], ◌∷◌, ◌++◌, length, take, Option, codes, if◌then◌else◌}
+use Rattle.std.specs.Prelude.{ℕ, ◌+◌, ◌*◌, ◌-◌, ◌/◌, ◌%◌, ◌==◌, ◌&&◌, Bool, List, [], ◌∷◌, ◌++◌, length, take, codes, if◌then◌else◌}
 use Rattle.std.specs.Fmt.{decimal}
-use Rattle.std.specs.Io.KnownBytes.{Appends}
 use Rattle.std.specs.List.{flat_map, range_with_len}
 use Rattle.hex.specs.Hex.{encode_lower}
-use Rattle.mt_latch.specs.Latch.{Latched, AppendsPrefix}
 use Rattle.mt_op.specs.Gain.{Ratio}
 use Rattle.mt_op.specs.declared.digest.Digest.{Digest}
 use Rattle.mt_render.specs.Sources.{Sources, found}
@@ -162,14 +160,3 @@ picture rate span bottom sources c =
 -- at so many frames a second, with the recordings that are at hand
 abbrev pub svg_text : ℕ → Sources → Content → List ℕ
 svg_text rate sources c = picture rate (span c.tracks c.markers) (row_top (length c.tracks)) sources c
-
--- ---- what is written
-
-module _ {W : Type 0} (contents : W → Option (List ℕ)) where
-  -- an output holds the picture of a session behind what it held before
-  abbrev pub IsDrawn : ℕ → Sources → Content → Latched W → Latched W → Type 0
-  IsDrawn rate sources c old new = Appends (contents old.inner) (contents new.inner) (svg_text rate sources c)
-
-  -- the same of a prefix of it
-  abbrev pub IsDrawnInPart : ℕ → Sources → Content → Latched W → Latched W → Type 0
-  IsDrawnInPart rate sources c old new = AppendsPrefix (contents old.inner) (contents new.inner) (svg_text rate sources c)

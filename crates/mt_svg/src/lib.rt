@@ -3,11 +3,11 @@
 //!
 //! ```rust
 //! use mt_op::{Body, Op, Title};
-//! use mt_opcodec::{Latch, Log};
+//! use mt_opcodec::Log;
 //! use mt_render::Catalogue;
 //! use mt_sessionview::from_scratch;
 //! use mt_stamp::Stamp;
-//! use mt_svg::write_svg;
+//! use mt_svg::svg_text;
 //! use mt_testkit::{A, add_track};
 //! use std::test::Fail;
 //!
@@ -22,12 +22,10 @@
 //!     let title = Title::new(rt.alloc(), "News")?;
 //!     let _new = log.add(Op::new(Stamp::new(1, A, 1)?, Body::AddMarker { at: 47999, title })?)?;
 //!     let session = from_scratch(rt.alloc(), &log)?;
-//!     let mut output = Latch::new(Vec::new(rt.alloc()));
 //!     // at 48000 frames a second, with no recordings
-//!     write_svg(rt.alloc(), 48000, &Catalogue::new(rt.alloc()), &session, &mut output)?;
-//!     let text = output.into_inner();
-//!     assert!(rt; text.as_slice().starts_with(b"<svg xmlns=\"http://www.w3.org/2000/svg\" width=\"1560\" height=\"80\""));
-//!     assert!(rt; text.as_slice().ends_with(NEWS));
+//!     let text = svg_text(rt.alloc(), 48000, &Catalogue::new(rt.alloc()), &session)?;
+//!     assert!(rt; text.as_bytes().starts_with(b"<svg xmlns=\"http://www.w3.org/2000/svg\" width=\"1560\" height=\"80\""));
+//!     assert!(rt; text.as_bytes().ends_with(NEWS));
 //!     Ok(())
 //! }
 //!
@@ -49,10 +47,8 @@
 //!     let _new = log.add(add_track(rt.alloc(), track, None)?)?;
 //!     let _new = log.add(Op::new(Stamp::new(2, A, 2)?, Body::AddClip { source, track, at: 0, offset: 0, len: 3 })?)?;
 //!     let session = from_scratch(rt.alloc(), &log)?;
-//!     let mut output = Latch::new(Vec::new(rt.alloc()));
-//!     write_svg(rt.alloc(), 48000, &catalogue, &session, &mut output)?;
 //!     // each frame is 400 units wide, and its line stands in the first of these
-//!     assert!(rt; output.into_inner().as_slice().ends_with(PEAKS));
+//!     assert!(rt; svg_text(rt.alloc(), 48000, &catalogue, &session)?.as_bytes().ends_with(PEAKS));
 //!     Ok(())
 //! }
 //! ```
@@ -80,4 +76,4 @@ mod tick;
 mod track;
 mod xml;
 
-pub use svg::write_svg;
+pub use svg::svg_text;

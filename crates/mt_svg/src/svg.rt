@@ -1,10 +1,10 @@
-//! Pictures through a latch.
+//! The picture as a whole.
 
-ghost use Rattle.std.specs.Prelude.{◌≡◌, ◌≤◌, ◌<◌, ◌^◌, true, false, IfOk, IfErr, OnOk, length};
+ghost use Rattle.std.specs.Prelude.{◌≡◌, ◌≤◌, ◌<◌, ◌^◌, IfOk, OnOk, length};
 ghost use Rattle.std.specs.String.{string_bytes};
 ghost use Rattle.mt_svg.specs.Adding.{Adds};
 ghost use Rattle.mt_svg.specs.Placement.{row_top};
-ghost use Rattle.mt_svg.specs.Svg.{head, style, ground, picture, svg_text, IsDrawn, IsDrawnInPart};
+ghost use Rattle.mt_svg.specs.Svg.{head, style, ground, picture, svg_text};
 
 use crate::marker::append_markers;
 use crate::placement::row_top;
@@ -12,11 +12,9 @@ use crate::span::span;
 use crate::tick::append_ticks;
 use crate::track::append_tracks;
 use crate::xml::{append, append_numbered};
-use mt_opcodec::Latch;
 use mt_render::Catalogue;
-use mt_sessionview::{Session, SessionFault, TrackView};
+use mt_sessionview::{Session, TrackView};
 use std::alloc::{AllocError, Allocator};
-use std::io::Write;
 
 // Opens the picture.
 fn append_head<A: Allocator>(text: &mut String<A>, height: u64) -> Result<(), AllocError>
@@ -95,9 +93,14 @@ fn append_picture<A: Allocator, B: Allocator + Clone, C: Allocator, D: Allocator
     append(text, "</svg>\n")
 }
 
-// The whole text.
-fn text_of<A: Allocator + Clone, B: Allocator, C: Allocator>(
-    alloc: &A,
+/// The picture of a session with the peaks of the recordings at hand: one element `svg` of SVG 1.1,
+/// well-formed XML in UTF-8, ended by a line feed. The page on output describes it.
+///
+/// Times are at `rate` frames a second, 1 and more. Linear in the session's clips, markers and titles,
+/// and in the samples of the frames that are drawn. Fails where memory runs out, or where there are
+/// 2^32 tracks or more.
+pub fn svg_text<A: Allocator + Clone, B: Allocator, C: Allocator>(
+    alloc: A,
     rate: u32,
     catalogue: &Catalogue<'_, C>,
     session: &Session<B>,
@@ -108,50 +111,6 @@ fn text_of<A: Allocator + Clone, B: Allocator, C: Allocator>(
     let span = span(session.tracks.items(), session.markers.items());
     let bottom = rows_end(session.tracks.items())?;
     let mut text = String::new(alloc.clone()?);
-    append_picture(alloc, &mut text, rate, span, bottom, catalogue, session)?;
+    append_picture(&alloc, &mut text, rate, span, bottom, catalogue, session)?;
     Ok(text)
-}
-
-/// Writes a session and the peaks of recordings as a picture, and nothing else: one element `svg` of SVG 1.1, well-formed XML in UTF-8 that ends with a line feed.
-///
-/// The picture is 1560 units wide and 80 and 40 for each track high. From its left edge on, 200 units are for the tracks' titles, 1200 for the session, and 160 for
-/// the titles of the last markers. The session's span is to the end of its last clip or marker, and at least one frame; a marker that is a point has one
-/// frame. The frame f is drawn 200 + f * 1200 / span units from the left edge, rounded down, and a clip, or a marker that is no point, as wide as its
-/// frames are, at least a unit.
-///
-/// - Along the top are times in minutes and seconds at `rate` frames a second, 1 and more, from 0 on in the smallest steps that give at most 12: of 1, 2, 5, 10, 15 or 30
-///   seconds, 1, 2, 5, 10, 15 or 30 minutes, or so many whole hours.
-/// - A track is a row, in the session's order: its title, its gain where that is not 1/1, `mute` where it is muted, and a box for each of its clips. In that stand the
-///   first eight digits of the recording's digest and the clip's gain where that is not 1/1; its fades are ramps, each as long as the fade is; muted ones, and
-///   those of muted tracks, are grey. What is outside of a box is not shown. Its stamp is the box's `title`.
-/// - Where the catalogue has a clip's recording, its box shows the peaks: in each unit of its width a line up and down from the middle, as far as the greatest
-///   magnitude of the samples of all channels in the clip's frames that are drawn there, of 2^31 in 15 units, rounded down. Past the recording's end there is silence,
-///   and silence has no line. Neither gains nor fades count.
-/// - A marker is a line over all rows, with its title at the top, of which 160 units are shown, on three lines in turn; one that is no point is a band too.
-///
-/// In titles `&`, `<`, `>`, `"` and `'` stand as entities. U+FFFE and U+FFFF, which XML 1.0 does not allow, stand as U+FFFD; titles hold no other character that it
-/// does not allow. In a time linear in the session's clips, markers and titles, and in the samples of those frames of the clips that their recordings have.
-///
-/// `Write` (37) where the output's latch has failed, before or in this call; the output then holds a prefix of the text, and is as
-/// it was where the latch had failed before. `Memory` (0) where a growth was refused, or the tracks are 2^32 or more; the output is then as it was.
-pub fn write_svg<A: Allocator + Clone, B: Allocator, C: Allocator, W: Write>(
-    alloc: A,
-    rate: u32,
-    catalogue: &Catalogue<'_, B>,
-    session: &Session<C>,
-    output: &mut Latch<W>,
-) -> Result<(), SessionFault>
-    requires rate { 1 ≤ rate }
-    ensures whole { OnOk result (IsDrawn W.contents rate catalogue.now session.now output.old output.new) }
-    ensures prefix { IsDrawnInPart W.contents rate catalogue.now session.now output.old output.new }
-    ensures sound { OnOk result (output.new.failed ≡ false) }
-    ensures write { IfErr result (λ fault. fault ≡ SessionFault.Write → output.new.failed ≡ true) }
-    ensures stays_failed { output.old.failed ≡ true → output.new ≡ output.old }
-    ensures memory { IfErr result (λ fault. fault ≡ SessionFault.Memory → output.new ≡ output.old) }
-{
-    let text = text_of(&alloc, rate, catalogue, session)?;
-    match output.put(text.as_bytes()) {
-        Ok(()) => Ok(()),
-        Err(_) => Err(SessionFault::Write),
-    }
 }

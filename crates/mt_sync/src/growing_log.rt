@@ -1,6 +1,6 @@
 //! A log that grows by the operations of messages.
 
-ghost use Rattle.std.specs.Prelude.{◌≡◌, ◌≢◌, ◌≤◌, ◌↔◌, ◌++◌, ◌∷◌, [], length, true, false, IfOk, IfErr, IsErrOf, OnOk, Ok, Some, None};
+ghost use Rattle.std.specs.Prelude.{◌≡◌, ◌≢◌, ◌≤◌, ◌↔◌, ◌++◌, ◌∷◌, [], length, true, false, IfOk, IfErr, IsErrOf, OnOk, OnErr, Ok, Some, None};
 ghost use Rattle.mt_opcodec.specs.LogValue.{AreLogged};
 ghost use Rattle.mt_opcodec.specs.Laws.{PairsAgree};
 ghost use Rattle.std.specs.Option.{option_copied};
@@ -40,15 +40,15 @@ impl<A: Allocator> Model for GrowingLog<A> {
 }
 
 // Puts a log behind others. Where memory runs out none is left.
-fn push_log<A: Allocator>(logs: &mut Vec<Log<A>, A>, log: Log<A>) -> Result<(), TalkFault>
+fn push_log<A: Allocator>(logs: &mut Vec<Log<A>, A>, log: Log<A>) -> Result<(), AllocError>
     ensures ok { OnOk result (logs.new.items ≡ logs.old.items ++ log ∷ []) }
-    ensures err { IfErr result (λ fault. (fault ≡ TalkFault.Memory) × (logs.new.items ≡ [])) }
+    ensures none_left { OnErr result (logs.new.items ≡ []) }
 {
     match logs.push(log) {
         Ok(()) => Ok(()),
         Err(_) => {
             logs.clear();
-            Err(TalkFault::Memory)
+            Err(AllocError)
         }
     }
 }
@@ -68,12 +68,12 @@ fn put_behind<A: Allocator + Clone>(
     logs: &mut Vec<Log<A>, A>,
     more: Log<A>,
     all: bool,
-) -> Result<(), TalkFault>
+) -> Result<(), AllocError>
     requires agree { PairsAgree (logs.old.items ++ more ∷ []) }
     ensures agree { PairsAgree logs.new.items }
     ensures held { OnOk result (held_by logs.new.items ≡ held_by (logs.old.items ++ more ∷ [])) }
     ensures one { all ≡ true → OnOk result (length logs.new.items ≡ 1) }
-    ensures err { IfErr result (λ fault. (fault ≡ TalkFault.Memory) × (logs.new.items ≡ [])) }
+    ensures none_left { OnErr result (logs.new.items ≡ []) }
 {
     let mut last = more;
     while goes_with_last(logs, &last, all) {
@@ -84,7 +84,7 @@ fn put_behind<A: Allocator + Clone>(
             Ok(both) => last = both,
             Err(_) => {
                 logs.clear();
-                return Err(TalkFault::Memory);
+                return Err(AllocError);
             }
         }
     }
@@ -92,13 +92,13 @@ fn put_behind<A: Allocator + Clone>(
 }
 
 // Joins logs of which every two agree into one, where there is any. Where memory runs out none is left.
-fn join_into_one<A: Allocator + Clone>(logs: &mut Vec<Log<A>, A>) -> Result<(), TalkFault>
+fn join_into_one<A: Allocator + Clone>(logs: &mut Vec<Log<A>, A>) -> Result<(), AllocError>
     requires agree { PairsAgree logs.old.items }
     ensures agree { PairsAgree logs.new.items }
     ensures held { OnOk result (held_by logs.new.items ≡ held_by logs.old.items) }
     ensures one { OnOk result (length logs.new.items ≤ 1) }
     ensures settled { length logs.old.items ≤ 1 → result ≡ Ok tt }
-    ensures err { IfErr result (λ fault. (fault ≡ TalkFault.Memory) × (logs.new.items ≡ [])) }
+    ensures none_left { OnErr result (logs.new.items ≡ []) }
 {
     if logs.len() <= 1 {
         return Ok(());
@@ -148,7 +148,7 @@ impl<A: Allocator + Clone> Holder<A> for GrowingLog<A> {
         self.logs.is_empty()
     }
 
-    fn settle(&mut self) -> Result<(), TalkFault> {
+    fn settle(&mut self) -> Result<(), AllocError> {
         join_into_one(&mut self.logs)
     }
 
@@ -185,9 +185,9 @@ fn take_all_in_logs<A: Allocator + Clone>(
     };
     match log_of(alloc, ops) {
         Ok(more) => put_behind(logs, more, false)?,
-        Err(fault) => {
+        Err(_) => {
             logs.clear();
-            return Err(fault);
+            return Err(TalkFault::Memory);
         }
     }
     match clash {

@@ -1,6 +1,6 @@
 //! Who holds operations.
 
-ghost use Rattle.std.specs.Prelude.{◌≡◌, ◌↔◌, Bool, true, Option, Some, None, IsTrue, IfErr, OnOk, Ok};
+ghost use Rattle.std.specs.Prelude.{◌≡◌, ◌↔◌, Bool, true, Option, Some, None, IsTrue, OnOk, Ok};
 ghost use Rattle.std.specs.Option.{option_copied};
 ghost use Rattle.mt_stamp.specs.declared.name.Replica.{Replica as Name};
 ghost use Rattle.mt_opcodec.specs.LogValue.{LogMap, AreLogged};
@@ -12,7 +12,7 @@ use crate::taking::take_all_in_editor;
 use mt_op::Op;
 use mt_opcodec::Log;
 use mt_replica::{Desk, Editor, Sessions};
-use std::alloc::Allocator;
+use std::alloc::{AllocError, Allocator};
 
 /// Whoever has a log: a log itself, a draft or an editor.
 pub trait HoldsLog<A: Allocator> {
@@ -56,12 +56,11 @@ pub trait Holder<A: Allocator> {
     /// Whether its operations are in one log, which it can lend.
     ghost whole: { Self → Bool };
 
-    /// Brings its operations into one log. Refused as `Memory` (0) where they were not in one and a growth was refused: then it is as it
-    /// was, or has failed.
-    fn settle(&mut self) -> Result<(), TalkFault>
+    /// Brings its operations into one log. `AllocError` where they were not in one and a growth was refused: then it is as it was, or has
+    /// failed.
+    fn settle(&mut self) -> Result<(), AllocError>
         ensures whole { OnOk result (whole self.new ≡ true) }
         ensures held { OnOk result (held self.new ≡ held self.old) }
-        ensures err { IfErr result (λ fault. fault ≡ TalkFault.Memory) }
         ensures left { StaysOrFails (held self.old) (held self.new) }
         ensures settled { whole self.old ≡ true → result ≡ Ok tt }
         ensures name { named self.new ≡ named self.old };
@@ -91,7 +90,7 @@ impl<A: Allocator + Clone> Holder<A> for Editor<A> {
         self.log().is_none()
     }
 
-    fn settle(&mut self) -> Result<(), TalkFault> {
+    fn settle(&mut self) -> Result<(), AllocError> {
         Ok(())
     }
 

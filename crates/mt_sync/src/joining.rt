@@ -1,6 +1,6 @@
 //! Operations that join the log of an editor as a whole.
 
-ghost use Rattle.std.specs.Prelude.{◌≡◌, ◌≢◌, ◌∷◌, IfOk, IfErr, OnOk, Some};
+ghost use Rattle.std.specs.Prelude.{◌≡◌, ◌≢◌, ◌∷◌, IfOk, OnOk, OnErr, Some};
 ghost use Rattle.mt_opcodec.specs.LogValue.{AreLogged, log_of};
 ghost use Rattle.mt_opcodec.specs.Laws.{PairsAgree};
 ghost use Rattle.mt_opcodec.specs.Union.{Agree, union, union_all};
@@ -14,7 +14,7 @@ use mt_op::Op;
 use mt_opcodec::Log;
 use mt_replica::Editor;
 use mt_stamp::Dot;
-use std::alloc::Allocator;
+use std::alloc::{AllocError, Allocator};
 use std::mem;
 
 // Whether a log or one of others, every two of which agree, has another operation under this one's dot.
@@ -66,9 +66,8 @@ pub(crate) fn cut_at_clash<A: Allocator>(
 pub(crate) fn taken_out<A: Allocator + Clone>(
     alloc: &A,
     ops: &mut Vec<Op<A>, A>,
-) -> Result<Vec<Op<A>, A>, TalkFault>
+) -> Result<Vec<Op<A>, A>, AllocError>
     ensures ok { IfOk result (λ taken. taken.items ≡ ops.old.items) }
-    ensures err { IfErr result (λ fault. fault ≡ TalkFault.Memory) }
 {
     Ok(mem::replace(ops, Vec::new(alloc.clone()?)))
 }
@@ -77,15 +76,14 @@ pub(crate) fn taken_out<A: Allocator + Clone>(
 pub(crate) fn log_of<A: Allocator + Clone>(
     alloc: &A,
     ops: &mut Vec<Op<A>, A>,
-) -> Result<Log<A>, TalkFault>
+) -> Result<Log<A>, AllocError>
     requires rising { AreLogged ops.old.items }
     ensures ok { IfOk result (λ log. log ≡ log_of ops.old.items) }
-    ensures err { IfErr result (λ fault. fault ≡ TalkFault.Memory) }
 {
     let ops = taken_out(alloc, ops)?;
     match Log::of_ops(alloc.clone()?, ops) {
         Ok(log) => Ok(log),
-        Err(_) => Err(TalkFault::Memory),
+        Err(_) => Err(AllocError),
     }
 }
 
@@ -94,17 +92,16 @@ fn replace<A: Allocator + Clone>(
     alloc: &A,
     editor: &mut Editor<A>,
     log: Log<A>,
-) -> Result<(), TalkFault>
+) -> Result<(), AllocError>
     ensures ok { OnOk result (editor.new ≡ record { name = editor.old.name; log = Some log; joins = 0 }) }
-    ensures err { IfErr result (λ fault. fault ≡ TalkFault.Memory) }
-    ensures kept { IfErr result (λ fault. editor.new ≡ editor.old) }
+    ensures kept { OnErr result (editor.new ≡ editor.old) }
 {
     match Editor::from_log(alloc.clone()?, editor.name(), log) {
         Ok(new) => {
             *editor = new;
             Ok(())
         }
-        Err(_) => Err(TalkFault::Memory),
+        Err(_) => Err(AllocError),
     }
 }
 

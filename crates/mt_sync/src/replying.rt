@@ -1,6 +1,6 @@
 //! What an end replies.
 
-ghost use Rattle.std.specs.Prelude.{◌≡◌, ◌++◌, OnOk, IfErr};
+ghost use Rattle.std.specs.Prelude.{◌≡◌, ◌++◌, OnOk};
 ghost use Rattle.mt_frames.specs.Frames.{frame_text};
 ghost use Rattle.mt_summary.specs.Summary.{summary_of};
 ghost use Rattle.mt_summary.specs.Messages.{have_text};
@@ -13,7 +13,7 @@ use crate::holder::Holder;
 use mt_frames::put_frame;
 use mt_opcodec::Log;
 use mt_summary::{Message, MessageFault, Summary, lacking, put_ops_frames};
-use std::alloc::Allocator;
+use std::alloc::{AllocError, Allocator};
 
 // Appends the frame of the log's Have.
 pub(crate) fn put_have<A: Allocator + Clone, B: Allocator>(
@@ -43,12 +43,11 @@ pub(crate) fn put_answer<A: Allocator + Clone, B: Allocator>(
     log: &Log<A>,
     summary: &Summary<B>,
     out: &mut Vec<u8, A>,
-) -> Result<(), TalkFault>
+) -> Result<(), AllocError>
     ensures ok { OnOk result (out.new.items ≡ out.old.items ++ answer log.now summary.now) }
-    ensures err { IfErr result (λ fault. fault ≡ TalkFault.Memory) }
 {
     let Ok(ops) = lacking(alloc.clone()?, log, summary) else {
-        return Err(TalkFault::Memory);
+        return Err(AllocError);
     };
     put_ops_frames(out, &ops)?;
     put_frame(out, &[3])?;

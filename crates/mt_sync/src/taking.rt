@@ -78,7 +78,7 @@ pub(crate) fn take_all_in_editor<A: Allocator + Clone>(
             }
             join_ops(alloc, editor, ops)
         }
-        Err(fault) => Err(fault),
+        Err(_) => Err(TalkFault::Memory),
     };
     match joined {
         Ok(()) => Ok(()),

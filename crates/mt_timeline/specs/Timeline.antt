@@ -2,9 +2,7 @@
 use Rattle.std.specs.Prelude.{ℕ, ◌+◌, ◌*◌, ◌-◌, ◌/◌, ◌==◌, ◌&&◌, min, max, nat_le, nat_lt, Bool, List, [], ◌∷◌, ◌++◌, map, replicate, Option, Some, None, codes, if◌then◌else◌}
 use Rattle.std.specs.Fmt.{decimal, char_count, take_chars}
 use Rattle.std.specs.Int.{div_ceil}
-use Rattle.std.specs.Io.KnownBytes.{Appends}
 use Rattle.std.specs.List.{flat_map, list_any, count_by, range_with_len}
-use Rattle.mt_latch.specs.Latch.{Latched, AppendsPrefix}
 use Rattle.mt_op.specs.Gain.{Ratio}
 use Rattle.mt_sessionview.specs.Content.{Clip, Track, Marker, Content}
 use Rattle.mt_sessionview.specs.SessionText.{newline}
@@ -154,14 +152,3 @@ lines width lengths rate all frames c =
 -- The timeline of a session. Of one with no clip and no marker it has columns of one frame with no mark, and a span of 0.
 abbrev pub timeline_text : ℕ → Lengths → ℕ → Content → List ℕ
 timeline_text width lengths rate c = lines width lengths rate (span c.tracks c.markers) (column width (span c.tracks c.markers)) c
-
--- ---- what is written
-
-module _ {W : Type 0} (contents : W → Option (List ℕ)) where
-  -- an output holds the timeline of a session behind what it held before
-  abbrev pub IsDrawn : ℕ → Lengths → ℕ → Content → Latched W → Latched W → Type 0
-  IsDrawn width lengths rate c old new = Appends (contents old.inner) (contents new.inner) (timeline_text width lengths rate c)
-
-  -- the same of a prefix of it
-  abbrev pub IsDrawnInPart : ℕ → Lengths → ℕ → Content → Latched W → Latched W → Type 0
-  IsDrawnInPart width lengths rate c old new = AppendsPrefix (contents old.inner) (contents new.inner) (timeline_text width lengths rate c)

@@ -2,10 +2,10 @@
 //!
 //! ```rust
 //! use mt_op::{Body, Op, Title};
-//! use mt_opcodec::{Latch, Log};
+//! use mt_opcodec::Log;
 //! use mt_sessionview::from_scratch;
 //! use mt_stamp::{Replica, Stamp};
-//! use mt_timeline::{Lengths, write_timeline};
+//! use mt_timeline::{Lengths, timeline_text};
 //! use std::test::Fail;
 //!
 //! const TEXT: &[u8] = b"\
@@ -20,10 +20,9 @@
 //!     let title = Title::new(rt.alloc(), "Weather")?;
 //!     let _new = log.add(Op::new(Stamp::new(2, Replica(10), 2)?, Body::AddMarker { at: 999, title })?)?;
 //!     let session = from_scratch(rt.alloc(), &log)?;
-//!     let mut output = Latch::new(Vec::new(rt.alloc()));
 //!     // ten columns, at 1000 frames a second
-//!     write_timeline(rt.alloc(), 10, Lengths::FramesAndTimes, 1000, &session, &mut output)?;
-//!     assert!(rt; output.into_inner().as_slice() == TEXT);
+//!     let text = timeline_text(rt.alloc(), 10, Lengths::FramesAndTimes, 1000, &session)?;
+//!     assert!(rt; text.as_slice() == TEXT);
 //!     Ok(())
 //! }
 //! ```
@@ -43,4 +42,4 @@ mod timeline;
 mod tops;
 
 pub use length::Lengths;
-pub use timeline::write_timeline;
+pub use timeline::timeline_text;

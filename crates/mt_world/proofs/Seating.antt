@@ -1,6 +1,6 @@
 -- Editors in memory, and the world that they show.
 use Rattle.std.proofs.Common.{◌≡◌, ℕ, zero, suc, ◌+◌, ◌<◌, ◌≤◌, List, [], ◌∷◌, ◌++◌, map, length, get_or, set, take, Some, None, refl, sym, ap, ◌∙◌, subst, arith}
-use Rattle.std.specs.Prelude.{Option, option_map, unwrap_or, slice_get, Result, Ok, Err, IfOk, IfErr}
+use Rattle.std.specs.Prelude.{Option, option_map, unwrap_or, slice_get}
 use Rattle.std.specs.List.{All}
 use Rattle.std.specs.FinMap as fin
 use Rattle.std.proofs.lemmas.Option.{none-some, slice_get-map, slice_get_read, slice_get_past}
@@ -10,10 +10,7 @@ use Rattle.mt_stamp.specs.declared.name.Replica.{Replica}
 use Rattle.mt_opcodec.specs.LogValue.{LogMap}
 use Rattle.mt_opcodec.specs.Union.{union}
 use Rattle.mt_world.specs.declared.seat.Seat.{Seat}
-use Rattle.mt_world.specs.declared.fault.WorldFault.{WorldFault}
-use Rattle.mt_world.specs.declared.fault.WorldFault.TheVariants.{Memory, SameName}
-use Rattle.mt_world.specs.World.{Peer, World, Happening, new_peer, saving, unsent, where_there, with_peer, with_saved, step, after, world_of}
-use Rattle.mt_world.specs.Names.{NamesDiffer, RunGives}
+use Rattle.mt_world.specs.World.{Peer, World, Happening, new_peer, saving, unsent, where_there, with_peer, with_saved, step, after}
 use Rattle.mt_world.specs.Seats.{peer_of, seen, IsWhole, AreWhole}
 
 -- ---- lists
@@ -94,12 +91,6 @@ taken_log seat whole = by seat.editor.log whole.taken
     by : (log : Option LogMap) → log ≡ Some (union seat.saved seat.unsaved) → log ≡ Some (unwrap_or log fin.empty)
     by None at = absurd (none-some _ at)
     by (Some set) at = refl
-
--- what a run answers where the names differ
-pub run_gives : (names : List Replica) (happenings : List Happening) (r : Result World WorldFault) → NamesDiffer names → IfOk r (λ world. world ≡ world_of names happenings) → IfErr r (λ fault. fault ≡ Memory) → RunGives names happenings r
-run_gives names happenings (Ok world) differ ok err = (differ, ok)
-run_gives names happenings (Err Memory) differ ok err = differ
-run_gives names happenings (Err (SameName i)) differ ok err = absurd cc
 
 -- one more editor at the beginning
 pub one_more_new : {A : Type 0} (seats grown : List (Seat A)) (seat : Seat A) (names : List Replica) (i : ℕ) (d : Replica) → i < length names → peer_of seat ≡ new_peer (get_or names i d) → grown ≡ seats ++ seat ∷ []

@@ -1,13 +1,12 @@
 //! What was sent.
 
-ghost use Rattle.std.specs.Prelude.{◌≡◌, ◌++◌, ◌∷◌, [], IfOk, IfErr};
+ghost use Rattle.std.specs.Prelude.{◌≡◌, ◌++◌, ◌∷◌, [], IfOk};
 ghost use Rattle.mt_world.specs.World.{is_sent, unsent};
 ghost use Rattle.mt_world.specs.Sending.{AddsDots};
 
-use crate::fault::WorldFault;
 use mt_op::Op;
 use mt_opcodec::{Log, LogFault};
-use std::alloc::{Allocator, Global};
+use std::alloc::{AllocError, Allocator, Global};
 use std::marker::Model;
 
 /// The operations that were sent, in the order in which they were, with a log that finds them by their dots. Seen as their list.
@@ -51,9 +50,8 @@ impl<A: Allocator> Sent<A> {
 
 impl<A: Allocator + Clone> Sent<A> {
     /// Nothing yet.
-    pub fn new(alloc: &A) -> Result<Self, WorldFault>
+    pub fn new(alloc: &A) -> Result<Self, AllocError>
         ensures ok { IfOk result (λ sent. sent ≡ []) }
-        ensures err { IfErr result (λ fault. fault ≡ WorldFault.Memory) }
     {
         Ok(Sent {
             ops: Vec::new(alloc.clone()?),
@@ -62,9 +60,8 @@ impl<A: Allocator + Clone> Sent<A> {
     }
 
     // Copies of a log's operations that were not sent, by rising dot.
-    fn lacking(&self, alloc: &A, log: &Log<A>) -> Result<Vec<Op<A>, A>, WorldFault>
+    fn lacking(&self, alloc: &A, log: &Log<A>) -> Result<Vec<Op<A>, A>, AllocError>
         ensures ok { IfOk result (λ ops. ops.items ≡ unsent self.now log.now) }
-        ensures err { IfErr result (λ fault. fault ≡ WorldFault.Memory) }
     {
         let refs = log.refs(alloc.clone()?)?;
         let mut ops = Vec::new(alloc.clone()?);
@@ -77,9 +74,8 @@ impl<A: Allocator + Clone> Sent<A> {
     }
 
     /// With the operations of a log that were not sent, by rising dot.
-    pub fn with(self, alloc: &A, log: &Log<A>) -> Result<Self, WorldFault>
+    pub fn with(self, alloc: &A, log: &Log<A>) -> Result<Self, AllocError>
         ensures ok { IfOk result (λ sent. sent ≡ self ++ unsent self log.now) }
-        ensures err { IfErr result (λ fault. fault ≡ WorldFault.Memory) }
     {
         let mut new = self.lacking(alloc, log)?;
         let Sent { mut ops, by_dot } = self;
@@ -90,33 +86,30 @@ impl<A: Allocator + Clone> Sent<A> {
 }
 
 /// A copy of an operation.
-pub(crate) fn copy_of<A: Allocator + Clone>(op: &Op<A>) -> Result<Op<A>, WorldFault>
+pub(crate) fn copy_of<A: Allocator + Clone>(op: &Op<A>) -> Result<Op<A>, AllocError>
     ensures ok { IfOk result (λ copy. copy ≡ op.now) }
-    ensures err { IfErr result (λ fault. fault ≡ WorldFault.Memory) }
 {
     match op.try_clone() {
         Ok(copy) => Ok(copy),
-        Err(_) => Err(WorldFault::Memory),
+        Err(_) => Err(AllocError),
     }
 }
 
 // A log with an operation of one more dot. One that stands there stays.
-fn with_dot<A: Allocator + Clone>(log: Log<A>, op: &Op<A>) -> Result<Log<A>, WorldFault>
+fn with_dot<A: Allocator + Clone>(log: Log<A>, op: &Op<A>) -> Result<Log<A>, AllocError>
     ensures ok { IfOk result (AddsDots log (op.now ∷ [])) }
-    ensures err { IfErr result (λ fault. fault ≡ WorldFault.Memory) }
 {
     let mut log = log;
     match log.add(copy_of(op)?) {
         Ok(_) => Ok(log),
         Err(LogFault::Conflict(_)) => Ok(log),
-        Err(_) => Err(WorldFault::Memory),
+        Err(_) => Err(AllocError),
     }
 }
 
 // A log with operations of the dots of these.
-fn with_dots<A: Allocator + Clone>(log: Log<A>, ops: &[Op<A>]) -> Result<Log<A>, WorldFault>
+fn with_dots<A: Allocator + Clone>(log: Log<A>, ops: &[Op<A>]) -> Result<Log<A>, AllocError>
     ensures ok { IfOk result (AddsDots log ops.now) }
-    ensures err { IfErr result (λ fault. fault ≡ WorldFault.Memory) }
 {
     let mut log = log;
     for op in ops {

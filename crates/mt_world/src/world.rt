@@ -1,6 +1,6 @@
 //! The world.
 
-ghost use Rattle.std.specs.Prelude.{◌≡◌, Some, IfOk, IfErr, map as list_map, option_map};
+ghost use Rattle.std.specs.Prelude.{◌≡◌, Some, IfOk, map as list_map, option_map};
 ghost use Rattle.std.specs.Option.{option_copied};
 ghost use Rattle.mt_replica.specs.Changes.{edit_of};
 ghost use Rattle.mt_world.specs.World.{Edits, Saves, Takes, Restarts, step, start, world_of, name_at, taken_at};
@@ -15,7 +15,7 @@ use crate::sent::Sent;
 use mt_op::Op;
 use mt_replica::{Change, Editor};
 use mt_stamp::Replica;
-use std::alloc::{Allocator, Global};
+use std::alloc::{AllocError, Allocator, Global};
 use std::marker::Model;
 
 /// Editors, what each of them has saved, and what they have sent, after some events. No editor of a world has failed.
@@ -70,14 +70,13 @@ impl<A: Allocator + Clone> World<A> {
     {
         match first_repeat(names) {
             Some(index) => Err(WorldFault::SameName(index)),
-            None => World::after(alloc, names, events),
+            None => Ok(World::after(alloc, names, events)?),
         }
     }
 
     // The world of editors of these names after these events.
-    fn after(alloc: A, names: &[Replica], events: &[Event<A>]) -> Result<Self, WorldFault>
+    fn after(alloc: A, names: &[Replica], events: &[Event<A>]) -> Result<Self, AllocError>
         ensures ok { IfOk result (λ world. world ≡ world_of names.now (list_map happening_of events.now)) }
-        ensures err { IfErr result (λ fault. fault ≡ WorldFault.Memory) }
     {
         let mut world = World::start(alloc, names)?;
         for event in events {
@@ -87,9 +86,8 @@ impl<A: Allocator + Clone> World<A> {
     }
 
     // Editors of these names that have taken nothing.
-    fn start(alloc: A, names: &[Replica]) -> Result<Self, WorldFault>
+    fn start(alloc: A, names: &[Replica]) -> Result<Self, AllocError>
         ensures ok { IfOk result (λ world. world ≡ start names.now) }
-        ensures err { IfErr result (λ fault. fault ≡ WorldFault.Memory) }
     {
         let mut seats = Vec::new(alloc.clone()?);
         for name in names {
@@ -101,9 +99,8 @@ impl<A: Allocator + Clone> World<A> {
     }
 
     // One event.
-    fn step(self, event: &Event<A>) -> Result<Self, WorldFault>
+    fn step(self, event: &Event<A>) -> Result<Self, AllocError>
         ensures ok { IfOk result (λ world. world ≡ step self (happening_of event.now)) }
-        ensures err { IfErr result (λ fault. fault ≡ WorldFault.Memory) }
     {
         match event {
             Event::Edit(index, change) => self.edit(*index, change),
@@ -113,9 +110,8 @@ impl<A: Allocator + Clone> World<A> {
         }
     }
 
-    fn edit(self, index: usize, change: &Change<A>) -> Result<Self, WorldFault>
+    fn edit(self, index: usize, change: &Change<A>) -> Result<Self, AllocError>
         ensures ok { IfOk result (λ world. world ≡ step self (Edits index (edit_of change.now))) }
-        ensures err { IfErr result (λ fault. fault ≡ WorldFault.Memory) }
     {
         let World {
             alloc,
@@ -128,9 +124,8 @@ impl<A: Allocator + Clone> World<A> {
         Ok(World { alloc, seats, sent })
     }
 
-    fn save(self, index: usize) -> Result<Self, WorldFault>
+    fn save(self, index: usize) -> Result<Self, AllocError>
         ensures ok { IfOk result (λ world. world ≡ step self (Saves index)) }
-        ensures err { IfErr result (λ fault. fault ≡ WorldFault.Memory) }
     {
         let World {
             alloc,
@@ -144,9 +139,8 @@ impl<A: Allocator + Clone> World<A> {
         Ok(World { alloc, seats, sent })
     }
 
-    fn take(self, index: usize, number: usize) -> Result<Self, WorldFault>
+    fn take(self, index: usize, number: usize) -> Result<Self, AllocError>
         ensures ok { IfOk result (λ world. world ≡ step self (Takes index number)) }
-        ensures err { IfErr result (λ fault. fault ≡ WorldFault.Memory) }
     {
         let World {
             alloc,
@@ -159,9 +153,8 @@ impl<A: Allocator + Clone> World<A> {
         Ok(World { alloc, seats, sent })
     }
 
-    fn restart(self, index: usize) -> Result<Self, WorldFault>
+    fn restart(self, index: usize) -> Result<Self, AllocError>
         ensures ok { IfOk result (λ world. world ≡ step self (Restarts index)) }
-        ensures err { IfErr result (λ fault. fault ≡ WorldFault.Memory) }
     {
         let World {
             alloc,

@@ -7,7 +7,7 @@ use super::render::{
 use crate::check::check_log;
 use crate::fault::CliFault;
 use crate::files::{open, open_all};
-use crate::form::{LineForm, made_in_memory, put_in_form};
+use crate::form::LineForm;
 use crate::words::{Word, Words};
 use clap::ArgMatches;
 use mt_opcodec::Latch;
@@ -43,32 +43,30 @@ pub(crate) const WORDS: Words = Words {
     ],
 };
 
-// Writes the warnings.
-fn check<F: Files + AllocGlobal, W: Write>(
-    rt: &F,
-    words: &ArgMatches<'_>,
-    output: &mut Latch<W>,
-) -> Result<(), CliFault> {
-    let head = head_of(words)?;
-    let format = format_of(words)?;
-    let mut log = open(rt, 0, words.get_str("LOG").unwrap_or(""))?;
-    let mut sources = open_all(rt, 1, words.get_strs("SOURCE").unwrap_or(&[]))?;
-    check_log(rt.alloc(), &mut log, &mut sources, &head, format, output)
-}
-
 pub(crate) fn run<F: Files + AllocGlobal, W: Write>(
     rt: &F,
     words: &ArgMatches<'_>,
     output: &mut Latch<W>,
 ) -> Result<(), CliFault> {
-    if !words.get_flag("times") {
-        return check(rt, words, output);
-    }
-    let mut made = Latch::new(Vec::new(rt.alloc()));
-    made_in_memory(check(rt, words, &mut made))?;
     let form = LineForm {
-        rate: words.get_one::<u32>("rate"),
+        rate: if words.get_flag("times") {
+            words.get_one::<u32>("rate")
+        } else {
+            None
+        },
         json: None,
     };
-    put_in_form(rt.alloc(), form, &made.into_inner(), output)
+    let head = head_of(words)?;
+    let format = format_of(words)?;
+    let mut log = open(rt, 0, words.get_str("LOG").unwrap_or(""))?;
+    let mut sources = open_all(rt, 1, words.get_strs("SOURCE").unwrap_or(&[]))?;
+    check_log(
+        rt.alloc(),
+        form,
+        &mut log,
+        &mut sources,
+        &head,
+        format,
+        output,
+    )
 }

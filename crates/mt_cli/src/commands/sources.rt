@@ -3,7 +3,7 @@
 use super::memory_of_objects;
 use crate::fault::CliFault;
 use crate::files::{LateFile, late_files};
-use crate::form::{LineForm, made_in_memory, put_in_form};
+use crate::form::LineForm;
 use crate::source_list::list_sources;
 use crate::words::{Word, Words};
 use clap::ArgMatches;
@@ -54,25 +54,6 @@ fn asked_for(words: &ArgMatches<'_>) -> Listing {
     Listing::All
 }
 
-// Writes the text that these words ask for.
-fn list<F: Files + AllocGlobal, W: Write>(
-    rt: &F,
-    words: &ArgMatches<'_>,
-    output: &mut Latch<W>,
-) -> Result<(), CliFault> {
-    let names = words.get_strs("WAVE").unwrap_or(&[]);
-    let mut log = Latch::new(LateFile::new(rt, words.get_str("LOG").unwrap_or("")));
-    let mut files = late_files(rt, names)?;
-    list_sources(
-        rt.alloc(),
-        asked_for(words),
-        &mut log,
-        names,
-        &mut files,
-        output,
-    )
-}
-
 pub(crate) fn run<F: Files + AllocGlobal, W: Write>(
     rt: &F,
     words: &ArgMatches<'_>,
@@ -82,10 +63,16 @@ pub(crate) fn run<F: Files + AllocGlobal, W: Write>(
         rate: None,
         json: memory_of_objects(rt.alloc(), words),
     };
-    if form.is_plain() {
-        return list(rt, words, output);
-    }
-    let mut made = Latch::new(Vec::new(rt.alloc()));
-    made_in_memory(list(rt, words, &mut made))?;
-    put_in_form(rt.alloc(), form, &made.into_inner(), output)
+    let names = words.get_strs("WAVE").unwrap_or(&[]);
+    let mut log = Latch::new(LateFile::new(rt, words.get_str("LOG").unwrap_or("")));
+    let mut files = late_files(rt, names)?;
+    list_sources(
+        rt.alloc(),
+        form,
+        asked_for(words),
+        &mut log,
+        names,
+        &mut files,
+        output,
+    )
 }

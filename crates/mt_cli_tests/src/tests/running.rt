@@ -281,6 +281,7 @@ fn list<M: Allocator + Clone, R: Read + Drop, W: Write>(
     let mut files = one(alloc, source)?;
     Some(list_sources(
         memory,
+        LineForm::PLAIN,
         Listing::All,
         &mut Latch::new(log),
         &["voice.wav"],
@@ -318,7 +319,15 @@ fn render<M: Allocator + Clone, R: Read + Drop, W: Write>(
     let mut sources = one(alloc, source)?;
     if call == Call::Check {
         let mut log = Latch::new(log);
-        return Some(check_log(memory, &mut log, &mut sources, &head, format, output));
+        return Some(check_log(
+            memory,
+            LineForm::PLAIN,
+            &mut log,
+            &mut sources,
+            &head,
+            format,
+            output,
+        ));
     }
     let mut logs = one(alloc, log)?;
     Some(bounce_logs(memory, &mut logs, &mut sources, &head, format, output))

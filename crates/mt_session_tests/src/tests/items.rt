@@ -5,11 +5,11 @@ ghost use Rattle.std.specs.Prelude.{◌≡◌, ◌<◌, ◌+◌, IsTrue, map, dr
 ghost use Rattle.mt_stamp.specs.Sorting.{RisesStrictly};
 ghost use Rattle.mt_op.specs.ByStamp.{op_cmp};
 
-use mt_items::{Items, ItemsFault, items_of_ready};
+use mt_items::{Items, items_of_ready};
 use mt_op::{Body, Digest, Op, OpFault};
 use mt_stamp::Stamp;
 use mt_testkit::{A, Refusing, add_track, marker, removal, retitle};
-use std::alloc::{Allocator, Global};
+use std::alloc::{AllocError, Allocator, Global};
 
 // The stamp of an operation, counted from 1: a marker, a new title, its removal and its return, a track, and a clip on it. The last moves the track behind one that is
 // missing, and is not ready.
@@ -100,7 +100,7 @@ fn rises<M: Allocator>(ops: &[&Op<M>]) -> bool
 fn ready<M: Allocator + Clone>(
     memory: M,
     rising: &[&Op<M>],
-) -> Result<Option<Items<M>>, ItemsFault> {
+) -> Result<Option<Items<M>>, AllocError> {
     if !rises(rising) {
         return Ok(None);
     }
@@ -160,9 +160,4 @@ fn refuses_each_growth(rt: HostRuntime) {
         assert!(rt; counted.is_none());
     }
     assert!(rt; false);
-}
-
-#[test]
-fn numbers_its_refusal(rt: HostRuntime) {
-    assert!(rt; ItemsFault::Memory.number() == 0);
 }

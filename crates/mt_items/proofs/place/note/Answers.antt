@@ -3,7 +3,9 @@ use Rattle.mt_op.specs.declared.need.Role.TheVariants.{Place}
 use Rattle.mt_items.proofs.Each.{holds_each, one_more_item}
 use Rattle.mt_items.proofs.place.note.Goals as goal
 
-pub returns-in_ok-insert-clause-ok : goal.returns-in_ok-insert-clause-ok
-returns-in_ok-insert-clause-ok g c = λ ops held.
-    holds_each Place (λ item ops c. Unit {0}) (c.args.op.now ∷ ops) c.insert.new.self
-    (one_more_item Place c.args.op.now ops c.args.places.now c.insert.new.self c.stamp.result tt c.stamp.ensures.value (sym c.fits.ensures ∙ c.if-fits.true) c.in_ok-insert.ensures.ok held.keys) (λ item u e. tt)
+pub returns-in_ok-insert : goal.returns-in_ok-insert
+returns-in_ok-insert g c = record {
+  ok = λ ops held.
+      holds_each Place (λ item ops c. Unit {0}) (c.args.op.now ∷ ops) c.insert.new.self
+      (one_more_item Place c.args.op.now ops c.args.places.now c.insert.new.self c.stamp.result tt c.stamp.ensures.value (sym c.fits.ensures ∙ c.if-fits.true) c.in_ok-insert.ensures.ok held.keys) (λ item u e. tt);
+}

@@ -10,12 +10,12 @@ use Rattle.mt_logtext.proofs.Lines.{text_is}
 use Rattle.mt_logtext.proofs.log_text.append_log.Goals as goal
 
 pub append_lines-requires : goal.append_lines-requires
-append_lines-requires g c = record { rise = sorted_rise (stamps_of (ready_ops (operations c.args.log.now))) c.deref-2.result.now (c.deref-2.ensures.value ∙ c.in_ok-ready.ensures.ok) }
+append_lines-requires g c = record { rise = sorted_rise (stamps_of (ready_ops (operations c.args.log.now))) c.deref-2.result.now (c.deref-2.ensures.value ∙ c.in-Ok.ensures.ok) }
 
-pub returns-clause-text : goal.returns-clause-text
-returns-clause-text g c =
+pub returns : goal.returns
+returns g c =
     let now : List (Bor (Op g.row.A.Denot)) → List Operation = λ l. map (λ (o : Bor (Op g.row.A.Denot)). o.now) l in
     let refs = c.deref.result.now in
-    text_is (operations c.args.log.now) c.runs.ensures.logged c.deref-2.result.now (c.deref-2.ensures.value ∙ c.in_ok-ready.ensures.ok) (now refs) (ap now c.deref.ensures.value ∙ c.in_ok-sorted.ensures) c.len.result
+    text_is (operations c.args.log.now) c.runs.ensures.logged c.deref-2.result.now (c.deref-2.ensures.value ∙ c.in-Ok.ensures.ok) (now refs) (ap now c.deref.ensures.value ∙ c.in_ok-sorted.ensures) c.len.result
     (c.len.ensures ∙ c.in_ok-sorted.sorted.ok.0 ∙ ap length (sym c.deref.ensures.value) ∙ sym (length-map refs (λ (o : Bor (Op g.row.A.Denot)). o.now)))
     (string_bytes c.args.text.now) (string_bytes c.append_lines.new.text) (string_bytes c.append_count.new.text) c.in_ok-append_lines.ensures c.in_ok-append_count.ensures

@@ -2,7 +2,9 @@ use Rattle.mt_sessionview.proofs.InOrder.{one_op}
 use Rattle.mt_sessionview.proofs.Reading.{clips_sorted}
 use Rattle.mt_mending.proofs.track.track_clips.Goals as goal
 
-pub returns-clause-ok : goal.returns-clause-ok
-returns-clause-ok g c =
-    let r = c.args.items.now in
-    clips_sorted r (one_op r c.requires.noted) c.args.track c.in_ok-clips.clips.items c.in_ok-sorted.sorted.items c.in_ok-clips.ensures.ok c.in_ok-sorted.ensures.moved c.in_ok-sorted.ensures.sorted
+pub returns : goal.returns
+returns g c = record {
+  ok =
+      let r = c.args.items.now in
+      clips_sorted r (one_op r c.requires.noted) c.args.track c.in_ok-clips.clips.items c.in_ok-sorted.sorted.items c.in_ok-clips.ensures.ok c.in_ok-sorted.ensures.moved c.in_ok-sorted.ensures.sorted;
+}

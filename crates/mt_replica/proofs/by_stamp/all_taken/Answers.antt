@@ -8,7 +8,7 @@ use Rattle.mt_replica.proofs.Taking.{next_unknown}
 use Rattle.mt_replica.proofs.by_stamp.all_taken.Goals as goal
 
 pub loop-op-init : goal.loop-op-init
-loop-op-init g c = none_taken c.new-waiting.result c.in-Ok.items (map (λ (o : Bor (Op g.row.A.Denot)). o.now) c.args.ops.now) c.new-waiting.ensures c.in-Ok.ensures.ok c.requires.rising
+loop-op-init g c = none_taken c.new-waiting.result c.in_ok-items.items (map (λ (o : Bor (Op g.row.A.Denot)). o.now) c.args.ops.now) c.new-waiting.ensures c.in_ok-items.ensures.ok c.requires.rising
 
 pub take_next-requires-clause-unknown : goal.take_next-requires-clause-unknown
 take_next-requires-clause-unknown g c =
@@ -32,7 +32,7 @@ loop-op-preserved g c =
     let ops = c.args.ops.now in
     let here = ap now (drop_here ops c.loop-op.op-index c.op-item.result c.loop-op-test.true c.op-item.is) in
     let so_far = subst (λ (l : List Operation). IsTaking c.loop-op.waiting c.loop-op.items l (now ops)) here c.loop-op.invariant in
-    next_taken c.loop-op.waiting c.take_next.new.waiting c.op-item.result.now c.loop-op.items c.in_ok-items.items (now (drop (c.loop-op.op-index + 1) ops)) (now ops) so_far c.in_ok-items.ensures.kept c.in_ok-items.ensures.same
+    next_taken c.loop-op.waiting c.take_next.new.waiting c.op-item.result.now c.loop-op.items c.in_ok-items-2.items (now (drop (c.loop-op.op-index + 1) ops)) (now ops) so_far c.in_ok-items-2.ensures.kept c.in_ok-items-2.ensures.same
 
 pub take_next-requires-clause-whole : goal.take_next-requires-clause-whole
 take_next-requires-clause-whole g c = c.loop-op.invariant.offered.whole

@@ -21,11 +21,13 @@ items_of_ready-requires g c =
     let now : List (Bor (Op g.row.A.Denot)) → List Operation = λ l. map (λ (o : Bor (Op g.row.A.Denot)). o.now) l in
     record { rising = subst (RisesStrictly op_cmp) (sym (ap now c.deref.ensures.value ∙ c.in_ok-sorted.ensures)) (rising_ops (operations c.args.log.now) (every_stamp (operations c.args.log.now) c.runs.ensures.logged.rise)) }
 
-pub returns-in-Ok-clause-noted : goal.returns-in-Ok-clause-noted
-returns-in-Ok-clause-noted g c = λ f.
-    let now : List (Bor (Op g.row.A.Denot)) → List Operation = λ l. map (λ (o : Bor (Op g.row.A.Denot)). o.now) l in
-    let ops = operations c.args.log.now in
-    let sorted : now c.deref.result.now ≡ sort_by op_cmp ops = ap now c.deref.ensures.value ∙ c.in_ok-sorted.ensures in
-    let ready = ready_ops (sort_by op_cmp ops) in
-    ap (sum_by f) (c.in-Ok.ensures.ok ∙ ap (λ (l : List Operation). reverse (ready_ops l)) sorted) ∙ sum_by-IsPermutation f ready (reverse ready) (IsPermutation-reverse ready)
-    ∙ ready_same clock_of needs meets (sort_by op_cmp ops) ops ((λ g. (sorts op_cmp (on_total stamp_of stamp_cmp_total)).same g ops)) f
+pub returns : goal.returns
+returns g c = record {
+  noted = λ f.
+      let now : List (Bor (Op g.row.A.Denot)) → List Operation = λ l. map (λ (o : Bor (Op g.row.A.Denot)). o.now) l in
+      let ops = operations c.args.log.now in
+      let sorted : now c.deref.result.now ≡ sort_by op_cmp ops = ap now c.deref.ensures.value ∙ c.in_ok-sorted.ensures in
+      let ready = ready_ops (sort_by op_cmp ops) in
+      ap (sum_by f) (c.in_ok-items_of_ready.ensures.ok ∙ ap (λ (l : List Operation). reverse (ready_ops l)) sorted) ∙ sum_by-IsPermutation f ready (reverse ready) (IsPermutation-reverse ready)
+      ∙ ready_same clock_of needs meets (sort_by op_cmp ops) ops ((λ g. (sorts op_cmp (on_total stamp_of stamp_cmp_total)).same g ops)) f;
+}

@@ -7,8 +7,8 @@ use Rattle.mt_replica.specs.Holding.{with_offered}
 use Rattle.mt_replica.proofs.FromLog.{not_noted, met_same, noted_released, held_unreleased}
 use Rattle.mt_replica.proofs.by_stamp.take_next.Goals as goal
 
-pub noted-requires : goal.noted-requires
-noted-requires g c =
+pub note-requires : goal.note-requires
+note-requires g c =
     record { follows = record { fresh = not_noted c.args.items c.args.waiting.now.contents c.requires.same c.args.op.now c.requires.unknown; met = sym c.are_needs_met.ensures.met ∙ c.if-are_needs_met.true } }
 
 pub offer_met-requires-clause-met : goal.offer_met-requires-clause-met

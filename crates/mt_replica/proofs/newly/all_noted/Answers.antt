@@ -14,7 +14,7 @@ loop-op-preserved g c =
     let here = drop_here c.args.ops.now c.loop-op.op-index c.op-item.result c.loop-op-test.true c.op-item.is in
     rw c.in_ok-view.ensures.ok ((subst (MayAllFollow c.loop-op.view.ops) here c.loop-op.invariant.0).1, sym (ap (noted_after c.loop-op.view.ops) here) ∙ c.loop-op.invariant.1, c.loop-op.invariant.2)
 
-pub returns-clause-ok : goal.returns-clause-ok
-returns-clause-ok g c =
+pub returns : goal.returns
+returns g c =
     let none = drop_all c.loop-op.op-index c.args.ops.now c.loop-op-test.false in
-    λ i. record { ops = (sym (ap (noted_after c.loop-op.view.ops) none) ∙ c.loop-op.invariant.1) i; held = c.loop-op.invariant.2 i }
+    record { ok = λ i. record { ops = (sym (ap (noted_after c.loop-op.view.ops) none) ∙ c.loop-op.invariant.1) i; held = c.loop-op.invariant.2 i } }

@@ -47,15 +47,15 @@ pub from_ordered-requires : goal.from_ordered-requires
 from_ordered-requires g c =
     let now : List (Bor (Op g.row.A.Denot)) → List Operation = λ l. map (λ (o : Bor (Op g.row.A.Denot)). o.now) l in
     let r = c.args.items.now in
-    let are : tree_of c.in_ok-places.places.items ≡ map tree_place (placed_in r) = c.in_ok-places.ensures ∙ ap (λ (l : List (Bor (Op g.row.A.Denot))). map tree_place (now l)) c.deref-2.ensures.value ∙ ap (map tree_place) c.in-Ok.ensures.placed in
+    let are : tree_of c.in_ok-places.places.items ≡ map tree_place (placed_in r) = c.in_ok-places.ensures ∙ ap (λ (l : List (Bor (Op g.row.A.Denot))). map tree_place (now l)) c.deref-2.ensures.value ∙ ap (map tree_place) c.in_ok-session.ensures.placed in
     are_ordered r c.requires.noted c.in_ok-places.places.items are (tree_of_same c.args.ready.now r (λ f. sym (c.requires.same f)) (noted_differ r c.requires.noted) c.requires.tree)
 
 pub returns-clause-shown : goal.returns-clause-shown
 returns-clause-shown g c =
     let now : List (Bor (Op g.row.A.Denot)) → List Operation = λ l. map (λ (o : Bor (Op g.row.A.Denot)). o.now) l in
     let r = c.args.items.now in
-    let are : tree_of c.in_ok-places.places.items ≡ map tree_place (placed_in r) = c.in_ok-places.ensures ∙ ap (λ (l : List (Bor (Op g.row.A.Denot))). map tree_place (now l)) c.deref-2.ensures.value ∙ ap (map tree_place) c.in-Ok.ensures.placed in
-    let session = c.in-Ok.ensures.session in
+    let are : tree_of c.in_ok-places.places.items ≡ map tree_place (placed_in r) = c.in_ok-places.ensures ∙ ap (λ (l : List (Bor (Op g.row.A.Denot))). map tree_place (now l)) c.deref-2.ensures.value ∙ ap (map tree_place) c.in_ok-session.ensures.placed in
+    let session = c.in_ok-session.ensures.session in
     record {
       places_are = λ f. ap (λ (l : List Placed). sum_by f (tree_of l)) c.from_ordered.ensures ∙ are_places r c.requires.noted c.in_ok-places.places.items are f;
       session_is = session ∙ ap (session_in r) (sym (ap (λ (s : Content). s.held) session));

@@ -8,23 +8,23 @@ use Rattle.mt_replica.proofs.view.note_shown.Goals as goal
 
 pub returns-clause-shown : goal.returns-clause-shown
 returns-clause-shown g c =
-    let session = c.in_ok-mended.ensures.ok in
+    let session = c.in_ok-mend.ensures.ok in
     record {
-      places_are = subst (λ (ops : List Operation). ArePlacesOf c.with_place.new.places ops) (sym c.in_ok-items.ensures.ok) c.in_ok-with_place.ensures.ok;
+      places_are = subst (λ (ops : List Operation). ArePlacesOf c.add_place.new.list ops) (sym c.in_ok-items.ensures.ok) c.in_ok-add_place.ensures.ok;
       session_is = session ∙ ap (session_in c.in_ok-items.items) (sym (ap (λ (s : Content). s.held) session));
     }
 
-pub with_place-requires-clause-follows : goal.with_place-requires-clause-follows
-with_place-requires-clause-follows g c = (c.requires.follows, subst AreNoted c.items.view_is c.items.invariant.noted)
+pub add_place-requires-clause-follows : goal.add_place-requires-clause-follows
+add_place-requires-clause-follows g c = (c.requires.follows, subst AreNoted c.items.view_is c.items.invariant.noted)
 
-pub with_place-requires-clause-places : goal.with_place-requires-clause-places
-with_place-requires-clause-places g c = c.requires.shown.places_are
+pub add_place-requires-clause-places : goal.add_place-requires-clause-places
+add_place-requires-clause-places g c = c.requires.shown.places_are
 
-pub mended-requires-clause-places : goal.mended-requires-clause-places
-mended-requires-clause-places g c = subst (λ (ops : List Operation). ArePlacesOf c.with_place.new.places ops) (sym c.in_ok-items.ensures.ok) c.in_ok-with_place.ensures.ok
+pub mend-requires-clause-places : goal.mend-requires-clause-places
+mend-requires-clause-places g c = subst (λ (ops : List Operation). ArePlacesOf c.add_place.new.list ops) (sym c.in_ok-items.ensures.ok) c.in_ok-add_place.ensures.ok
 
-pub mended-requires-clause-stood : goal.mended-requires-clause-stood
-mended-requires-clause-stood g c = record {
+pub mend-requires-clause-stood : goal.mend-requires-clause-stood
+mend-requires-clause-stood g c = record {
   before = c.args.items;
   one_more = record {
     last = c.args.op.now;
@@ -41,4 +41,4 @@ pub returns-clause-items : goal.returns-clause-items
 returns-clause-items g c = c.in_ok-items.ensures.ok
 
 pub returns-clause-held : goal.returns-clause-held
-returns-clause-held g c = ap (λ (s : Content). s.held) c.in_ok-mended.ensures.ok
+returns-clause-held g c = ap (λ (s : Content). s.held) c.in_ok-mend.ensures.ok

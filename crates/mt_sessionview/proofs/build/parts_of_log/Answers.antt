@@ -47,15 +47,18 @@ parts_of_items-requires-clause-same g c = λ f.
     let ready = ready_ops (now c.in_ok-sorted.sorted.items) in
     ap (sum_by f) c.in_ok-ops.ensures.items ∙ sum_by-IsPermutation f ready (reverse ready) (IsPermutation-reverse ready) ∙ ap (sum_by f) (sym c.in_ok-ops.ensures.ops ∙ sym (ap now c.deref-2.ensures.value))
 
-pub returns-clause-ok : goal.returns-clause-ok
-returns-clause-ok g c =
-    let now : List (Bor (Op g.row.A.Denot)) → List Operation = λ l. map (λ (o : Bor (Op g.row.A.Denot)). o.now) l in (
-      c.in_ok-ops.field-0.items,
-      (
-        c.in_ok-parts.ensures.parts,
-        ap (session_in c.in_ok-ops.field-0.items) c.in_ok-parts.ensures.held
-            ∙ whole (operations c.args.log.now) c.runs.ensures.logged (λ (o : Bor (Op g.row.A.Denot)). o.now) c.in_ok-ops.field-0.items c.in_ok-sorted.sorted.items c.deref.result.now c.count_held-held.result
-            (c.in_ok-ops.ensures.items ∙ ap (λ (l : List Operation). reverse (ready_ops l)) c.in_ok-sorted.ensures) c.in_ok-sorted.ensures (ap now c.deref.ensures.value ∙ c.in_ok-ops.ensures.ops ∙ ap ready_ops c.in_ok-sorted.ensures)
-            (c.count_held-held.ensures ∙ ap (λ (l : List (Bor (Op g.row.A.Denot))). length l - length c.deref.result.now) c.as_slice-count.ensures.value),
-      ),
-    )
+pub returns : goal.returns
+returns g c =
+    let now : List (Bor (Op g.row.A.Denot)) → List Operation = λ l. map (λ (o : Bor (Op g.row.A.Denot)). o.now) l in
+    record {
+      ok = (
+        c.in_ok-ops.field-0.items,
+        (
+          c.in_ok-parts.ensures.parts,
+          ap (session_in c.in_ok-ops.field-0.items) c.in_ok-parts.ensures.held
+              ∙ whole (operations c.args.log.now) c.runs.ensures.logged (λ (o : Bor (Op g.row.A.Denot)). o.now) c.in_ok-ops.field-0.items c.in_ok-sorted.sorted.items c.deref.result.now c.count_held-held.result
+              (c.in_ok-ops.ensures.items ∙ ap (λ (l : List Operation). reverse (ready_ops l)) c.in_ok-sorted.ensures) c.in_ok-sorted.ensures (ap now c.deref.ensures.value ∙ c.in_ok-ops.ensures.ops ∙ ap ready_ops c.in_ok-sorted.ensures)
+              (c.count_held-held.ensures ∙ ap (λ (l : List (Bor (Op g.row.A.Denot))). length l - length c.deref.result.now) c.as_slice-count.ensures.value),
+        ),
+      );
+    }

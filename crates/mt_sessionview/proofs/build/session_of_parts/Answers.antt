@@ -18,8 +18,10 @@ invariant_of-result g c =
       rise = subst (RisesStrictly marker_cmp) (sym (c.new-2.ensures ∙ markers)) (markers_rise r are.noted);
     }
 
-pub returns-clause-ok : goal.returns-clause-ok
-returns-clause-ok g c = λ r are.
-    let made = c.in_ok-markers.ensures.ok r are.each ∙ ap (filter_map (marker_read r)) are.markers_are in
-    let markers = markers_sorted r (one_op r are.noted) c.in_ok-markers.markers.items c.sort_markers.new.markers.items made c.in_ok-sort_markers.ensures.moved c.in_ok-sort_markers.ensures.sorted in
-    λ i. record { tracks = (c.new.ensures ∙ are.tracks_are) i; markers = (c.new-2.ensures ∙ markers) i; held = c.args.parts.held }
+pub returns : goal.returns
+returns g c = record {
+  ok = λ r are.
+      let made = c.in_ok-markers.ensures.ok r are.each ∙ ap (filter_map (marker_read r)) are.markers_are in
+      let markers = markers_sorted r (one_op r are.noted) c.in_ok-markers.markers.items c.sort_markers.new.markers.items made c.in_ok-sort_markers.ensures.moved c.in_ok-sort_markers.ensures.sorted in
+      λ i. record { tracks = (c.new.ensures ∙ are.tracks_are) i; markers = (c.new-2.ensures ∙ markers) i; held = c.args.parts.held };
+}

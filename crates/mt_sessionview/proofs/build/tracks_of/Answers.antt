@@ -10,10 +10,10 @@ use Rattle.mt_sessionview.proofs.PlacedOps.{placed_differ}
 use Rattle.mt_sessionview.proofs.Standing.{tracks_read}
 use Rattle.mt_sessionview.proofs.build.tracks_of.Goals as goal
 
-pub returns-clause-ok : goal.returns-clause-ok
-returns-clause-ok g c =
+pub returns : goal.returns
+returns g c =
     let r = c.args.items.now in
-    subst (λ (t : List Track). IfOk c.tracks.result (λ tracks. tracks.items ≡ t)) (ap (filter_map (track_read r)) c.requires.placed ∙ tracks_read r c.requires.noted) c.tracks.ensures.ok
+    record { ok = subst (λ (t : List Track). IfOk c.tracks.result (λ tracks. tracks.items ≡ t)) (ap (filter_map (track_read r)) c.requires.placed ∙ tracks_read r c.requires.noted) c.tracks.ensures.ok }
 
 pub tracks-requires-clause-differ : goal.tracks-requires-clause-differ
 tracks-requires-clause-differ g c = subst (DifferBy stamp_of) (sym c.requires.placed) (placed_differ c.args.items.now (noted_differ c.args.items.now c.requires.noted))

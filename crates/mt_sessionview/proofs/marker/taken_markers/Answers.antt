@@ -24,6 +24,8 @@ loop-marker-preserved g c = λ ops all.
     let holds = next_holds f _ _ _ _ _ (c.in-Some.marker, c.in-Some.cells) c.in-Some.ensures.steps.0 left in
     others_left f _ _ _ _ _ (c.in-Some.marker, c.in-Some.cells) c.in-Some.ensures.steps.0 left None _ (sym c.in_default.is ∙ c.marker_from.ensures ops holds) (sym (append-nil c.loop-marker.markers.items))
 
-pub returns-clause-ok : goal.returns-clause-ok
-returns-clause-ok g c = λ ops all.
-    all_read (marker_read ops) _ _ c.loop-marker.markers.items (into_iter_items c.loop-marker.marker-iterator) (omega (arith, c.loop-marker.marker-iterator.rest.ok, c.in-None.ensures.steps.0)) (c.loop-marker.invariant ops all)
+pub returns : goal.returns
+returns g c = record {
+  ok = λ ops all.
+      all_read (marker_read ops) _ _ c.loop-marker.markers.items (into_iter_items c.loop-marker.marker-iterator) (omega (arith, c.loop-marker.marker-iterator.rest.ok, c.in-None.ensures.steps.0)) (c.loop-marker.invariant ops all);
+}

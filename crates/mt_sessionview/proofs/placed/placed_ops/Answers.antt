@@ -1,5 +1,5 @@
 use Rattle.std.proofs.Common.{◌≡◌, ℕ, ◌<◌, ◌∙◌, List, length, map, sym, ap, subst, Bor}
-use Rattle.std.specs.Prelude.{Some, slice_get}
+use Rattle.std.specs.Prelude.{Some, slice_get, IfOk}
 use Rattle.mt_op.specs.declared.op.Op.{Op}
 use Rattle.mt_op.specs.Operation.{Operation}
 use Rattle.mt_tracklist.specs.Rising.{given_tree}
@@ -33,11 +33,15 @@ ops_at-requires g c =
           (c.in_ok-order.ensures.below k p (subst (λ (l : List ℕ). slice_get l k ≡ Some p) c.deref-4.ensures.value at));
     }
 
-pub returns-clause-ok : goal.returns-clause-ok
-returns-clause-ok g c =
+pub returns : goal.returns
+returns g c =
     let Ref = Bor (Op g.row.A.Denot) in
     let now : Ref → Operation = λ o. o.now in
     let ops = map now c.args.ops.now in
     let places_are = ap given_tree c.deref-2.ensures.value ∙ c.in_ok-places.ensures ∙ ap (λ (l : List Ref). map tree_place (map now l)) c.deref.ensures.value in
-    c.in_ok-ops_at.ensures ∙ (λ i. ops_at (map now (c.deref-3.ensures.value i)) (c.deref-4.ensures.value i))
-    ∙ placed_refs now ops c.in_ok-ops.ops.items c.in_ok-ops.ensures.ok c.deref-2.result.now places_are (rising_differ ops c.requires.rising) c.in_ok-order.order.items c.in_ok-order.ensures.below c.in_ok-order.ensures.all c.in_ok-order.ensures.sorted
+    record {
+      ok = subst (λ (l : List Operation). IfOk c.ops_at.result (λ those. map now those.items ≡ l))
+          ((λ i. ops_at (map now (c.deref-3.ensures.value i)) (c.deref-4.ensures.value i))
+          ∙ placed_refs now ops c.in_ok-ops.ops.items c.in_ok-ops.ensures.ok c.deref-2.result.now places_are (rising_differ ops c.requires.rising) c.in_ok-order.order.items c.in_ok-order.ensures.below c.in_ok-order.ensures.all c.in_ok-order.ensures.sorted)
+          c.ops_at.ensures;
+    }

@@ -1,7 +1,7 @@
-use Rattle.mt_opcodec.specs.LogValue.{operations}
-use Rattle.mt_sessionview.proofs.Parting.{made_of_parts}
+use Rattle.std.proofs.Common.{◌∙◌}
 use Rattle.mt_sessionview.proofs.scratch.from_scratch.Goals as goal
 
 pub returns-clause-ok : goal.returns-clause-ok
 returns-clause-ok g c =
-    made_of_parts (operations c.args.log.now) c.session_of_parts.result c.in_ok-parts.parts.tracks.items c.in_ok-parts.parts.cells.items c.in_ok-parts.parts.held c.in_ok-parts.ensures.ok c.session_of_parts.ensures.ok
+    let parts = c.in_ok-parts.ensures.ok in
+    c.in_ok-session_of_parts.ensures.ok parts.0 parts.1.0 ∙ parts.1.1

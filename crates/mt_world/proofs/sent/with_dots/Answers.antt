@@ -9,5 +9,5 @@ loop-op-init g c = adds_nothing c.args.log
 pub loop-op-preserved : goal.loop-op-preserved
 loop-op-preserved g c = one_more_dot c.args.log c.loop-op.log c.in_ok-log.log c.args.ops.now c.loop-op.op-index c.op-item.result c.loop-op-test.true c.op-item.is c.loop-op.invariant c.in_ok-log.ensures.ok
 
-pub returns-clause-ok : goal.returns-clause-ok
-returns-clause-ok g c = subst (λ ops. AddsDots c.args.log ops c.loop-op.log) (take_all c.loop-op.op-index c.args.ops.now c.loop-op-test.false) c.loop-op.invariant
+pub returns : goal.returns
+returns g c = record { ok = subst (λ ops. AddsDots c.args.log ops c.loop-op.log) (take_all c.loop-op.op-index c.args.ops.now c.loop-op-test.false) c.loop-op.invariant }

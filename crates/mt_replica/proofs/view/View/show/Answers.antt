@@ -9,5 +9,5 @@ shown_of-requires-clause-same g c = λ f. ap (λ (v : Viewed). sum_by f v.ops) c
 pub invariant_of-result : goal.invariant_of-result
 invariant_of-result g c = (c.self.invariant.0, c.in_ok-shown.ensures.shown)
 
-pub returns-clause-ok : goal.returns-clause-ok
-returns-clause-ok g c = λ i. record { ops = (c.self.view_is i).ops; held = Some (c.in_ok-shown.ensures.held i) }
+pub returns : goal.returns
+returns g c = record { ok = λ i. record { ops = (c.self.view_is i).ops; held = Some (c.in_ok-shown.ensures.held i) } }

@@ -27,13 +27,15 @@ loop-op-preserved g c =
           subst (λ v. v.items ++ filter keeps (drop (c.loop-op.op-index + 1) ops) ≡ filter keeps ops) (sym w.ops-is) gone
     ]
 
-pub returns-clause-ok : goal.returns-clause-ok
-returns-clause-ok g c =
+pub returns : goal.returns
+returns g c =
     let refs = c.deref-op-items.result.now in
     let ops : List Operation = map (λ (o : Bor (Op g.row.A.Denot)). o.now) refs in
     let same : ops ≡ operations c.args.log.now = ap (map (λ (o : Bor (Op g.row.A.Denot)). o.now)) c.deref-op-items.ensures.value ∙ c.in_ok-refs.ensures in
     let keeps : Operation → Bool = λ (o : Operation). not (is_sent c.args.self.now o) in
-    sym (append-nil c.loop-op.ops.items)
-    ∙ ap (λ (l : List Operation). c.loop-op.ops.items ++ filter keeps l) (sym (drop_past ops c.loop-op.op-index (past_end (λ (o : Bor (Op g.row.A.Denot)). o.now) refs c.loop-op.op-index c.loop-op-test.false)))
-    ∙ c.loop-op.invariant
-    ∙ ap (filter keeps) same
+    record {
+      ok = sym (append-nil c.loop-op.ops.items)
+          ∙ ap (λ (l : List Operation). c.loop-op.ops.items ++ filter keeps l) (sym (drop_past ops c.loop-op.op-index (past_end (λ (o : Bor (Op g.row.A.Denot)). o.now) refs c.loop-op.op-index c.loop-op-test.false)))
+          ∙ c.loop-op.invariant
+          ∙ ap (filter keeps) same;
+    }

@@ -16,18 +16,20 @@ send-requires-clause-saved g c =
 pub save-requires : goal.save-requires
 save-requires g c = record { whole = all_there IsWhole c.self.inside.seats.items c.args.index c.in-Some.seat.now c.self.invariant.whole c.in-Some.ensures.item.3.0 c.in-Some.ensures.value }
 
-pub returns-clause-ok : goal.returns-clause-ok
-returns-clause-ok g c =
+pub returns : goal.returns
+returns g c =
     let seats = c.self.inside.seats.items in
     let sent = c.self.inside.sent in
     let change : World → Peer → World = λ (world : World) (peer : Peer). with_saved world c.args.index peer in
     let result : World = seen c.match-get_mut.seats.items c.match-get_mut.sent in
-    elim c.match-get_mut.branch [
-      | in-Some+in_ok-sent+in_ok-save w ↦
-          at_there seats sent c.args.self c.self.view_is c.args.index change result w.in-Some.seat.now w.in-Some.ensures.item.3.0 w.in-Some.ensures.value
-          ((λ k. seen ((w.seats-is k).items) (w.sent-is k)) ∙ seen_saved seats sent w.in_ok-sent.sent c.args.index w.in-Some.seat.now w.save.new.self w.in_ok-save.ensures.ok w.in_ok-sent.ensures.ok)
-      | in_default w ↦ at_none seats sent c.args.self c.self.view_is c.args.index change result w.in_default.ensures.item.3 (λ k. seen ((w.seats-is k).items) (w.sent-is k))
-    ]
+    record {
+      ok = elim c.match-get_mut.branch [
+        | in-Some+in_ok-sent+in_ok-save w ↦
+            at_there seats sent c.args.self c.self.view_is c.args.index change result w.in-Some.seat.now w.in-Some.ensures.item.3.0 w.in-Some.ensures.value
+            ((λ k. seen ((w.seats-is k).items) (w.sent-is k)) ∙ seen_saved seats sent w.in_ok-sent.sent c.args.index w.in-Some.seat.now w.save.new.self w.in_ok-save.ensures.ok w.in_ok-sent.ensures.ok)
+        | in_default w ↦ at_none seats sent c.args.self c.self.view_is c.args.index change result w.in_default.ensures.item.3 (λ k. seen ((w.seats-is k).items) (w.sent-is k))
+      ];
+    }
 
 pub invariant_of-result : goal.invariant_of-result
 invariant_of-result g c =

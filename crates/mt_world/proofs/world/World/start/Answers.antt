@@ -14,10 +14,10 @@ loop-name-preserved g c = record {
   shows = one_more_new c.loop-name.seats.items c.push.new.self.items c.in_ok-seat.seat c.args.names.now c.loop-name.name-index _ c.loop-name-test.true c.in_ok-seat.ensures.ok c.in_ok-push.ensures.items c.loop-name.invariant.shows;
 }
 
-pub returns-clause-ok : goal.returns-clause-ok
-returns-clause-ok g c =
+pub returns : goal.returns
+returns g c =
     let peers = c.loop-name.invariant.shows ∙ ap (map new_peer) (take_all c.loop-name.name-index c.args.names.now c.loop-name-test.false) in
-    λ k. record { peers = peers k; sent = c.in_ok-sent.ensures.ok k }
+    record { ok = λ k. record { peers = peers k; sent = c.in_ok-sent.ensures.ok k } }
 
 pub invariant_of-result : goal.invariant_of-result
 invariant_of-result g c =

@@ -2,7 +2,7 @@ use Rattle.std.proofs.Common.{ap, ◌∙◌}
 use Rattle.mt_sessionview.specs.Content.{Content}
 use Rattle.mt_timeline.specs.Timeline.{span}
 use Rattle.mt_timeline.proofs.Pieces.{whole_text}
-use Rattle.mt_timeline.proofs.timeline.text_of.Goals as goal
+use Rattle.mt_timeline.proofs.timeline.timeline_text.Goals as goal
 
 pub returns : goal.returns
 returns g c =

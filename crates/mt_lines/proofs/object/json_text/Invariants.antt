@@ -1,7 +1,7 @@
 -- What stands there, and the lines that are left, are the whole.
 use Rattle.std.proofs.Common.{◌≡◌, ◌++◌, length}
 use Rattle.mt_lines.specs.Json.{json_text}
-use Rattle.mt_lines.proofs.object.json_of.Given as goal
+use Rattle.mt_lines.proofs.object.json_text.Given as goal
 
 abbrev pub invariant-loop-rest : goal.invariant-loop-rest
 invariant-loop-rest l = l.json.items ++ json_text l.rest ≡ json_text l.fn.text

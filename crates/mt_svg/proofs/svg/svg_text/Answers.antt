@@ -2,7 +2,7 @@ use Rattle.std.proofs.Common.{ap, ◌∙◌, length}
 use Rattle.mt_sessionview.specs.Content.{Content}
 use Rattle.mt_svg.specs.Placement.{span, row_top}
 use Rattle.mt_svg.proofs.Drawing.{whole_picture}
-use Rattle.mt_svg.proofs.svg.text_of.Goals as goal
+use Rattle.mt_svg.proofs.svg.svg_text.Goals as goal
 
 pub returns : goal.returns
 returns g c =
