@@ -93,8 +93,8 @@ def hidden_lines(lines, one, words):
 def for_callers(path, text, words, whole=None):
     """What a crate above that has these words rests on in a source file: of a function its head and
     its clauses, and nothing of one that the crate cannot or does not name; no private field, no
-    remark, and no line for names that none of this has; of a file that has nothing else, nothing. Of the crate's own
-    files the functions of some names are whole, and each may be called."""
+    remark, and no line for names that none of this has; of a file that has nothing else, nothing.
+    Of the crate's own files the functions of some names are whole, and each may be called."""
     named = frozenset(one.name for one in functions(path, text))
     kept = kept_lines(path, text, named & words, None if whole is None else named & whole)
     if whole is not None:

@@ -48,7 +48,7 @@ impl<A: Allocator> Presence<A> {
         }
     }
 
-    /// Tags the item with a stamp. Refused only as `Memory` (0), where a growth was refused; the presence is then
+    /// Tags the item with a stamp. Refused only as `Memory` (0), where an allocation failed; the presence is then
     /// unchanged.
     pub fn add_tag(&mut self, stamp: Stamp) -> Result<(), CellFault>
     where
@@ -59,7 +59,7 @@ impl<A: Allocator> Presence<A> {
         self.tags.insert(&self.alloc, stamp)
     }
 
-    /// Removes the tag of a stamp, which may come later. Refused only as `Memory` (0), where a growth was refused; the
+    /// Removes the tag of a stamp, which may come later. Refused only as `Memory` (0), where an allocation failed; the
     /// presence is then unchanged.
     pub fn remove_tag(&mut self, stamp: Stamp) -> Result<(), CellFault>
     where
@@ -84,8 +84,8 @@ impl<A: Allocator> Presence<A> {
         !self.tags.is_subset(&self.removed)
     }
 
-    /// The live tags, each once, from the least stamp to the greatest. Refused only as `Memory` (0), where a growth
-    /// was refused.
+    /// The live tags, each once, from the least stamp to the greatest. Refused only as `Memory` (0), where an allocation
+    /// failed.
     pub fn live_tags(&self) -> Result<Vec<Stamp, A>, CellFault>
     where
         A: Clone,
@@ -95,7 +95,7 @@ impl<A: Allocator> Presence<A> {
         self.tags.difference(&self.alloc, &self.removed)
     }
 
-    /// A copy. Refused only as `Memory` (0), where a growth was refused.
+    /// A copy. Refused only as `Memory` (0), where an allocation failed.
     pub fn try_clone(&self) -> Result<Self, CellFault>
     where
         A: Clone,

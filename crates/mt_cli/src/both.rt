@@ -44,7 +44,7 @@ pub(crate) fn read_both<A: Allocator + Clone, R: Read>(
 /// Reads the log of an input, to let it grow.
 ///
 /// Refused as `Read` where the input's latch has failed, and as `Log` where its bytes are no log's text, each with index 0; as `Memory`
-/// where a growth was refused. The input is read to its end, unless its latch has failed or memory ran out.
+/// where an allocation failed. The input is read to its end, unless its latch has failed or memory ran out.
 pub fn read_growing<A: Allocator + Clone, R: Read>(
     alloc: A,
     input: &mut Latch<R>,

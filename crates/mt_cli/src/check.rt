@@ -107,7 +107,7 @@ fn check_files<A: Allocator + Clone, R: Read, W: Write>(
 /// Refused as `bounce_logs` is, in its order: `Read` with index 0 where the latch of the log's input has failed, or `Log` with index 0 where its bytes are no
 /// log's text; `Read` with the index of a recording's input whose latch has failed, counted behind the log, or `Source` with the index of a recording that
 /// is no wave file, counted from 0; `Mix` where the programme cannot be mixed, or its file would be too long; then `Write` where the output's latch has
-/// failed, which then holds a prefix of the text. Nothing is written before all else has passed. `Memory` where a growth was refused, and nothing
+/// failed, which then holds a prefix of the text. Nothing is written before all else has passed. `Memory` where an allocation failed, and nothing
 /// was written then. Each input is read to its end, but for those behind one at fault, which are not asked. Nothing is mixed. An output that had failed stays
 /// as it was.
 pub fn check_log<A: Allocator + Clone, R: Read, W: Write>(

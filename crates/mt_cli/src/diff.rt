@@ -142,7 +142,7 @@ fn read_log_of<A: Allocator + Clone, R: Read>(
 ///
 /// Refused, in this order: `Read` with index 0 where the left input's latch has failed, `Log` with index 0 where its bytes are no log's text, or
 /// `Sync` where they begin with 0 and are not taken (40, 38, 39, 17 or 49), and the right input was not asked then; the same of the right input with index
-/// 1; `Write` where the output's latch has failed, which then holds a prefix of the text. `Memory` where a growth was refused. But for `Write` nothing was
+/// 1; `Write` where the output's latch has failed, which then holds a prefix of the text. `Memory` where an allocation failed. But for `Write` nothing was
 /// written, and the output was not asked. An output that had failed stays as it was.
 ///
 /// For n operations it takes a time of n log n, and both logs are in memory at once.

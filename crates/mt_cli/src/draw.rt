@@ -90,7 +90,7 @@ impl<C: Allocator> Telling for Drawn<'_, '_, '_, C> {
 /// Refused, in this order: `Read` with the index of an input whose latch has failed, or `Log` with the index of
 /// one whose bytes are no log's text, from left to right; `Merge` where a log has another operation under a dot than
 /// the logs before it, with the least such dot of the first such log; `Write` where the output's latch has failed, which then holds a prefix of the
-/// text. Nothing is written before every log has been read and accepted. `Memory` where a growth was refused, and
+/// text. Nothing is written before every log has been read and accepted. `Memory` where an allocation failed, and
 /// nothing was written then. Each input is read to its end, but for those behind one at fault, which are not asked.
 pub fn draw_logs<A: Allocator + Clone, C: Allocator, R: Read, W: Write>(
     alloc: A,

@@ -121,7 +121,7 @@ fn put_asked<A: Allocator + Clone, W: Write, T: Write>(
 /// and the script was not asked then; `Read` with index 1 where the script's latch has failed; `Script` at the first line at fault, with
 /// its number, counted from 1 (41 or 42); `Write` where the latch of `output` has failed, which then holds a prefix of the new log's text,
 /// and nothing was told; `Print` where that of `told` has failed, which then holds a prefix of the line, behind a new log that was
-/// written. `Memory` where a growth was refused. But for `Write` and `Print` neither output was asked. One that had failed stays as it was.
+/// written. `Memory` where an allocation failed. But for `Write` and `Print` neither output was asked. One that had failed stays as it was.
 pub fn edit_log<A: Allocator + Clone, R: Read, W: Write, T: Write>(
     alloc: A,
     name: Replica,

@@ -44,7 +44,7 @@ fn put_having<A: Allocator + Clone, W: Write>(
 ///
 /// Refused, in this order: `Read` with index 0 where the input's latch has failed, or `Log` with index 0 where its bytes are no log's
 /// text; `Message` (40) where the Have does not fit a frame; `Write` where the output's latch has failed, which then holds a prefix of
-/// the frame. `Memory` where a growth was refused. But for `Write` nothing was written, and the output was not asked. An output that had
+/// the frame. `Memory` where an allocation failed. But for `Write` nothing was written, and the output was not asked. An output that had
 /// failed stays as it was.
 pub fn have_log<A: Allocator + Clone, R: Read, W: Write>(
     alloc: A,

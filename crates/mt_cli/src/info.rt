@@ -211,7 +211,7 @@ fn put_cues<A: Allocator, W: Write>(
 /// and every other byte is `\x` and two hex digits.
 ///
 /// Refused as `Source` (26 to 32) with place 0 where the bytes are no wave file, by the first of its faults, and as
-/// `Memory` (0) where a growth was refused, each with nothing written; as `Write` (37) where the output's latch has
+/// `Memory` (0) where an allocation failed, each with nothing written; as `Write` (37) where the output's latch has
 /// failed, which then holds a prefix of the text.
 ///
 /// The time is that of hashing the bytes, of a walk each over the chunks for the lengths and the labels, and of the

@@ -37,7 +37,7 @@ fn put_lacking<A: Allocator + Clone, W: Write>(
 /// Refused, in this order: `Read` with index 0 where the log's latch has failed, or `Log` with index 0 where its bytes are no log's text,
 /// and the second input was not asked then; `Read` with index 1 where the second latch has failed; `Message`, where the length at the
 /// front of the second input's bytes is too great (40), or they are not one frame with a Have (38); `Write` where the output's latch has
-/// failed, which then holds a prefix of the bytes. `Memory` where a growth was refused. But for `Write` nothing was written, and the output
+/// failed, which then holds a prefix of the bytes. `Memory` where an allocation failed. But for `Write` nothing was written, and the output
 /// was not asked. An output that had failed stays as it was.
 pub fn lack_log<A: Allocator + Clone, R: Read, W: Write>(
     alloc: A,

@@ -207,7 +207,7 @@ fn put_sounds<A: Allocator + Clone, W: Write>(
 /// Refused, in this order: `Read` with the index of an input whose latch has failed, or `Source` with the index of one that is no wave file, from left to
 /// right, those behind it not being asked; `Lay` with the index of the first recording that has no frame (6), that is of another rate (34), or whose
 /// position is over 4,294,967,295 (35), tested in this order; `Write` where the output's latch has failed, which then holds a prefix of the text. `Memory`
-/// where a growth was refused. But for `Write` nothing was written, and the output was not asked. An output that had failed stays as it was.
+/// where an allocation failed. But for `Write` nothing was written, and the output was not asked. An output that had failed stays as it was.
 ///
 /// Each input is read and hashed in its turn, and its outline let go: the memory is that of the greatest of these, and of the lines.
 pub fn lay_files<A: Allocator + Clone, R: Read, W: Write>(

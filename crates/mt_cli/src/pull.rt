@@ -197,7 +197,7 @@ fn pull_all<A: Allocator + Clone, W: Write, T: Write>(
 /// Refused, in this order: `Read` with the index of an input whose latch has failed, or `Log` with the index of one whose bytes are no log's text,
 /// from left to right; `Merge` where a log has another operation under a dot than the logs before it, with the least such dot of the first such
 /// log; `Write` where the latch of `output` has failed, which then holds a prefix of the log's text, and nothing was told; `Print` where that of `told`
-/// has failed, which then holds a prefix of the lines, behind a log that was written. `Memory` where a growth was refused, and neither output was
+/// has failed, which then holds a prefix of the lines, behind a log that was written. `Memory` where an allocation failed, and neither output was
 /// asked then. Nothing is written before every log has been read and accepted. Each input is read to its end, but for those behind one at fault, which
 /// are not asked. An output that had failed stays as it was.
 pub fn pull_logs<A: Allocator + Clone, R: Read, W: Write, T: Write>(

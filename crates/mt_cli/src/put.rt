@@ -41,7 +41,7 @@ pub(crate) fn put_held<A: Allocator + Clone, W: Write>(
     }
 }
 
-/// Writes the text of the log that a holder lends. `Memory` also where it lends none, since it has failed or a growth was refused.
+/// Writes the text of the log that a holder lends. `Memory` also where it lends none, since it has failed or an allocation failed.
 pub(crate) fn put_lent<A: Allocator + Clone, W: Write, H: Holder<A>>(
     holder: &mut H,
     output: &mut Latch<W>,

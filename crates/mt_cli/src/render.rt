@@ -101,8 +101,8 @@ fn put_audible<A: Allocator + Clone, R: Read, W: Write>(
 /// are no log's text, from left to right; `Merge` where a log has another operation under a dot than the logs before it; `Read` with
 /// the index of a recording's input whose latch has failed, counted behind the logs, or `Source` with the index of a recording
 /// that is no wave file, counted from 0; `Mix` where the programme cannot be mixed, or its file is too long; `Write` where the output's latch has
-/// failed, which then holds a front of the file. Nothing is written before all else has passed. `Memory` where a growth was
-/// refused, and nothing was written then. Each input is read to its end, but for those behind one at fault, which are not asked.
+/// failed, which then holds a front of the file. Nothing is written before all else has passed. `Memory` where an allocation
+/// failed, and nothing was written then. Each input is read to its end, but for those behind one at fault, which are not asked.
 ///
 /// The memory is that of the logs, and then that of the session, of the recordings that its audible clips play, which are kept whole, and of eight
 /// others; not of the programme.

@@ -36,7 +36,7 @@ fn put_script<A: Allocator + Clone, W: Write>(
 ///
 /// Refused, in this order: `Read` with index 0 where the input's latch has failed, or `Log` with index 0 where its bytes are no log's text; `NoSuchItem` (21)
 /// with 0 where no operation of the log has one of the stamps; `Write` where the output's latch has failed, which then holds a prefix of the text. `Memory`
-/// where a growth was refused. But for `Write` nothing was written, and the output was not asked. An output that had failed stays as it was.
+/// where an allocation failed. But for `Write` nothing was written, and the output was not asked. An output that had failed stays as it was.
 pub fn revert_log<A: Allocator + Clone, R: Read, W: Write>(
     alloc: A,
     stamps: &[Stamp],

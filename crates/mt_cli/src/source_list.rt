@@ -168,8 +168,8 @@ fn list_files<A: Allocator + Clone, R: Read, W: Write>(
 ///
 /// Refused, in this order: `Read` with index 0 where the latch of the log's input has failed, or `Log` with index 0 where its bytes are no log's text;
 /// `Read` with the index of a file whose latch has failed, counted behind the log; `Write` where the output's latch has failed, which then holds a prefix
-/// of the text. Nothing is written before all has been read. A file that is no wave file is told, and refuses nothing. `Memory` where a growth was
-/// refused, and nothing was written then. Each input is read to its end, but for those behind one at fault, which are not asked. An output that had failed
+/// of the text. Nothing is written before all has been read. A file that is no wave file is told, and refuses nothing. `Memory` where an allocation
+/// failed, and nothing was written then. Each input is read to its end, but for those behind one at fault, which are not asked. An output that had failed
 /// stays as it was.
 ///
 /// The memory is that of the log, of its session and of the outline of one file at a time.

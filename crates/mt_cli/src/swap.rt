@@ -16,7 +16,7 @@ use std::io::{Read, Write};
 ///
 /// Refused, in this order: `Sync` as `converse` is, with a writer (37) or reader (45) whose latch has failed, an input that ends before the
 /// conversation (49), or what stops it (38, 39, 40, 17 or 20); `Write` where the output's latch has failed, which then holds a prefix of
-/// the log's text. `Memory` where a growth was refused. But for `Write` nothing was written into the output, and it was not asked. The
+/// the log's text. `Memory` where an allocation failed. But for `Write` nothing was written into the output, and it was not asked. The
 /// holder, the reader and the writer are as `converse` leaves them; where memory ran out after the conversation the holder may have failed.
 /// A latch that had failed stays as it was.
 pub fn swap_log<A: Allocator + Clone, R: Read, W: Write, O: Write, H: Holder<A>>(

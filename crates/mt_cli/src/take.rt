@@ -66,7 +66,7 @@ fn put_taking<A: Allocator + Clone, W: Write>(
 /// Refused, in this order: `Read` with index 0 where the log's latch has failed, or `Log` with index 0 where its bytes are no log's text,
 /// and the second input was not asked then; `Read` with index 1 where the second latch has failed; `Sync` where the second input's bytes
 /// are not taken, as `take_ops` refuses them (40, 38, 39, 17 or 49); `Write` where the output's latch has failed, which then holds a
-/// prefix of the log's text. `Memory` where a growth was refused. But for `Write` nothing was written, and the output was not asked. An
+/// prefix of the log's text. `Memory` where an allocation failed. But for `Write` nothing was written, and the output was not asked. An
 /// output that had failed stays as it was.
 pub fn take_log<A: Allocator + Clone, R: Read, W: Write>(
     alloc: A,

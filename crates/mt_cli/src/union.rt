@@ -29,7 +29,7 @@ fn join_all<A: Allocator + Clone>(alloc: A, logs: Vec<Log<A>, A>) -> Result<Log<
 ///
 /// Refused, in this order: `Read` with the index of an input whose latch has failed, or `Log` with the index of one whose
 /// bytes are no log's text, from left to right; then `Merge` where a log has another operation under a dot than the logs
-/// before it, with the least such dot of the first such log. `Memory` where a growth was refused. Every input before the one
+/// before it, with the least such dot of the first such log. `Memory` where an allocation failed. Every input before the one
 /// at fault has been read to its end, and none behind it was asked.
 pub(crate) fn union_of<A: Allocator + Clone, R: Read>(
     alloc: A,

@@ -100,7 +100,7 @@ impl Unread {
         }
     }
 
-    /// Puts a piece at the end. Refused only where a growth was refused, and nothing changes then.
+    /// Puts a piece at the end. Refused only where an allocation failed, and nothing changes then.
     pub fn push(&mut self, piece: &[u8]) -> Result<(), AllocError>
         ensures ok { OnOk result (self.new ≡ self.old ++ piece.now) }
         ensures err { OnErr result (self.new ≡ self.old) }
@@ -117,7 +117,7 @@ impl Unread {
     }
 
     /// Takes the first frame where it is whole; `None` where it is not, and nothing changes. Refused as `TooLong` as soon as its four bytes
-    /// of length are there and over 8,388,608, and as `Memory` where a growth was refused.
+    /// of length are there and over 8,388,608, and as `Memory` where an allocation failed.
     pub fn next(&mut self) -> Result<Option<Body>, FrameFault>
         ensures { TakesBody self.old result self.new }
     {
@@ -150,7 +150,7 @@ fn are_bytes(bytes: &[u8])
     let _ = bytes;
 }
 
-/// Appends the frame of a body: its length in 4 bytes, the highest first, and the body. Refused only where a growth was refused.
+/// Appends the frame of a body: its length in 4 bytes, the highest first, and the body. Refused only where an allocation failed.
 pub fn put_frame<A: Allocator>(out: &mut Vec<u8, A>, body: &[u8]) -> Result<(), AllocError>
     ensures { OnOk result (out.new.items ≡ out.old.items ++ frame_text body.now) }
 {

@@ -6,7 +6,7 @@ use Rattle.mt_holdback.specs.HoldBack.{Contents, offered_with}
 use Rattle.mt_holdback.specs.declared.hold_back.Offered.{Offered}
 use Rattle.mt_holdback.specs.declared.hold_back.Offered.TheVariants.{Held, Ready}
 
--- nothing was offered, or a growth was refused
+-- nothing was offered, or an allocation failed
 abbrev pub empty : {T : Type 0} → Contents T
 empty = record { released = []; waiting = [] }
 

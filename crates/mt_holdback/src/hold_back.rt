@@ -94,7 +94,7 @@ impl<T: Waits + Drop, A: Allocator> HoldBack<T, A> {
     /// Offers an item, whose key has to be new, as `knows` tells. `Held` where it is not ready among all that was offered; then
     /// nothing is released. `Ready(first)` where it is: `released` from index `first` on are the items that became ready by
     /// it, rising by key, and all the others wait on. Refused as `Failed` (20) where the hold-back has failed, which changes
-    /// nothing, and else as `Memory` (0) where a growth was refused: then the hold-back has failed and is empty for good.
+    /// nothing, and else as `Memory` (0) where an allocation failed: then the hold-back has failed and is empty for good.
     pub fn offer(&mut self, item: T) -> Result<Offered, HoldBackFault>
     where
         A: Clone,

@@ -79,7 +79,7 @@ impl<A: Allocator> Items<A> {
         })
     }
 
-    /// Nothing noted. Refused only as `AllocError`, where a growth was refused.
+    /// Nothing noted. Refused only as `AllocError`, where an allocation failed.
     pub fn new(alloc: A) -> Result<Self, AllocError>
     where
         A: Clone,
@@ -89,8 +89,8 @@ impl<A: Allocator> Items<A> {
     }
 
     /// Nothing noted, with memory for the items that these operations add: while they are noted, no item moves. That is memory for one item,
-    /// or a place, for each of them that adds one, and what is not used of it is not touched. Refused only as `AllocError`, where a growth was
-    /// refused.
+    /// or a place, for each of them that adds one, and what is not used of it is not touched. Refused only as `AllocError`, where an allocation
+    /// failed.
     pub fn with_room_for(alloc: A, ops: &[&Op<A>]) -> Result<Self, AllocError>
     where
         A: Clone,
@@ -152,7 +152,7 @@ impl<A: Allocator> Items<A> {
     }
 
     /// The live tags of an item, each once, from the least stamp to the greatest: what a Remove of it lists. What is
-    /// no item has none. Refused only as `AllocError`, where a growth was refused.
+    /// no item has none. Refused only as `AllocError`, where an allocation failed.
     pub fn live_tags(&self, item: Stamp) -> Result<Vec<Stamp, A>, AllocError>
     where
         A: Clone,
@@ -339,7 +339,7 @@ impl<A: Allocator> Items<A> {
     }
 
     /// The stamps of the tracks, present or not, from the least to the greatest. Refused only as `AllocError`, where
-    /// a growth was refused.
+    /// an allocation failed.
     pub fn tracks(&self) -> Result<Vec<Stamp, A>, AllocError>
     where
         A: Clone,
@@ -359,7 +359,7 @@ impl<A: Allocator> Items<A> {
     }
 
     /// The stamps of the markers, present or not, from the least to the greatest. Refused only as `AllocError`, where
-    /// a growth was refused.
+    /// an allocation failed.
     pub fn markers(&self) -> Result<Vec<Stamp, A>, AllocError>
     where
         A: Clone,

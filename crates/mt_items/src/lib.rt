@@ -32,7 +32,7 @@
 //! `are_needs_met` says true. `items_of_ready` does so for a whole set that stands by rising stamp, in one pass.
 //!
 //! A clip's place and a marker's position are frames of the session, and a trim is frames of a recording, its length at least 1. The one refusal
-//! is `AllocError`, where a growth was refused: of `note`, which then drops all that was noted, and of what hands out a list.
+//! is `AllocError`, where an allocation failed: of `note`, which then drops all that was noted, and of what hands out a list.
 //!
 //! An item is found by its replica and number (mt_stampmap): an operation costs a few looks at its item, and at worst the logarithm of the number of
 //! items, whatever came before it. Contracts see an `Items` as the list of the operations noted, and each answer is a definition

@@ -37,7 +37,7 @@ fn pass<A: Allocator + Clone>(alloc: A, ops: &[&Op<A>]) -> Result<Items<A>, Allo
 
 /// The items that the ready ones of these operations leave, which rise by stamp, each stamp once. The ready ones are
 /// noted, from the least stamp to the greatest; those that are held change nothing. n operations cost n log n.
-/// Refused only as `AllocError`, where a growth was refused.
+/// Refused only as `AllocError`, where an allocation failed.
 pub fn items_of_ready<A: Allocator + Clone>(
     alloc: A,
     ops: &[&Op<A>],

@@ -167,8 +167,8 @@ impl<R: Read> Latch<R> {
 
     /// Reads to the end, and gives all the bytes that were left.
     ///
-    /// `Read` (45) where the latch has failed, before or in this call; `Memory` (0) where a growth was
-    /// refused, and the latch has not failed then. Either way the bytes that were read by then are
+    /// `Read` (45) where the latch has failed, before or in this call; `Memory` (0) where an allocation
+    /// failed, and the latch has not failed then. Either way the bytes that were read by then are
     /// gone.
     pub fn get_all<A: Allocator>(&mut self, alloc: A) -> Result<Vec<u8, A>, LatchFault>
         ensures whole { IfOk result (λ bytes.

@@ -195,7 +195,7 @@ pub fn timed_text<A: Allocator>(alloc: A, rate: u32, text: &[u8]) -> Result<Vec<
 /// more, and each gain that is a level (`-6dB`) the nearest `NUM/DEN`; all else is as it was, and so are the line feeds. What is neither a number nor a time stays, for who reads the script to
 /// refuse in the same line. In time linear in the script.
 ///
-/// An error where a growth was refused.
+/// An error where an allocation failed.
 pub fn with_frames<A: Allocator>(
     alloc: A,
     rate: u32,

@@ -262,7 +262,7 @@ fn append_set_marker_length<A: Allocator>(
     append_number(text, len)
 }
 
-/// Writes what an operation does after what `text` holds, in the words of a log's text. Refused only where a growth was refused; `text` then holds a part of
+/// Writes what an operation does after what `text` holds, in the words of a log's text. Refused only where an allocation failed; `text` then holds a part of
 /// these words behind what it held.
 pub fn append_act<A: Allocator, B: Allocator, C: Allocator>(
     alloc: &A,

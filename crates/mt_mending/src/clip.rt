@@ -169,7 +169,7 @@ fn put_in<A: Allocator>(
 /// the one on which it is now, where this is shown; where it stays at its position on its track, put there by the same
 /// operation, it is rewritten in its place: nothing moves, and no memory is taken. Looks at one track after another, and takes
 /// as many comparisons as the logarithm of the number of clips and items; what follows the clip moves else. Refused only as
-/// `AllocError`, where a growth was refused: the session then lacks the clip, if it stood there, and is else as it was.
+/// `AllocError`, where an allocation failed: the session then lacks the clip, if it stood there, and is else as it was.
 pub fn mend_clips<A: Allocator>(
     session: &mut Session<A>,
     stood: Option<PlacedClip>,

@@ -105,7 +105,7 @@ fn put_in<A: Allocator>(
 /// position at which it stood before (`marker_position` of the operations before), and puts in the one that the operations
 /// show now; where that stands at the same position it takes its place, and nothing moves. Takes as many comparisons as the
 /// logarithm of the number of markers and items, and moves what follows else. Refused
-/// only as `AllocError`, where a growth was refused: the session is then as it was, or lacks the marker that stood there, and that alone.
+/// only as `AllocError`, where an allocation failed: the session is then as it was, or lacks the marker that stood there, and that alone.
 pub fn mend_markers<A: Allocator + Clone>(
     session: &mut Session<A>,
     stood: Option<u32>,

@@ -148,7 +148,7 @@ fn put_shown<A: Allocator>(
 /// its clips anew, which takes a look at every clip; and one that was not `known` before (whether it was added, as `stood`
 /// tells) has none. `list` has the places of all noted operations (`add_place`). Looks at one track after another, and at one
 /// place after another as many times as the logarithm of the number of tracks; what follows the track moves. Refused only as
-/// `AllocError`, where a growth was refused: the session then lacks the track with its clips, if it stood there, and is else as it was.
+/// `AllocError`, where an allocation failed: the session then lacks the track with its clips, if it stood there, and is else as it was.
 pub fn mend_tracks<A: Allocator + Clone>(
     alloc: &A,
     session: &mut Session<A>,

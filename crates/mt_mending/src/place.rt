@@ -46,7 +46,7 @@ fn put_place<A: Allocator>(list: &mut TrackList<A>, placed: Placed) -> Result<()
 }
 
 /// Puts the place that an operation gives a track, if it gives one, into the list of the places of those noted before it. Looks
-/// at one place after another. Refused only as `AllocError`, where a growth was refused; the list is then unchanged.
+/// at one place after another. Refused only as `AllocError`, where an allocation failed; the list is then unchanged.
 pub fn add_place<A: Allocator>(
     list: &mut TrackList<A>,
     items: &Items<A>,

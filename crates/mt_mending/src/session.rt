@@ -34,7 +34,7 @@ pub fn stood<A: Allocator>(items: &Items<A>, item: Stamp) -> Stood
 /// Mends a session after one operation more was noted: takes the entry of its item out where it stood before (`stood` of the
 /// operations before), and puts in the one that they show now. `list` has the places of all of them (`add_place`), and the
 /// number held stays. Takes as long as `mend_tracks`, `mend_markers` or `mend_clips`, by what the item is. Refused only as
-/// `AllocError`, where a growth was refused: the session is then as it was, or lacks the entry that stood there, and that alone.
+/// `AllocError`, where an allocation failed: the session is then as it was, or lacks the entry that stood there, and that alone.
 pub fn mend<A: Allocator + Clone>(
     alloc: &A,
     session: &mut Session<A>,

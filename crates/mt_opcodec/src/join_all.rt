@@ -74,7 +74,7 @@ fn join_agreed<A: Allocator + Clone>(
 
 impl<A: Allocator + Clone> Log<A> {
     /// The union of two logs that agree, made as `join` makes it; `clash` tells whether they do. Refused only as `Memory` (0), where
-    /// a growth was refused; both are then dropped.
+    /// an allocation failed; both are then dropped.
     pub fn join_agreeing(self, other: Self) -> Result<Self, LogFault>
         requires agree { Agree self other }
         ensures ok { IfOk result (λ all. all ≡ union self other) }
@@ -88,7 +88,7 @@ impl<A: Allocator + Clone> Log<A> {
 
     /// The union of logs: each operation that any of them has, once, moved out of them. Refused as `Conflict` (17) where a log has
     /// another operation under a dot than the logs before it, with the least such dot of the first such log, and as
-    /// `Memory` (0) where a growth was refused; all are then dropped.
+    /// `Memory` (0) where an allocation failed; all are then dropped.
     ///
     /// Four logs or fewer are joined one after another. Of more it is first seen whether they agree, by one walk over all of them by
     /// rising dot, which takes memory for the index of a run for each operation, and looks up all in a map of references where they do not. Up to

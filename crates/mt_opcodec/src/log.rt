@@ -179,8 +179,8 @@ impl<A: Allocator + Clone> Log<A> {
     /// fewer than 45 bytes or the digest does not agree; then record by record, counted from 0, `BadRecord` (14) where
     /// it is no operation, or one that came with a later version, and `OutOfOrder` (15) where its dot is not greater
     /// than the one before; then `Trailing` (16) where bytes stand between the last record and the digest; last
-    /// `VersionTooHigh` (52) where no operation asks for that version, and it is not 1. `Memory` (0) is answered where a growth
-    /// was refused. Memory is taken record by record, never for the number of them that the text gives.
+    /// `VersionTooHigh` (52) where no operation asks for that version, and it is not 1. `Memory` (0) is answered where an allocation
+    /// failed. Memory is taken record by record, never for the number of them that the text gives.
     pub fn read(alloc: A, bytes: &[u8]) -> Result<Self, LogFault>
         // What is read is the log text of its operations.
         ensures found { IfOk result (λ log. bytes.now ≡ log_text (operations log)) }
@@ -193,8 +193,8 @@ impl<A: Allocator + Clone> Log<A> {
         log_of_text(alloc, bytes)
     }
 
-    /// The log's text: 45 bytes and those of its operations, in the least version that has them. Refused only as `Memory` (0), where a growth was
-    /// refused.
+    /// The log's text: 45 bytes and those of its operations, in the least version that has them. Refused only as `Memory` (0), where an allocation
+    /// failed.
     pub fn write(&self) -> Result<Vec<u8, A>, LogFault>
         ensures ok { IfOk result (λ text. text.items ≡ log_text (operations self.now)) }
         ensures err { IfErr result (λ fault. fault ≡ LogFault.Memory) }
@@ -206,7 +206,7 @@ impl<A: Allocator + Clone> Log<A> {
         Ok(text)
     }
 
-    /// The log of operations whose dots rise, moved into runs. Refused as `Memory` (0) where a growth was refused, and for
+    /// The log of operations whose dots rise, moved into runs. Refused as `Memory` (0) where an allocation failed, and for
     /// nothing else.
     pub fn of_ops(alloc: A, ops: Vec<Op<A>, A>) -> Result<Self, LogFault>
         requires rising { AreLogged ops.items }
@@ -228,8 +228,8 @@ impl<A: Allocator + Clone> Log<A> {
     }
 
     /// Adds one operation: `true` where it is new, and `false` where the same one is there. Refused as
-    /// `Conflict` (17) with its dot where another operation has that dot, and as `Memory` (0) where a growth
-    /// was refused. After `false` or a refusal the log is unchanged, and the operation is dropped.
+    /// `Conflict` (17) with its dot where another operation has that dot, and as `Memory` (0) where an allocation
+    /// failed. After `false` or a refusal the log is unchanged, and the operation is dropped.
     pub fn add(&mut self, op: Op<A>) -> Result<bool, LogFault>
         ensures answer { Adds op self.old result }
         ensures added { result ≡ Ok true → self.new ≡ map.insert self.old (op_dot op) op }
@@ -248,8 +248,8 @@ impl<A: Allocator + Clone> Log<A> {
     }
 
     /// The union of two logs: each operation that either has, once, moved out of them. Refused as `Conflict` (17) with
-    /// the least dot that names one operation in this log and another in the other one, and as `Memory` (0) where a growth
-    /// was refused; both are then dropped. A run of a replica that only one has is moved whole, and one that begins where the
+    /// the least dot that names one operation in this log and another in the other one, and as `Memory` (0) where an allocation
+    /// failed; both are then dropped. A run of a replica that only one has is moved whole, and one that begins where the
     /// other ends is put after it; else both are walked at once.
     pub fn join(self, other: Self) -> Result<Self, LogFault>
         ensures ok { IfOk result (λ log. Agree self other × (log ≡ union self other)) }
@@ -273,7 +273,7 @@ impl<A: Allocator + Clone> Log<A> {
         copy.join(other)
     }
 
-    /// An equal log, on a clone of the allocator. Refused as `Memory` (0) where a growth was refused, and for nothing
+    /// An equal log, on a clone of the allocator. Refused as `Memory` (0) where an allocation failed, and for nothing
     /// else.
     pub fn try_clone(&self) -> Result<Self, LogFault>
         ensures ok { IfOk result (λ log. log ≡ self.now) }

@@ -64,7 +64,7 @@ fn record_of<A: Allocator>(
 
 /// Reads this many operations of any kind, by rising dot, and nothing after them. Refused record by record, counted from 0: `BadRecord`
 /// (14) where it is no operation, `OutOfOrder` (15) where its dot is not greater than the one before; last `Trailing` (16) where
-/// bytes stand after them. `Memory` (0) is answered where a growth was refused. Memory is taken record by record, never for
+/// bytes stand after them. `Memory` (0) is answered where an allocation failed. Memory is taken record by record, never for
 /// the count.
 pub fn read_ops<A: Allocator + Clone>(
     alloc: A,

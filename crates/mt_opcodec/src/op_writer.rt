@@ -320,7 +320,7 @@ pub(crate) fn put_op<A: Allocator, B: Allocator>(
     put_body(out, op.body())
 }
 
-/// Appends the operation's text to `out`. Refused only where a growth was refused, and `out` then holds
+/// Appends the operation's text to `out`. Refused only where an allocation failed, and `out` then holds
 /// what it held before.
 pub fn write_op<A: Allocator + Clone, B: Allocator>(
     op: &Op<B>,

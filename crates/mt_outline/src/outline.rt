@@ -163,7 +163,7 @@ impl<A: Allocator + Clone> Outline<A> {
     /// twice and what stands behind them; where they begin later, it takes all of the file. What is no wave file has an outline as well, which
     /// `Wave::read` refuses as it refuses the file.
     ///
-    /// `Read` (45) where the latch has failed, before or in this call; `Memory` (0) where a growth was refused, and the latch has not failed
+    /// `Read` (45) where the latch has failed, before or in this call; `Memory` (0) where an allocation failed, and the latch has not failed
     /// in this call. Either way the bytes that were read by then are gone.
     #[tactic(auto, using(crate::proofs::Outlining::gives_front, crate::proofs::Outlining::gives_behind))]
     pub fn read<R: Read>(alloc: A, input: &mut Latch<R>) -> Result<Outline<A>, LatchFault>

@@ -21,7 +21,7 @@ pub struct Audible<A: Allocator = Global> {
 
 impl<A: Allocator> Audible<A> {
     /// Those of a session, in a time of n log n for n clips. It keeps a line for each recording, and a reference to each clip until it is made. Refused
-    /// only where a growth was refused.
+    /// only where an allocation failed.
     pub fn of<B: Allocator>(alloc: A, session: &Session<B>) -> Result<Audible<A>, AllocError>
     where
         A: Clone,

@@ -49,7 +49,7 @@ impl<'c, 'a, A: Allocator> Model for Mix<'c, 'a, A> {
 impl<'c, 'a, A: Allocator> Mix<'c, 'a, A> {
     /// The mix of a session. Refused, in this order: `MissingSource` (33) with the least digest of an audible clip that is not in
     /// the catalogue, `RateDiffers` (34) with the least of one whose recording is of another rate than the format's, `TooLong`
-    /// (35) where the samples are over 4,000,000,000 bytes; and as `Memory` (0) where a growth is refused. A clip is audible where
+    /// (35) where the samples are over 4,000,000,000 bytes; and as `Memory` (0) where an allocation fails. A clip is audible where
     /// neither it nor its track is muted, though others may lie over it.
     pub fn new(
         alloc: A,

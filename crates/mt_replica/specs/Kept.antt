@@ -21,7 +21,7 @@ use Rattle.mt_replica.specs.declared.fault.EditorFault.TheVariants.{Memory, Fail
 use Rattle.mt_replica.specs.declared.taken.Taken.{Taken}
 use Rattle.mt_replica.specs.declared.taken.Taken.TheVariants.{Already, Held, Applied}
 
--- its name, its log unless a growth was refused: then it has failed, and how many cells it has joined since it was made
+-- its name, its log unless an allocation failed: then it has failed, and how many cells it has joined since it was made
 pub record Kept : Type 0 where
   pub name : Replica
   pub log : Option LogMap
@@ -58,7 +58,7 @@ session_in kept = option_map (λ log. session_of (operations log)) kept.log
 
 -- ---- edit
 
--- what an edit answers, but where a growth is refused
+-- what an edit answers, but where an allocation fails
 abbrev pub edited_in : Option LogMap → Replica → Edit → Result Operation EditorFault
 edited_in None name edit = Err Failed
 edited_in (Some log) name edit = made (operations log) name edit
@@ -66,7 +66,7 @@ edited_in (Some log) name edit = made (operations log) name edit
 abbrev pub edited : Kept → Edit → Result Operation EditorFault
 edited kept edit = edited_in kept.log kept.name edit
 
--- An edit answers that, or that a growth was refused, which a failed editor does not try.
+-- An edit answers that, or that an allocation failed, which a failed editor does not try.
 abbrev pub EditGives : Kept → Edit → Result Operation EditorFault → Type 0
 EditGives kept edit (Err Memory) = kept.log ≢ None
 EditGives kept edit result = result ≡ edited kept edit

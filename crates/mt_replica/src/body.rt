@@ -67,7 +67,7 @@ fn tags_of<A: Allocator + Clone>(
     Ok(List::new(tags))
 }
 
-/// What a change does where these operations are ready. `AllocError` where a growth was refused.
+/// What a change does where these operations are ready. `AllocError` where an allocation failed.
 pub(crate) fn body_of<A: Allocator + Clone>(
     items: &Items<A>,
     change: &Change<A>,

@@ -65,7 +65,7 @@ fn all_taken<A: Allocator + Clone>(
 }
 
 /// The items that the ready operations of a log leave: each is noted where it is ready, by rising stamp. n operations cost n log n.
-/// `AllocError` where a growth was refused.
+/// `AllocError` where an allocation failed.
 pub(crate) fn items_beside<A: Allocator + Clone>(
     alloc: &A,
     log: &Log<A>,
@@ -80,7 +80,7 @@ pub(crate) fn items_beside<A: Allocator + Clone>(
 }
 
 /// What holds the operations of a log back, and the items that the ready ones leave: each operation is offered, and noted where it
-/// is ready, by rising stamp. n operations cost n log n. `AllocError` where a growth was refused.
+/// is ready, by rising stamp. n operations cost n log n. `AllocError` where an allocation failed.
 pub(crate) fn beside_log<A: Allocator + Clone>(
     alloc: &A,
     log: &Log<A>,
@@ -98,7 +98,7 @@ pub(crate) fn beside_log<A: Allocator + Clone>(
     Ok((waiting, items))
 }
 
-/// What holds the operations of a log back, which is made of the log where it is not there yet. `AllocError` where a growth was refused.
+/// What holds the operations of a log back, which is made of the log where it is not there yet. `AllocError` where an allocation failed.
 pub(crate) fn held_back<A: Allocator + Clone>(
     alloc: &A,
     log: &Log<A>,

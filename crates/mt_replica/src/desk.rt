@@ -46,7 +46,7 @@ impl Sessions for WithoutSession {
 }
 
 /// A log that is edited under a name, with its session or without: an `Editor` or a `Draft`. They are equal where their names and logs are,
-/// and with these their sessions. Once a growth was refused in `take` or `edit` it has failed: it has neither log nor session any more, and
+/// and with these their sessions. Once an allocation failed in `take` or `edit` it has failed: it has neither log nor session any more, and
 /// every call that can be refused answers `Failed` (20).
 #[derive(Drop)]
 pub struct Desk<A: Allocator, S: Sessions> {
@@ -155,7 +155,7 @@ impl<A: Allocator + Clone, S: Sessions> Desk<A, S> {
     ghost use Rattle.mt_replica.specs.Kept.{Kept, kept_with, failed, copied, EditGives, after_edit, TakeGives, after_take};
     ghost use Rattle.mt_replica.specs.State.{IsMadeOf, IsNewTo};
 
-    // A desk that has taken a log's operations. `AllocError` where a growth was refused.
+    // A desk that has taken a log's operations. `AllocError` where an allocation failed.
     fn of_log(alloc: A, name: Replica, log: Log<A>) -> Result<Self, AllocError>
         ensures ok { IfOk result (λ desk. desk ≡ record { name = name; log = Some log; joins = 0 }) }
     {
@@ -272,7 +272,7 @@ impl<A: Allocator + Clone, S: Sessions> Desk<A, S> {
     /// where it would fade over more than 1,048,576 frames; then for each item that the change names, in the order of its fields,
     /// `NoSuchItem` (21) where no ready operation of that stamp adds such an item and `Absent` (22) where it is not present, which a
     /// Restore does not ask; `TooManyTags` (25) where a Remove would list over 65,535; `ClockFull` (23) and `SeqFull` (24) where the
-    /// greatest clock or number is 2^62. All these change nothing. `Memory` (0) where a growth was refused: then it has failed.
+    /// greatest clock or number is 2^62. All these change nothing. `Memory` (0) where an allocation failed: then it has failed.
     pub fn edit(&mut self, change: &Change<A>) -> Result<Op<A>, EditorFault>
         ensures gives { EditGives self.old (edit_of change.now) result }
         ensures holds { self.new ≡ after_edit self.old result }
@@ -317,7 +317,7 @@ impl<A: Allocator + Clone, S: Sessions> Desk<A, S> {
     /// has to wait for others, and `Applied` with the stamps of all that became ready by it, rising.
     ///
     /// Refused as `Failed` (20) where it has failed, and as `Conflict` (17) with its dot where another operation has that
-    /// dot; both change nothing. `Memory` (0) where a growth was refused: then it has failed.
+    /// dot; both change nothing. `Memory` (0) where an allocation failed: then it has failed.
     pub fn take(&mut self, op: Op<A>) -> Result<Taken<A>, EditorFault>
         ensures gives { TakeGives self.old.log op result }
         ensures holds { self.new ≡ after_take self.old op result }

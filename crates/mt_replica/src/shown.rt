@@ -57,7 +57,7 @@ fn places_of<A: Allocator, B: Allocator>(
 }
 
 /// What ready operations show, from the items that they leave, noted in whatever order, with this many others held: in n log n for n
-/// operations and items. `AllocError` where a growth was refused.
+/// operations and items. `AllocError` where an allocation failed.
 pub(crate) fn shown_of<A: Allocator + Clone>(
     alloc: &A,
     ready: &[Op<A>],

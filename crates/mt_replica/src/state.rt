@@ -131,7 +131,7 @@ impl<A: Allocator + Clone> State<A> {
         }
     }
 
-    /// The state of a log. `AllocError` where a growth was refused.
+    /// The state of a log. `AllocError` where an allocation failed.
     pub fn of(alloc: &A, name: Replica, log: Log<A>) -> Result<Self, AllocError>
         ensures ok { IfOk result (λ state. state ≡ record
             { named = record { name = name; log = log }; shown = false }) }
@@ -140,7 +140,7 @@ impl<A: Allocator + Clone> State<A> {
         Ok(State::beside(name, log, None, View::without_session(items)))
     }
 
-    /// The state of a log with its session. `AllocError` where a growth was refused.
+    /// The state of a log with its session. `AllocError` where an allocation failed.
     pub fn shown_of(alloc: &A, name: Replica, log: Log<A>) -> Result<Self, AllocError>
         ensures ok { IfOk result (λ state. state ≡ record
             { named = record { name = name; log = log }; shown = true }) }
@@ -196,7 +196,7 @@ impl<A: Allocator + Clone> State<A> {
         Ok(body)
     }
 
-    /// The operation that a change makes, or its first refusal; `Memory` (0) where a growth was refused.
+    /// The operation that a change makes, or its first refusal; `Memory` (0) where an allocation failed.
     pub fn made(&self, change: &Change<A>) -> Result<Op<A>, EditorFault>
         ensures ok { IfOk result (λ op. made (operations self.now.named.log) self.now.named.name (edit_of change.now)
             ≡ Ok op) }
@@ -210,7 +210,7 @@ impl<A: Allocator + Clone> State<A> {
         Ok(Op::new(stamp, body).unwrap())
     }
 
-    /// The state with an operation that a change made of it, by which nothing else becomes ready. `AllocError` where a growth was refused.
+    /// The state with an operation that a change made of it, by which nothing else becomes ready. `AllocError` where an allocation failed.
     pub fn with(self, alloc: &A, op: &Op<A>) -> Result<Self, AllocError>
         requires made { IsMade self.named op.now }
         ensures ok { IfOk result (λ state. state ≡ record
@@ -250,7 +250,7 @@ impl<A: Allocator + Clone> State<A> {
         }
     }
 
-    /// The state with an operation under a new dot, what became of it, and how many cells that joined. `AllocError` where a growth was refused.
+    /// The state with an operation under a new dot, what became of it, and how many cells that joined. `AllocError` where an allocation failed.
     pub fn taking(self, alloc: &A, op: Op<A>) -> Result<Step<A>, AllocError>
         requires new { map.get self.named.log (op_dot op) ≡ None }
         ensures state { IfOk result (λ step. step.state

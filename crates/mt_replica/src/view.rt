@@ -85,7 +85,7 @@ impl<A: Allocator> View<A> {
 
 impl<A: Allocator + Clone> View<A> {
     /// The same with the session kept, which is read off the items: of these operations, noted in whatever order, with this many
-    /// others held. `AllocError` where a growth was refused.
+    /// others held. `AllocError` where an allocation failed.
     pub(crate) fn show(self, alloc: &A, ready: &[Op<A>], held: u64) -> Result<Self, AllocError>
         requires same { (f : Operation → ℕ) → sum_by f self.ops ≡ sum_by f ready.now }
         requires tree { IsTree (places_in ready.now) }
@@ -99,7 +99,7 @@ impl<A: Allocator + Clone> View<A> {
         })
     }
 
-    /// The same with an operation noted, and the session mended by it where it is kept. `AllocError` where a growth was refused.
+    /// The same with an operation noted, and the session mended by it where it is kept. `AllocError` where an allocation failed.
     pub(crate) fn note(self, alloc: &A, op: &Op<A>) -> Result<Self, AllocError>
         requires follows { MayFollow self.ops op.now }
         ensures ok { IfOk result (λ view. view ≡ record { ops = op.now ∷ self.ops; held = self.held }) }

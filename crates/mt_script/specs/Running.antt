@@ -25,7 +25,7 @@ lines_from (Some log) name items left = made_by_lines log name items left
 abbrev pub lines_in : Kept → Items → List (List ℕ) → Result (List Operation) ScriptFault
 lines_in kept items left = lines_from kept.log kept.name items left
 
--- what a function answers is what was made, or that a growth was refused
+-- what a function answers is what was made, or that an allocation failed
 abbrev pub Gives : {X : Type 0} → (X → List Operation → Type 0) → Result (List Operation) ScriptFault → Result X ScriptFault → Type 0
 Gives P made (Ok x) = (ops : List Operation) × ((made ≡ Ok ops) × P x ops)
 Gives P made (Err Memory) = Unit {0}

@@ -73,7 +73,7 @@ abbrev pub counted : Result (List Operation) ScriptFault → Result ℕ ScriptFa
 counted (Ok ops) = Ok (length ops)
 counted (Err fault) = Err fault
 
--- A run answers how many operations the script makes, or its refusal; or that a growth was refused, which a failed editor does
+-- A run answers how many operations the script makes, or its refusal; or that an allocation failed, which a failed editor does
 -- not try.
 abbrev pub RunGives : Kept → List ℕ → Result ℕ ScriptFault → Type 0
 RunGives kept text (Err Memory) = kept.log ≢ None

@@ -77,8 +77,8 @@ impl<A: Allocator> TrackView<A> {
 impl<A: Allocator> Session<A> {
     /// Puts a clip in on the track at an index, counted from 0, where its position, in frames, and the stamp of its place
     /// say. Finding the place takes as many comparisons as the logarithm of how many clips the track has, and what follows
-    /// moves. No clip of the track may have its place already. Refused only as `AllocError`, where a growth was
-    /// refused, and then the session is unchanged.
+    /// moves. No clip of the track may have its place already. Refused only as `AllocError`, where an allocation
+    /// failed, and then the session is unchanged.
     pub fn put_clip(&mut self, index: usize, clip: ClipView) -> Result<(), AllocError>
         requires inside { index < length self.old.tracks }
         requires new { (t : Track) → slice_get self.old.tracks index ≡ Some t → list_any (is_placed_by clip.place) t.clips ≡ false }

@@ -44,7 +44,7 @@ fn marker_index<A: Allocator>(markers: &[MarkerView<A>], at: u32, marker: Stamp)
 impl<A: Allocator> Session<A> {
     /// Puts a marker in where its position, in frames, and its stamp say. Finding the place takes as many comparisons as the
     /// logarithm of how many markers there are, and what follows moves. No marker with its position and stamp may be there.
-    /// Refused only as `AllocError`, where a growth was refused, and then the session is unchanged.
+    /// Refused only as `AllocError`, where an allocation failed, and then the session is unchanged.
     pub fn put_marker(&mut self, marker: MarkerView<A>) -> Result<(), AllocError>
         requires { list_any (is_marker_at marker.at marker.marker) self.old.markers ≡ false }
         ensures ok { OnOk result (self.new ≡ record self.old { markers = insert_by marker_cmp marker self.old.markers }) }

@@ -22,7 +22,7 @@ impl<A: Allocator> Session<A> {
     }
 
     /// Puts a track in at an index of at most the number of tracks, before what stands there. No track of its stamp may be
-    /// there. What follows moves. Refused only as `AllocError`, where a growth was refused, and then the session is
+    /// there. What follows moves. Refused only as `AllocError`, where an allocation failed, and then the session is
     /// unchanged.
     pub fn put_track(&mut self, index: usize, track: TrackView<A>) -> Result<(), AllocError>
         requires inside { index ≤ length self.old.tracks }

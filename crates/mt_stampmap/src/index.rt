@@ -102,7 +102,7 @@ impl<A: Allocator> StampIndex<A> {
         self.others.get(&stamp).copied()
     }
 
-    /// Notes the index of the item of a new stamp. Where a growth was refused, it tells of each other stamp what it told before.
+    /// Notes the index of the item of a new stamp. Where an allocation failed, it tells of each other stamp what it told before.
     pub fn point(&mut self, stamp: Stamp, index: usize) -> Result<(), AllocError>
     where
         A: Clone,

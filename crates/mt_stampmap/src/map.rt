@@ -192,7 +192,7 @@ impl<V: Drop, A: Allocator> StampMap<V, A> {
         entries
     }
 
-    /// Puts a value in, last, under a stamp that has none. Refused only where a growth was; the map is then as it was.
+    /// Puts a value in, last, under a stamp that has none. Refused only where an allocation failed; the map is then as it was.
     pub fn insert(&mut self, stamp: Stamp, value: V) -> Result<(), AllocError>
     where
         A: Clone,

@@ -37,7 +37,7 @@ pub(crate) const LONGEST_BODY: usize = 8_388_608;
 
 impl<A: Allocator + Clone> Message<A> {
     /// Reads the body of a frame. Refused as `BadMessage` (38) where it is the text of no message or longer than 8,388,608 bytes,
-    /// and as `Memory` (0) where a growth was refused. Memory is taken as items are read, never for a count.
+    /// and as `Memory` (0) where an allocation failed. Memory is taken as items are read, never for a count.
     ///
     /// A Have is the byte 1, the number of replicas in 4 bytes, and for each replica, rising, its 16 bytes, its run in 8, the
     /// number of extras in 4, and each extra in 8, rising; the run is at most 2^62, each extra greater than the run and 1 and at most
@@ -73,7 +73,7 @@ impl<A: Allocator + Clone> Message<A> {
     }
 
     /// The body of a frame, of a message that is well-formed (`is_well_formed`). Refused as `FrameTooLong` (40) where it is longer than 8,388,608 bytes, so too where a number of items
-    /// does not fit its 4 bytes, and as `Memory` (0) where a growth was refused.
+    /// does not fit its 4 bytes, and as `Memory` (0) where an allocation failed.
     pub fn write(&self, alloc: A) -> Result<Vec<u8, A>, MessageFault>
         requires { IsMessage (message_of self.now) }
         ensures { WritesAs (λ text. text.items) (message_text (message_of self.now)) result }

@@ -12,7 +12,7 @@ use mt_opcodec::write_op;
 use std::alloc::{AllocError, Allocator};
 
 /// Appends operations, by rising dot, as frames of Ops: cut from the left, each message taking as many as fit in 8,388,608 bytes, of
-/// which one always does. No operations, no frame. Refused only where a growth was refused; `out` then holds what it held and a
+/// which one always does. No operations, no frame. Refused only where an allocation failed; `out` then holds what it held and a
 /// part of the frames.
 #[tactic(auto, unfolding(crate::specs::Messages::ops_frames))]
 pub fn put_ops_frames<A: Allocator + Clone, B: Allocator>(

@@ -22,7 +22,7 @@ const PIECE: usize = 65_536;
 /// Refused as the caller's `Talk::call` and each `Talk::feed` are; as `Read` (45) and `Write` (37) where the reader or the
 /// writer has failed, before or in this call; as `Ended` (49) where the input ends before the talk does, and at no other time. A latch that had
 /// failed is not asked and stays as it was; after `Ok` neither has failed. After a refusal the writer holds a prefix of the bytes
-/// that the conversation calls for, and the holder its own operations and those that came before; where a growth was refused while operations
+/// that the conversation calls for, and the holder its own operations and those that came before; where an allocation failed while operations
 /// joined, the holder has failed.
 pub fn converse<A: Allocator + Clone, R: Read, W: Write, H: Holder<A>>(
     alloc: A,

@@ -19,7 +19,7 @@ use std::alloc::Allocator;
 /// under one dot each keeps its own, which nobody is told, as in every conversation.
 ///
 /// Refused, in this order, as `Failed` (20) where one of them has failed and as `FrameTooLong` (40) where the summary of one of them
-/// does not fit a frame: then both are unchanged. `Memory` (0) where a growth was refused: then each is unchanged, has all that it
+/// does not fit a frame: then both are unchanged. `Memory` (0) where an allocation failed: then each is unchanged, has all that it
 /// lacked, or has failed. `Conflict` (17) is never answered. What it does is what a conversation does (`laws::conversations`).
 pub fn exchange<A: Allocator + Clone, H: Holder<A>, K: Holder<A>>(
     alloc: A,

@@ -16,7 +16,7 @@ use std::alloc::{AllocError, Allocator, Global};
 use std::marker::Model;
 
 /// A log that grows by the operations of messages, in however many messages they come: seen as their set, and as nothing where it has
-/// failed, as it has once a growth was refused.
+/// failed, as it has once an allocation failed.
 ///
 /// What a message brings is kept beside what is there, and joined with what came last where that is no more than twice as much: so n
 /// operations are moved log n times each, and what is there is moved once, when it is asked for.
@@ -110,7 +110,7 @@ fn join_into_one<A: Allocator + Clone>(logs: &mut Vec<Log<A>, A>) -> Result<(), 
 }
 
 impl<A: Allocator + Clone> GrowingLog<A> {
-    /// A log that has not grown yet. Refused only where a growth was.
+    /// A log that has not grown yet. Refused only where an allocation failed.
     pub fn new(alloc: A, log: Log<A>) -> Result<Self, AllocError>
         ensures { IfOk result (λ growing. growing ≡ record { set = Some log; whole = true }) }
     {
@@ -119,7 +119,7 @@ impl<A: Allocator + Clone> GrowingLog<A> {
         Ok(GrowingLog { logs })
     }
 
-    /// The log that it has grown to. Refused as `Failed` (20) where it has failed, and as `Memory` (0) where a growth was refused.
+    /// The log that it has grown to. Refused as `Failed` (20) where it has failed, and as `Memory` (0) where an allocation failed.
     pub fn into_log(self) -> Result<Log<A>, TalkFault>
         ensures ok { IfOk result (λ log. self.set ≡ Some log) }
         ensures failed { IsErrOf result TalkFault.Failed ↔ (self.set ≡ None) }

@@ -56,7 +56,7 @@ pub trait Holder<A: Allocator> {
     /// Whether its operations are in one log, which it can lend.
     ghost whole: { Self → Bool };
 
-    /// Brings its operations into one log. `AllocError` where they were not in one and a growth was refused: then it is as it was, or has
+    /// Brings its operations into one log. `AllocError` where they were not in one and an allocation failed: then it is as it was, or has
     /// failed.
     fn settle(&mut self) -> Result<(), AllocError>
         ensures whole { OnOk result (whole self.new ≡ true) }
@@ -71,8 +71,8 @@ pub trait Holder<A: Allocator> {
         ensures log { option_copied result ≡ held self.now };
 
     /// Takes operations that rise by dot out of a list, up to the first whose dot names another one there; what is left of the list is
-    /// nobody's. Refused as `Failed` (20) where it has failed, as `Conflict` (17) with that dot, and as `Memory` (0) where a growth was
-    /// refused: then it has failed.
+    /// nobody's. Refused as `Failed` (20) where it has failed, as `Conflict` (17) with that dot, and as `Memory` (0) where an allocation
+    /// failed: then it has failed.
     fn take_all(&mut self, alloc: &A, ops: &mut Vec<Op<A>, A>) -> Result<(), TalkFault>
         requires rising { AreLogged ops.old.items }
         ensures takes { TakesIn (held self.old) ops.old.items result (held self.new) }

@@ -57,7 +57,7 @@ impl<A: Allocator + Clone> Talk<A> {
 
     /// The caller's end, and the bytes that begin the conversation: the frame of its summary. `frames` is where the bytes of a frame that
     /// is not whole are kept. Refused, in this order, as `Failed` (20) where the holder has failed and as `FrameTooLong`
-    /// (40) where its summary does not fit a frame; as `Memory` (0) where a growth was refused.
+    /// (40) where its summary does not fit a frame; as `Memory` (0) where an allocation failed.
     pub fn call<H: HoldsLog<A>>(
         alloc: A,
         frames: Global,
@@ -98,8 +98,8 @@ impl<A: Allocator + Clone> Talk<A> {
     /// `FrameTooLong` (40) where its length is over 8,388,608, before the body is looked at; `BadMessage` (38) where the body is no message;
     /// `OutOfTurn` (39) where nobody waits for that message; `Failed` (20) where the holder has failed and its log is
     /// needed; `Conflict` (17) where an operation's dot names another one in the log; `FrameTooLong` (40) where the own
-    /// summary does not fit a frame. `Memory` (0) where a growth was refused. After a fault the holder has its own operations and those before
-    /// the fault, and the talk answers 39 from then on; where a growth was refused while operations joined, the holder has failed.
+    /// summary does not fit a frame. `Memory` (0) where an allocation failed. After a fault the holder has its own operations and those before
+    /// the fault, and the talk answers 39 from then on; where an allocation failed while operations joined, the holder has failed.
     pub fn feed<H: Holder<A>>(
         &mut self,
         holder: &mut H,

@@ -74,7 +74,7 @@ fn link_place<A: Allocator>(
 
 /// The indexes of places that are given by rising stamp, in the order of their tree: each is put right after what it was put
 /// after, or in front, and so before all older ones that were put there. n places cost n log n, since what each was put after is
-/// searched for where that is not the one before it. Refused only where a growth was.
+/// searched for where that is not the one before it. Refused only where an allocation failed.
 pub fn order_of<A: Allocator + Clone>(
     alloc: &A,
     places: &[PlaceAfter],

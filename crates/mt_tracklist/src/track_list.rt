@@ -85,7 +85,7 @@ impl<A: Allocator> TrackList<A> {
 
     /// Puts a place of a track right of the place that it is put after, or in front for `None`, past the elements up to the
     /// first with a smaller stamp, and leaves the others in their order. Refused, in this order: `PlaceThere` (19) where the
-    /// place is in the list, `NoSuchPlace` (18) where `after` is not; and as `Memory` (0) where a growth was refused. After
+    /// place is in the list, `NoSuchPlace` (18) where `after` is not; and as `Memory` (0) where an allocation failed. After
     /// a refusal the list is unchanged. The place has to have a greater stamp than `after`, which `is_newer` tells.
     pub fn insert(
         &mut self,
@@ -116,7 +116,7 @@ impl<A: Allocator> TrackList<A> {
         Ok(())
     }
 
-    /// An equal list, on a clone of the allocator. Refused only as `Memory` (0), where a growth was refused.
+    /// An equal list, on a clone of the allocator. Refused only as `Memory` (0), where an allocation failed.
     pub fn try_clone(&self) -> Result<Self, TrackListFault>
     where
         A: Clone,

@@ -64,7 +64,7 @@ impl<A: Allocator> World<A> {
 
 impl<A: Allocator + Clone> World<A> {
     /// The world of editors of these names after these events, one after another. Refused as `SameName` (48) with the least index whose name
-    /// stands before it, and as `Memory` (0) where a growth was refused: then there is no world.
+    /// stands before it, and as `Memory` (0) where an allocation failed: then there is no world.
     pub fn run(alloc: A, names: &[Replica], events: &[Event<A>]) -> Result<Self, WorldFault>
         ensures { RunGives names.now (list_map happening_of events.now) result }
     {

@@ -32,7 +32,7 @@ Usage: radio [OPTIONS] <COMMAND>
 For more information, try '--help'.
 ";
 
-// The refusal of a growth.
+// The failure of an allocation.
 const NO_MEMORY: &str = "radio: fault 0\n";
 
 // The words after the program's name. Those that are no text are an error of the kind `InvalidData`; every other error

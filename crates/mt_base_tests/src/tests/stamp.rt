@@ -1,4 +1,4 @@
-//! What no clause says of stamps, their texts and lists: texts from outside, and what is left where a growth is refused.
+//! What no clause says of stamps, their texts and lists: texts from outside, and what is left where an allocation fails.
 
 use mt_stamp::laws::{compare_dots, compare_stamps};
 use mt_stamp::{List, Replica, Stamp, StampFault};

@@ -35,7 +35,7 @@ fn put<M: Allocator + Clone>(
     }
 }
 
-// How many stamps have their index as their value once all are put in; none where a growth is refused.
+// How many stamps have their index as their value once all are put in; none where an allocation fails.
 fn found<M: Allocator + Clone>(memory: M) -> Option<usize> {
     let mut map = StampMap::new(memory).ok()?;
     for index in 0..PARTS.len() {

@@ -135,7 +135,7 @@ fn orders_places_below_others(rt: HostRuntime) -> Result<(), Fail> {
     Ok(())
 }
 
-// What a put of the first place is answered, how many places there are then, and whether a growth was refused.
+// What a put of the first place is answered, how many places there are then, and whether an allocation failed.
 fn put_at(alloc: Global, at: u64, place: Stamp) -> (Result<(), TrackListFault>, usize, bool) {
     let memory = Refusing::new(alloc, at);
     let mut list = TrackList::new(&memory);

@@ -10,7 +10,7 @@ use std::alloc::Global;
 // More growths than a command asks for.
 const GROWTHS: u64 = 400;
 
-// Whether a command writes all, or is refused with nothing written where a growth is: what can do without that growth may go on.
+// Whether a command writes all, or fails with nothing written where an allocation does; a command that can do without it may go on.
 fn is_right(
     answer: Option<Result<(), CliFault>>,
     call: Call,

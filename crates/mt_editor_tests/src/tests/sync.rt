@@ -175,7 +175,7 @@ impl Work for End {
     }
 }
 
-// Whether what has to come comes, or a refusal where a growth is refused.
+// Whether what has to come comes, or a refusal where an allocation fails.
 fn is_wanted(told: Result<bool, TalkFault>, tally: &Refusing<Global>) -> bool {
     if tally.has_refused() {
         told == Err(TalkFault::Memory)

@@ -18,7 +18,7 @@ pub(crate) trait Work {
         B
     }
 
-    /// The log that it begins with; none where a growth is refused.
+    /// The log that it begins with; none where an allocation fails.
     fn log<M: Allocator + Copy>(&self, memory: M) -> Option<Log<M>> {
         Some(Log::new(memory))
     }
@@ -34,7 +34,7 @@ pub(crate) trait Work {
     ) -> Option<bool>;
 }
 
-// Whether all is right with an editor that was not refused a growth.
+// Whether all is right with an editor whose allocations all succeeded.
 fn looked_at<M: Allocator + Copy, W: Work>(
     editor: &mut Editor<M>,
     memory: M,
@@ -48,7 +48,7 @@ fn looked_at<M: Allocator + Copy, W: Work>(
     work.is_right(editor, memory, alloc, tally)
 }
 
-// The same of an editor that is made of the log, and refused memory just where a growth is.
+// The same of an editor that is made of the log, and answers `Memory` just where an allocation fails.
 fn done<M: Allocator + Copy, W: Work>(
     memory: M,
     alloc: Global,

@@ -8,7 +8,7 @@ use std::alloc::{Allocator, Global};
 // More growths than a run asks for.
 const GROWTHS: u64 = 400;
 
-// What is done over a memory that may refuse a growth.
+// What is done over memory in which an allocation may fail.
 #[derive(Clone, Copy)]
 enum Work {
     // a recording is added to a catalogue

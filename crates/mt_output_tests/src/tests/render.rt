@@ -32,7 +32,7 @@ fn count_of<M: Allocator>(catalogue: &Catalogue<'_, M>, files: &[&[u8]]) -> usiz
     there
 }
 
-/// Whether a recording is there once it is added; none where a growth is refused.
+/// Whether a recording is there once it is added; none where an allocation fails.
 pub(super) fn is_added<M: Allocator + Copy>(memory: M, tally: &Refusing<Global>) -> bool {
     let mut catalogue = Catalogue::new(memory);
     let answer = catalogue.add(RECORDING);
@@ -44,7 +44,7 @@ pub(super) fn is_added<M: Allocator + Copy>(memory: M, tally: &Refusing<Global>)
     }
 }
 
-/// Whether five recordings of two digests are there once they are added; none where a growth is refused.
+/// Whether five recordings of two digests are there once they are added; none where an allocation fails.
 pub(super) fn are_added<M: Allocator + Copy>(memory: M, tally: &Refusing<Global>) -> bool {
     let files = [RECORDING, ONE_FRAME, RECORDING, ONE_FRAME, RECORDING];
     let mut catalogue = Catalogue::new(memory);
@@ -100,7 +100,7 @@ fn fill(mix: &Mix<'_, '_>, first: u64, samples: &mut [i32]) -> bool {
     true
 }
 
-/// Whether that of the clip is as long as it is, or is refused where a growth is; none where a growth is refused to the session.
+/// Whether that of the clip is as long as it is, or fails where an allocation does; none where an allocation of the session fails.
 pub(super) fn is_mixed<M: Allocator + Copy>(memory: M, tally: &Refusing<Global>) -> Option<bool> {
     let session = session_of(memory, VOICE)?;
     let length = length_of(memory, &session);

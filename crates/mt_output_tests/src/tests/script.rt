@@ -16,7 +16,7 @@ fade $2 5 0
 marker-length $4 96
 ";
 
-// Whether an editor of the empty log makes all lines, or is as it was where a growth is refused.
+// Whether an editor of the empty log makes all lines, or is as it was where an allocation fails.
 fn is_right<M: Allocator + Copy>(
     memory: M,
     editor: &mut Editor<M>,
@@ -31,7 +31,7 @@ fn is_right<M: Allocator + Copy>(
     }
 }
 
-/// The same; none where a growth is refused before.
+/// The same; none where an allocation fails before.
 pub(super) fn is_run<M: Allocator + Copy>(memory: M, tally: &Refusing<Global>) -> Option<bool> {
     match Editor::from_log(memory, A, Log::new(memory)) {
         Ok(mut editor) => Some(is_right(memory, &mut editor, tally)),

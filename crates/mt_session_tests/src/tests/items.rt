@@ -133,7 +133,7 @@ fn counts<M: Allocator + Clone>(items: &Items<M>, marker: Stamp) -> Option<[usiz
     Some([tags, tracks, clips, markers])
 }
 
-// The same of what the ready ones leave; none where a growth is refused.
+// The same of what the ready ones leave; none where an allocation fails.
 fn ready_counts<M: Allocator + Copy>(memory: M) -> Option<[usize; 4]> {
     let mut ops = Vec::new(memory);
     push_ops(&mut ops, memory)?;

@@ -1,5 +1,5 @@
-//! Seventeen operations with all bodies, which an editor makes or takes, some of them early: what it answers, what it keeps, and what is left of it where a growth is
-//! refused.
+//! Seventeen operations with all bodies, which an editor makes or takes, some of them early: what it answers, what it keeps, and what is left of it where an allocation
+//! fails.
 
 use super::histories::{Answer, counts, edit, is_alike, take};
 use super::operations::{Act, Name, op_of};
@@ -143,7 +143,7 @@ fn is_editor_of<M: Allocator + Copy>(editor: &Editor<M>, memory: M, is_whole: bo
     }
 }
 
-// The same; none where a growth is refused meanwhile.
+// The same; none where an allocation fails meanwhile.
 fn is_left<M: Allocator + Copy>(
     editor: &Editor<M>,
     memory: M,
@@ -173,7 +173,7 @@ struct Steps {
     compares: bool,
 }
 
-// Whether all are answered so, and leave the editor of the log of all; where a growth is refused in a call, whether it answers `Memory` and has then failed.
+// Whether all are answered so, and leave the editor of the log of all; where an allocation fails in a call, whether it answers `Memory` and has then failed.
 impl Work for Steps {
     fn name(&self) -> Replica {
         match self.way {

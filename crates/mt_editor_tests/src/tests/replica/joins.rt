@@ -140,7 +140,7 @@ fn growths_before(alloc: Global, work: Work, joins: u64) -> Option<u64> {
     }
 }
 
-// Whether a growth is refused in it, which it answers with `Memory`.
+// Whether an allocation fails in it, which it answers with `Memory`.
 fn is_refused(alloc: Global, at: u64, work: Work) -> bool {
     match refused_at(alloc, at, work) {
         (Some(cost), true) => cost.done == Err(EditorFault::Memory),
@@ -181,7 +181,7 @@ fn gives_a_title_at_the_cost_of_one_cell(rt: HostRuntime) -> Result<(), Fail> {
     Ok(())
 }
 
-// Whether a session that is made from nothing joins nothing, and is refused a growth after as many as a title is given.
+// Whether a session that is made from nothing joins nothing, and fails at the allocation after as many as a title takes.
 fn scratch_takes_more(alloc: Global) -> bool {
     match growths_before(alloc, Work::Scratch, 0) {
         Some(before) => is_refused(alloc, before.saturating_add(GROWTHS), Work::Scratch),

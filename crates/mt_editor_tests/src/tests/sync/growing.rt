@@ -28,7 +28,7 @@ fn grow<M: Allocator + Copy>(
     Some(Ok(()))
 }
 
-// How many operations a log of one marker comes to; none where a growth was refused outside of it.
+// How many operations a log of one marker comes to; none where an allocation failed outside of it.
 fn grown<M: Allocator + Copy>(memory: M, alloc: Global) -> Option<Result<usize, TalkFault>> {
     let log = log_of(&memory, &[Stamp::new(1, A, 1).ok()?]).ok()?;
     let Ok(mut growing) = GrowingLog::new(memory, log) else {
