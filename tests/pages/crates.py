@@ -55,7 +55,9 @@ ROOMS = {
         "mt_lines": "lines as JSON, with times, and back from times",
     },
     "program": {
-        "mt_cli": "the work of each command over readers and writers; the command line",
+        "cli_calls": "the work of each command over readers and writers",
+        "cli_words": "the words of a command line; its manual page and completion scripts",
+        "mt_cli": "the commands, their files, and the command line",
         "radio": "`main`",
         "world_histories": "runs lists of events for `tests/checks/world.py` and `bench/world.py`",
     },
