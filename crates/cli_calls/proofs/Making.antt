@@ -1,5 +1,5 @@
 -- Files that are made of a log, and of what is read after it.
-use Rattle.std.proofs.Common.{◌≡◌, ℕ, List, [], Option, Some, None, Result, Ok, Err, inl, inr, refl, sym, subst, ◌∙◌}
+use Rattle.std.proofs.Common.{◌≡◌, ℕ, true, List, [], Option, Some, None, Result, Ok, Err, inl, inr, refl, sym, subst, ◌∙◌}
 use Rattle.std.specs.Prelude.{OnOk, IfErr}
 use Rattle.mt_latch.specs.Latch.{Latched}
 use Rattle.mt_opcodec.specs.LogValue.{LogMap}
@@ -18,7 +18,7 @@ use Rattle.cli_calls.specs.declared.fault.CliFault.TheVariants.{Memory, Write}
 use Rattle.cli_calls.specs.Faults.{message_fault, sync_fault}
 use Rattle.cli_calls.specs.Reading.{text_of}
 use Rattle.cli_calls.specs.Writing.{HasWritten, HasFailed, MadeWritten, MadeFails, Wrote}
-use Rattle.cli_calls.specs.Swapping.{Having, Lacking, Taken, NotTaken, Taking, TalkLent, HasConversedTo, HasConversed, SwapWritten, SwapFails, HeldMakes, LendLeaves}
+use Rattle.cli_calls.specs.Swapping.{Having, Lacking, Taken, NotTaken, Taking, TalkLent, HasConversedTo, HasConversed, SwapWritten, SwapFails, Swapped, HeldMakes, LendLeaves}
 use Rattle.cli_calls.proofs.Writing.{refused_here}
 
 module _ {W : Type 0} (contents : W → Option (List ℕ)) (output : Latched W) where
@@ -62,7 +62,7 @@ lend_leaves old new (Err _) same = same
 -- ---- after a conversation
 
 module _ {R W O : Type 0} (remaining : R → Option (List ℕ)) (written : W → Option (List ℕ)) (contents : O → Option (List ℕ)) (side : Side) (before after : TalkLent R W O) where
-  pub swap_written : (set : Option LogMap) (result : Result (Unit {0}) CliFault) → HasConversedTo remaining written contents side before after set (Ok tt) → AreSound after.reader after.writer
+  swap_written : (set : Option LogMap) (result : Result (Unit {0}) CliFault) → HasConversedTo remaining written contents side before after set (Ok tt) → AreSound after.reader after.writer
       → OnOk result (MadeWritten contents (HeldMakes set) before.output after.output) → OnOk result (after.set ≡ set) → OnOk result (SwapWritten remaining written contents side before after)
   swap_written set (Ok unit) conversed sound (bytes, ((log, (same, is)), put)) stays =
       (log, ((stays ∙ same, (subst (λ (s : Option LogMap). HasConversedTo remaining written contents side before after s (Ok tt)) (sym stays) conversed, sound)), subst (λ (l : List ℕ). HasWritten contents l before.output after.output) is put))
@@ -75,15 +75,37 @@ module _ {R W O : Type 0} (remaining : R → Option (List ℕ)) (written : W →
       (log, ((left ∙ same, (subst (λ (s : Option LogMap). HasConversedTo remaining written contents side before after s (Ok tt)) (sym left) conversed, sound)), subst (λ (l : List ℕ). HasFailed contents l before.output after.output) is failed))
   not_swapped set _ conversed sound fails left = absurd fails.0
 
-  pub swap_not_written : (set : Option LogMap) (result : Result (Unit {0}) CliFault) → HasConversedTo remaining written contents side before after set (Ok tt) → AreSound after.reader after.writer
+  swap_not_written : (set : Option LogMap) (result : Result (Unit {0}) CliFault) → HasConversedTo remaining written contents side before after set (Ok tt) → AreSound after.reader after.writer
       → IfErr result (MadeFails contents (HeldMakes set) before.output after.output) → IfErr result (LendLeaves set after.set) → IfErr result (SwapFails remaining written contents side before after)
   swap_not_written set (Ok unit) conversed sound fails left = fails
   swap_not_written set (Err fault) conversed sound fails left = not_swapped set fault conversed sound fails left
 
-  pub swap_refused : (fault : SyncFault) → HasConversed remaining written contents side before after (Err fault) → Blames remaining after.reader after.writer fault → after.output ≡ before.output
+  swap_refused : (fault : SyncFault) → HasConversed remaining written contents side before after (Err fault) → Blames remaining after.reader after.writer fault → after.output ≡ before.output
       → SwapFails remaining written contents side before after (sync_fault fault)
   swap_refused (sync.Talk talk.Memory) conversed blames same = (inl conversed, same)
   swap_refused (sync.Talk _) conversed blames same = ((λ is. cc is), ((conversed, blames), same))
   swap_refused sync.Write conversed blames same = ((λ is. cc is), ((conversed, blames), same))
   swap_refused sync.Read conversed blames same = ((λ is. cc is), ((conversed, blames), same))
   swap_refused sync.Ended conversed blames same = ((λ is. cc is), ((conversed, blames), same))
+
+  -- where the latches of the conversation that had failed stay as they were
+  module _ (reader_stays : before.reader.failed ≡ true → after.reader ≡ before.reader) (writer_stays : before.writer.failed ≡ true → after.writer ≡ before.writer) where
+    pub swapped : (set : Option LogMap) (result : Result (Unit {0}) CliFault) → HasConversedTo remaining written contents side before after set (Ok tt) → AreSound after.reader after.writer
+        → Wrote contents (HeldMakes set) before.output after.output result → OnOk result (after.set ≡ set) → IfErr result (LendLeaves set after.set) → Swapped remaining written contents side before after result
+    swapped set result conversed sound wrote held left = record {
+      written = swap_written set result conversed sound wrote.written held;
+      refused = swap_not_written set result conversed sound wrote.refused left;
+      reader_stays = reader_stays;
+      writer_stays = writer_stays;
+      output_stays = wrote.stays;
+    }
+
+    pub stopped : (fault : SyncFault) → HasConversed remaining written contents side before after (Err fault) → Blames remaining after.reader after.writer fault → after.output ≡ before.output
+        → Swapped remaining written contents side before after (Err (sync_fault fault))
+    stopped fault conversed blames same = record {
+      written = tt;
+      refused = swap_refused fault conversed blames same;
+      reader_stays = reader_stays;
+      writer_stays = writer_stays;
+      output_stays = λ _. same;
+    }
