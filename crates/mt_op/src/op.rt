@@ -6,6 +6,7 @@ ghost use Rattle.mt_op.specs.Operation.{MoveTrack, Remove};
 ghost use Rattle.mt_op.specs.Needs.{need_of, place_needs, needs_of, needs, fits, names_are_older};
 ghost use Rattle.mt_op.specs.Valid.{IsOperation, length_is_good, fades_are_good, tags_are_good};
 ghost use Rattle.mt_op.specs.Dots.{op_dot};
+ghost use Rattle.mt_op.specs.Writes.{subject};
 
 use crate::body::Body;
 use crate::fault::OpFault;
@@ -150,6 +151,25 @@ impl<A: Allocator> Op<A> {
         ensures valid { IsOperation self.now }
     {
         &self.body
+    }
+
+    /// The item that it adds or names, which is all that it changes.
+    pub fn item(&self) -> Stamp
+        ensures { result ≡ subject self.now.stamp self.now.act }
+    {
+        match &self.body {
+            Body::AddTrack { .. } | Body::AddClip { .. } | Body::AddMarker { .. } => self.stamp,
+            Body::MoveTrack { track, .. } => *track,
+            Body::MoveClip { clip, .. }
+            | Body::TrimClip { clip, .. }
+            | Body::SetFade { clip, .. } => *clip,
+            Body::SetGain { item, .. }
+            | Body::SetMute { item, .. }
+            | Body::Remove { item, .. }
+            | Body::Restore { item }
+            | Body::Retitle { item, .. } => *item,
+            Body::MoveMarker { marker, .. } | Body::SetMarkerLength { marker, .. } => *marker,
+        }
     }
 
     /// How many needs it has: one for each stamp that its body names, so none for an AddMarker and for an AddTrack at

@@ -8,7 +8,7 @@ ghost use Rattle.mt_logtext.specs.LogText.{stamp_word, act_text};
 ghost use Rattle.mt_revert.specs.Revert.{waits, presence_line, field_line, ready_line, last_writer, revert_words, revert_line, revert_lines};
 
 use crate::left::{first_absent, is_there, last_writer, writer_left};
-use crate::taken::{TakenBack, item_of};
+use crate::taken::TakenBack;
 use mt_items::Items;
 use mt_logtext::append_act;
 use mt_op::Body;
@@ -111,7 +111,7 @@ fn append_ready<A: Allocator + Clone, B: Allocator>(
     ensures { OnOk result (string_bytes text.new ≡ string_bytes text.old
         ++ ready_line items.now behind.now taken.now (last_writer log.now items.now taken.now.op) taken.now.back) }
 {
-    let item = item_of(taken.op);
+    let item = taken.op.item();
     let Some(back) = &taken.back else {
         return append_presence(text, taken.present, is_there(items, behind, item), item);
     };
