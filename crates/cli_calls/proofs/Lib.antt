@@ -1,7 +1,6 @@
 pub mod Readers
 pub mod Writing
 pub mod Running
-pub mod Firsts
 pub mod Outlined
 pub mod Recordings
 pub mod Headline

@@ -1,12 +1,10 @@
 //! What a wave file says of itself.
 
-ghost use Rattle.std.specs.Prelude.{◌≡◌, ℕ, IfOk};
-ghost use Rattle.std.specs.BTreeMap.{get};
+ghost use Rattle.std.specs.Prelude.{◌≡◌, map};
 ghost use Rattle.std.specs.Fmt.{decimal};
 ghost use Rattle.std.specs.List.{flat_map};
 ghost use Rattle.std.specs.Option.{option_map, option_copied};
-ghost use Rattle.std.specs.Ordering.{nat_cmp};
-ghost use Rattle.mt_bwfread.specs.Cues.{cues_of, lengths_of, labels_of, first_for};
+ghost use Rattle.mt_bwfread.specs.Cues.{cues_of, cue_text};
 ghost use Rattle.mt_bwfread.specs.Extension.{extension};
 ghost use Rattle.mt_latch.specs.Buffered.{Puts};
 ghost use Rattle.mt_op.specs.Digest.{digest_text};
@@ -14,13 +12,13 @@ ghost use Rattle.cli_calls.specs.Info.{told_text, line, shown_byte, shown, sound
 ghost use Rattle.cli_calls.specs.Writing.{Exactly, Wrote};
 
 use crate::fault::CliFault;
-use mt_bwfread::{Bext, Wave};
+use mt_bwfread::{Bext, Cue, Wave};
 use mt_latch::{BufferedLatch, Latch};
 use mt_op::Digest;
 use mt_outline::Outline;
-use std::alloc::{AllocError, Allocator};
-use std::collections::BTreeMap;
+use std::alloc::Allocator;
 use std::io::Write;
+use text_cues::cues_in;
 
 // Puts a byte of a file's text: as it is, or as `\x` and two digits.
 #[tactic(auto, unfolding(crate::specs::Info::shown_byte))]
@@ -128,76 +126,25 @@ fn put_label<W: Write>(output: &mut BufferedLatch<'_, W>, label: Option<&[u8]>)
 }
 
 // Puts a cue's line.
-fn put_cue<W: Write>(
-    output: &mut BufferedLatch<'_, W>,
-    name: u32,
-    at: u32,
-    frames: Option<u32>,
-    label: Option<&[u8]>,
-)
-    ensures { Puts W.contents output.old output.new
-        (cue_line (record { name = name; at = at; length = frames; label = option_copied label.entry })) }
+fn put_cue<W: Write>(output: &mut BufferedLatch<'_, W>, cue: &Cue<'_>)
+    ensures { Puts W.contents output.old output.new (cue_line (cue_text cue.now)) }
 {
     output.put(b"cue ");
-    output.put_decimal(u64::from(name));
+    output.put_decimal(u64::from(cue.name));
     output.put(b" at ");
-    output.put_decimal(u64::from(at));
-    put_length(output, frames);
-    put_label(output, label);
+    output.put_decimal(u64::from(cue.at));
+    put_length(output, cue.length);
+    put_label(output, cue.label);
     output.put(b"\n");
 }
 
-// The first length of each name.
-fn first_lengths<A: Allocator + Clone>(
-    alloc: A,
-    wave: &Wave<'_>,
-) -> Result<BTreeMap<u32, u32, A>, AllocError>
-    ensures ok { IfOk result (λ lengths. (name : ℕ) → get nat_cmp lengths name ≡ first_for name (lengths_of wave.now)) }
-{
-    let mut lengths = BTreeMap::new(alloc);
-    for said in wave.lengths() {
-        if !lengths.contains_key(&said.name) {
-            lengths.insert(said.name, said.len)?;
-        }
-    }
-    Ok(lengths)
-}
-
-// The first label of each name.
-fn first_labels<'a, A: Allocator + Clone>(
-    alloc: A,
-    wave: &Wave<'a>,
-) -> Result<BTreeMap<u32, &'a [u8], A>, AllocError>
-    ensures ok { IfOk result (λ labels. (name : ℕ) → option_copied (get nat_cmp labels name)
-        ≡ first_for name (labels_of wave.now)) }
-{
-    let mut labels = BTreeMap::new(alloc);
-    for label in wave.labels() {
-        if !labels.contains_key(&label.name) {
-            labels.insert(label.name, label.text)?;
-        }
-    }
-    Ok(labels)
-}
-
-// Puts the lines of the cues.
+// Puts the lines of cues, in order.
 #[tactic(auto, using(mt_latch::proofs::Putting::puts_none))]
-fn put_cues<A: Allocator, W: Write>(
-    output: &mut BufferedLatch<'_, W>,
-    wave: &Wave<'_>,
-    lengths: &BTreeMap<u32, u32, A>,
-    labels: &BTreeMap<u32, &[u8], A>,
-)
-    requires lengths { (name : ℕ) → get nat_cmp lengths.now name ≡ first_for name (lengths_of wave.now) }
-    requires labels { (name : ℕ) → option_copied (get nat_cmp labels.now name) ≡ first_for name (labels_of wave.now) }
-    ensures { Puts W.contents output.old output.new (flat_map cue_line (cues_of wave.now)) }
+fn put_cues<W: Write>(output: &mut BufferedLatch<'_, W>, cues: &[Cue<'_>])
+    ensures { Puts W.contents output.old output.new (flat_map (λ c. cue_line (cue_text c)) cues.now) }
 {
-    for index in 0..wave.cue_count() {
-        if let Some(point) = wave.point(index) {
-            let frames = lengths.get(&point.name).copied();
-            let label = labels.get(&point.name).copied();
-            put_cue(output, point.name, point.at, frames, label);
-        }
+    for cue in cues {
+        put_cue(output, cue);
     }
 }
 
@@ -213,7 +160,7 @@ fn put_cues<A: Allocator, W: Write>(
 /// failed, which then holds a prefix of the text.
 ///
 /// The time is that of hashing the bytes, of a walk each over the chunks for the lengths and the labels, and of the
-/// text: a label stands in it once for each cue point of its name. The memory is that of a map of each.
+/// text: a label stands in it once for each cue point of its name. The memory is that of the list of the cues.
 pub fn write_info<A: Allocator + Clone, W: Write>(
     alloc: A,
     bytes: &[u8],
@@ -254,30 +201,27 @@ fn write_told<A: Allocator + Clone, W: Write>(
 ) -> Result<(), CliFault>
     ensures { Wrote W.contents (Exactly (told_text (digest_text digest) wave.now frames)) output.old output.new result }
 {
-    let lengths = first_lengths(alloc.clone()?, wave)?;
-    let labels = first_labels(alloc.clone()?, wave)?;
+    let cues = cues_in(alloc.clone()?, wave)?;
     let Ok(digits) = digest.text(alloc) else {
         return Err(CliFault::Memory);
     };
-    write_lines(digits.as_str(), wave, frames, &lengths, &labels, output)
+    write_lines(digits.as_str(), wave, frames, &cues, output)
 }
 
-// Writes that text of these digits, lengths and labels.
+// Writes that text of these digits and cues.
 #[tactic(auto, unfolding(mt_latch::specs::Buffered::Puts))]
-fn write_lines<A: Allocator, W: Write>(
+fn write_lines<W: Write>(
     digits: &str,
     wave: &Wave<'_>,
     frames: u64,
-    lengths: &BTreeMap<u32, u32, A>,
-    labels: &BTreeMap<u32, &[u8], A>,
+    cues: &[Cue<'_>],
     output: &mut Latch<W>,
 ) -> Result<(), CliFault>
-    requires lengths { (name : ℕ) → get nat_cmp lengths.now name ≡ first_for name (lengths_of wave.now) }
-    requires labels { (name : ℕ) → option_copied (get nat_cmp labels.now name) ≡ first_for name (labels_of wave.now) }
+    requires cues { map cue_text cues.now ≡ cues_of wave.now }
     ensures { Wrote W.contents (Exactly (told_text digits.now wave.now frames)) output.old output.new result }
 {
     let mut lines = BufferedLatch::new(output);
-    put_lines(&mut lines, digits, wave, frames, lengths, labels);
+    put_lines(&mut lines, digits, wave, frames, cues);
     if lines.flush().is_err() {
         return Err(CliFault::Write);
     }
@@ -285,20 +229,18 @@ fn write_lines<A: Allocator, W: Write>(
 }
 
 // Puts that text.
-fn put_lines<A: Allocator, W: Write>(
+fn put_lines<W: Write>(
     output: &mut BufferedLatch<'_, W>,
     digits: &str,
     wave: &Wave<'_>,
     frames: u64,
-    lengths: &BTreeMap<u32, u32, A>,
-    labels: &BTreeMap<u32, &[u8], A>,
+    cues: &[Cue<'_>],
 )
-    requires lengths { (name : ℕ) → get nat_cmp lengths.now name ≡ first_for name (lengths_of wave.now) }
-    requires labels { (name : ℕ) → option_copied (get nat_cmp labels.now name) ≡ first_for name (labels_of wave.now) }
+    requires cues { map cue_text cues.now ≡ cues_of wave.now }
     ensures { Puts W.contents output.old output.new (told_text digits.now wave.now frames) }
 {
     put_line(output, "digest", digits);
     put_sound(output, wave, frames);
     put_extension(output, wave.bext());
-    put_cues(output, wave, lengths, labels);
+    put_cues(output, cues);
 }

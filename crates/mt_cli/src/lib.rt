@@ -42,10 +42,7 @@
 
 mod base;
 mod commands;
-mod completions;
-mod escape;
 mod files;
-mod manual;
 mod part;
 mod program;
 mod refusal_lines;
@@ -53,7 +50,6 @@ mod refusals;
 mod runtime;
 mod stop;
 mod why;
-mod words;
 
 pub use cli_calls::{
     CliFault, DiffForm, Drawing, InfoForm, InfoUnit, LayFault, Laying, LineForm, PartFault,

@@ -212,7 +212,7 @@ fn of_logs() -> &'static [Words] {
     &OF_LOGS
 }
 
-const OF_LOGS: [Words; 7] = [
+static OF_LOGS: [Words; 7] = [
     view::WORDS,
     log::WORDS,
     timeline::WORDS,
@@ -227,7 +227,7 @@ fn of_sessions() -> &'static [Words] {
     &OF_SESSIONS
 }
 
-const OF_SESSIONS: [Words; 5] = [
+static OF_SESSIONS: [Words; 5] = [
     sources::WORDS,
     find::WORDS,
     diff::WORDS,
@@ -240,7 +240,7 @@ fn of_swaps() -> &'static [Words] {
     &OF_SWAPS
 }
 
-const OF_SWAPS: [Words; 5] = [
+static OF_SWAPS: [Words; 5] = [
     have::WORDS,
     lack::WORDS,
     take::WORDS,
@@ -253,7 +253,7 @@ fn of_others() -> &'static [Words] {
     &OF_OTHERS
 }
 
-const OF_OTHERS: [Words; 6] = [
+static OF_OTHERS: [Words; 6] = [
     info::WORDS,
     lay::WORDS,
     id::WORDS,

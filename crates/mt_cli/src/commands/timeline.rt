@@ -12,6 +12,7 @@ use mt_render::HashedFile;
 use mt_timeline::Lengths;
 use std::io::{Read, Write};
 use std::rt::Files;
+use std::slice;
 
 pub(crate) const WORDS: Words = Words {
     name: "timeline",
@@ -117,7 +118,8 @@ fn draw_input<F: Files + AllocGlobal, R: Read, W: Write>(
         rate,
         recordings: &recordings,
     };
-    draw_logs(rt.alloc(), &how, &mut [in_latch(input)], output)
+    let mut log = in_latch(input);
+    draw_logs(rt.alloc(), &how, slice::from_mut(&mut log), output)
 }
 
 pub(crate) fn run<F: Files + AllocGlobal, R: Read, W: Write>(

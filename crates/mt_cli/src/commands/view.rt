@@ -8,6 +8,7 @@ use cli_words::{AS_JSON, AS_TIMES, TIMES_RATE, Word, Words};
 use mt_latch::Latch;
 use std::io::{Read, Write};
 use std::rt::Files;
+use std::slice;
 
 pub(crate) const WORDS: Words = Words {
     name: "view",
@@ -37,6 +38,9 @@ pub(crate) fn run<F: Files + AllocGlobal, R: Read, W: Write>(
             let mut files = open_all(rt, 0, names)?;
             view_logs_in(rt.alloc(), form, &mut files, output)
         }
-        _ => view_logs_in(rt.alloc(), form, &mut [in_latch(input)], output),
+        _ => {
+            let mut log = in_latch(input);
+            view_logs_in(rt.alloc(), form, slice::from_mut(&mut log), output)
+        }
     }
 }
