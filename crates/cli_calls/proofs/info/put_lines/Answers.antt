@@ -10,5 +10,5 @@ use Rattle.cli_calls.proofs.info.put_lines.Goals as goal
 pub returns : goal.returns
 unfolding Puts
 returns g c =
-    let cues = same_handed g.W.Write.contents (sym (flat_map-map cue_line cue_text c.args.cues.now) ∙ ap (flat_map cue_line) c.requires) c.put_cues.ensures in
+    let cues = same_handed g.W.Write.contents (sym (flat_map-map cue_line cue_text c.args.cues.now) ∙ ap (flat_map cue_line) c.requires.cues) c.put_cues.ensures in
     rw (← c.bext.ensures) (then_handed _ c.put_line.ensures (then_handed _ c.put_sound.ensures (then_handed _ c.put_extension.ensures cues)))
