@@ -1,7 +1,7 @@
 -- A hold-back with its failure, and what a call answers.
 use Rattle.std.specs.Prelude.{Bool, cond, List, [], length}
 use Rattle.mt_stamp.specs.Moment.{Moment}
-use Rattle.mt_holdback.specs.Waiting.{is_ready}
+use Rattle.mt_holdback.specs.Waiting.{Rules, is_ready}
 use Rattle.mt_holdback.specs.HoldBack.{Contents, offered_with}
 use Rattle.mt_holdback.specs.declared.hold_back.Offered.{Offered}
 use Rattle.mt_holdback.specs.declared.hold_back.Offered.TheVariants.{Held, Ready}
@@ -10,7 +10,7 @@ use Rattle.mt_holdback.specs.declared.hold_back.Offered.TheVariants.{Held, Ready
 abbrev pub empty : {T : Type 0} → Contents T
 empty = record { released = []; waiting = [] }
 
-module _ {T R : Type 0} (key : T → Moment) (needs : T → List (Moment × R)) (fits : R → T → Bool) where
+module _ {T R : Type 0} (rules : Rules T R) where
   -- what an offer answers: from where on what was released is new, or that the item is held
   abbrev pub answer : Contents T → T → Offered
-  answer contents t = cond (is_ready key needs fits (offered_with key needs fits contents t) t) (Ready (length contents.released)) Held
+  answer contents t = cond (is_ready rules (offered_with rules contents t) t) (Ready (length contents.released)) Held

@@ -8,7 +8,7 @@ use Rattle.std.specs.Map.{keys_of}
 use Rattle.mt_stamp.specs.Moment.{Moment, stamp_cmp, stamp_eq}
 use Rattle.mt_stampmap.specs.Index.{Finds}
 use Rattle.mt_stampmap.specs.declared.index.StampIndex.{StampIndex}
-use Rattle.mt_holdback.specs.Waiting.{NamesOlder, meets}
+use Rattle.mt_holdback.specs.Waiting.{Rules, NamesOlder, meets}
 use Rattle.mt_holdback.specs.Laws.{is_met_by, passed}
 use Rattle.mt_holdback.specs.Passing.{left}
 use Rattle.mt_holdback.specs.declared.queue.Queue.{Queue}
@@ -38,20 +38,20 @@ abbrev pub passes_at : {T : Type 0} → (T → Bool) → List T → Option ℕ �
 passes_at p items None = false
 passes_at p items (Some i) = passes p (slice_get items i)
 
-module _ {T R : Type 0} (key : T → Moment) (needs : T → List (Moment × R)) (fits : R → T → Bool) where
+module _ {T R : Type 0} (rules : Rules T R) where
   -- whether one of these meets a need
   abbrev pub is_met_in : List T → Moment × R → Bool
-  is_met_in released need = list_any (meets key needs fits need) released
+  is_met_in released need = list_any (meets rules need) released
 
   -- an item's need at a place names this stamp, and is met by none
   pub record LacksAt (released : List T) (t : T) (i : ℕ) (stamp : Moment) : Type 0 where
     pub role : R
-    pub at : slice_get (needs t) i ≡ Some (stamp, role)
+    pub at : slice_get (rules.needs t) i ≡ Some (stamp, role)
     pub unmet : is_met_in released (stamp, role) ≡ false
 
   -- the needs of an item before a place are met
   abbrev pub MetTo : List T → T → ℕ → Type 0
-  MetTo released t i = list_all (is_met_in released) (take i (needs t)) ≡ true
+  MetTo released t i = list_all (is_met_in released) (take i (rules.needs t)) ≡ true
 
   -- the need at which an item stands is met by none, and the item is listed under it
   pub record Lacks (released : List T) (lists : Moment → Moment → Bool) (e : Moment × Waiter T) : Type 0 where
@@ -61,15 +61,15 @@ module _ {T R : Type 0} (key : T → Moment) (needs : T → List (Moment × R)) 
 
   -- one that waits: the needs before the one at which it stands are met, and it is to be looked at or lacks that one
   pub record Stands (released : List T) (lists : Moment → Moment → Bool) (woken : Moment → Bool) (e : Moment × Waiter T) : Type 0 where
-    pub own : e.0 ≡ key e.1.item
-    pub older : NamesOlder (key e.1.item) (needs e.1.item)
-    pub fresh : list_any (λ t. stamp_eq (key t) e.0) released ≡ false
+    pub own : e.0 ≡ rules.key e.1.item
+    pub older : NamesOlder rules e.1.item
+    pub fresh : list_any (λ t. stamp_eq (rules.key t) e.0) released ≡ false
     pub met : MetTo released e.1.item e.1.met
     pub waits : (woken e.0 ≡ true) ⊎ Lacks released lists e
 
   -- each of those that were released is found by its stamp, and each of those that wait lacks a need or is to be looked at
   pub record Works {A : Type 0} (released : List T) (places : StampIndex A) (entries : List (Moment × Waiter T)) (lists : Moment → Moment → Bool) (woken : Moment → Bool) : Type 0 where
-    pub finds : Finds (map key released) places
+    pub finds : Finds (map rules.key released) places
     pub sorted : IsStrictlySortedBy stamp_cmp (keys_of entries)
     pub each : AllByRecursion (Stands released lists woken) entries
 
@@ -79,9 +79,9 @@ module _ {T R : Type 0} (key : T → Moment) (needs : T → List (Moment × R)) 
 
   -- an item that is ready was taken out of those that wait: a pass goes on as if it had come to that item
   pub record Takes (released : List T) (t : T) (before after : List T) : Type 0 where
-    pub passed : passed key needs fits released before ≡ passed key needs fits (released ++ t ∷ []) after
-    pub left : left key needs fits released before ≡ left key needs fits (released ++ t ∷ []) after
+    pub passed : passed rules released before ≡ passed rules (released ++ t ∷ []) after
+    pub left : left rules released before ≡ left rules (released ++ t ∷ []) after
 
   -- a pass over these takes none
   abbrev pub NoneIsMet : List T → List T → Type 0
-  NoneIsMet released waiting = AllByRecursion (λ t. is_met_by key needs fits released t ≡ false) waiting
+  NoneIsMet released waiting = AllByRecursion (λ t. is_met_by rules released t ≡ false) waiting

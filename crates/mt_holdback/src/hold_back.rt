@@ -44,9 +44,9 @@ impl<T: Waits, A: Allocator> Model for HoldBack<T, A> {
 
     ghost view = { λ h. record { contents = record { released = h.released.items; waiting = items_in (λ q. items_of q.items.entries) h.waiting }; failed = h.failed } };
 
-    ghost invariant = { λ h. IsHoldBack T.key_of T.needs_of T.fits_role (record { released = h.released.items; waiting = items_in (λ q. items_of q.items.entries) h.waiting })
+    ghost invariant = { λ h. IsHoldBack T.rules (record { released = h.released.items; waiting = items_in (λ q. items_of q.items.entries) h.waiting })
         × MatchOption h.waiting (h.released.items ≡ [])
-        (λ q. IsQueueOf T.key_of T.needs_of T.fits_role h.released.items q) };
+        (λ q. IsQueueOf T.rules h.released.items q) };
 }
 
 impl<T: Waits + Drop, A: Allocator> HoldBack<T, A> {
@@ -65,7 +65,7 @@ impl<T: Waits + Drop, A: Allocator> HoldBack<T, A> {
 
     /// Whether an item with this key was offered. Never, where the hold-back has failed.
     pub fn knows(&self, key: &Stamp) -> bool
-        ensures { result ≡ knows T.key_of T.needs_of T.fits_role self.now.contents key.now }
+        ensures { result ≡ knows T.rules self.now.contents key.now }
     {
         match &self.waiting {
             Some(queue) => knows_key(&self.released, queue, *key),
@@ -86,7 +86,7 @@ impl<T: Waits + Drop, A: Allocator> HoldBack<T, A> {
     /// The items that were released, in the order in which they were; none where the hold-back has failed.
     pub fn released(&self) -> &[T]
         ensures value { result.now ≡ self.now.contents.released }
-        ensures exact { IsHoldBack T.key_of T.needs_of T.fits_role self.now.contents }
+        ensures exact { IsHoldBack T.rules self.now.contents }
     {
         self.released.as_slice()
     }
@@ -98,16 +98,16 @@ impl<T: Waits + Drop, A: Allocator> HoldBack<T, A> {
     pub fn offer(&mut self, item: T) -> Result<Offered, HoldBackFault>
     where
         A: Clone,
-        requires unknown { knows T.key_of T.needs_of T.fits_role self.old.contents (T.key_of item) ≡ false }
+        requires unknown { knows T.rules self.old.contents (T.rules.key item) ≡ false }
         ensures answered { IfOk result (λ offered. offered
-            ≡ answer T.key_of T.needs_of T.fits_role self.old.contents item) }
+            ≡ answer T.rules self.old.contents item) }
         ensures kept { OnOk result (self.new ≡ record {
-          contents = contents_with T.key_of T.needs_of T.fits_role
+          contents = contents_with T.rules
               self.old.contents item;
           failed = false;
         }) }
-        ensures rising { OnOk result (KeysRise T.key_of T.needs_of T.fits_role
-            (newly_ready T.key_of T.needs_of T.fits_role self.old.contents item)) }
+        ensures rising { OnOk result (KeysRise T.rules
+            (newly_ready T.rules self.old.contents item)) }
         ensures failed { IsErrOf result HoldBackFault.Failed ↔ (self.old.failed ≡ true) }
         ensures unchanged { IsErrOf result HoldBackFault.Failed → self.new ≡ self.old }
         ensures emptied { IsErrOf result HoldBackFault.Memory → self.new ≡ record { contents = empty; failed = true } }
@@ -120,17 +120,17 @@ impl<T: Waits + Drop, A: Allocator> HoldBack<T, A> {
     pub fn offer_met(&mut self, item: T) -> Result<Offered, HoldBackFault>
     where
         A: Clone,
-        requires unknown { knows T.key_of T.needs_of T.fits_role self.old.contents (T.key_of item) ≡ false }
-        requires met { is_met_by T.key_of T.needs_of T.fits_role self.old.contents.released item ≡ true }
+        requires unknown { knows T.rules self.old.contents (T.rules.key item) ≡ false }
+        requires met { is_met_by T.rules self.old.contents.released item ≡ true }
         ensures answered { IfOk result (λ offered. offered
-            ≡ answer T.key_of T.needs_of T.fits_role self.old.contents item) }
+            ≡ answer T.rules self.old.contents item) }
         ensures kept { OnOk result (self.new ≡ record {
-          contents = contents_with T.key_of T.needs_of T.fits_role
+          contents = contents_with T.rules
               self.old.contents item;
           failed = false;
         }) }
-        ensures rising { OnOk result (KeysRise T.key_of T.needs_of T.fits_role
-            (newly_ready T.key_of T.needs_of T.fits_role self.old.contents item)) }
+        ensures rising { OnOk result (KeysRise T.rules
+            (newly_ready T.rules self.old.contents item)) }
         ensures failed { IsErrOf result HoldBackFault.Failed ↔ (self.old.failed ≡ true) }
         ensures unchanged { IsErrOf result HoldBackFault.Failed → self.new ≡ self.old }
         ensures emptied { IsErrOf result HoldBackFault.Memory → self.new ≡ record { contents = empty; failed = true } }
@@ -142,18 +142,18 @@ impl<T: Waits + Drop, A: Allocator> HoldBack<T, A> {
     fn take(&mut self, item: T, is_met: bool) -> Result<Offered, HoldBackFault>
     where
         A: Clone,
-        requires unknown { knows T.key_of T.needs_of T.fits_role self.old.contents (T.key_of item) ≡ false }
-        requires told { IsTrue is_met → is_met_by T.key_of T.needs_of T.fits_role self.old.contents.released item
+        requires unknown { knows T.rules self.old.contents (T.rules.key item) ≡ false }
+        requires told { IsTrue is_met → is_met_by T.rules self.old.contents.released item
             ≡ true }
         ensures answered { IfOk result (λ offered. offered
-            ≡ answer T.key_of T.needs_of T.fits_role self.old.contents item) }
+            ≡ answer T.rules self.old.contents item) }
         ensures kept { OnOk result (self.new ≡ record {
-          contents = contents_with T.key_of T.needs_of T.fits_role
+          contents = contents_with T.rules
               self.old.contents item;
           failed = false;
         }) }
-        ensures rising { OnOk result (KeysRise T.key_of T.needs_of T.fits_role
-            (newly_ready T.key_of T.needs_of T.fits_role self.old.contents item)) }
+        ensures rising { OnOk result (KeysRise T.rules
+            (newly_ready T.rules self.old.contents item)) }
         ensures failed { IsErrOf result HoldBackFault.Failed ↔ (self.old.failed ≡ true) }
         ensures unchanged { IsErrOf result HoldBackFault.Failed → self.new ≡ self.old }
         ensures emptied { IsErrOf result HoldBackFault.Memory → self.new ≡ record { contents = empty; failed = true } }

@@ -25,8 +25,8 @@ fn queue_of<T: Waits + Drop, A: Allocator + Clone>(
     released: &[T],
     waiting: Option<Queue<T, A>>,
 ) -> Result<Queue<T, A>, HoldBackFault>
-    requires { MatchOption waiting (released.now ≡ []) (λ q. IsQueueOf T.key_of T.needs_of T.fits_role released.now q) }
-    ensures works { IfOk result (λ q. IsQueueOf T.key_of T.needs_of T.fits_role released.now q) }
+    requires { MatchOption waiting (released.now ≡ []) (λ q. IsQueueOf T.rules released.now q) }
+    ensures works { IfOk result (λ q. IsQueueOf T.rules released.now q) }
     ensures same { IfOk result (λ q. items_of q.items.entries ≡ items_in (λ q. items_of q.items.entries) waiting) }
 {
     match waiting {
@@ -48,14 +48,14 @@ fn hold<T: Waits + Drop, A: Allocator + Clone>(
     item: T,
     lack: Lack,
 ) -> Result<(), HoldBackFault>
-    requires works { IsQueueOf T.key_of T.needs_of T.fits_role released.now queue.old }
-    requires unknown { knows T.key_of T.needs_of T.fits_role
-        (record { released = released.now; waiting = items_of queue.old.items.entries }) (T.key_of item) ≡ false }
-    requires lacks { MetTo T.key_of T.needs_of T.fits_role released.now item lack.place
-        × LacksAt T.key_of T.needs_of T.fits_role released.now item lack.place lack.stamp }
-    ensures works { OnOk result (IsQueueOf T.key_of T.needs_of T.fits_role released.now queue.new) }
+    requires works { IsQueueOf T.rules released.now queue.old }
+    requires unknown { knows T.rules
+        (record { released = released.now; waiting = items_of queue.old.items.entries }) (T.rules.key item) ≡ false }
+    requires lacks { MetTo T.rules released.now item lack.place
+        × LacksAt T.rules released.now item lack.place lack.stamp }
+    ensures works { OnOk result (IsQueueOf T.rules released.now queue.new) }
     ensures queued { OnOk result (items_of queue.new.items.entries
-        ≡ queued T.key_of T.needs_of T.fits_role item (items_of queue.old.items.entries)) }
+        ≡ queued T.rules item (items_of queue.old.items.entries)) }
 {
     let key = item.key();
     put_under(alloc, &mut queue.lacking, lack.stamp, key)?;
@@ -71,11 +71,11 @@ fn lack_of<T: Waits, A: Allocator>(
     item: &T,
     is_met: bool,
 ) -> Option<Lack>
-    requires finds { Finds (map T.key_of released.now) places.now }
-    requires told { IsTrue is_met → is_met_by T.key_of T.needs_of T.fits_role released.now item.now ≡ true }
-    ensures { MatchOption result (is_met_by T.key_of T.needs_of T.fits_role released.now item.now ≡ true)
-        (λ lack. MetTo T.key_of T.needs_of T.fits_role released.now item.now lack.place
-        × LacksAt T.key_of T.needs_of T.fits_role released.now item.now lack.place lack.stamp) }
+    requires finds { Finds (map T.rules.key released.now) places.now }
+    requires told { IsTrue is_met → is_met_by T.rules released.now item.now ≡ true }
+    ensures { MatchOption result (is_met_by T.rules released.now item.now ≡ true)
+        (λ lack. MetTo T.rules released.now item.now lack.place
+        × LacksAt T.rules released.now item.now lack.place lack.stamp) }
 {
     if is_met {
         return None;
@@ -92,21 +92,21 @@ fn admit<T: Waits + Drop, A: Allocator + Clone>(
     item: T,
     is_met: bool,
 ) -> Result<(), HoldBackFault>
-    requires rule { IsHoldBack T.key_of T.needs_of T.fits_role
+    requires rule { IsHoldBack T.rules
         (record { released = released.old.items; waiting = items_of queue.old.items.entries }) }
-    requires works { IsQueueOf T.key_of T.needs_of T.fits_role released.old.items queue.old }
-    requires unknown { knows T.key_of T.needs_of T.fits_role
-        (record { released = released.old.items; waiting = items_of queue.old.items.entries }) (T.key_of item)
+    requires works { IsQueueOf T.rules released.old.items queue.old }
+    requires unknown { knows T.rules
+        (record { released = released.old.items; waiting = items_of queue.old.items.entries }) (T.rules.key item)
         ≡ false }
-    requires told { IsTrue is_met → is_met_by T.key_of T.needs_of T.fits_role released.old.items item ≡ true }
-    ensures older { NamesOlder (T.key_of item) (T.needs_of item) }
-    ensures works { OnOk result (IsQueueOf T.key_of T.needs_of T.fits_role released.new.items queue.new) }
-    ensures passes { OnOk result (passed T.key_of T.needs_of T.fits_role released.old.items
-        (queued T.key_of T.needs_of T.fits_role item (items_of queue.old.items.entries))
-        ≡ passed T.key_of T.needs_of T.fits_role released.new.items (items_of queue.new.items.entries)) }
-    ensures leaves { OnOk result (left T.key_of T.needs_of T.fits_role released.old.items
-        (queued T.key_of T.needs_of T.fits_role item (items_of queue.old.items.entries))
-        ≡ left T.key_of T.needs_of T.fits_role released.new.items (items_of queue.new.items.entries)) }
+    requires told { IsTrue is_met → is_met_by T.rules released.old.items item ≡ true }
+    ensures older { NamesOlder T.rules item }
+    ensures works { OnOk result (IsQueueOf T.rules released.new.items queue.new) }
+    ensures passes { OnOk result (passed T.rules released.old.items
+        (queued T.rules item (items_of queue.old.items.entries))
+        ≡ passed T.rules released.new.items (items_of queue.new.items.entries)) }
+    ensures leaves { OnOk result (left T.rules released.old.items
+        (queued T.rules item (items_of queue.old.items.entries))
+        ≡ left T.rules released.new.items (items_of queue.new.items.entries)) }
 {
     // for the proof: that it names older ones
     let _ = item.key();
@@ -123,27 +123,27 @@ pub(crate) fn take_in<T: Waits + Drop, A: Allocator + Clone>(
     item: T,
     is_met: bool,
 ) -> Result<Queue<T, A>, HoldBackFault>
-    requires rule { IsHoldBack T.key_of T.needs_of T.fits_role
+    requires rule { IsHoldBack T.rules
         (record { released = released.old.items; waiting = items_in (λ q. items_of q.items.entries) waiting }) }
     requires works { MatchOption waiting (released.old.items ≡ [])
-        (λ q. IsQueueOf T.key_of T.needs_of T.fits_role released.old.items q) }
-    requires unknown { knows T.key_of T.needs_of T.fits_role
+        (λ q. IsQueueOf T.rules released.old.items q) }
+    requires unknown { knows T.rules
         (record { released = released.old.items; waiting = items_in (λ q. items_of q.items.entries) waiting })
-        (T.key_of item) ≡ false }
-    requires told { IsTrue is_met → is_met_by T.key_of T.needs_of T.fits_role released.old.items item ≡ true }
+        (T.rules.key item) ≡ false }
+    requires told { IsTrue is_met → is_met_by T.rules released.old.items item ≡ true }
     ensures kept { IfOk result (λ q. record { released = released.new.items; waiting = items_of q.items.entries }
-        ≡ contents_with T.key_of T.needs_of T.fits_role
+        ≡ contents_with T.rules
         (record { released = released.old.items; waiting = items_in (λ q. items_of q.items.entries) waiting }) item) }
-    ensures rule { IfOk result (λ q. IsHoldBack T.key_of T.needs_of T.fits_role
+    ensures rule { IfOk result (λ q. IsHoldBack T.rules
         (record { released = released.new.items; waiting = items_of q.items.entries })) }
-    ensures works { IfOk result (λ q. IsQueueOf T.key_of T.needs_of T.fits_role released.new.items q) }
-    ensures rising { OnOk result (KeysRise T.key_of T.needs_of T.fits_role
-        (newly_ready T.key_of T.needs_of T.fits_role
+    ensures works { IfOk result (λ q. IsQueueOf T.rules released.new.items q) }
+    ensures rising { OnOk result (KeysRise T.rules
+        (newly_ready T.rules
         (record { released = released.old.items; waiting = items_in (λ q. items_of q.items.entries) waiting })
         item)) }
     ensures ready { OnOk result (ltb (length released.old.items) (length released.new.items)
-        ≡ is_ready T.key_of T.needs_of T.fits_role
-        (offered_with T.key_of T.needs_of T.fits_role
+        ≡ is_ready T.rules
+        (offered_with T.rules
         (record { released = released.old.items; waiting = items_in (λ q. items_of q.items.entries) waiting }) item)
         item) }
 {

@@ -8,7 +8,7 @@ use Rattle.mt_holdback.proofs.offer.hold.Goals as goal
 
 pub returns-clause-works : goal.returns-clause-works
 returns-clause-works g c =
-    put_works g.T.Waits.key_of g.T.Waits.needs_of g.T.Waits.fits_role c.args.released.now c.args.queue.now.places c.args.queue.now.items.entries
+    put_works g.T.Waits.rules c.args.released.now c.args.queue.now.places c.args.queue.now.items.entries
     (listed (λ v. v.items) (get stamp_cmp c.args.queue.now.lacking)) (contains stamp_cmp c.args.queue.now.woken) c.args.item c.requires.works c.requires.unknown c.insert.new.self.entries c.args.lack.place
     (c.in_ok-insert.ensures.entries ∙ ap (λ (k : Moment). insert_entry stamp_cmp c.args.queue.now.items.entries k (record { item = c.args.item; met = c.args.lack.place })) c.key-key.ensures.value)
     (listed (λ v. v.items) (get stamp_cmp c.put_under.new.lacking)) c.args.lack.stamp c.key-key.ensures.older c.requires.lacks.0 c.requires.lacks.1 c.in_ok-put_under.ensures.stay
@@ -17,6 +17,6 @@ returns-clause-works g c =
 
 pub returns-clause-queued : goal.returns-clause-queued
 returns-clause-queued g c =
-    put_items g.T.Waits.key_of g.T.Waits.needs_of g.T.Waits.fits_role c.args.released.now c.args.queue.now.places c.args.queue.now.items.entries
+    put_items g.T.Waits.rules c.args.released.now c.args.queue.now.places c.args.queue.now.items.entries
     (listed (λ v. v.items) (get stamp_cmp c.args.queue.now.lacking)) (contains stamp_cmp c.args.queue.now.woken) c.args.item c.requires.works c.requires.unknown c.insert.new.self.entries c.args.lack.place
     (c.in_ok-insert.ensures.entries ∙ ap (λ (k : Moment). insert_entry stamp_cmp c.args.queue.now.items.entries k (record { item = c.args.item; met = c.args.lack.place })) c.key-key.ensures.value)

@@ -11,4 +11,4 @@ loop-i-preserved g c = c.in_default.ensures c.loop-i.invariant
 
 pub returns : goal.returns
 returns g c =
-    all_past (is_met_in g.T.Waits.key_of g.T.Waits.needs_of g.T.Waits.fits_role c.args.released.now) (g.T.Waits.needs_of c.args.item.now) c.loop-i.i (omega (arith, c.loop-i-test.false, c.need_count-i-end.ensures)) c.loop-i.invariant
+    all_past (is_met_in g.T.Waits.rules c.args.released.now) (g.T.Waits.rules.needs c.args.item.now) c.loop-i.i (omega (arith, c.loop-i-test.false, c.need_count-i-end.ensures)) c.loop-i.invariant

@@ -16,7 +16,7 @@ loop-key-smaller-in_default-remove g c = omega (arith, c.in-Some.ensures.fewer)
 
 pub loop-key-preserved-in_default-remove : goal.loop-key-preserved-in_default-remove
 loop-key-preserved-in_default-remove g c = record {
-  works = pop_absent g.T.Waits.key_of g.T.Waits.needs_of g.T.Waits.fits_role c.args.released.now c.loop-key.queue.places c.loop-key.queue.items.entries c.remove.new.self.entries
+  works = pop_absent g.T.Waits.rules c.args.released.now c.loop-key.queue.places c.loop-key.queue.items.entries c.remove.new.self.entries
       (listed (λ v. v.items) (get stamp_cmp c.loop-key.queue.lacking)) (contains stamp_cmp c.loop-key.queue.woken) (contains stamp_cmp c.next_woken.new.woken) c.in-Some.key
       c.loop-key.invariant.works c.in-Some.ensures.removed (sym c.remove.ensures.value ∙ c.in_default-remove.is) c.in_default-remove.ensures.unchanged;
   same = ap items_of c.in_default-remove.ensures.unchanged ∙ c.loop-key.invariant.same;
@@ -27,33 +27,33 @@ first_lack-requires-clause-finds g c = c.loop-key.invariant.works.finds
 
 pub first_lack-requires-clause-met : goal.first_lack-requires-clause-met
 first_lack-requires-clause-met g c =
-    (stood g.T.Waits.key_of g.T.Waits.needs_of g.T.Waits.fits_role c.args.released.now c.loop-key.queue.places c.loop-key.queue.items.entries c.remove.new.self.entries
+    (stood g.T.Waits.rules c.args.released.now c.loop-key.queue.places c.loop-key.queue.items.entries c.remove.new.self.entries
     (listed (λ v. v.items) (get stamp_cmp c.loop-key.queue.lacking)) (contains stamp_cmp c.loop-key.queue.woken) (contains stamp_cmp c.next_woken.new.woken) c.in-Some.key c.in-Some-remove.waiter
     c.loop-key.invariant.works c.in-Some.ensures.removed (sym c.remove.ensures.value ∙ c.in-Some-remove.is) c.remove.ensures.entries c.remove.ensures.ordered).met
 
 pub returns-in-None-clause-works : goal.returns-in-None-clause-works
 returns-in-None-clause-works g c =
-    pop_works g.T.Waits.key_of g.T.Waits.needs_of g.T.Waits.fits_role c.args.released.now c.loop-key.queue.places c.loop-key.queue.items.entries c.remove.new.self.entries
+    pop_works g.T.Waits.rules c.args.released.now c.loop-key.queue.places c.loop-key.queue.items.entries c.remove.new.self.entries
     (listed (λ v. v.items) (get stamp_cmp c.loop-key.queue.lacking)) (contains stamp_cmp c.loop-key.queue.woken) (contains stamp_cmp c.next_woken.new.woken) c.in-Some.key c.in-Some-remove.waiter
     c.loop-key.invariant.works c.in-Some.ensures.removed (sym c.remove.ensures.value ∙ c.in-Some-remove.is) c.remove.ensures.entries c.remove.ensures.ordered
 
 pub returns-in-None-clause-takes : goal.returns-in-None-clause-takes
 returns-in-None-clause-takes g c =
-    subst (λ (before : List g.row.T.Denot). Takes g.T.Waits.key_of g.T.Waits.needs_of g.T.Waits.fits_role c.args.released.now c.in-Some-remove.waiter.item before (items_of c.remove.new.self.entries)) c.loop-key.invariant.same
-    (pop_takes g.T.Waits.key_of g.T.Waits.needs_of g.T.Waits.fits_role c.args.released.now c.loop-key.queue.places c.loop-key.queue.items.entries c.remove.new.self.entries
+    subst (λ (before : List g.row.T.Denot). Takes g.T.Waits.rules c.args.released.now c.in-Some-remove.waiter.item before (items_of c.remove.new.self.entries)) c.loop-key.invariant.same
+    (pop_takes g.T.Waits.rules c.args.released.now c.loop-key.queue.places c.loop-key.queue.items.entries c.remove.new.self.entries
     (listed (λ v. v.items) (get stamp_cmp c.loop-key.queue.lacking)) (contains stamp_cmp c.loop-key.queue.woken) (contains stamp_cmp c.next_woken.new.woken) c.in-Some.key c.in-Some-remove.waiter
     c.loop-key.invariant.works c.in-Some.ensures.removed (sym c.remove.ensures.value ∙ c.in-Some-remove.is) c.remove.ensures.entries c.remove.ensures.ordered
     c.in-Some.ensures.least c.in-None.ensures)
 
 pub returns-in-None-clause-fresh : goal.returns-in-None-clause-fresh
 returns-in-None-clause-fresh g c =
-    pop_fresh g.T.Waits.key_of g.T.Waits.needs_of g.T.Waits.fits_role c.args.released.now c.loop-key.queue.places c.loop-key.queue.items.entries c.remove.new.self.entries
+    pop_fresh g.T.Waits.rules c.args.released.now c.loop-key.queue.places c.loop-key.queue.items.entries c.remove.new.self.entries
     (listed (λ v. v.items) (get stamp_cmp c.loop-key.queue.lacking)) (contains stamp_cmp c.loop-key.queue.woken) (contains stamp_cmp c.next_woken.new.woken) c.in-Some.key c.in-Some-remove.waiter
     c.loop-key.invariant.works c.in-Some.ensures.removed (sym c.remove.ensures.value ∙ c.in-Some-remove.is) c.remove.ensures.entries c.remove.ensures.ordered
 
 pub returns-in-None-clause-others : goal.returns-in-None-clause-others
 returns-in-None-clause-others g c =
-    pop_others g.T.Waits.key_of g.T.Waits.needs_of g.T.Waits.fits_role c.args.released.now c.loop-key.queue.places c.loop-key.queue.items.entries c.remove.new.self.entries
+    pop_others g.T.Waits.rules c.args.released.now c.loop-key.queue.places c.loop-key.queue.items.entries c.remove.new.self.entries
     (listed (λ v. v.items) (get stamp_cmp c.loop-key.queue.lacking)) (contains stamp_cmp c.loop-key.queue.woken) (contains stamp_cmp c.next_woken.new.woken) c.in-Some.key c.in-Some-remove.waiter
     c.loop-key.invariant.works c.in-Some.ensures.removed (sym c.remove.ensures.value ∙ c.in-Some-remove.is) c.remove.ensures.entries c.remove.ensures.ordered
 
@@ -64,13 +64,13 @@ returns-in-None-clause-shorter g c =
 
 pub loop-key-preserved-in_ok-insert-in-Some-first_lack : goal.loop-key-preserved-in_ok-insert-in-Some-first_lack
 loop-key-preserved-in_ok-insert-in-Some-first_lack g c = record {
-  works = held_works g.T.Waits.key_of g.T.Waits.needs_of g.T.Waits.fits_role c.args.released.now c.loop-key.queue.places c.loop-key.queue.items.entries c.remove.new.self.entries
+  works = held_works g.T.Waits.rules c.args.released.now c.loop-key.queue.places c.loop-key.queue.items.entries c.remove.new.self.entries
       (listed (λ v. v.items) (get stamp_cmp c.loop-key.queue.lacking)) (contains stamp_cmp c.loop-key.queue.woken) (contains stamp_cmp c.next_woken.new.woken) c.in-Some.key c.in-Some-remove.waiter
       c.loop-key.invariant.works c.in-Some.ensures.removed (sym c.remove.ensures.value ∙ c.in-Some-remove.is) c.remove.ensures.entries c.remove.ensures.ordered
       (listed (λ v. v.items) (get stamp_cmp c.put_under.new.lacking)) (record { item = c.in-Some-remove.waiter.item; met = c.in-Some-first_lack.lack.place }) c.insert.new.self.entries c.in-Some-first_lack.lack.stamp refl
       c.in-Some-first_lack.ensures.0 c.in-Some-first_lack.ensures.1 c.in_ok-put_under-in-Some-first_lack.ensures.stay c.in_ok-put_under-in-Some-first_lack.ensures.there
       c.in_ok-insert-in-Some-first_lack.ensures.entries c.insert.ensures.ordered;
-  same = held_same g.T.Waits.key_of g.T.Waits.needs_of g.T.Waits.fits_role c.args.released.now c.loop-key.queue.places c.loop-key.queue.items.entries c.remove.new.self.entries
+  same = held_same g.T.Waits.rules c.args.released.now c.loop-key.queue.places c.loop-key.queue.items.entries c.remove.new.self.entries
       (listed (λ v. v.items) (get stamp_cmp c.loop-key.queue.lacking)) (contains stamp_cmp c.loop-key.queue.woken) (contains stamp_cmp c.next_woken.new.woken) c.in-Some.key c.in-Some-remove.waiter
       c.loop-key.invariant.works c.in-Some.ensures.removed (sym c.remove.ensures.value ∙ c.in-Some-remove.is) c.remove.ensures.entries c.remove.ensures.ordered
       (record { item = c.in-Some-remove.waiter.item; met = c.in-Some-first_lack.lack.place }) c.insert.new.self.entries refl c.in_ok-insert-in-Some-first_lack.ensures.entries
@@ -82,13 +82,13 @@ loop-key-smaller g c = omega (arith, c.in-Some.ensures.fewer)
 
 pub loop-key-preserved : goal.loop-key-preserved
 loop-key-preserved g c = record {
-  works = held_works g.T.Waits.key_of g.T.Waits.needs_of g.T.Waits.fits_role c.args.released.now c.loop-key.queue.places c.loop-key.queue.items.entries c.remove.new.self.entries
+  works = held_works g.T.Waits.rules c.args.released.now c.loop-key.queue.places c.loop-key.queue.items.entries c.remove.new.self.entries
       (listed (λ v. v.items) (get stamp_cmp c.loop-key.queue.lacking)) (contains stamp_cmp c.loop-key.queue.woken) (contains stamp_cmp c.next_woken.new.woken) c.in-Some.key c.in-Some-remove.waiter
       c.loop-key.invariant.works c.in-Some.ensures.removed (sym c.remove.ensures.value ∙ c.in-Some-remove.is) c.remove.ensures.entries c.remove.ensures.ordered
       (listed (λ v. v.items) (get stamp_cmp c.put_under.new.lacking)) (record { item = c.in-Some-remove.waiter.item; met = c.in-Some-first_lack.lack.place }) c.insert.new.self.entries c.in-Some-first_lack.lack.stamp refl
       c.in-Some-first_lack.ensures.0 c.in-Some-first_lack.ensures.1 c.in_ok-put_under-in-Some-first_lack.ensures.stay c.in_ok-put_under-in-Some-first_lack.ensures.there
       c.in_ok-insert-in-Some-first_lack.ensures.entries c.insert.ensures.ordered;
-  same = held_same g.T.Waits.key_of g.T.Waits.needs_of g.T.Waits.fits_role c.args.released.now c.loop-key.queue.places c.loop-key.queue.items.entries c.remove.new.self.entries
+  same = held_same g.T.Waits.rules c.args.released.now c.loop-key.queue.places c.loop-key.queue.items.entries c.remove.new.self.entries
       (listed (λ v. v.items) (get stamp_cmp c.loop-key.queue.lacking)) (contains stamp_cmp c.loop-key.queue.woken) (contains stamp_cmp c.next_woken.new.woken) c.in-Some.key c.in-Some-remove.waiter
       c.loop-key.invariant.works c.in-Some.ensures.removed (sym c.remove.ensures.value ∙ c.in-Some-remove.is) c.remove.ensures.entries c.remove.ensures.ordered
       (record { item = c.in-Some-remove.waiter.item; met = c.in-Some-first_lack.lack.place }) c.insert.new.self.entries refl c.in_ok-insert-in-Some-first_lack.ensures.entries
@@ -96,7 +96,7 @@ loop-key-preserved g c = record {
 }
 
 pub returns-clause-works : goal.returns-clause-works
-returns-clause-works g c = asleep_works g.T.Waits.key_of g.T.Waits.needs_of g.T.Waits.fits_role c.args.released.now c.loop-key.queue.places c.loop-key.queue.items.entries
+returns-clause-works g c = asleep_works g.T.Waits.rules c.args.released.now c.loop-key.queue.places c.loop-key.queue.items.entries
     (listed (λ v. v.items) (get stamp_cmp c.loop-key.queue.lacking)) c.loop-key.queue.woken.keys c.next_woken.new.woken.keys c.in_default.ensures.unchanged c.loop-key.invariant.works
 
 pub returns-clause-same : goal.returns-clause-same
@@ -104,5 +104,5 @@ returns-clause-same g c = c.loop-key.invariant.same
 
 pub returns-clause-none : goal.returns-clause-none
 returns-clause-none g c =
-    none_is_met g.T.Waits.key_of g.T.Waits.needs_of g.T.Waits.fits_role c.args.released.now (listed (λ v. v.items) (get stamp_cmp c.loop-key.queue.lacking)) (contains stamp_cmp c.loop-key.queue.woken)
+    none_is_met g.T.Waits.rules c.args.released.now (listed (λ v. v.items) (get stamp_cmp c.loop-key.queue.lacking)) (contains stamp_cmp c.loop-key.queue.woken)
     (none_to_look_at c.loop-key.queue.woken.keys c.in_default.ensures.empty) c.loop-key.queue.items.entries c.loop-key.invariant.works.each

@@ -7,7 +7,7 @@ use Rattle.mt_holdback.proofs.queue.next_ready.Given as goal
 
 abbrev pub invariant-loop-key : goal.invariant-loop-key
 invariant-loop-key g l = record {
-  works : Works g.T.Waits.key_of g.T.Waits.needs_of g.T.Waits.fits_role l.released l.queue.places l.queue.items.entries (listed (λ v. v.items) (get stamp_cmp l.queue.lacking)) (contains stamp_cmp l.queue.woken);
+  works : Works g.T.Waits.rules l.released l.queue.places l.queue.items.entries (listed (λ v. v.items) (get stamp_cmp l.queue.lacking)) (contains stamp_cmp l.queue.woken);
   same : items_of l.queue.items.entries ≡ items_of l.initial.queue.items.entries;
 }
 

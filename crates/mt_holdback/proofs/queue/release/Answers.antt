@@ -9,8 +9,8 @@ use Rattle.mt_holdback.proofs.queue.release.Goals as goal
 
 pub returns-clause-works : goal.returns-clause-works
 returns-clause-works g c =
-    let key : c.key-key.result ≡ g.T.Waits.key_of c.args.item = c.key-key.ensures.value in
-    release_works g.T.Waits.key_of g.T.Waits.needs_of g.T.Waits.fits_role c.args.released.now.items c.args.item
+    let key : c.key-key.result ≡ g.T.Waits.rules.key c.args.item = c.key-key.ensures.value in
+    release_works g.T.Waits.rules c.args.released.now.items c.args.item
     (listed (λ v. v.items) (get stamp_cmp c.args.queue.now.lacking)) (listed (λ v. v.items) (get stamp_cmp c.wake.new.lacking)) (contains stamp_cmp c.args.queue.now.woken) (contains stamp_cmp c.wake.new.woken)
     (λ s q differs. c.in_ok-wake.ensures.others s q (ap (stamp_eq s) key ∙ differs))
     (λ q under. c.in_ok-wake.ensures.woken q (ap (λ (s : Moment). listed (λ v. v.items) (get stamp_cmp c.args.queue.now.lacking) s q) key ∙ under))

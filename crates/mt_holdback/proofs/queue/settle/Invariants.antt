@@ -9,9 +9,9 @@ use Rattle.mt_holdback.proofs.queue.settle.Given as goal
 
 abbrev pub invariant-loop-item : goal.invariant-loop-item
 invariant-loop-item g l = record {
-  works : Works g.T.Waits.key_of g.T.Waits.needs_of g.T.Waits.fits_role l.released.items l.queue.places l.queue.items.entries (listed (λ v. v.items) (get stamp_cmp l.queue.lacking)) (contains stamp_cmp l.queue.woken);
-  passed : passed g.T.Waits.key_of g.T.Waits.needs_of g.T.Waits.fits_role l.initial.released.items (items_of l.initial.queue.items.entries) ≡ passed g.T.Waits.key_of g.T.Waits.needs_of g.T.Waits.fits_role l.released.items (items_of l.queue.items.entries);
-  left : left g.T.Waits.key_of g.T.Waits.needs_of g.T.Waits.fits_role l.initial.released.items (items_of l.initial.queue.items.entries) ≡ left g.T.Waits.key_of g.T.Waits.needs_of g.T.Waits.fits_role l.released.items (items_of l.queue.items.entries);
+  works : Works g.T.Waits.rules l.released.items l.queue.places l.queue.items.entries (listed (λ v. v.items) (get stamp_cmp l.queue.lacking)) (contains stamp_cmp l.queue.woken);
+  passed : passed g.T.Waits.rules l.initial.released.items (items_of l.initial.queue.items.entries) ≡ passed g.T.Waits.rules l.released.items (items_of l.queue.items.entries);
+  left : left g.T.Waits.rules l.initial.released.items (items_of l.initial.queue.items.entries) ≡ left g.T.Waits.rules l.released.items (items_of l.queue.items.entries);
 }
 
 abbrev pub decreases-loop-item : goal.decreases-loop-item
