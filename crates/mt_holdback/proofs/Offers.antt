@@ -1,6 +1,6 @@
 -- What an item that is offered changes in a hold-back.
 use Rattle.std.proofs.Common.{◌≡◌, ℕ, suc, ◌+◌, ◌<◌, ◌≤◌, Bool, true, false, not, cond, ◌||◌, List, [], ◌∷◌, ◌++◌, filter, refl, sym, ap, ◌∙◌, subst, arith, true≢false, lt-ltb, le-ltb, ◌&&◌, append_assoc}
-use Rattle.std.specs.Prelude.{insert, ltb, length, Result, Ok, Err, OnOk}
+use Rattle.std.specs.Prelude.{insert, ltb, length, Option, Some, Result, Ok, Err, OnOk}
 use Rattle.std.specs.List.{AllByRecursion, list_all, list_any, prefix_len}
 use Rattle.std.specs.Ordering.{is_lt, ordering_reverse, ordering_then, nat_cmp, MatchOrdering}
 use Rattle.std.specs.declared.cmp.Ordering.{Ordering}
@@ -13,16 +13,25 @@ use Rattle.mt_stamp.specs.Moment.{Moment, stamp_cmp, stamp_eq}
 use Rattle.mt_stamp.proofs.Order.{stamp_cmp_total, stamp_cmp-IsAntisymmetric, stamp_eq-itself}
 use Rattle.mt_holdback.specs.Waiting.{Rules, NamesOlder, clock_of, meets, is_ready, AllNameOlder}
 use Rattle.mt_holdback.specs.Laws.{is_met_by, passed, ClocksRise}
-use Rattle.mt_holdback.specs.Passing.{left}
-use Rattle.mt_holdback.specs.Queue.{Takes, NoneIsMet}
-use Rattle.mt_holdback.specs.HoldBack.{Contents, offered, knows, KeysRise, queued, offered_with, newly_ready, contents_with, IsHoldBack, OfferKeepsTheRule, OfferedStays, HeldReleasesNothing}
+use Rattle.mt_holdback.specs.Passing.{left, after_pass}
+use Rattle.mt_holdback.specs.Queue.{contents_of, IsQueueOf, TakenIn, Takes, NoneIsMet}
+use Rattle.mt_holdback.specs.Value.{HoldBackValue}
+use Rattle.mt_holdback.specs.Offering.{answer, OfferGives}
+use Rattle.mt_holdback.specs.declared.hold_back.Offered.{Offered}
+use Rattle.mt_holdback.specs.declared.hold_back.Offered.TheVariants.{Held, Ready}
+use Rattle.mt_holdback.specs.declared.queue.Queue.{Queue}
+use Rattle.mt_holdback.specs.HoldBack.{Contents, offered, knows, KeysRise, queued, with_queued, offered_with, newly_ready, contents_with, IsHoldBack, OfferKeepsTheRule, OfferedStays, HeldReleasesNothing}
 use Rattle.mt_holdback.proofs.Readiness.{held_changes_nothing, one_pass_finds_all, one_pass_leaves, met_is_ready, named_later, filter_push, filter_whole}
 use Rattle.mt_holdback.proofs.Listings.{IsWithin, or_left, or_middle, any_append, any_parts, ready_within, ready_same}
 
--- what follows from two facts that an `Ok` brings
+-- what follows from the facts that an `Ok` brings
 pub on_both : {X E P Q S : Type 0} (r : Result X E) → (P → Q → S) → OnOk r P → OnOk r Q → OnOk r S
 on_both (Ok x) gives p q = gives p q
 on_both (Err e) gives p q = tt
+
+pub on_three : {X E P Q S U : Type 0} (r : Result X E) → (P → Q → S → U) → OnOk r P → OnOk r Q → OnOk r S → OnOk r U
+on_three (Ok x) gives p q s = gives p q s
+on_three (Err e) gives p q s = tt
 
 turned : (a : Bool) → not a ≡ true → a ≡ false
 turned true h = sym h
@@ -245,7 +254,7 @@ module _ {T R : Type 0} (rules : Rules T R) where
 
   -- a pass over the queue releases what is newly ready, and leaves the others
   pub a_pass_keeps : (contents : Contents T) (t : T) → IsHoldBack rules contents → knows rules contents (rules.key t) ≡ false → NamesOlder rules t
-      → record { released = passed rules contents.released (queued rules t contents.waiting); waiting = left rules contents.released (queued rules t contents.waiting) } ≡ contents_with rules contents t
+      → after_pass rules (with_queued rules contents t) ≡ contents_with rules contents t
   a_pass_keeps contents t is fresh names_older =
       let q : List T = queued rules t contents.waiting in
       let P : T → Type 0 = λ u. NamesOlder rules u in
@@ -276,21 +285,29 @@ module _ {T R : Type 0} (rules : Rules T R) where
       by true e = longer contents.released (queued rules t contents.waiting) (is_ready rules (offered_with rules contents t)) (any_queued (is_ready rules (offered_with rules contents t)) t contents.waiting ∙ ap (λ (b : Bool). b || list_any (is_ready rules (offered_with rules contents t)) contents.waiting) e)
       by false e = ap (λ (k : Contents T). ltb (length contents.released) (length k.released)) (held_releases_nothing contents t is names_older e) ∙ le-ltb (length contents.released) (length contents.released) (omega arith)
 
-  -- The same, from what the steps of an offer leave.
-  pub taken_in : (contents : Contents T) (t : T) (queue before released still : List T) → IsHoldBack rules contents → knows rules contents (rules.key t) ≡ false → NamesOlder rules t
-      → queue ≡ queued rules t contents.waiting → before ≡ [] → released ≡ passed rules contents.released queue → still ≡ before ++ left rules contents.released queue
-      → record { released = released; waiting = still } ≡ contents_with rules contents t
-  taken_in contents t queue before released still is fresh names_older is_queue is_empty is_released is_still =
-      (λ i. record { released = is_released i; waiting = (is_still ∙ ap (λ (xs : List T). xs ++ left rules contents.released queue) is_empty) i })
-      ∙ (λ i. record { released = passed rules contents.released (is_queue i); waiting = left rules contents.released (is_queue i) })
-      ∙ a_pass_keeps contents t is fresh names_older
+  -- the same, from what the steps of an offer leave
+  pub taken_in : {A : Type 0} (contents : Contents T) (t : T) (released : List T) (queue : Queue T A) → IsHoldBack rules contents → knows rules contents (rules.key t) ≡ false → NamesOlder rules t
+      → contents_of released (Some queue) ≡ after_pass rules (with_queued rules contents t) → IsQueueOf rules released queue → TakenIn rules contents t released queue
+  taken_in contents t released queue is fresh names_older passed works =
+      let kept = passed ∙ a_pass_keeps contents t is fresh names_older in record {
+        kept = kept;
+        order = record { rule = subst (IsHoldBack rules) (sym kept) (offer_keeps_the_rule contents t is fresh names_older); works = works };
+        rising = newly_ready_rises contents t is fresh;
+        ready = ap (λ (k : Contents T). ltb (length contents.released) (length k.released)) kept ∙ released_more contents t is names_older;
+      }
 
-  pub rule_of : (contents after : Contents T) (t : T) → IsHoldBack rules contents → knows rules contents (rules.key t) ≡ false → NamesOlder rules t → after ≡ contents_with rules contents t → IsHoldBack rules after
-  rule_of contents after t is fresh names_older is_after = subst (IsHoldBack rules) (sym is_after) (offer_keeps_the_rule contents t is fresh names_older)
-
-  pub ready_of : (contents after : Contents T) (t : T) → IsHoldBack rules contents → NamesOlder rules t → after ≡ contents_with rules contents t
-      → ltb (length contents.released) (length after.released) ≡ is_ready rules (offered_with rules contents t) t
-  ready_of contents after t is names_older is_after = ap (λ (k : Contents T). ltb (length contents.released) (length k.released)) is_after ∙ released_more contents t is names_older
+  -- what an offer answers and leaves, from the item that was taken in and how many were released before and after
+  pub told_of : {A : Type 0} {before : HoldBackValue T} {t : T} {released released' : List T} {queue : Queue T A} {failed : Bool} {m n : ℕ} {offered : Offered}
+      → (waiting : Option (Queue T A)) → record { contents = contents_of released waiting; failed = failed } ≡ before → failed ≡ false → offered ≡ cond (ltb m n) (Ready m) Held → m ≡ length released → n ≡ length released'
+      → TakenIn rules (contents_of released waiting) t released' queue → OfferGives rules before (record { contents = contents_of released' (Some queue); failed = failed }) t (Ok offered)
+  told_of {A} {before} {t} {released} waiting is sound told first last taken = record {
+    answered = told ∙ (λ i. cond (ltb (first i) (last i)) (Ready (first i)) Held) ∙ ap (λ (b : Bool). cond b (Ready (length released)) Held) taken.ready ∙ ap (λ (s : HoldBackValue T). answer rules s.contents t) is;
+    kept = λ i. record { contents = (taken.kept ∙ ap (λ (s : HoldBackValue T). contents_with rules s.contents t) is) i; failed = sound i };
+    rising = subst (λ (s : HoldBackValue T). KeysRise rules (newly_ready rules s.contents t)) is taken.rising;
+    failed = (λ h. cc, λ h. absurd (true≢false (sym h ∙ ap (λ (s : HoldBackValue T). s.failed) (sym is) ∙ sound)));
+    unchanged = λ h. cc;
+    emptied = λ h. cc;
+  }
 
   -- none of those that wait is met by what was released
   none_met : (all : List T) (older : AllNameOlder rules all) (released seen waiting : List T) → all ≡ seen ++ waiting → filter (is_ready rules all) seen ≡ released
@@ -318,6 +335,17 @@ module _ {T R : Type 0} (rules : Rules T R) where
       ∙ or_neither (list_any (meets rules need) released) in
       λ i. one i && not_named released t c above ns older.1 i
 
+  -- what a pass makes of an item and of those behind it, where it is met or not
+  abbrev pub goes_by : List T → T → List T → Bool → Contents T
+  goes_by released t waiting met = record {
+    released = passed rules (cond met (released ++ t ∷ []) released) waiting;
+    waiting = cond met (left rules (released ++ t ∷ []) waiting) (t ∷ left rules released waiting);
+  }
+
+  -- an item waits before those that are left
+  abbrev pub stays_first : T → Contents T → Contents T
+  stays_first t contents = record { released = contents.released; waiting = t ∷ contents.waiting }
+
   -- an item that is met can be released first: a pass goes on over the others as it does with the item among them
   module _ (released : List T) (t : T) (met : is_met_by rules released t ≡ true) where
     is_less : (o : Ordering) → is_lt o ≡ true → o ≡ Less
@@ -326,10 +354,7 @@ module _ {T R : Type 0} (rules : Rules T R) where
     is_less Greater h = absurd (true≢false (sym h))
 
     first : (waiting : List T) → Takes rules released t (t ∷ waiting) waiting
-    first waiting = record {
-      passed = ap (λ (b : Bool). passed rules (cond b (released ++ t ∷ []) released) waiting) met;
-      left = ap (λ (b : Bool). cond b (left rules (released ++ t ∷ []) waiting) (t ∷ left rules released waiting)) met;
-    }
+    first waiting = ap (goes_by released t waiting) met
 
     goes_first : (waiting : List T) → NoneIsMet rules released waiting → AllNameOlder rules waiting → Takes rules released t (queued rules t waiting) waiting
     goes_first [] none older = first []
@@ -341,13 +366,8 @@ module _ {T R : Type 0} (rules : Rules T R) where
         by false is rest = first (u ∷ waiting)
         by true is rest =
             let unmet : is_met_by rules (released ++ t ∷ []) u ≡ false =
-            not_named released t (rules.key u).clock (less_clock (rules.key u) (rules.key t) (is_less (stamp_cmp (rules.key u) (rules.key t)) is)) (rules.needs u) older.0 ∙ none.0 in record {
-              passed = ap (λ (b : Bool). passed rules (cond b (released ++ u ∷ []) released) (queued rules t waiting)) none.0 ∙ rest.passed
-                  ∙ sym (ap (λ (b : Bool). passed rules (cond b ((released ++ t ∷ []) ++ u ∷ []) (released ++ t ∷ [])) waiting) unmet);
-              left = ap (λ (b : Bool). cond b (left rules (released ++ u ∷ []) (queued rules t waiting)) (u ∷ left rules released (queued rules t waiting))) none.0
-                  ∙ ap (λ (us : List T). u ∷ us) rest.left
-                  ∙ sym (ap (λ (b : Bool). cond b (left rules ((released ++ t ∷ []) ++ u ∷ []) waiting) (u ∷ left rules (released ++ t ∷ []) waiting)) unmet);
-            }
+            not_named released t (rules.key u).clock (less_clock (rules.key u) (rules.key t) (is_less (stamp_cmp (rules.key u) (rules.key t)) is)) (rules.needs u) older.0 ∙ none.0 in
+            ap (goes_by released u (queued rules t waiting)) none.0 ∙ ap (stays_first u) rest ∙ sym (ap (goes_by (released ++ t ∷ []) u waiting) unmet)
 
   held_unmet : (contents : Contents T) → IsHoldBack rules contents → NoneIsMet rules contents.released contents.waiting
   held_unmet contents is =

@@ -14,16 +14,18 @@ use Rattle.mt_stamp.proofs.Order.{stamp_cmp_total, stamp_eq-true}
 use Rattle.mt_stampmap.specs.Index.{first_place, other_place, Finds}
 use Rattle.mt_stampmap.specs.declared.index.StampIndex.{StampIndex}
 use Rattle.mt_holdback.specs.Waiting.{Rules, NamesOlder, meets}
-use Rattle.mt_holdback.specs.Laws.{is_met_by, passed}
-use Rattle.mt_holdback.specs.Passing.{left}
-use Rattle.mt_holdback.specs.HoldBack.{queued}
-use Rattle.mt_holdback.specs.Queue.{items_of, is_met_in, LacksAt, MetTo, Lacks, Stands, Works, Takes, NoneIsMet}
+use Rattle.mt_holdback.specs.Laws.{is_met_by}
+use Rattle.mt_holdback.specs.Passing.{after_pass}
+use Rattle.mt_holdback.specs.HoldBack.{knows, queued}
+use Rattle.mt_holdback.specs.Queue.{items_of, contents_of, is_under, is_woken, is_met_in, LacksAt, Lacks, Stands, Works, IsQueueOf, FirstLack, Takes, NoneIsMet, IsApart, TakenOut, NextIs}
+use Rattle.mt_holdback.specs.declared.queue.Lack.{Lack}
+use Rattle.mt_holdback.specs.declared.queue.Queue.{Queue}
 use Rattle.mt_holdback.specs.declared.queue.Waiter.{Waiter}
 use Rattle.mt_holdback.proofs.Entries.{found_key, all_inserted, all_removed, none_found, others_left, reinserted}
-use Rattle.mt_holdback.proofs.Keys.{neither, not_and, same_test, is_same, eq_turned, any_push}
+use Rattle.mt_holdback.proofs.Keys.{on_some, on_none, neither, not_and, same_test, is_same, eq_turned, any_push}
 use Rattle.mt_holdback.proofs.Listings.{all_more, any_append}
 use Rattle.mt_holdback.proofs.Needs.{all_at, one_fails}
-use Rattle.mt_holdback.proofs.Offers.{less_clock, queued_is}
+use Rattle.mt_holdback.proofs.Offers.{less_clock, queued_is, goes_by, stays_first}
 use Rattle.mt_holdback.proofs.Released.{finds_more}
 
 module _ {T R : Type 0} (rules : Rules T R) where
@@ -92,9 +94,6 @@ module _ {T R : Type 0} (rules : Rules T R) where
 
   -- The next one is taken out, and it is met: a pass comes to it first of all that are met.
   module _ (released : List T) (t : T) (k : Moment) (own : k ≡ rules.key t) (met : is_met_by rules released t ≡ true) where
-    passed_over : (ws : List T) (u : T) → is_met_by rules released u ≡ false → passed rules released (u ∷ ws) ≡ passed rules released ws
-    passed_over ws u unmet = ap (λ (b : Bool). passed rules (cond b (released ++ u ∷ []) released) ws) unmet
-
     unmet_both : (lists : Moment → Moment → Bool) (woken : Moment → Bool) (e : Moment × Waiter T) → stamp_cmp e.0 k ≡ Less → ((q : Moment) → woken q ≡ true → is_gt (stamp_cmp k q) ≡ false)
         → Stands rules released lists woken e → (is_met_by rules released e.1.item ≡ false) × (is_met_by rules (released ++ t ∷ []) e.1.item ≡ false)
     unmet_both lists woken e less least stands = by stands.waits
@@ -127,27 +126,16 @@ module _ {T R : Type 0} (rules : Rules T R) where
             → Takes rules released t (e.1.item ∷ items_of es) (items_of (cond b es (e ∷ remove_entry (is_at (stamp_cmp k)) es)))
         by true same h rest =
             let item : e.1.item ≡ t = ap (λ (w : Waiter T). w.item) (same_Some e.1 v h) ∙ is in
-            let is_met : is_met_by rules released e.1.item ≡ true = ap (is_met_by rules released) item ∙ met in record {
-              passed = ap (λ (b : Bool). passed rules (cond b (released ++ e.1.item ∷ []) released) (items_of es)) is_met ∙ ap (λ (u : T). passed rules (released ++ u ∷ []) (items_of es)) item;
-              left = ap (λ (b : Bool). cond b (left rules (released ++ e.1.item ∷ []) (items_of es)) (e.1.item ∷ left rules released (items_of es))) is_met ∙ ap (λ (u : T). left rules (released ++ u ∷ []) (items_of es)) item;
-            }
+            ap (goes_by rules released e.1.item (items_of es)) (ap (is_met_by rules released) item ∙ met) ∙ ap (λ (u : T). after_pass rules (record { released = released ++ u ∷ []; waiting = items_of es })) item
         by false same h rest =
-            let unmet = unmet_both lists woken e (found_key (λ y. stamp_cmp e.0 y ≡ Less) k es v h sorted.0) least all.0 in record {
-              passed = passed_over (items_of es) e.1.item unmet.0 ∙ (rest h).passed
-                  ∙ sym (ap (λ (b : Bool). passed rules (cond b ((released ++ t ∷ []) ++ e.1.item ∷ []) (released ++ t ∷ [])) (items_of (remove_entry (is_at (stamp_cmp k)) es))) unmet.1);
-              left = ap (λ (b : Bool). cond b (left rules (released ++ e.1.item ∷ []) (items_of es)) (e.1.item ∷ left rules released (items_of es))) unmet.0
-                  ∙ ap (λ (us : List T). e.1.item ∷ us) (rest h).left
-                  ∙ sym (ap (λ (b : Bool). cond b (left rules ((released ++ t ∷ []) ++ e.1.item ∷ []) (items_of (remove_entry (is_at (stamp_cmp k)) es))) (e.1.item ∷ left rules (released ++ t ∷ []) (items_of (remove_entry (is_at (stamp_cmp k)) es)))) unmet.1);
-            }
+            let unmet = unmet_both lists woken e (found_key (λ y. stamp_cmp e.0 y ≡ Less) k es v h sorted.0) least all.0 in
+            ap (goes_by rules released e.1.item (items_of es)) unmet.0 ∙ ap (stays_first rules e.1.item) (rest h)
+            ∙ sym (ap (goes_by rules (released ++ t ∷ []) e.1.item (items_of (remove_entry (is_at (stamp_cmp k)) es))) unmet.1)
 
-  -- what is taken of what is not met
-  pub passed_none : (released ws : List T) → NoneIsMet rules released ws → passed rules released ws ≡ released
-  passed_none released [] none = refl
-  passed_none released (u ∷ ws) none = ap (λ (b : Bool). passed rules (cond b (released ++ u ∷ []) released) ws) none.0 ∙ passed_none released ws none.1
-
-  pub left_none : (released ws : List T) → NoneIsMet rules released ws → left rules released ws ≡ ws
-  left_none released [] none = refl
-  left_none released (u ∷ ws) none = ap (λ (b : Bool). cond b (left rules (released ++ u ∷ []) ws) (u ∷ left rules released ws)) none.0 ∙ ap (λ (us : List T). u ∷ us) (left_none released ws none.1)
+  -- a pass over what is not met changes nothing
+  pub passes_none : (released ws : List T) → NoneIsMet rules released ws → after_pass rules (record { released = released; waiting = ws }) ≡ record { released = released; waiting = ws }
+  passes_none released [] none = refl
+  passes_none released (u ∷ ws) none = ap (goes_by rules released u ws) none.0 ∙ ap (stays_first rules u) (passes_none released ws none.1)
 
   -- where none is to be looked at, none is met
   pub none_is_met : (released : List T) (lists : Moment → Moment → Bool) (woken : Moment → Bool) → ((q : Moment) → woken q ≡ false)
@@ -169,55 +157,72 @@ module _ {T R : Type 0} (rules : Rules T R) where
       (record { finds = works.finds; sorted = works.sorted; each = stands_less released lists woken woken' k popped es (none_found k es none) works.each })
 
   -- it waits, and is taken out
-  module _ {A : Type 0} (released : List T) (places : StampIndex A) (es fs : List (Moment × Waiter T)) (lists : Moment → Moment → Bool) (woken woken' : Moment → Bool) (k : Moment) (v : Waiter T)
-      (works : Works rules released places es lists woken) (popped : (q : Moment) → woken' q ≡ cond (is_eq (stamp_cmp k q)) false (woken q)) (found : lookup (is_at (stamp_cmp k)) es ≡ Some v)
-      (taken_out : fs ≡ remove_entry (is_at (stamp_cmp k)) es) (sorted : IsStrictlySortedBy stamp_cmp (keys_of fs)) where
+  pub record IsOut {A : Type 0} (released : List T) (places : StampIndex A) (es fs : List (Moment × Waiter T)) (lists : Moment → Moment → Bool) (woken woken' : Moment → Bool) (k : Moment) (v : Waiter T) : Type 0 where
+    pub works : Works rules released places es lists woken
+    pub popped : (q : Moment) → woken' q ≡ cond (is_eq (stamp_cmp k q)) false (woken q)
+    pub found : lookup (is_at (stamp_cmp k)) es ≡ Some v
+    pub gone : fs ≡ remove_entry (is_at (stamp_cmp k)) es
+    pub sorted : IsStrictlySortedBy stamp_cmp (keys_of fs)
+
+  module _ {A : Type 0} {released : List T} {places : StampIndex A} {es fs : List (Moment × Waiter T)} {lists : Moment → Moment → Bool} {woken woken' : Moment → Bool} {k : Moment} {v : Waiter T}
+      (out : IsOut released places es fs lists woken woken' k v) where
     pub stood : Stands rules released lists woken (k, v)
-    stood = stands_at released lists woken k es v found works.each
+    stood = stands_at released lists woken k es v out.found out.works.each
 
     pub pop_works : Works rules released places fs lists woken'
     pop_works = record {
-      finds = works.finds;
-      sorted = sorted;
-      each = subst (λ (gs : List (Moment × Waiter T)). AllByRecursion (Stands rules released lists woken') gs) (sym taken_out)
-          (stands_less released lists woken woken' k popped (remove_entry (is_at (stamp_cmp k)) es) (others_left k es works.sorted) (all_removed (Stands rules released lists woken) (is_at (stamp_cmp k)) es works.each));
+      finds = out.works.finds;
+      sorted = out.sorted;
+      each = subst (λ (gs : List (Moment × Waiter T)). AllByRecursion (Stands rules released lists woken') gs) (sym out.gone)
+          (stands_less released lists woken woken' k out.popped (remove_entry (is_at (stamp_cmp k)) es) (others_left k es out.works.sorted) (all_removed (Stands rules released lists woken) (is_at (stamp_cmp k)) es out.works.each));
     }
 
     pub pop_takes : ((q : Moment) → woken q ≡ true → is_gt (stamp_cmp k q) ≡ false) → is_met_by rules released v.item ≡ true → Takes rules released v.item (items_of es) (items_of fs)
     pop_takes least met =
-        subst (λ (gs : List (Moment × Waiter T)). Takes rules released v.item (items_of es) (items_of gs)) (sym taken_out)
-        (taken released v.item k stood.own met lists woken v refl least es works.sorted found works.each)
+        subst (λ (gs : List (Moment × Waiter T)). Takes rules released v.item (items_of es) (items_of gs)) (sym out.gone)
+        (taken released v.item k stood.own met lists woken v refl least es out.works.sorted out.found out.works.each)
 
     pub pop_fresh : list_any (λ u. stamp_eq (rules.key u) (rules.key v.item)) released ≡ false
     pop_fresh = subst (λ (q : Moment). list_any (λ u. stamp_eq (rules.key u) q) released ≡ false) stood.own stood.fresh
 
     pub pop_others : AllByRecursion (λ e. stamp_eq e.0 (rules.key v.item) ≡ false) fs
-    pop_others = subst (λ (gs : List (Moment × Waiter T)). AllByRecursion (λ e. stamp_eq e.0 (rules.key v.item) ≡ false) gs) (sym taken_out) (by (remove_entry (is_at (stamp_cmp k)) es) (others_left k es works.sorted))
+    pop_others = subst (λ (gs : List (Moment × Waiter T)). AllByRecursion (λ e. stamp_eq e.0 (rules.key v.item) ≡ false) gs) (sym out.gone) (by (remove_entry (is_at (stamp_cmp k)) es) (others_left k es out.works.sorted))
       where
         by : (gs : List (Moment × Waiter T)) → AllByRecursion (λ e. is_eq (stamp_cmp k e.0) ≡ false) gs → AllByRecursion (λ e. stamp_eq e.0 (rules.key v.item) ≡ false) gs
         by [] all = tt
         by (g ∷ gs) all = (ap (stamp_eq g.0) (sym stood.own) ∙ eq_turned g.0 k ∙ same_test k g.0 ∙ all.0, by gs all.1)
 
     -- it lacks a need, and is put in again
-    pub held_works : (lists' : Moment → Moment → Bool) (w : Waiter T) (gs : List (Moment × Waiter T)) (stamp : Moment) → w.item ≡ v.item → MetTo rules released w.item w.met → LacksAt rules released w.item w.met stamp
-        → ((s q : Moment) → lists s q ≡ true → lists' s q ≡ true) → lists' stamp k ≡ true → gs ≡ insert_entry stamp_cmp fs k w → IsStrictlySortedBy stamp_cmp (keys_of gs)
+    pub held_works : (lists' : Moment → Moment → Bool) (gs : List (Moment × Waiter T)) (lack : Lack) → FirstLack rules released v.item lack
+        → ((s q : Moment) → lists s q ≡ true → lists' s q ≡ true) → lists' lack.stamp k ≡ true → gs ≡ insert_entry stamp_cmp fs k (record { item = v.item; met = lack.place }) → IsStrictlySortedBy stamp_cmp (keys_of gs)
         → Works rules released places gs lists' woken'
-    held_works lists' w gs stamp same met lack stay there put ascend = record {
-      finds = works.finds;
+    held_works lists' gs lack first stay there put ascend = record {
+      finds = out.works.finds;
       sorted = ascend;
       each = subst (λ (hs : List (Moment × Waiter T)). AllByRecursion (Stands rules released lists' woken') hs) (sym put)
-          (all_inserted (Stands rules released lists' woken') k w fs (record {
-            own = stood.own ∙ ap rules.key (sym same);
-            older = subst (λ (t : T). NamesOlder rules t) (sym same) stood.older;
+          (all_inserted (Stands rules released lists' woken') k (record { item = v.item; met = lack.place }) fs (record {
+            own = stood.own;
+            older = stood.older;
             fresh = stood.fresh;
-            met = met;
-            waits = inr (record { stamp = stamp; lacks = lack; under = there });
+            met = first.met;
+            waits = inr (record { stamp = lack.stamp; lacks = first.lacks; under = there });
           }) (stands_more released lists lists' woken' woken' stay (λ q h. h) fs pop_works.each));
     }
 
-    pub held_same : (w : Waiter T) (gs : List (Moment × Waiter T)) → w.item ≡ v.item → gs ≡ insert_entry stamp_cmp fs k w → items_of gs ≡ items_of es
-    held_same w gs same put =
-        ap items_of put ∙ ap (λ (hs : List (Moment × Waiter T)). items_of (insert_entry stamp_cmp hs k w)) taken_out ∙ reinserted k es v w works.sorted found same
+    pub held_same : (gs : List (Moment × Waiter T)) (place : ℕ) → gs ≡ insert_entry stamp_cmp fs k (record { item = v.item; met = place }) → items_of gs ≡ items_of es
+    held_same gs place put =
+        ap items_of put ∙ ap (λ (hs : List (Moment × Waiter T)). items_of (insert_entry stamp_cmp hs k (record { item = v.item; met = place }))) out.gone
+        ∙ reinserted k es v (record { item = v.item; met = place }) out.works.sorted out.found refl
+
+  -- the next one, if there is one
+  pub out_some : {A : Type 0} {released released' : List T} {before after : Queue T A} {next : Option T} {t : T} → NextIs rules released before after next → next ≡ Some t → released ≡ released' → TakenOut rules released' before after t
+  out_some {released} {released'} {before} {after} {next} {t} step is same = subst (λ (rs : List T). TakenOut rules rs before after t) same (on_some next t (TakenOut rules released before after) is step.out)
+
+  pub none_left : {A : Type 0} {released released' : List T} {before after : Queue T A} {next : Option T} → NextIs rules released before after next → next ≡ None → released ≡ released'
+      → after_pass rules (contents_of released' (Some before)) ≡ contents_of released' (Some after)
+  none_left {released} {released'} {before} {after} {next} step is same =
+      subst (λ (rs : List T). after_pass rules (contents_of rs (Some before)) ≡ contents_of rs (Some after)) same
+      (ap (λ (ws : List T). after_pass rules (record { released = released; waiting = ws })) (sym (on_none next _ is step.same)) ∙ passes_none released (items_of after.items.entries) (on_none next _ is step.none))
 
   -- one more is released
 
@@ -304,43 +309,45 @@ module _ {T R : Type 0} (rules : Rules T R) where
           ∙ ap (λ (ts : List T). e.1.item ∷ ts) rest
           ∙ ap (λ (o : Ordering). cond (is_lt o) (e.1.item ∷ queued rules w.item (items_of es)) (w.item ∷ e.1.item ∷ items_of es)) (sym (stamp_cmp_total.antisymm e.0 (rules.key w.item) ∙ ap ordering_reverse is))
 
-  module _ {A : Type 0} (released : List T) (places : StampIndex A) (es : List (Moment × Waiter T)) (lists : Moment → Moment → Bool) (woken : Moment → Bool) (t : T)
-      (works : Works rules released places es lists woken) (unknown : list_any (λ u. stamp_eq (rules.key u) (rules.key t)) (released ++ items_of es) ≡ false) where
-    apart : AllByRecursion (λ e. is_eq (stamp_cmp (rules.key t) e.0) ≡ false) es
-    apart = none_found (rules.key t) es (absent (lookup (is_at (stamp_cmp (rules.key t))) es) (second_false _ _ (sym (works_known released places es lists woken (rules.key t) works) ∙ unknown)))
+  module _ {A : Type 0} (released : List T) (queue : Queue T A) (t : T) (works : IsQueueOf rules released queue) (unknown : knows rules (contents_of released (Some queue)) (rules.key t) ≡ false) where
+    abbrev entries : List (Moment × Waiter T)
+    entries = queue.items.entries
+
+    apart : AllByRecursion (λ e. is_eq (stamp_cmp (rules.key t) e.0) ≡ false) entries
+    apart = none_found (rules.key t) entries (absent (lookup (is_at (stamp_cmp (rules.key t))) entries) (second_false _ _ (sym (works_known released queue.places entries (is_under queue) (is_woken queue) (rules.key t) works) ∙ unknown)))
       where
         absent : (o : Option (Waiter T)) → is_some o ≡ false → o ≡ None
         absent None h = refl
         absent (Some v) h = absurd (true≢false h)
 
-    pub new_fresh : list_any (λ u. stamp_eq (rules.key u) (rules.key t)) released ≡ false
-    new_fresh = first_false _ _ (sym (any_append (λ u. stamp_eq (rules.key u) (rules.key t)) released (items_of es)) ∙ unknown)
+    new_fresh : list_any (λ u. stamp_eq (rules.key u) (rules.key t)) released ≡ false
+    new_fresh = first_false _ _ (sym (any_append (λ u. stamp_eq (rules.key u) (rules.key t)) released (items_of entries)) ∙ unknown)
 
-    pub new_others : AllByRecursion (λ e. stamp_eq e.0 (rules.key t) ≡ false) es
-    new_others = by es apart
+    pub new_apart : IsApart rules released queue t
+    new_apart = record { fresh = new_fresh; others = by entries apart }
       where
         by : (gs : List (Moment × Waiter T)) → AllByRecursion (λ e. is_eq (stamp_cmp (rules.key t) e.0) ≡ false) gs → AllByRecursion (λ e. stamp_eq e.0 (rules.key t) ≡ false) gs
         by [] all = tt
         by (g ∷ gs) all = (eq_turned g.0 (rules.key t) ∙ same_test (rules.key t) g.0 ∙ all.0, by gs all.1)
 
-    module _ (fs : List (Moment × Waiter T)) (i : ℕ) (put : fs ≡ insert_entry stamp_cmp es (rules.key t) (record { item = t; met = i })) where
-      pub put_works : (lists' : Moment → Moment → Bool) (stamp : Moment) → NamesOlder rules t → MetTo rules released t i → LacksAt rules released t i stamp
-          → ((s q : Moment) → lists s q ≡ true → lists' s q ≡ true) → lists' stamp (rules.key t) ≡ true → IsStrictlySortedBy stamp_cmp (keys_of fs) → Works rules released places fs lists' woken
-      put_works lists' stamp older met lack stay there sorted = record {
+    module _ (fs : List (Moment × Waiter T)) (lack : Lack) (put : fs ≡ insert_entry stamp_cmp entries (rules.key t) (record { item = t; met = lack.place })) where
+      pub put_works : (lists' : Moment → Moment → Bool) → NamesOlder rules t → FirstLack rules released t lack
+          → ((s q : Moment) → is_under queue s q ≡ true → lists' s q ≡ true) → lists' lack.stamp (rules.key t) ≡ true → IsStrictlySortedBy stamp_cmp (keys_of fs) → Works rules released queue.places fs lists' (is_woken queue)
+      put_works lists' older first stay there sorted = record {
         finds = works.finds;
         sorted = sorted;
-        each = subst (λ (gs : List (Moment × Waiter T)). AllByRecursion (Stands rules released lists' woken) gs) (sym put)
-            (all_inserted (Stands rules released lists' woken) (rules.key t) (record { item = t; met = i }) es (record {
+        each = subst (λ (gs : List (Moment × Waiter T)). AllByRecursion (Stands rules released lists' (is_woken queue)) gs) (sym put)
+            (all_inserted (Stands rules released lists' (is_woken queue)) (rules.key t) (record { item = t; met = lack.place }) entries (record {
               own = refl;
               older = older;
               fresh = new_fresh;
-              met = met;
-              waits = inr (record { stamp = stamp; lacks = lack; under = there });
-            }) (stands_more released lists lists' woken woken stay (λ q h. h) es works.each));
+              met = first.met;
+              waits = inr (record { stamp = lack.stamp; lacks = first.lacks; under = there });
+            }) (stands_more released (is_under queue) lists' (is_woken queue) (is_woken queue) stay (λ q h. h) entries works.each));
       }
 
-      pub put_items : items_of fs ≡ queued rules t (items_of es)
-      put_items = ap items_of put ∙ queued_items released lists woken (record { item = t; met = i }) es works.each apart
+      pub put_items : items_of fs ≡ queued rules t (items_of entries)
+      put_items = ap items_of put ∙ queued_items released (is_under queue) (is_woken queue) (record { item = t; met = lack.place }) entries works.each apart
 
   -- nothing waits yet
   pub none_yet : {A : Type 0} (released : List T) (places : StampIndex A) (es : List (Moment × Waiter T)) (lists : Moment → Moment → Bool) (woken : Moment → Bool) → released ≡ [] → es ≡ []

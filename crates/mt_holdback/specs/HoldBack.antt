@@ -29,9 +29,13 @@ module _ {T R : Type 0} (rules : Rules T R) where
   abbrev pub queued : T → List T → List T
   queued t waiting = insert waiting (prefix_len (λ u. is_lt (stamp_cmp (rules.key u) (rules.key t))) waiting) t
 
+  -- one item more waits
+  abbrev pub with_queued : Contents T → T → Contents T
+  with_queued contents t = record { released = contents.released; waiting = queued t contents.waiting }
+
   -- all that was offered, with one item more
   abbrev pub offered_with : Contents T → T → List T
-  offered_with contents t = contents.released ++ queued t contents.waiting
+  offered_with contents t = offered (with_queued contents t)
 
   -- What one item more makes ready, itself or an item that waits: what is ready of all that was offered, with it.
   abbrev pub newly_ready : Contents T → T → List T
@@ -62,4 +66,4 @@ module _ {T R : Type 0} (rules : Rules T R) where
   -- Where the item that is offered is held, nothing is released and it alone waits with the others.
   abbrev pub HeldReleasesNothing : Type 0
   HeldReleasesNothing = (contents : Contents T) (t : T) → IsHoldBack contents → NamesOlder rules t → is_ready rules (offered_with contents t) t ≡ false
-      → contents_with contents t ≡ record { released = contents.released; waiting = queued t contents.waiting }
+      → contents_with contents t ≡ with_queued contents t

@@ -1,16 +1,16 @@
 //! What waits, each item under one stamp that it lacks.
 
-ghost use Rattle.std.specs.Prelude.{◌≡◌, ◌+◌, ◌<◌, ◌++◌, ◌||◌, is_some, ◌∷◌, [], false, true, length, IfOk, OnOk, IfSome, IfNone, MatchOption, IsTrue, None, cond, map};
+ghost use Rattle.std.specs.Prelude.{◌≡◌, ◌+◌, ◌<◌, ◌++◌, ◌||◌, is_some, ◌∷◌, [], false, true, length, IfOk, OnOk, IfSome, IfNone, MatchOption, IsTrue, None, Some, cond, map};
 ghost use Rattle.std.specs.Ordering.{is_eq, is_gt};
-ghost use Rattle.std.specs.List.{AllByRecursion, list_any};
+ghost use Rattle.std.specs.List.{list_any};
 ghost use Rattle.std.specs.BTreeMap.{get};
 ghost use Rattle.std.specs.BTreeSet.{contains};
 ghost use Rattle.mt_stamp.specs.Moment.{Moment, stamp_cmp, stamp_eq};
-ghost use Rattle.mt_holdback.specs.Laws.{is_met_by, passed};
-ghost use Rattle.mt_holdback.specs.Passing.{left};
+ghost use Rattle.mt_holdback.specs.Laws.{is_met_by};
+ghost use Rattle.mt_holdback.specs.Passing.{after_pass};
 ghost use Rattle.mt_stampmap.specs.Index.{Finds};
 ghost use Rattle.mt_holdback.specs.Waiting.{meets};
-ghost use Rattle.mt_holdback.specs.Queue.{items_of, listed, passes_at, is_met_in, MetTo, LacksAt, IsQueueOf, Takes, NoneIsMet};
+ghost use Rattle.mt_holdback.specs.Queue.{contents_of, listed, passes_at, is_met_in, MetTo, LacksAt, FirstLack, IsQueueOf, IsApart, NextIs};
 
 use crate::fault::HoldBackFault;
 use crate::waits::Waits;
@@ -143,8 +143,7 @@ pub(crate) fn first_lack<T: Waits, A: Allocator>(
     requires finds { Finds (map T.rules.key released.now) places.now }
     requires met { MetTo T.rules released.now item.now from }
     ensures { MatchOption result (is_met_by T.rules released.now item.now ≡ true)
-        (λ lack. MetTo T.rules released.now item.now lack.place
-        × LacksAt T.rules released.now item.now lack.place lack.stamp) }
+        (FirstLack T.rules released.now item.now) }
 {
     for i in from..item.need_count() {
         if let Some(stamp) = lacks_at(released, places, item, i) {
@@ -244,20 +243,7 @@ fn next_ready<T: Waits + Drop, A: Allocator + Clone>(
     queue: &mut Queue<T, A>,
 ) -> Result<Option<T>, HoldBackFault>
     requires { IsQueueOf T.rules released.now queue.old }
-    ensures works { OnOk result (IsQueueOf T.rules released.now queue.new) }
-    ensures same { IfOk result (λ next. IfNone next
-        (items_of queue.new.items.entries ≡ items_of queue.old.items.entries)) }
-    ensures none { IfOk result (λ next. IfNone next
-        (NoneIsMet T.rules released.now (items_of queue.new.items.entries))) }
-    ensures takes { IfOk result (λ next. IfSome next
-        (λ t. Takes T.rules released.now t (items_of queue.old.items.entries)
-        (items_of queue.new.items.entries))) }
-    ensures fresh { IfOk result (λ next. IfSome next
-        (λ t. list_any (λ u. stamp_eq (T.rules.key u) (T.rules.key t)) released.now ≡ false)) }
-    ensures others { IfOk result (λ next. IfSome next
-        (λ t. AllByRecursion (λ e. stamp_eq e.0 (T.rules.key t) ≡ false) queue.new.items.entries)) }
-    ensures shorter { IfOk result (λ next. IfSome next
-        (λ t. length queue.new.items.entries < length queue.old.items.entries)) }
+    ensures { IfOk result (NextIs T.rules released.now queue.old queue.new) }
 {
     while let Some(key) = next_woken(&mut queue.woken) {
         let Some(waiter) = queue.items.remove(&key) else {
@@ -284,8 +270,7 @@ pub(crate) fn release<T: Waits + Drop, A: Allocator + Clone>(
     item: T,
 ) -> Result<(), HoldBackFault>
     requires works { IsQueueOf T.rules released.old.items queue.old }
-    requires fresh { list_any (λ u. stamp_eq (T.rules.key u) (T.rules.key item)) released.old.items ≡ false }
-    requires others { AllByRecursion (λ e. stamp_eq e.0 (T.rules.key item) ≡ false) queue.old.items.entries }
+    requires apart { IsApart T.rules released.old.items queue.old item }
     ensures works { OnOk result (IsQueueOf T.rules released.new.items queue.new) }
     ensures released { OnOk result (released.new.items ≡ released.old.items ++ item ∷ []) }
     ensures same { OnOk result (queue.new.items.entries ≡ queue.old.items.entries) }
@@ -305,10 +290,8 @@ pub(crate) fn settle<T: Waits + Drop, A: Allocator + Clone>(
 ) -> Result<(), HoldBackFault>
     requires { IsQueueOf T.rules released.old.items queue.old }
     ensures works { OnOk result (IsQueueOf T.rules released.new.items queue.new) }
-    ensures released { OnOk result (released.new.items
-        ≡ passed T.rules released.old.items (items_of queue.old.items.entries)) }
-    ensures left { OnOk result (items_of queue.new.items.entries
-        ≡ left T.rules released.old.items (items_of queue.old.items.entries)) }
+    ensures passed { OnOk result (contents_of released.new.items (Some queue.new)
+        ≡ after_pass T.rules (contents_of released.old.items (Some queue.old))) }
 {
     while let Some(item) = next_ready(alloc, released, queue)? {
         release(alloc, released, queue, item)?;

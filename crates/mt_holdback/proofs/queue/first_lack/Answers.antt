@@ -4,7 +4,7 @@ use Rattle.mt_holdback.proofs.Needs.{all_past}
 use Rattle.mt_holdback.proofs.queue.first_lack.Goals as goal
 
 pub returns-in-Some : goal.returns-in-Some
-returns-in-Some g c = (c.loop-i.invariant, c.in-Some.ensures)
+returns-in-Some g c = record { met = c.loop-i.invariant; lacks = c.in-Some.ensures }
 
 pub loop-i-preserved : goal.loop-i-preserved
 loop-i-preserved g c = c.in_default.ensures c.loop-i.invariant
