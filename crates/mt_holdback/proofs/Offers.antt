@@ -21,7 +21,8 @@ use Rattle.mt_holdback.specs.declared.hold_back.Offered.{Offered}
 use Rattle.mt_holdback.specs.declared.hold_back.Offered.TheVariants.{Held, Ready}
 use Rattle.mt_holdback.specs.declared.queue.Queue.{Queue}
 use Rattle.mt_holdback.specs.HoldBack.{Contents, offered, knows, KeysRise, queued, with_queued, offered_with, newly_ready, contents_with, IsHoldBack, OfferKeepsTheRule, OfferedStays, HeldReleasesNothing}
-use Rattle.mt_holdback.proofs.Readiness.{held_changes_nothing, one_pass_finds_all, one_pass_leaves, met_is_ready, named_later, filter_push, filter_whole}
+use Rattle.mt_holdback.proofs.Readiness.{all_rest, held_changes_nothing, one_pass_finds_all, one_pass_leaves, met_is_ready, named_later, filter_push, filter_whole}
+use Rattle.mt_holdback.proofs.Keys.{or_second}
 use Rattle.mt_holdback.proofs.Listings.{IsWithin, or_left, or_middle, any_append, any_parts, ready_within, ready_same}
 
 -- what follows from the facts that an `Ok` brings
@@ -37,16 +38,17 @@ turned : (a : Bool) → not a ≡ true → a ≡ false
 turned true h = sym h
 turned false h = refl
 
+is_less : (o : Ordering) → is_lt o ≡ true → o ≡ Less
+is_less Less h = refl
+is_less Equal h = absurd (true≢false (sym h))
+is_less Greater h = absurd (true≢false (sym h))
+
 -- what holds of all items of lists
 
 module _ {D : Type 0} (P : D → Type 0) where
   all_first : (xs ys : List D) → AllByRecursion P (xs ++ ys) → AllByRecursion P xs
   all_first [] ys all = tt
   all_first (x ∷ xs) ys all = (all.0, all_first xs ys all.1)
-
-  all_rest : (xs ys : List D) → AllByRecursion P (xs ++ ys) → AllByRecursion P ys
-  all_rest [] ys all = all
-  all_rest (x ∷ xs) ys all = all_rest xs ys all.1
 
   all_join : (xs ys : List D) → AllByRecursion P xs → AllByRecursion P ys → AllByRecursion P (xs ++ ys)
   all_join [] ys first rest = rest
@@ -84,12 +86,6 @@ module _ {D : Type 0} where
       ap (λ (b : Bool). cond (not b) (x ∷ filter (λ d. not (r d)) xs) (filter (λ d. not (r d)) xs)) all.0 ∙ ap (λ (ys : List D). x ∷ ys) (all_left r xs all.1)
 
 module _ {T R : Type 0} (rules : Rules T R) where
-  smaller : T → T → Bool
-  smaller t u = is_lt (stamp_cmp (rules.key u) (rules.key t))
-
-  queue : T → List T → List T
-  queue t waiting = queued rules t waiting
-
   at_one_more : (t u : T) (waiting : List T) (n : ℕ) → insert (u ∷ waiting) (1 + n) t ≡ u ∷ insert waiting n t
   at_one_more t u waiting n = let e : 1 + n ≡ suc n = omega arith in ap (λ (m : ℕ). insert (u ∷ waiting) m t) e
 
@@ -122,11 +118,6 @@ module _ {T R : Type 0} (rules : Rules T R) where
   queue_rises t (u ∷ waiting) rise fresh =
       subst (KeysRise rules) (sym (queued_is t u waiting)) (by (is_lt (stamp_cmp (rules.key u) (rules.key t))) refl (queue_rises t waiting rise.1 fresh.1))
     where
-      less : (o : Ordering) → is_lt o ≡ true → o ≡ Less
-      less Less h = refl
-      less Equal h = absurd (true≢false (sym h))
-      less Greater h = absurd (true≢false (sym h))
-
       behind : (o : Ordering) → stamp_cmp (rules.key u) (rules.key t) ≡ o → is_lt o ≡ false → stamp_cmp (rules.key t) (rules.key u) ≡ Less
       behind Less e h = absurd (true≢false h)
       behind Equal e h =
@@ -134,7 +125,7 @@ module _ {T R : Type 0} (rules : Rules T R) where
       behind Greater e h = stamp_cmp_total.antisymm (rules.key t) (rules.key u) ∙ ap ordering_reverse e
 
       by : (b : Bool) → is_lt (stamp_cmp (rules.key u) (rules.key t)) ≡ b → KeysRise rules (queued rules t waiting) → KeysRise rules (cond b (u ∷ queued rules t waiting) (t ∷ u ∷ waiting))
-      by true is rest = (all_queued (λ v. stamp_cmp (rules.key u) (rules.key v) ≡ Less) t waiting (less (stamp_cmp (rules.key u) (rules.key t)) is) rise.0, rest)
+      by true is rest = (all_queued (λ v. stamp_cmp (rules.key u) (rules.key v) ≡ Less) t waiting (is_less (stamp_cmp (rules.key u) (rules.key t)) is) rise.0, rest)
       by false is rest =
           let first = behind (stamp_cmp (rules.key u) (rules.key t)) refl is in
           ((first, all_along (λ v. stamp_cmp (rules.key u) (rules.key v) ≡ Less) (λ v. stamp_cmp (rules.key t) (rules.key v) ≡ Less) (λ v later. stamp_cmp_total.trans (rules.key t) (rules.key u) (rules.key v) first later) waiting rise.0), rise)
@@ -163,10 +154,6 @@ module _ {T R : Type 0} (rules : Rules T R) where
         any_append p contents.released (queued rules t contents.waiting) ∙ ap (λ (c : Bool). list_any p contents.released || c) (any_queued p t contents.waiting)
         ∙ or_middle (list_any p contents.released) (p t) (list_any p contents.waiting) ∙ ap (λ (c : Bool). p t || c) (sym (any_append p contents.released contents.waiting))
 
-    or_second : (a b : Bool) → b ≡ true → (a || b) ≡ true
-    or_second true b h = refl
-    or_second false b h = h
-
     more_with : IsWithin (offered rules contents) (offered_with rules contents t)
     more_with p h = any_with p ∙ or_second (p t) _ h
 
@@ -187,7 +174,7 @@ module _ {T R : Type 0} (rules : Rules T R) where
   offer_keeps_the_rule contents t is fresh names_older =
       let r : T → Bool = is_ready rules (offered_with rules contents t) in
       let q : List T = queued rules t contents.waiting in
-      let P : T → Type 0 = λ u. NamesOlder rules u in
+      let P : T → Type 0 = NamesOlder rules in
       let older_queue : AllByRecursion P q = all_queued P t contents.waiting names_older (all_rest P contents.released contents.waiting is.older) in
       let new : List T = offered rules (contents_with rules contents t) in
       record {
@@ -257,7 +244,7 @@ module _ {T R : Type 0} (rules : Rules T R) where
       → after_pass rules (with_queued rules contents t) ≡ contents_with rules contents t
   a_pass_keeps contents t is fresh names_older =
       let q : List T = queued rules t contents.waiting in
-      let P : T → Type 0 = λ u. NamesOlder rules u in
+      let P : T → Type 0 = NamesOlder rules in
       let older : AllByRecursion P (contents.released ++ q) = all_join P contents.released q (all_first P contents.released contents.waiting is.older) (all_queued P t contents.waiting names_older (all_rest P contents.released contents.waiting is.older)) in
       let ready : AllByRecursion (λ u. is_ready rules (offered_with rules contents t) u ≡ true) contents.released =
       all_along (λ u. is_ready rules (offered rules contents) u ≡ true) (λ u. is_ready rules (offered_with rules contents t) u ≡ true)
@@ -348,11 +335,6 @@ module _ {T R : Type 0} (rules : Rules T R) where
 
   -- an item that is met can be released first: a pass goes on over the others as it does with the item among them
   module _ (released : List T) (t : T) (met : is_met_by rules released t ≡ true) where
-    is_less : (o : Ordering) → is_lt o ≡ true → o ≡ Less
-    is_less Less h = refl
-    is_less Equal h = absurd (true≢false (sym h))
-    is_less Greater h = absurd (true≢false (sym h))
-
     first : (waiting : List T) → Takes rules released t (t ∷ waiting) waiting
     first waiting = ap (goes_by released t waiting) met
 
@@ -372,10 +354,10 @@ module _ {T R : Type 0} (rules : Rules T R) where
   held_unmet : (contents : Contents T) → IsHoldBack rules contents → NoneIsMet rules contents.released contents.waiting
   held_unmet contents is =
       none_met (offered rules contents) is.older contents.released contents.released contents.waiting refl (filter_whole (is_ready rules (offered rules contents)) contents.released is.ready)
-      (all_rest (λ u. NamesOlder rules u) contents.released contents.waiting is.older) (clocks_rise contents.waiting is.rise) is.held
+      (all_rest (NamesOlder rules) contents.released contents.waiting is.older) (clocks_rise contents.waiting is.rise) is.held
 
   pub met_goes_first : (contents : Contents T) (t : T) → IsHoldBack rules contents → is_met_by rules contents.released t ≡ true → Takes rules contents.released t (queued rules t contents.waiting) contents.waiting
-  met_goes_first contents t is met = goes_first contents.released t met contents.waiting (held_unmet contents is) (all_rest (λ u. NamesOlder rules u) contents.released contents.waiting is.older)
+  met_goes_first contents t is met = goes_first contents.released t met contents.waiting (held_unmet contents is) (all_rest (NamesOlder rules) contents.released contents.waiting is.older)
 
   -- an item of a greater key than those that wait is released where its needs are met, and alone
 

@@ -41,11 +41,10 @@ module _ {T R : Type 0} (rules : Rules T R) where
     unmet = any_push (meets rules (stamp, lack.role)) released u ∙ neither _ _ lack.unmet (not_and (stamp_eq stamp (rules.key u)) (rules.fits lack.role u) differs);
   }
 
-  stands_more : (released : List T) (lists lists' : Moment → Moment → Bool) (woken woken' : Moment → Bool)
-      → ((s q : Moment) → lists s q ≡ true → lists' s q ≡ true) → ((q : Moment) → woken q ≡ true → woken' q ≡ true)
-      → (es : List (Moment × Waiter T)) → AllByRecursion (Stands rules released lists woken) es → AllByRecursion (Stands rules released lists' woken') es
-  stands_more released lists lists' woken woken' listed_stay woken_stay [] all = tt
-  stands_more released lists lists' woken woken' listed_stay woken_stay (e ∷ es) all = (
+  stands_more : (released : List T) (lists lists' : Moment → Moment → Bool) (woken : Moment → Bool) → ((s q : Moment) → lists s q ≡ true → lists' s q ≡ true)
+      → (es : List (Moment × Waiter T)) → AllByRecursion (Stands rules released lists woken) es → AllByRecursion (Stands rules released lists' woken) es
+  stands_more released lists lists' woken stay [] all = tt
+  stands_more released lists lists' woken stay (e ∷ es) all = (
     record {
       own = all.0.own;
       older = all.0.older;
@@ -53,12 +52,12 @@ module _ {T R : Type 0} (rules : Rules T R) where
       met = all.0.met;
       waits = by all.0.waits;
     },
-    stands_more released lists lists' woken woken' listed_stay woken_stay es all.1,
+    stands_more released lists lists' woken stay es all.1,
   )
     where
-      by : (woken e.0 ≡ true) ⊎ Lacks rules released lists e → (woken' e.0 ≡ true) ⊎ Lacks rules released lists' e
-      by (inl h) = inl (woken_stay e.0 h)
-      by (inr l) = inr (record { stamp = l.stamp; lacks = l.lacks; under = listed_stay l.stamp e.0 l.under })
+      by : (woken e.0 ≡ true) ⊎ Lacks rules released lists e → (woken e.0 ≡ true) ⊎ Lacks rules released lists' e
+      by (inl h) = inl h
+      by (inr l) = inr (record { stamp = l.stamp; lacks = l.lacks; under = stay l.stamp e.0 l.under })
 
   -- a key that no entry has is looked at no more
   stands_less : (released : List T) (lists : Moment → Moment → Bool) (woken woken' : Moment → Bool) (k : Moment)
@@ -206,7 +205,7 @@ module _ {T R : Type 0} (rules : Rules T R) where
             fresh = stood.fresh;
             met = first.met;
             waits = inr (record { stamp = lack.stamp; lacks = first.lacks; under = there });
-          }) (stands_more released lists lists' woken' woken' stay (λ q h. h) fs pop_works.each));
+          }) (stands_more released lists lists' woken' stay fs pop_works.each));
     }
 
     pub held_same : (gs : List (Moment × Waiter T)) (place : ℕ) → gs ≡ insert_entry stamp_cmp fs k (record { item = v.item; met = place }) → items_of gs ≡ items_of es
@@ -343,7 +342,7 @@ module _ {T R : Type 0} (rules : Rules T R) where
               fresh = new_fresh;
               met = first.met;
               waits = inr (record { stamp = lack.stamp; lacks = first.lacks; under = there });
-            }) (stands_more released (is_under queue) lists' (is_woken queue) (is_woken queue) stay (λ q h. h) entries works.each));
+            }) (stands_more released (is_under queue) lists' (is_woken queue) stay entries works.each));
       }
 
       pub put_items : items_of fs ≡ queued rules t (items_of entries)

@@ -1,47 +1,23 @@
 -- The laws of everything that waits.
-use Rattle.std.proofs.Common.{◌≡◌, ℕ, zero, suc, ◌<◌, ◌≤◌, Bool, true, false, not, cond, ◌||◌, ◌&&◌, List, [], ◌∷◌, ◌++◌, filter, refl, sym, ap, ◌∙◌, subst, arith, append_assoc, true≢false, append-nil}
+use Rattle.std.proofs.Common.{◌≡◌, ℕ, ◌<◌, ◌≤◌, Bool, true, false, not, cond, ◌||◌, ◌&&◌, List, [], ◌∷◌, ◌++◌, filter, refl, sym, ap, ◌∙◌, subst, arith, append_assoc, append-nil}
 use Rattle.std.specs.List.{AllByRecursion, list_all, list_any}
 use Rattle.mt_stamp.specs.Moment.{Moment}
 use Rattle.mt_stamp.proofs.Order.{stamp_eq-true}
 use Rattle.mt_op.specs.Ready as rule
+use Rattle.mt_op.proofs.Needs.{and_first}
 use Rattle.mt_op.proofs.Readiness.{the_only_ready, is_ready-met}
 use Rattle.mt_holdback.specs.Waiting.{Rules, NamesOlder, clock_of, meets, is_ready, AllNameOlder}
 use Rattle.mt_holdback.specs.Passing.{left}
+use Rattle.mt_holdback.proofs.Listings.{any_append, ready_within}
 use Rattle.mt_holdback.specs.Laws.{ReadyIsDefined, MoreIsReady, HeldChangesNothing, OnePassFindsAll, is_met_by, passed, ClocksRise}
 
 -- tests of lists
-
-either : (a b c d : Bool) → (a ≡ true → c ≡ true) → (b ≡ true → d ≡ true) → (a || b) ≡ true → (c || d) ≡ true
-either true b c d first rest h = rw (first refl) refl
-either false b true d first rest h = refl
-either false b false d first rest h = rest h
-
-both : (a b c d : Bool) → (a ≡ true → c ≡ true) → (b ≡ true → d ≡ true) → (a && b) ≡ true → (c && d) ≡ true
-both true b c d first rest h = rw (first refl) (rest h)
-both false b c d first rest h = absurd (true≢false (sym h))
-
-and_first : (a b : Bool) → (a && b) ≡ true → a ≡ true
-and_first true b h = refl
-and_first false b h = h
-
-all_mono : {Q : Type 0} (f g : Q → Bool) (ns : List Q) → ((n : Q) → f n ≡ true → g n ≡ true) → list_all f ns ≡ true → list_all g ns ≡ true
-all_mono f g [] more h = refl
-all_mono f g (n ∷ ns) more h = both (f n) (list_all f ns) (g n) (list_all g ns) (more n) (all_mono f g ns more) h
 
 all_same : {Q : Type 0} (f g : Q → Bool) (ns : List Q) → AllByRecursion (λ n. f n ≡ g n) ns → list_all f ns ≡ list_all g ns
 all_same f g [] same = refl
 all_same f g (n ∷ ns) same = λ i. same.0 i && all_same f g ns same.1 i
 
 module _ {D : Type 0} where
-  any_mono : (m r q : D → Bool) (xs ys : List D) → ((d : D) → r d ≡ true → q d ≡ true) → list_any r (filter m xs) ≡ true → list_any q (filter m (xs ++ ys)) ≡ true
-  any_mono m r q [] ys more h = absurd (true≢false (sym h))
-  any_mono m r q (x ∷ xs) ys more h = by (m x) h (any_mono m r q xs ys more)
-    where
-      by : (b : Bool) → list_any r (cond b (x ∷ filter m xs) (filter m xs)) ≡ true → (list_any r (filter m xs) ≡ true → list_any q (filter m (xs ++ ys)) ≡ true)
-          → list_any q (cond b (x ∷ filter m (xs ++ ys)) (filter m (xs ++ ys))) ≡ true
-      by true h rest = either (r x) (list_any r (filter m xs)) (q x) (list_any q (filter m (xs ++ ys))) (more x) rest h
-      by false h rest = rest h
-
   -- one that passes a test and is kept by another, either way round
   any_of_both : (m r : D → Bool) (xs : List D) → list_any r (filter m xs) ≡ list_any m (filter r xs)
   any_of_both m r [] = refl
@@ -82,17 +58,11 @@ module _ {D : Type 0} where
   pub filter_whole : (r : D → Bool) (xs : List D) → AllByRecursion (λ t. r t ≡ true) xs → filter r xs ≡ xs
   filter_whole r xs all = ap (filter r) (sym (append-nil xs)) ∙ filter_all r xs [] all ∙ append-nil xs
 
-  all_append : (P : D → Type 0) (xs ys : List D) → AllByRecursion P (xs ++ ys) → AllByRecursion P ys
-  all_append P [] ys all = all
-  all_append P (x ∷ xs) ys all = all_append P xs ys all.1
+  pub all_rest : (P : D → Type 0) (xs ys : List D) → AllByRecursion P (xs ++ ys) → AllByRecursion P ys
+  all_rest P [] ys all = all
+  all_rest P (x ∷ xs) ys all = all_rest P xs ys all.1
 
 module _ {T R : Type 0} (rules : Rules T R) where
-  clock : T → ℕ
-  clock = clock_of rules
-
-  names : Moment × R → T → Bool
-  names = meets rules
-
   older_needs : (c : ℕ) (ns : List (Moment × R)) → AllByRecursion (λ need. need.0.clock < c) ns → AllByRecursion (λ need. (e : T) → meets rules need e ≡ true → clock_of rules e < c) ns
   older_needs c [] older = tt
   older_needs c (need ∷ ns) older = (λ e m. subst (λ (s : Moment). s.clock < c) (stamp_eq-true need.0 (rules.key e) (and_first _ _ m)) older.0, older_needs c ns older.1)
@@ -104,14 +74,9 @@ module _ {T R : Type 0} (rules : Rules T R) where
   pub ready_is_defined : ReadyIsDefined rules
   ready_is_defined items older = the_only_ready (clock_of rules) rules.needs (meets rules) items (all_older items older)
 
-  ready_below_more : (n : ℕ) (some others : List T) (t : T) → rule.is_ready_below (clock_of rules) rules.needs (meets rules) n some t ≡ true
-      → rule.is_ready_below (clock_of rules) rules.needs (meets rules) n (some ++ others) t ≡ true
-  ready_below_more zero some others t h = h
-  ready_below_more (suc n) some others t h =
-      all_mono _ _ (rules.needs t) (λ need. any_mono (meets rules need) _ _ some others (ready_below_more n some others)) h
-
   pub more_is_ready : MoreIsReady rules
-  more_is_ready some others t h = ready_below_more (suc (clock_of rules t)) some others t h
+  more_is_ready some others t h =
+      ready_within (clock_of rules) rules.needs (meets rules) some (some ++ others) t (λ p there. any_append p some others ∙ ap (λ (b : Bool). b || list_any p others) there) h
 
   -- no need is met by what is not ready
   unfound : (r : T → Bool) (o : T) (xs : List T) (b : Bool) → r o ≡ false → list_any r (cond b (o ∷ xs) xs) ≡ list_any r xs
@@ -194,12 +159,12 @@ module _ {T R : Type 0} (rules : Rules T R) where
       let all : List T = taken ++ waiting in
       let whole : filter (is_ready rules all) taken ≡ taken = filter_whole (is_ready rules all) taken ready in
       ap (λ (xs : List T). left rules xs waiting) (sym whole)
-      ∙ left_from all older taken waiting refl (all_append (λ t. NamesOlder rules t) taken waiting older) rise
+      ∙ left_from all older taken waiting refl (all_rest (NamesOlder rules) taken waiting older) rise
 
   pub one_pass_finds_all : OnePassFindsAll rules
   one_pass_finds_all taken waiting older ready rise =
       let all : List T = taken ++ waiting in
       let whole : filter (is_ready rules all) taken ≡ taken = filter_whole (is_ready rules all) taken ready in
       ap (λ (xs : List T). passed rules xs waiting) (sym whole)
-      ∙ pass_from all older taken waiting refl (all_append (λ t. NamesOlder rules t) taken waiting older) rise
+      ∙ pass_from all older taken waiting refl (all_rest (NamesOlder rules) taken waiting older) rise
       ∙ filter_all (is_ready rules all) taken waiting ready

@@ -1,7 +1,6 @@
 -- What holds of every list of items that wait.
 use Rattle.std.specs.Prelude.{◌≡◌, ◌≤◌, Bool, true, false, cond, List, [], ◌∷◌, ◌++◌, filter}
 use Rattle.std.specs.List.{AllByRecursion, list_all, list_any}
-use Rattle.mt_stamp.specs.Moment.{Moment}
 use Rattle.mt_op.specs.Ready as rule
 use Rattle.mt_holdback.specs.Waiting.{Rules, clock_of, meets, is_ready, AllNameOlder}
 

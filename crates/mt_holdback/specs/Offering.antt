@@ -1,6 +1,5 @@
 -- A hold-back with its failure, and what a call answers.
 use Rattle.std.specs.Prelude.{◌≡◌, ◌↔◌, true, false, cond, [], length, Result, IfOk, OnOk, IsErrOf}
-use Rattle.mt_stamp.specs.Moment.{Moment}
 use Rattle.mt_holdback.specs.Waiting.{Rules, is_ready}
 use Rattle.mt_holdback.specs.HoldBack.{Contents, KeysRise, offered_with, newly_ready, contents_with}
 use Rattle.mt_holdback.specs.Value.{HoldBackValue}

@@ -1,6 +1,5 @@
 -- What a pass leaves.
-use Rattle.std.specs.Prelude.{Bool, cond, List, [], ◌∷◌, ◌++◌}
-use Rattle.mt_stamp.specs.Moment.{Moment}
+use Rattle.std.specs.Prelude.{cond, List, [], ◌∷◌, ◌++◌}
 use Rattle.mt_holdback.specs.Waiting.{Rules}
 use Rattle.mt_holdback.specs.Laws.{is_met_by, passed}
 use Rattle.mt_holdback.specs.HoldBack.{Contents}

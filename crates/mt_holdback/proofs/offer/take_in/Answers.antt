@@ -1,4 +1,4 @@
-use Rattle.std.proofs.Common.{◌≡◌, List, sym, ap, subst, ◌∙◌, false}
+use Rattle.std.proofs.Common.{◌≡◌, List, sym, subst, ◌∙◌, false}
 use Rattle.mt_holdback.specs.HoldBack.{IsHoldBack, knows, with_queued}
 use Rattle.mt_holdback.specs.Passing.{after_pass}
 use Rattle.mt_holdback.specs.Queue.{contents_of, IsQueueOf}
