@@ -14,10 +14,12 @@ pub(crate) fn open_all<F: Files + AllocGlobal>(
     rt: &F,
     others: usize,
     names: &[&str],
-) -> Result<Vec<Latch<F::File>>, CliFault> {
+) -> Result<Vec<Latch<F::File>>, CliFault>
+    ensures { IfOk result (λ files. length files.items ≡ length names.now) }
+{
     let mut files = Vec::new(rt.alloc());
-    for (index, name) in names.iter().enumerate() {
-        files.push(open(rt, others.saturating_add(index), name)?)?;
+    for place in 0..names.len() {
+        files.push(open(rt, others.saturating_add(place), names[place])?)?;
     }
     Ok(files)
 }

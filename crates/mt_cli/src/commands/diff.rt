@@ -1,7 +1,7 @@
 //! `radio diff`.
 
 use super::form_of;
-use crate::files::open;
+use crate::files::open_all;
 use clap::ArgMatches;
 use cli_calls::{CliFault, DiffForm, diff_logs};
 use cli_words::{AS_JSON, AS_TIMES, TIMES_RATE, Word, Words};
@@ -57,7 +57,8 @@ pub(crate) fn run<F: Files + AllocGlobal, W: Write>(
 ) -> Result<(), CliFault> {
     let alloc = rt.alloc();
     let (form, lines) = (asked_for(words), form_of(alloc, words));
-    let left = open(rt, 0, words.get_str("LEFT").unwrap_or(""))?;
-    let right = open(rt, 1, words.get_str("RIGHT").unwrap_or(""))?;
-    diff_logs(alloc, alloc, form, lines, &mut [left, right], output)
+    let left = words.get_str("LEFT").unwrap_or("");
+    let right = words.get_str("RIGHT").unwrap_or("");
+    let mut logs = open_all(rt, 0, &[left, right])?;
+    diff_logs(alloc, alloc, form, lines, &mut logs, output)
 }

@@ -3,7 +3,7 @@
 ghost use Rattle.std.specs.Prelude.{◌≡◌, IfErr};
 ghost use Rattle.mt_cli.specs.Mistakes.{IsMistake};
 
-use crate::files::open;
+use crate::files::{open, open_all};
 use crate::stop::{Stop, refused, stopped_by};
 use clap::ArgMatches;
 use cli_calls::{CliFault, Wanted, find_items, read_digest};
@@ -71,12 +71,12 @@ fn find<F: Files + AllocGlobal, W: Write>(
     output: &mut Latch<W>,
 ) -> Result<(), CliFault> {
     let wanted = wanted(rt, words)?;
-    let log = open(rt, 0, words.get_str("LOG").unwrap_or(""))?;
+    let mut logs = open_all(rt, 0, &[words.get_str("LOG").unwrap_or("")])?;
     find_items(
         rt.alloc(),
         words.get_flag("one"),
         &wanted,
-        &mut [log],
+        &mut logs,
         output,
     )
 }

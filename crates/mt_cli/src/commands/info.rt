@@ -1,7 +1,7 @@
 //! `radio info`.
 
 use super::memory_of_objects;
-use crate::files::open;
+use crate::files::open_all;
 use clap::ArgMatches;
 use cli_calls::{CliFault, InfoForm, InfoUnit, info_file};
 use cli_words::{AS_JSON, AS_TIMES, Word, Words};
@@ -46,10 +46,10 @@ pub(crate) fn run<F: Files + AllocGlobal, W: Write>(
     words: &ArgMatches<'_>,
     output: &mut Latch<W>,
 ) -> Result<(), CliFault> {
-    let file = open(rt, 0, words.get_str("WAVE").unwrap_or(""))?;
+    let mut files = open_all(rt, 0, &[words.get_str("WAVE").unwrap_or("")])?;
     let form = InfoForm {
         unit: unit_of(words),
         json: memory_of_objects(rt.alloc(), words),
     };
-    info_file(rt.alloc(), form, &mut [file], output)
+    info_file(rt.alloc(), form, &mut files, output)
 }

@@ -1,6 +1,6 @@
 //! `radio revert`.
 
-use crate::files::open;
+use crate::files::open_all;
 use clap::ArgMatches;
 use cli_calls::{CliFault, revert_log};
 use cli_words::{Word, Words};
@@ -45,6 +45,6 @@ pub(crate) fn run<F: Files + AllocGlobal, W: Write>(
     output: &mut Latch<W>,
 ) -> Result<(), CliFault> {
     let stamps = stamps_of(rt.alloc(), words.get_strs("STAMP").unwrap_or(&[]))?;
-    let log = open(rt, 0, words.get_str("LOG").unwrap_or(""))?;
-    revert_log(rt.alloc(), &stamps, &mut [log], output)
+    let mut logs = open_all(rt, 0, &[words.get_str("LOG").unwrap_or("")])?;
+    revert_log(rt.alloc(), &stamps, &mut logs, output)
 }

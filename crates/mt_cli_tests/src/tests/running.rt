@@ -109,7 +109,9 @@ fn run_on_log<M: Allocator + Clone, R: Read + Drop, W: Write>(
     (input, _other): (R, R),
     output: &mut Latch<W>,
 ) -> Result<(), CliFault> {
-    let mut inputs = [Latch::new(input)];
+    let Some(mut inputs) = one(alloc, input) else {
+        return Err(CliFault::Net);
+    };
     match call {
         Call::ViewLog => view_logs_in(memory, LineForm::PLAIN, &mut inputs, output),
         Call::ViewObjects => view_logs_in(memory, objects(alloc), &mut inputs, output),
@@ -140,7 +142,9 @@ fn run_by_hand<M: Allocator + Clone, R: Read + Drop, W: Write>(
     (log, other): (R, R),
     output: &mut Latch<W>,
 ) -> Result<(), CliFault> {
-    let mut inputs = [Latch::new(log), Latch::new(other)];
+    let Some(mut inputs) = two(alloc, (log, other)) else {
+        return Err(CliFault::Net);
+    };
     match call {
         Call::Lack => lack_log(memory, &mut inputs, output),
         Call::Diff => diff_logs(
@@ -192,7 +196,7 @@ fn edit<M: Allocator + Clone, R: Read + Drop, W: Write>(
     (log, script): (R, R),
     output: &mut Latch<W>,
 ) -> Option<Result<(), CliFault>> {
-    let mut inputs = [Latch::new(log), Latch::new(script)];
+    let mut inputs = two(alloc, (log, script))?;
     let mut other = Latch::new(Vec::new(alloc));
     if told {
         let answer = edit_log(memory, A, Some(48_000), &mut inputs, &mut other, output);
