@@ -20,10 +20,23 @@ MARKS = r"(?:(?:abbrev|unfoldable|pub|opaque|instance)\s+)*"
 DEFINED = re.compile(MARKS + r"(?:(?:record|data)\s+)?([^\s:({]+)")
 INNER = re.compile(r"(?m)^ +%s(?:(?:record|data)\s+)?([^\s:({]+)(?:\s[^\n:=]*)? :" % MARKS)
 WORD = re.compile(r"\w+")
+# A name where a method of that name may be meant: it is called, or stands behind a path.
+CALLED = re.compile(r"(?:\.(\w+)(?=\(|::)|::(\w+))")
 
 
 def words_in(text):
     return frozenset(WORD.findall(text))
+
+
+def as_called(name):
+    """A word for a method that is called, which no text has as a word."""
+    return name + "()"
+
+
+def calls_in(text):
+    """The words of a text, and those of the methods that it may call."""
+    called = (one or other for one, other in CALLED.findall(text))
+    return words_in(text).union(map(as_called, called))
 
 
 class Item:

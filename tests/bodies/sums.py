@@ -16,7 +16,7 @@ import threading
 
 from bodies.edits import edits_of, texts_of
 from bodies.edits import functions as functions_read
-from bodies.items import NAMED, head_words, reached, words_in
+from bodies.items import NAMED, as_called, calls_in, head_words, reached, words_in
 
 TOP = os.path.dirname(os.path.dirname(os.path.dirname(os.path.abspath(__file__))))
 TRIED = os.path.join(TOP, "tests", "wrong_bodies.tried")
@@ -67,6 +67,12 @@ def functions(path, text):
     return functions_read(path, text)
 
 
+def is_named(one, words):
+    """Whether a function may be called by what has these words: a method as such, any other by its
+    name."""
+    return (as_called(one.name) if one.owner else one.name) in words
+
+
 def hidden_lines(lines, one, words):
     """The lines of a function, counted from 0, on which nothing rests in a crate above that has
     these words: all of it where that crate cannot name it or does not, else its body. A method of
@@ -83,7 +89,7 @@ def hidden_lines(lines, one, words):
         begins = [i for i in rest if lines[i].endswith(" {")]
     if not indent or one.owner:
         is_own = re.match(r"(pub\(crate\) )?fn ", lines[head].strip())
-        if is_own or one.name not in words and not is_const:
+        if is_own or not is_named(one, words) and not is_const:
             return own
     if begins and not is_const:
         return range(begins[0] + 1, one.last - 1)
@@ -96,7 +102,8 @@ def for_callers(path, text, words, whole=None):
     remark, and no line for names that none of this has; of a file that has nothing else, nothing.
     Of the crate's own files the functions of some names are whole, and each may be called."""
     named = frozenset(one.name for one in functions(path, text))
-    kept = kept_lines(path, text, named & words, None if whole is None else named & whole)
+    known = (named | frozenset(map(as_called, named))) & words
+    kept = kept_lines(path, text, known, None if whole is None else named & whole)
     if whole is not None:
         return kept
     kept = re.sub(EXPORT, lambda line: of_names(line.group(), words), kept)
@@ -127,7 +134,7 @@ def hidden_here(lines, one, words):
     indent = re.match(" *", lines[head]).group()
     if " const fn " in " " + lines[head]:
         return []
-    if (not indent or one.owner) and one.name not in words:
+    if (not indent or one.owner) and not is_named(one, words):
         return own
     rest = range(head, one.last)
     clauses = [i for i in rest if re.match(r" +(requires|ensures|ghost)\b", lines[i])]
@@ -166,11 +173,11 @@ def own_texts(name, top, without):
         if {one.lstrip("+") for one in folders} & whole:
             texts[path] = text_of(path)
     sources = {path: text_of(path) for path in files_below(crate, "src")}
-    words = set(words_in("\n".join(texts.values())))
+    words = set(calls_in("\n".join(texts.values())))
     for path, text in sources.items():
         lines = text.split("\n")
         for one in (one for one in functions(path, text) if one.name in whole):
-            words |= words_in("\n".join(lines[one.first - 1 : one.last]))
+            words |= calls_in("\n".join(lines[one.first - 1 : one.last]))
             words |= head_words(one.head) if one.head else set()
         if path in files:
             words.update(found.group(1) for line in lines for found in [NAMED.match(line)] if found)
@@ -254,7 +261,7 @@ def covered(name, top=TOP, without=()):
     lines = crate_lines(top)
     others = [one for one in crates_below(name, lines) if one != name]
     fixed, own = own_texts(name, top, without)
-    words = words_in("\n".join([*fixed.values(), *own.values()]))
+    words = calls_in("\n".join([*fixed.values(), *own.values()]))
     sources = files_below(top, *(os.path.join("crates", one, "src") for one in others))
     below = {path: for_callers(path, text_of(path), words) for path in sources}
     for path in own:

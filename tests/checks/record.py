@@ -38,7 +38,11 @@ pub fn added(one: u32, other: u32) -> u32
     one + other // 'a' "b"
 }
 """
-HAND = "pub struct Hand {\n    pub left: u32,\n    pub right: u32,\n}\n"
+HAND = (
+    "pub struct Hand {\n    pub left: u32,\n    pub right: u32,\n}\n\nimpl Hand {\n"
+    "    pub fn left(&self) -> u32\n        ensures result ≡ 1\n    {\n        1\n    }\n\n"
+    "    pub fn right(&self) -> u32\n        ensures result ≡ 2\n    {\n        2\n    }\n}\n"
+)
 SUMS = (
     "-- Sums.\nuse Rattle.std.specs.Prelude.{ℕ, ◌+◌}\n\n"
     "abbrev pub total : ℕ → ℕ → ℕ\ntotal a b = a + b\n"
@@ -50,7 +54,7 @@ ANSWERS = (
 HIGH = (
     "use low::{Hand, added};\n\npub fn both(one: Hand) -> u32\n"
     "    ensures Rattle.low.specs.Sums.total one.left one.right ≡ result\n{\n"
-    "    added(one.left, one.right)\n}\n"
+    "    one.right();\n    added(one.left, one.right)\n}\n"
 )
 EDIT = "edit: takes_away\nfile: src/lib.rt\nold:     one + other //\nnew:     one - other //\n"
 OLD = {
@@ -102,14 +106,18 @@ CHANGES = {
     "a type": ("high", "crates/base/src/arm.rt", "u32", "u64"),
     "a clause": ("base high", "crates/base/src/lib.rt", "ensures result ≡ first + other", ""),
     "a premise": ("base high", "crates/base/src/lib.rt", "4294967296", "4294967295"),
-    "swapped names": ("high", "crates/base/src/arm.rt", "left: u32,\n    pub right",
-                      "right: u32,\n    pub left"),
+    "swapped names": ("high", "crates/base/src/arm.rt", "left: u32,\n    pub right:",
+                      "right: u32,\n    pub left:"),
     "a definition": ("base high", "crates/base/specs/Whole.antt", "b = a + b", "b = b + a"),
     "a proof": ("base", "crates/base/proofs/summed/Answers.antt", "rw entire", "rw"),
     "a goal": ("base", "crates/base/proofs/summed/Answers.antt", "returns-then-first =",
                "returns - then-first ="),
     "a wrong body": ("base", "crates/base/wrong-bodies.txt", "- other", "* other"),
     "an old name": ("base high", "crates/base/src/lib.rt", "pub fn summed(", "pub fn added("),
+    "a clause of a method that is called": ("high", "crates/base/src/arm.rt", "ensures result ≡ 2",
+                                            "ensures result ≡ 3"),
+    "a clause of a method that nothing calls, of a field's name": (
+        "", "crates/base/src/arm.rt", "ensures result ≡ 1", "ensures result ≡ 3"),
     "a private field": ("", "crates/base/src/arm.rt", "    pub right: u32,\n",
                         "    pub right: u32,\n    own: u32,\n"),
     "a definition that nothing names": ("", "crates/base/specs/Whole.antt", "abbrev pub entire",
