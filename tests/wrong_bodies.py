@@ -20,9 +20,10 @@ It works on copies of the crates, over what their checks keep in out/, which it 
 is not there; each round begins with that.
 
 tests/wrong_bodies.tried has a line for each crate whose wrong bodies were all refused: its name,
-how many there were, and a sum of all that they rest on (tests/bodies/sums.py). With --changed, as
-the gate calls it, the crates whose line no longer holds are tried, and of the others ten wrong
-bodies that are drawn by the hash of the tree (tests/bodies/draw.py).
+how many there were, and a sum of all that they rest on (tests/bodies/sums.py); of a crate that has
+none, lines CRATE/NAME with the sums of those that were refused, which are not tried again. With
+--changed, as the gate calls it, the crates whose line no longer holds are tried, and of the others
+ten wrong bodies that are drawn by the hash of the tree (tests/bodies/draw.py).
 
 A line is written only by a run that tried its edits, or by --renamed, which maps the new names
 of a rename back, and tries those edits that do not rest on the same tokens as in the commit OLD,
@@ -43,10 +44,11 @@ from bodies.draw import tree_hash, try_drawn
 from bodies.edits import edits_of, rounds, texts_of
 from bodies.refusals import Bench, OutOfTime, link_or_copy, tried_in_rounds
 from bodies.renamed import write_renamed
-from bodies.sums import TOP, crate_lines, note_tried, sum_of, tried
+from bodies.sums import TOP, bodies_tried, crate_lines, note_bodies, note_tried, sum_of, tried
 
-# how many wrong bodies of one crate are tried one round after another, in a copy of the crate
-PART = 64
+# how many wrong bodies of one crate are tried one round after another, in a copy of the crate: a
+# check with 85 of the greatest crate took 9 GB
+PART = 32
 
 WEAK = {
     "let through": "let through by its contract",
@@ -68,12 +70,34 @@ def try_part(name, edits):
         return tried_in_rounds(edits, bench, rounds)
 
 
+def left_to_try(name, bodies):
+    """The edits of a crate that are to be tried: those of these names, or all whose own lines do not
+    hold."""
+    folder = os.path.join(TOP, "crates", name)
+    if bodies:
+        return edits_of(folder, bodies)
+    known, all_of_it = bodies_tried(name), sorted(texts_of(folder))
+    holds = [one for one in all_of_it if one in known and known[one] == sum_of(name, body=one)]
+    return edits_of(folder, [one for one in all_of_it if one not in holds])
+
+
+def try_noting(name, edits):
+    """Tries a part of the wrong bodies of a crate, as `try_part`, and notes those that are refused,
+    so that a run that is stopped loses no part that it has tried."""
+    sums = {edit.name: sum_of(name, body=edit.name) for edit in edits}
+    made, part = sum_of(name), try_part(name, edits)
+    if part is not None and made == sum_of(name):
+        note_bodies(name, {one: sums[one] for one in sums if one not in part[0] and one not in part[1]})
+    return part
+
+
 def try_crate(name, bodies, pool):
     """Tries the wrong bodies of a crate, or those named, in parts of PART at most that the pool
     tries side by side; how many were not refused as they have to be."""
-    edits = edits_of(os.path.join(TOP, "crates", name), bodies)
+    edits, count = left_to_try(name, bodies), len(texts_of(os.path.join(TOP, "crates", name)))
+    work = try_part if bodies else try_noting
     made, parts, wrong, weak, checks = sum_of(name), -(-len(edits) // PART), {}, {}, 0
-    for part in pool.map(lambda i: try_part(name, edits[i::parts]), range(parts)):
+    for part in pool.map(lambda i: work(name, edits[i::parts]), range(parts)):
         if part is None:
             print("%s: the crate itself is not proved" % name)
             return 1
@@ -89,7 +113,7 @@ def try_crate(name, bodies, pool):
     counts = "%d not refused, %d let through, %d refused by names alone"
     print("%s, %s" % (told, counts % (len(wrong), through, names)), flush=True)
     if bodies is None and not wrong and not weak and made == sum_of(name):
-        note_tried(name, len(edits), made)
+        note_tried(name, count, made)
     return len(wrong) + len(weak)
 
 

@@ -275,9 +275,10 @@ def covered(name, top=TOP, without=()):
     return {os.path.relpath(path, top): text for path, text in texts.items()}
 
 
-def sum_of(name, top=TOP):
-    """A sum of all that the wrong bodies of a crate rest on."""
-    texts = covered(name, top)
+def sum_of(name, top=TOP, body=None):
+    """A sum of all that the wrong bodies of a crate rest on, or one of them."""
+    others = texts_of(os.path.join(top, "crates", name)) if body else ()
+    texts = covered(name, top, [one for one in others if one != body])
     version = subprocess.run(["rt", "version"], capture_output=True, check=True, text=True).stdout
     made = hashlib.sha256(version.partition("logic ")[2].encode())
     made.update(RULES.encode())
@@ -287,20 +288,47 @@ def sum_of(name, top=TOP):
     return made.hexdigest()
 
 
-def tried(path=TRIED):
-    """The lines of crates whose wrong bodies were all refused, by the names of the crates."""
+def lines_of(path):
+    """The lines of a record by their first words."""
     if not os.path.exists(path):
         return {}
     with open(path) as file:
         return {line.split()[0]: line for line in file}
 
 
+def tried(path=TRIED):
+    """The lines of crates whose wrong bodies were all refused, by the names of the crates."""
+    return {one: line for one, line in lines_of(path).items() if "/" not in one}
+
+
+def bodies_tried(name, path=TRIED):
+    """The sums of those wrong bodies of a crate that were refused, by their names, where the crate
+    has no line that says it of all."""
+    words = [line.split() for line in lines_of(path).values()]
+    return {one[0][len(name) + 1 :]: one[1] for one in words if one[0].startswith(name + "/")}
+
+
+def write_lines(name, new):
+    """Writes these lines of a crate in the place of those that it has. What is said of a crate that
+    is no longer there goes."""
+    there, lines = crate_lines(), lines_of(TRIED)
+    kept = {one: lines[one] for one in lines if one.partition("/")[0] in there}
+    kept = {one: line for one, line in kept.items() if one.partition("/")[0] != name}
+    kept.update(new)
+    with open(TRIED, "w") as file:
+        file.writelines(kept[one] for one in sorted(kept))
+
+
 def note_tried(name, count, made):
-    """Notes that so many wrong bodies of a crate, all that it has, were refused. The line of a
-    crate that is no longer there goes."""
+    """Notes that so many wrong bodies of a crate, all that it has, were refused."""
     with WRITING:
-        there = crate_lines()
-        lines = {one: line for one, line in tried().items() if one in there}
-        lines[name] = "%s %d %s\n" % (name, count, made)
-        with open(TRIED, "w") as file:
-            file.writelines(lines[one] for one in sorted(lines))
+        write_lines(name, {name: "%s %d %s\n" % (name, count, made)})
+
+
+def note_bodies(name, sums):
+    """Notes of some wrong bodies of a crate that they were refused, by their names and sums. A line
+    of the crate stays, and so do those of its other bodies."""
+    with WRITING:
+        own = {one: line for one, line in lines_of(TRIED).items() if one.partition("/")[0] == name}
+        new = {"%s/%s" % (name, one): "%s/%s %s\n" % (name, one, made) for one, made in sums.items()}
+        write_lines(name, {**own, **new})

@@ -277,6 +277,36 @@ def check_changed(folder):
     return wrong
 
 
+def check_parts(folder):
+    """What is wrong with the lines of single wrong bodies, in a repository: one that holds is not
+    tried again, one that does not is, and beside a body that is not refused another gets its
+    line."""
+    top, wrong = os.path.join(folder, "parts"), []
+    record = os.path.join(top, "tests", "wrong_bodies.tried")
+
+    def run(crate, line):
+        with open(record, "w") as file:
+            file.write(line)
+        words = [sys.executable, "-B", "tests/wrong_bodies.py", "--jobs", "1", crate]
+        env = {**os.environ, "HOW": "refused"}
+        told = subprocess.run(words, cwd=top, capture_output=True, text=True, env=env)
+        with open(record) as file:
+            return told.stdout.split("\n")[-2].partition(",")[0], file.read()
+
+    more = "\nedit: counts_one\nfile: src/least.rt\nold:     0\nnew:     1\n"
+    least = "pub fn none() -> u32\n    ensures result ≡ 0\n{\n    0\n}\n"
+    lay_repository(top, {"crates/low/src/least.rt": least, "crates/low/wrong-bodies.txt": EDIT + more})
+    made = sum_of("high", top, body="neither")
+    for line, count in (("high/neither %s\n" % made, 0), ("high/neither %064d\n" % 0, 1)):
+        wanted = "high: %d wrong bodies in %d checks" % (count, count)
+        if run("high", line) != (wanted, "high 1 %s\n" % sum_of("high", top)):
+            wrong.append("a line of a body with %d to try" % count)
+    own = "low/takes_away %s\n" % sum_of("low", top, body="takes_away")
+    if run("low", "") != ("low: 2 wrong bodies in 2 checks", own):
+        wrong.append("a body that is refused beside one that is not: %s" % (run("low", ""),))
+    return wrong
+
+
 def check_command(folder):
     """What is wrong with the whole command, in a repository."""
     top = os.path.join(folder, "repository")
@@ -366,6 +396,7 @@ def main():
         os.environ["PATH"] = os.path.join(folder, "bin") + os.pathsep + os.environ["PATH"]
         if shutil.which("git"):
             wrong += check_command(folder) + check_bodies(folder) + check_changed(folder)
+            wrong += check_parts(folder)
         else:
             print("skipped: git, it is not there: --renamed and --changed in a repository")
     for one in wrong:
