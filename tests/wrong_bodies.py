@@ -76,9 +76,9 @@ def left_to_try(name, bodies):
     folder = os.path.join(TOP, "crates", name)
     if bodies:
         return edits_of(folder, bodies)
-    known, all_of_it = bodies_tried(name), sorted(texts_of(folder))
-    holds = [one for one in all_of_it if one in known and known[one] == sum_of(name, body=one)]
-    return edits_of(folder, [one for one in all_of_it if one not in holds])
+    known = bodies_tried(name)
+    holds = [one for one, made in known.items() if made == sum_of(name, body=one)]
+    return edits_of(folder, sorted(texts_of(folder).keys() - holds))
 
 
 def try_noting(name, edits):
@@ -87,7 +87,7 @@ def try_noting(name, edits):
     sums = {edit.name: sum_of(name, body=edit.name) for edit in edits}
     made, part = sum_of(name), try_part(name, edits)
     if part is not None and made == sum_of(name):
-        note_bodies(name, {one: sums[one] for one in sums if one not in part[0] and one not in part[1]})
+        note_bodies(name, {one: sums[one] for one in sums.keys() - part[0].keys() - part[1].keys()})
     return part
 
 

@@ -5,6 +5,8 @@ import re
 
 FUNCTION = re.compile(r"( *)(pub(\(crate\))? )?(const )?fn (\w+)")
 PLAIN_IMPL = re.compile(r"impl(?:<.*?>)? (\w+)(?:<[^<>]*>)? \{")
+# A method that is called so is not found by the sums (items.py).
+SPACED = re.compile(r"(?m)^new: .*\.\w+ +\(")
 # The file of a crate that has its wrong bodies: a paragraph for each, which begins with a line
 # `edit: NAME`.
 FILE = "wrong-bodies.txt"
@@ -20,6 +22,9 @@ def texts_of(crate):
     texts = {head[len("edit: ") :]: text + "\n" for head, text in paragraphs}
     if len(texts) < len(paragraphs) or not all(head.startswith("edit: ") for head, _ in paragraphs):
         raise ValueError("%s: two wrong bodies of one name, or a paragraph without one" % path)
+    spaced = [name for name, text in texts.items() if SPACED.search(text)]
+    if spaced:
+        raise ValueError("%s: %s calls a method with a space before `(`" % (path, spaced[0]))
     return texts
 
 

@@ -20,8 +20,9 @@ MARKS = r"(?:(?:abbrev|unfoldable|pub|opaque|instance)\s+)*"
 DEFINED = re.compile(MARKS + r"(?:(?:record|data)\s+)?([^\s:({]+)")
 INNER = re.compile(r"(?m)^ +%s(?:(?:record|data)\s+)?([^\s:({]+)(?:\s[^\n:=]*)? :" % MARKS)
 WORD = re.compile(r"\w+")
-# A name where a method of that name may be meant: it is called, or stands behind a path.
-CALLED = re.compile(r"(?:\.(\w+)(?=\(|::)|::(\w+))")
+# A name where a method of that name may be meant: it is called, without a space as `rt fmt` lays
+# it out, or stands behind a path.
+CALLED = re.compile(r"\.(\w+)(?=\(|::)|::(\w+)")
 
 
 def words_in(text):

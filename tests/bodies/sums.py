@@ -301,19 +301,23 @@ def tried(path=TRIED):
     return {one: line for one, line in lines_of(path).items() if "/" not in one}
 
 
+def crate_of(word):
+    """The crate of a line's first word, CRATE or CRATE/NAME."""
+    return word.partition("/")[0]
+
+
 def bodies_tried(name, path=TRIED):
-    """The sums of those wrong bodies of a crate that were refused, by their names, where the crate
-    has no line that says it of all."""
-    words = [line.split() for line in lines_of(path).values()]
-    return {one[0][len(name) + 1 :]: one[1] for one in words if one[0].startswith(name + "/")}
+    """The sums of those wrong bodies of a crate that were refused, by their names, where each has a
+    line of its own."""
+    lines = {one: line for one, line in lines_of(path).items() if one.startswith(name + "/")}
+    return {one[len(name) + 1 :]: line.split()[1] for one, line in lines.items()}
 
 
 def write_lines(name, new):
     """Writes these lines of a crate in the place of those that it has. What is said of a crate that
     is no longer there goes."""
-    there, lines = crate_lines(), lines_of(TRIED)
-    kept = {one: lines[one] for one in lines if one.partition("/")[0] in there}
-    kept = {one: line for one, line in kept.items() if one.partition("/")[0] != name}
+    others, lines = set(crate_lines()) - {name}, lines_of(TRIED)
+    kept = {one: line for one, line in lines.items() if crate_of(one) in others}
     kept.update(new)
     with open(TRIED, "w") as file:
         file.writelines(kept[one] for one in sorted(kept))
@@ -329,6 +333,7 @@ def note_bodies(name, sums):
     """Notes of some wrong bodies of a crate that they were refused, by their names and sums. A line
     of the crate stays, and so do those of its other bodies."""
     with WRITING:
-        own = {one: line for one, line in lines_of(TRIED).items() if one.partition("/")[0] == name}
-        new = {"%s/%s" % (name, one): "%s/%s %s\n" % (name, one, made) for one, made in sums.items()}
-        write_lines(name, {**own, **new})
+        lines = {one: line for one, line in lines_of(TRIED).items() if crate_of(one) == name}
+        for body, made in sums.items():
+            lines["%s/%s" % (name, body)] = "%s/%s %s\n" % (name, body, made)
+        write_lines(name, lines)

@@ -295,15 +295,17 @@ def check_parts(folder):
 
     more = "\nedit: counts_one\nfile: src/least.rt\nold:     0\nnew:     1\n"
     least = "pub fn none() -> u32\n    ensures result ≡ 0\n{\n    0\n}\n"
-    lay_repository(top, {"crates/low/src/least.rt": least, "crates/low/wrong-bodies.txt": EDIT + more})
+    low = {"crates/low/src/least.rt": least, "crates/low/wrong-bodies.txt": EDIT + more}
+    lay_repository(top, low)
     made = sum_of("high", top, body="neither")
     for line, count in (("high/neither %s\n" % made, 0), ("high/neither %064d\n" % 0, 1)):
         wanted = "high: %d wrong bodies in %d checks" % (count, count)
         if run("high", line) != (wanted, "high 1 %s\n" % sum_of("high", top)):
             wrong.append("a line of a body with %d to try" % count)
     own = "low/takes_away %s\n" % sum_of("low", top, body="takes_away")
-    if run("low", "") != ("low: 2 wrong bodies in 2 checks", own):
-        wrong.append("a body that is refused beside one that is not: %s" % (run("low", ""),))
+    told = run("low", "")
+    if told != ("low: 2 wrong bodies in 2 checks", own):
+        wrong.append("a body that is refused beside one that is not: %s %s" % told)
     return wrong
 
 
