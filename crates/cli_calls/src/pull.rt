@@ -14,6 +14,7 @@ use crate::command::{Made, Printing, run_and_print};
 use crate::edit::append_number_line;
 use crate::fault::CliFault;
 use crate::union::EachLog;
+use base_text::{append_number, append_word};
 use mt_latch::Latch;
 use mt_opcodec::{Log, LogFault};
 use std::alloc::{AllocError, Allocator};
@@ -76,11 +77,8 @@ fn append_share<A: Allocator>(
 ) -> Result<(), AllocError>
     ensures { OnOk result (string_bytes text.new ≡ string_bytes text.old ++ share_line (name.now, share)) }
 {
-    let mut digits = itoa::Buffer::new();
-    text.push_str("from ")?;
-    text.push_str(name)?;
-    text.push_str(" new ")?;
-    text.push_str(digits.format(share.new as u64))?;
+    append_word(text, "from ", name)?;
+    append_number(text, " new ", share.new as u64)?;
     append_number_line(text, " shared ", share.shared as u64)
 }
 
