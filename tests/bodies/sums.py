@@ -34,6 +34,9 @@ IMPORT = r"(?m)^(ghost )?use [^;]*;\n"
 # A line that gives names of a file to those who use its crate.
 EXPORT = r"(?m)^pub use [^;]*;\n"
 
+# A line on how the crate's own functions are proved, on which no other crate rests.
+OF_CRATE = r"(?m)^#!\[tactic\(.*\)\]\n"
+
 # A struct, and its fields that only its own crate can name.
 STRUCT = r"(?m)^(?:pub(?:\(\w+\))? )?struct [^;]*?\{\n(?:[ #].*\n|\n)*\}\n"
 PRIVATE = r"(?m)^    (?:pub\(crate\) )?(?!pub |ghost )\w+: [^\n]*,\n"
@@ -108,6 +111,7 @@ def for_callers(path, text, words, whole=None):
         return kept
     kept = re.sub(EXPORT, lambda line: of_names(line.group(), words), kept)
     kept = re.sub(STRUCT, lambda one: re.sub(PRIVATE, "", one.group()), kept)
+    kept = re.sub(OF_CRATE, "", kept)
     return kept if kept.strip() else ""
 
 
@@ -162,8 +166,8 @@ def edited_names(names, crate):
 
 
 def own_texts(name, top, without):
-    """What the wrong bodies of a crate rest on in its own files: themselves, its sources, and the
-    proofs of the functions that they edit or that have to be refused."""
+    """What the wrong bodies of a crate rest on in its own files: themselves and the proofs of the
+    functions that they edit or that have to be refused, and its sources."""
     crate = os.path.join(top, "crates", name)
     bodies = {one: text for one, text in texts_of(crate).items() if one not in without}
     texts = {os.path.join(top, path_of(name, one)): text for one, text in bodies.items()}
@@ -188,7 +192,8 @@ def own_texts(name, top, without):
         one = re.sub(r"\bcrate::(proofs|specs)::", name + r"::\1::", one)
         if one:
             kept[path] = one
-    return texts, reached(kept, words, lambda text: modules(text, top))
+    own = reached(kept, words, lambda text: modules(text, top))
+    return texts, {path: text for path, text in own.items() if path in kept}
 
 
 def parts_of_use(line):

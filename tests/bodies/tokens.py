@@ -3,7 +3,7 @@ line breaks and the order of imports, which `rt fmt` may change where names chan
 import os
 import re
 
-STRING = r'"(?:\\.|[^"\\])*"'
+STRING = r'"(?:\\[\s\S]|[^"\\])*"'
 LETTER = r"b?'(?:\\[^'\n]+|[^'\\\n])'"
 # a proof's goals are named by words that hyphens join
 HYPHEN = r"(?P<hyphen>(?<=\w)-(?=\w))"
@@ -25,6 +25,8 @@ SORTED = {
     ".antt": r"^(?:(?:pub|unfoldable)\s+)*(?:use\s[^\n]*(?:\n[ \t}][^\n]*)*|mod [^\n]*)\n",
 }
 WORD = re.compile(r"\w+\Z")
+# what a clause, or another part of a contract in a source, begins with
+CLAUSES = {"requires", "ensures", "decreases", "ghost"}
 
 
 def kind_of(path):
@@ -42,9 +44,44 @@ def plain_tokens(kind, text):
     return ["a-b" if one.lastgroup == "hyphen" else one.group() for one in found]
 
 
-def renamed(tokens, names):
-    """The tokens with other names in the place of some."""
-    return [names.get(token, token) for token in tokens]
+def in_contracts(kind, tokens):
+    """Of each token, whether it is of a contract: of all but in sources, and there in the braces
+    behind one of these words."""
+    if kind != ".rt":
+        return [kind == ".antt"] * len(tokens)
+    told, depth, begins = [], 0, False
+    for token in tokens:
+        begins = begins or depth == 0 and token in CLAUSES
+        told.append(depth > 0)
+        if token == "{" and (begins or depth):
+            depth, begins = depth + 1, False
+        elif token == "}" and depth:
+            depth -= 1
+    return told
+
+
+def renamed(kind, tokens, scope):
+    """The tokens with old names in the place of new ones."""
+    before = [""] + tokens[:-1]
+    where = in_contracts(kind, tokens)
+    return [scope.name(*one, kind) for one in zip(tokens, before, where)]
+
+
+def is_of_contract(tokens):
+    """Whether an import brings in names of contracts, and not those that types of the code have."""
+    is_logic = tokens[0] == "ghost" or ";" not in tokens
+    return is_logic and "declared" not in tokens and "mod" not in tokens
+
+
+def renamed_import(kind, tokens, scope):
+    """An import with old names in the place of new ones. Where a name was brought in as it is, and
+    now is under another one, this is left out: it leads back to the same."""
+    before, here = [""] + tokens[:-1], is_of_contract(tokens)
+    told = [scope.name(one, last, here, ".antt") for one, last in zip(tokens, before)]
+    for at in range(len(tokens) - 2):
+        if tokens[at + 1] == "as" and scope.name(tokens[at + 2], "", True, kind) == told[at]:
+            told[at + 1 : at + 3] = [None, None]
+    return [one for one in told if one is not None]
 
 
 def import_of(tokens):
@@ -68,29 +105,57 @@ def import_of(tokens):
     return tuple(one for part in parts for one in part)
 
 
+def imports_of(tokens):
+    """An import of several names of one module as one of each."""
+    if tokens.count("{") != 1:
+        return [import_of(tokens)]
+    start, end = tokens.index("{"), tokens.index("}")
+    items = [[]]
+    for token in tokens[start + 1 : end]:
+        if token == ",":
+            items.append([])
+        else:
+            items[-1].append(token)
+    alone = (tokens[: start + 1] + item + tokens[end:] for item in items if item)
+    return [import_of(one) for one in alone]
+
+
 def tokens_of(path, text, names):
-    """The tokens of a text, with other names in the place of some, and imports that stand one after
+    """The tokens of a text, with old names in the place of new ones, and imports that stand one after
     another in one order."""
-    kind = kind_of(path)
+    kind, scope = kind_of(path), names.old(names.old_crate(path))
     if kind == ".edit":
-        return renamed(plain_tokens(kind, text), names)
+        return renamed(kind, plain_tokens(kind, text), scope)
     text = REMARK[kind].sub(lambda found: found.group(1) or "", text)
     text = LAST_COMMA.sub("", text) + "\n"
     made, block, at = [], [], 0
     for found in re.finditer(SORTED[kind], text, re.M):
-        between = renamed(plain_tokens(kind, text[at : found.start()]), names)
+        between = renamed(kind, plain_tokens(kind, text[at : found.start()]), scope)
         if between:
             made += sorted(block, key=repr) + between
             block = []
-        block.append(import_of(renamed(plain_tokens(kind, found.group()), names)))
+        block += imports_of(renamed_import(kind, plain_tokens(kind, found.group()), scope))
         at = found.end()
-    return made + sorted(block, key=repr) + renamed(plain_tokens(kind, text[at:]), names)
+    rest = renamed(kind, plain_tokens(kind, text[at:]), scope)
+    return made + sorted(block, key=repr) + rest
 
 
-def names_in(path, text):
-    """All words of a text, and of the path of its file."""
+def names_by_place(path, text):
+    """The words of a text that contracts, definitions and proofs name without a path, all others of
+    it and of the path of its file, and all."""
     kind = kind_of(path)
     if kind in REMARK:
         text = REMARK[kind].sub(lambda found: found.group(1) or "", text)
-    words = plain_tokens(kind, text) + words_of_path(path)
-    return {word for word in words if WORD.match(word)}
+    of_contracts, others = set(), set(words_of_path(path))
+
+    def sort(tokens, of_contract):
+        for one, last, here in zip(tokens, [""] + tokens, of_contract):
+            (of_contracts if here and last != "." else others).add(one)
+
+    for found in re.finditer(SORTED[kind], text, re.M) if kind in REMARK else ():
+        tokens = plain_tokens(kind, found.group())
+        sort(tokens, [is_of_contract(tokens)] * len(tokens))
+    tokens = plain_tokens(kind, re.sub(SORTED.get(kind, "(?!)"), "", text, flags=re.M))
+    sort(tokens, in_contracts(kind, tokens))
+    every = (of_contracts, others, of_contracts | others)
+    return [{word for word in words if WORD.match(word)} for words in every]

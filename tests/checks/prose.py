@@ -40,6 +40,7 @@ BUDGETS = {
     "docs/build/decisions.md": 1300,
     "docs/build/testing.md": 900,
     "docs/build/performance.md": 600,
+    "docs/build/adding-a-command.md": 600,
     "docs/build/adding-an-operation.md": 600,
 }
 # pages that may come; their words are added to TOTAL

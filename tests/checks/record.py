@@ -1,15 +1,15 @@
 #!/usr/bin/env python3
 """Tries `tests/wrong_bodies.py --renamed MAP OLD`, and the draw of ten: tests/checks/record.py
 
-A small made-up tree is renamed: names, a file, a folder, a crate; imports in another order, a
-list on several lines, another remark. That is the same tokens, and each crate gets its line.
-Then one thing more changes: a body, a clause, two names that change places, a definition, a
-proof, a wrong body. Each of these has to be told, and the crate has to stay as it is; what none of
-its wrong bodies can name may change. So do maps that do not lead back without a doubt. Of two wrong bodies in one crate
-that one is tried which rests on what changed. At last the whole command runs
-in a repository, and so does `--changed`, with a stand-in for rt that refuses a body, admits it,
-or refuses it by an answer that fits no longer or by names alone: a drawn body that is not
-refused fails the run. It proves nothing."""
+A small made-up tree is renamed: names, a file, a folder, a crate; a record gets the name of its
+type; imports in another order, a list on several lines, another remark. That is the same tokens,
+and each crate gets its line. Then one thing more changes: a body, a clause, two names that change
+places, a definition, a proof, a wrong body. Each of these has to be told, and the crate has to stay
+as it is; what none of its wrong bodies can name may change. So do maps that do not lead back
+without a doubt. Of two wrong bodies in one crate that one is tried which rests on what changed. At
+last the whole command runs in a repository, and so does `--changed`, with a stand-in for rt that
+refuses a body, admits it, or refuses it by an answer that fits no longer or by names alone: a drawn
+body that is not refused fails the run. It proves nothing."""
 import os
 import re
 import shutil
@@ -22,6 +22,7 @@ TESTS = os.path.dirname(os.path.dirname(os.path.abspath(__file__)))
 sys.path.insert(0, TESTS)
 from bodies import draw, renamed
 from bodies.sums import sum_of
+from bodies.table import Names
 
 LOW = """//! A crate.
 #![tactic(auto)]
@@ -43,18 +44,27 @@ HAND = (
     "    pub fn left(&self) -> u32\n        ensures result ≡ 1\n    {\n        1\n    }\n\n"
     "    pub fn right(&self) -> u32\n        ensures result ≡ 2\n    {\n        2\n    }\n}\n"
 )
+# a type, and the record that it is seen as
+LEG = (
+    "ghost use Rattle.low.specs.Sums.{Limb};\n\npub struct Leg {\n    pub long: u32,\n}\n\nimpl Model for Leg {\n"
+    "    ghost use Rattle.low.specs.Sums.{Limb};\n\n    ghost Value = { Limb };\n}\n\n"
+    "impl Leg {\n    pub fn grown(self) -> Leg\n        ensures { (l : Limb) → l.long ≡ result.long }\n"
+    "    {\n        Leg { long: self.long }\n    }\n}\n"
+)
 SUMS = (
     "-- Sums.\nuse Rattle.std.specs.Prelude.{ℕ, ◌+◌}\n\n"
+    "pub record Limb : Type 0 where\n  pub long : ℕ\n\n"
     "abbrev pub total : ℕ → ℕ → ℕ\ntotal a b = a + b\n"
 )
 ANSWERS = (
-    "use Rattle.low.specs.Sums.{total}\n\n"
+    "use Rattle.low.specs.declared.leg.Leg.{Leg}\nuse Rattle.low.specs.Sums.{Limb, total}\n\n"
+    "seen : Leg → Limb\nseen leg = record { long = leg.long }\n\n"
     "pub returns-then-one : Goal\nreturns-then-one = rw total\n"
 )
 HIGH = (
-    "use low::{Hand, added};\n\npub fn both(one: Hand) -> u32\n"
+    "use low::{Hand, Leg, added};\n\npub fn both(one: Hand, leg: Leg) -> u32\n"
     "    ensures Rattle.low.specs.Sums.total one.left one.right ≡ result\n{\n"
-    "    one.right();\n    added(one.left, one.right)\n}\n"
+    "    one.right();\n    leg.grown();\n    added(one.left, one.right)\n}\n"
 )
 EDIT = "edit: takes_away\nfile: src/lib.rt\nold:     one + other //\nnew:     one - other //\n"
 OLD = {
@@ -62,6 +72,7 @@ OLD = {
     "HANDLES": "Handles allowed: none.\n",
     "crates/low/src/lib.rt": LOW,
     "crates/low/src/hand.rt": HAND,
+    "crates/low/src/leg.rt": LEG,
     "crates/low/specs/Lib.antt": "pub mod Sums\npub mod Alone\n",
     "crates/low/specs/Alone.antt": "abbrev pub alone : ℕ\nalone = 0\n",
     "crates/low/specs/Sums.antt": SUMS,
@@ -75,10 +86,17 @@ OLD = {
 NAMES = {
     "low": "base", "added": "summed", "total": "entire", "Hand": "Arm", "hand": "arm",
     "Sums": "Whole", "one": "first", "takes_away": "subtracts"}
+# The record gets the type's name, in clauses another one, and where a proof names both, so do the
+# type's fields; a method is renamed in the crates that name it.
 MAP = "".join("%s %s\n" % pair for pair in NAMES.items())
+MAP += "Limb Leg contract\nLimb LegValue clause\nLeg Fields contract\ngrown taller code @low,high\n"
 
 
 def new_names(text):
+    text = text.replace("Leg.{Leg}", "Leg.{Leg as Fields}").replace("seen : Leg", "seen : Fields")
+    if text.startswith("ghost use"):
+        text = text.replace("Sums.{Limb}", "Sums.{Leg as LegValue}").replace("Limb", "LegValue")
+    text = text.replace("Limb", "Leg").replace("grown", "taller")
     return re.sub(r"\w+", lambda word: NAMES.get(word.group(), word.group()), text)
 
 
@@ -94,7 +112,7 @@ def renamed_tree():
     tree["crates/base/src/lib.rt"] = lib
     tree["crates/base/specs/Lib.antt"] = "pub mod Alone\npub mod Whole\n"
     high = tree["crates/high/src/lib.rt"]
-    tree["crates/high/src/lib.rt"] = high.replace("{Arm, summed}", "{summed, Arm}")
+    tree["crates/high/src/lib.rt"] = high.replace("{Arm, Leg, summed}", "{summed, Arm, Leg}")
     return tree
 
 
@@ -118,12 +136,18 @@ CHANGES = {
                                             "ensures result ≡ 3"),
     "a clause of a method that nothing calls, of a field's name": (
         "", "crates/base/src/arm.rt", "ensures result ≡ 1", "ensures result ≡ 3"),
+    "a record in the place of a type's fields": (
+        "base", "crates/base/proofs/summed/Answers.antt", "seen : Fields → Leg", "seen : Leg → Leg"),
+    "another record in a clause": (
+        "high", "crates/base/src/leg.rt", "(l : LegValue)", "(l : Fields)"),
+    "a record that a clause of a method names": (
+        "base high", "crates/base/specs/Whole.antt", "pub long : ℕ", "pub short : ℕ"),
     "a private field": ("", "crates/base/src/arm.rt", "    pub right: u32,\n",
                         "    pub right: u32,\n    own: u32,\n"),
     "a definition that nothing names": ("", "crates/base/specs/Whole.antt", "abbrev pub entire",
                                         "abbrev pub more : ℕ\nmore = 0\n\nabbrev pub entire"),
     "a type that nothing names": ("", "crates/base/src/arm.rt", "pub struct Arm {",
-                                  "pub struct Leg {\n    pub long: u32,\n}\n\npub struct Arm {"),
+                                  "pub struct Toe {\n    pub long: u32,\n}\n\npub struct Arm {"),
 }
 BAD_MAPS = {
     "two to one": "low base\nhigh base\n",
@@ -133,6 +157,10 @@ BAD_MAPS = {
     "a word of OLD in a path": "low proofs\n",
     "no word": "low ba.se\n",
     "one word": "low\n",
+    "a word of OLD's contracts": "Limb total contract\n",
+    "two to one in contracts": "Limb Leg contract\ntotal Leg contract\n",
+    "a word of OLD's code": "Hand added code\n",
+    "a word of OLD in one crate": "both added @high\n",
 }
 
 
@@ -156,7 +184,7 @@ def differing(tree, old_top, folder, names):
 
 def check_changes(old_top, folder):
     """What is wrong with how changes beside the names are told."""
-    names, wrong = renamed.read_map(MAP), []
+    names, wrong = Names(MAP), []
     renamed.check_map(names, old_top)
     told = differing(renamed_tree(), old_top, folder, names)
     if told:
@@ -183,7 +211,7 @@ def check_maps(old_top):
     wrong = []
     for what, text in BAD_MAPS.items():
         try:
-            renamed.check_map(renamed.read_map(text), old_top)
+            renamed.check_map(Names(text), old_top)
             wrong.append("the map with %s is taken" % what)
         except renamed.BadMap:
             pass

@@ -23,6 +23,8 @@ done | sort -u > "$given"
 while read -r number type name; do
   # which of the causes of Write it is, PartFault tells, whose variants the table does not name
   [ "$type" != Part ] || name=Write
+  # a script of too many lines is one of the causes of TooLong
+  [ "$type$name" != CuesTooManyLines ] || name=TooLong
   grep -q "^$number \(.*, \)\{0,1\}\($type\)\{0,1\}$name\(, .*\)\{0,1\}$" "$written" || { echo "${type}Fault has $name under $number, and the table has not"; exit 1; }
 done < "$given"
 echo "$(wc -l < "$told") refusals are told as they are written, and $(wc -l < "$given") variants of fault types have their numbers"

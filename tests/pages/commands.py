@@ -69,7 +69,7 @@ class Command:
 def commands():
     constants = {}
     for path in files_of("crates/*/src/words.rt") + files_of("crates/*/src/commands/*.rt"):
-        for name, kind, body in re.findall(r"^pub\((?:crate|super)\) const (\w+): Word = Word::(\w+) \{(.*?)^\};", text_of(path), re.M | re.S):
+        for name, kind, body in re.findall(r"^pub(?:\((?:crate|super)\))? const (\w+): Word = Word::(\w+) \{(.*?)^\};", text_of(path), re.M | re.S):
             constants[name] = Word(kind, body)
     found = [Command(path, constants) for path in files_of("crates/*/src/commands/*.rt")]
     return {command.name: command for command in found}, constants

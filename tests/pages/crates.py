@@ -9,6 +9,7 @@ from pages.text import files_of, fill, table, text_of
 ROOMS = {
     "base": {
         "mt_digests": "SHA-256: of one message, of a stream, of eight messages at a time",
+        "base_text": "where texts are cut, and words and numbers behind them",
         "mt_times": "times and decibels as people write them",
         "mt_stamp": "replicas, dots, stamps, and the order of places in a tree",
         "mt_latch": "readers and writers that stay failed, and a buffer in front of a writer",
@@ -55,7 +56,9 @@ ROOMS = {
         "mt_lines": "lines as JSON, with times, and back from times",
     },
     "program": {
-        "mt_cli": "the work of each command over readers and writers; the command line",
+        "cli_calls": "the work of each command over readers and writers",
+        "cli_words": "the words of a command line; its manual page and completion scripts",
+        "mt_cli": "the commands, their files, and the command line",
         "radio": "`main`",
         "world_histories": "runs lists of events for `tests/checks/world.py` and `bench/world.py`",
     },

@@ -8,7 +8,7 @@ use Rattle.mt_latch.specs.Latch.{Latched}
 use Rattle.mt_latch.specs.declared.buffered.BufferedLatch.{BufferedLatch}
 use Rattle.mt_latch.specs.Buffered.{Handed}
 use Rattle.mt_latch.proofs.Putting.{all_written, prefix_written}
-use Rattle.mt_cli.specs.declared.fault.CliFault.{CliFault}
+use Rattle.cli_calls.specs.declared.fault.CliFault.{CliFault}
 use Rattle.mt_cli.specs.Telling.{fault_line, why_line, HasTold, TellsText, TellsCauses, TellsFault, TellsRefusal}
 
 module _ {E : Type 0} (contents : E → Option (List ℕ)) where

@@ -6,9 +6,9 @@ use Rattle.std.specs.String.{string_bytes}
 use Rattle.std.specs.Io.KnownBytes.{Appends}
 use Rattle.mt_latch.specs.Latch.{Latched, AppendsPrefix}
 use Rattle.mt_sessionview.specs.SessionText.{newline}
-use Rattle.mt_cli.specs.declared.fault.CliFault.{CliFault}
-use Rattle.mt_cli.specs.Faults.{number_of}
-use Rattle.mt_cli.specs.Editing.{number_line}
+use Rattle.cli_calls.specs.declared.fault.CliFault.{CliFault}
+use Rattle.cli_calls.specs.Faults.{number_of}
+use Rattle.cli_calls.specs.Editing.{number_line}
 
 -- the one line that tells a refusal
 abbrev pub fault_line : CliFault → List ℕ

@@ -1,6 +1,6 @@
 //! The log that a command reads and whose name it gives to what it writes.
 
-use crate::fault::CliFault;
+use cli_calls::CliFault;
 use std::fs::{self, File};
 use std::os::unix::fs::MetadataExt;
 use std::rt::Files;

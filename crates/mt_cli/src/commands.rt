@@ -1,16 +1,15 @@
 //! The commands, a file each: its words, and what it runs.
 
+ghost use Rattle.std.specs.Prelude.{◌≡◌, ◌+◌, length, IfOk};
+
 use crate::base::Base;
-use crate::both::read_growing;
-use crate::fault::CliFault;
 use crate::files::{OpenLog, open_log};
-use crate::form::LineForm;
 use crate::part::{Naming, Part};
-use crate::swap::swap_log;
 use clap::ArgMatches;
-use mt_opcodec::Latch;
+use cli_calls::{CliFault, LineForm, read_growing, swap_log};
+use mt_latch::Latch;
 use mt_sync::{GrowingLog, Holder, Side};
-use std::alloc::Global;
+use std::alloc::{AllocError, Global};
 use std::fs::File;
 use std::io::{Read, Write};
 use std::net::OpenStream;
@@ -40,6 +39,20 @@ pub(crate) mod sources;
 pub(crate) mod take;
 pub(crate) mod timeline;
 pub(crate) mod view;
+
+// The name of a log, and other names after it.
+fn log_and_others<'n>(
+    alloc: Global,
+    log: &'n str,
+    others: &[&'n str],
+) -> Result<Vec<&'n str>, AllocError>
+    ensures { IfOk result (λ names. length names.items ≡ 1 + length others.now) }
+{
+    let mut names = Vec::new(alloc);
+    names.push(log)?;
+    names.extend_from_slice(others)?;
+    Ok(names)
+}
 
 // At how many frames a second times are told or read, where these words ask for times.
 fn rate_of_times(words: &ArgMatches<'_>) -> Option<u32> {

@@ -3,10 +3,10 @@
 ghost use Rattle.std.specs.Prelude.{◌≡◌, length, IfOk};
 
 use crate::base::Base;
-use crate::fault::CliFault;
-use mt_opcodec::Latch;
+use cli_calls::CliFault;
+use mt_latch::Latch;
 use std::fs::{self, File};
-use std::io::{self, Read};
+use std::io::{self, ErrorKind, Read};
 use std::rt::Files;
 
 /// Opens the files from left to right; so many inputs are counted before them.
@@ -14,10 +14,12 @@ pub(crate) fn open_all<F: Files + AllocGlobal>(
     rt: &F,
     others: usize,
     names: &[&str],
-) -> Result<Vec<Latch<F::File>>, CliFault> {
+) -> Result<Vec<Latch<F::File>>, CliFault>
+    ensures { IfOk result (λ files. length files.items ≡ length names.now) }
+{
     let mut files = Vec::new(rt.alloc());
-    for (index, name) in names.iter().enumerate() {
-        files.push(open(rt, others.saturating_add(index), name)?)?;
+    for place in 0..names.len() {
+        files.push(open(rt, others.saturating_add(place), names[place])?)?;
     }
     Ok(files)
 }
@@ -73,6 +75,26 @@ impl<F: Files> Read for LateFile<'_, '_, F> {
         }
         Ok(count)
     }
+}
+
+/// A reader in a latch, as a reader.
+#[derive(Drop)]
+pub(crate) struct InLatch<'l, R> {
+    latch: &'l mut Latch<R>,
+}
+
+impl<R: Read> Read for InLatch<'_, R> {
+    fn read(&mut self, buf: &mut [u8]) -> io::Result<usize> {
+        match self.latch.get(buf) {
+            Ok(count) => Ok(count),
+            Err(_) => Err(io::Error::from(ErrorKind::Other)),
+        }
+    }
+}
+
+/// A latch round a reader that is in one: so standard input stands among other inputs.
+pub(crate) fn in_latch<R: Read>(latch: &mut Latch<R>) -> Latch<InLatch<'_, R>> {
+    Latch::new(InLatch { latch })
 }
 
 /// Files that are opened where they are first read, from left to right.

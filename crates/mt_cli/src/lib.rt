@@ -41,68 +41,23 @@
 #![tactic(auto)]
 
 mod base;
-mod both;
-mod check;
 mod commands;
-mod completions;
-mod diff;
-mod draw;
-mod edit;
-mod escape;
-mod fault;
-mod file_info;
 mod files;
-mod find;
-mod form;
-mod have;
-mod info;
-mod lack;
-pub mod laws;
-mod lay;
-mod list;
-mod manual;
-mod merge;
 mod part;
 mod program;
-mod pull;
-mod put;
-mod read;
 mod refusal_lines;
 mod refusals;
-mod render;
-mod revert;
-mod source_list;
-mod sources;
+mod runtime;
 mod stop;
-mod swap;
-mod take;
-mod tell;
-mod union;
-mod view;
 mod why;
-mod words;
 
-pub use both::read_growing;
-pub use check::check_log;
-pub use diff::{DiffForm, diff_logs};
-pub use draw::{Drawing, SessionDrawing, draw_log, draw_logs};
-pub use edit::edit_log;
-pub use fault::{CliFault, LayFault, PartFault};
-pub use file_info::{InfoForm, InfoUnit, info_file};
-pub use find::{Wanted, find_items};
-pub use form::LineForm;
-pub use have::have_log;
-pub use info::{write_info, write_outline};
-pub use lack::lack_log;
-pub use lay::{Laying, lay_files};
-pub use list::{list_log, list_logs};
-pub use merge::merge_logs;
+pub use cli_calls::{
+    CliFault, DiffForm, Drawing, InfoForm, InfoUnit, LayFault, Laying, LineForm, PartFault,
+    SessionDrawing, Wanted, bounce_logs, check_log, diff_logs, draw_logs, edit_log, find_items,
+    have_log, info_file, lack_log, laws, lay_files, list_logs, list_sources, merge_logs, pull_logs,
+    read_growing, revert_log, swap_log, take_log, view_logs, view_logs_in, write_info,
+    write_outline,
+};
 pub use program::command;
-pub use pull::pull_logs;
 pub use refusals::{Refusal, find_refusal};
-pub use render::bounce_logs;
-pub use revert::revert_log;
-pub use source_list::list_sources;
-pub use swap::swap_log;
-pub use take::take_log;
-pub use view::{view_log_in, view_logs, view_logs_in};
+pub use runtime::Runtime;

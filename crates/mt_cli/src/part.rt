@@ -1,12 +1,12 @@
 //! The file that a command writes.
 
 ghost use Rattle.std.specs.Prelude.{◌≡◌, ◌≢◌, true, false, Ok, Err, is_err, IfErr, OnOk, ◌⊎◌};
-ghost use Rattle.mt_cli.specs.Faults.{IsOfOutput};
+ghost use Rattle.cli_calls.specs.Faults.{IsOfOutput};
 
 use crate::base::Base;
-use crate::fault::{CliFault, PartFault};
 use clap::ArgMatches;
-use mt_opcodec::Latch;
+use cli_calls::{CliFault, PartFault};
+use mt_latch::Latch;
 use std::alloc::{AllocError, Global};
 use std::fs::{self, File, OpenFile, Permissions};
 use std::io::{self, ErrorKind, Write};

@@ -8,19 +8,16 @@ use crate::commands::{
     check, completions, diff, edit, explain, find, have, id, info, lack, lay, log, man, meet,
     merge, pull, render, revert, serve, sources, take, timeline, view,
 };
-use crate::fault::CliFault;
 use crate::refusal_lines::{asks_why, put_cause, put_refusal, put_text};
+use crate::runtime::Runtime;
 use crate::stop::{Stop, refused, stopped_by};
 use crate::why::explained;
-use crate::words::{ABOUT, Lists, NUMBER, Words, bare, why_flag, with_all};
 use clap::{ArgMatches, Command};
-use mt_opcodec::Latch;
+use cli_calls::CliFault;
+use cli_words::{ABOUT, Lists, NUMBER, Words, bare, why_flag, with_all};
+use mt_latch::Latch;
 use std::alloc::{AllocError, Global};
-use std::fs::File;
 use std::io::{Read, Write};
-use std::net::{Net, TcpListener, TcpStream};
-use std::random::RandomSource;
-use std::rt::Files;
 
 /// Runs the words after the program's name over standard input, output and error, and answers the exit
 /// status: 0 where it is done; 1 where it is refused, and `errors` has then the line `radio: fault N` of the refusal's number, or a prefix of it where
@@ -28,15 +25,7 @@ use std::rt::Files;
 /// then something may stand before it, or be told with status 0: of the meetings of `serve` that were refused, two such lines each. 2 where the words do not parse, and standard
 /// error has then the parser's text, or a prefix of it, and neither the input nor the output was asked. Help and the version go to the output with status 0. A failure of `errors` is not
 /// told.
-pub fn command<
-    F: Files<File = File>
-        + Net<Listener = TcpListener, Stream = TcpStream>
-        + RandomSource
-        + AllocGlobal,
-    R: Read,
-    W: Write,
-    E: Write,
->(
+pub fn command<F: Runtime, R: Read, W: Write, E: Write>(
     rt: &F,
     words: &[String],
     input: &mut Latch<R>,
@@ -97,15 +86,7 @@ fn status_of<E: Write>(words: &[String], fault: CliFault, why: &str, errors: &mu
 }
 
 #[tactic(auto, using(crate::proofs::Telling::no_cause))]
-fn run<
-    F: Files<File = File>
-        + Net<Listener = TcpListener, Stream = TcpStream>
-        + RandomSource
-        + AllocGlobal,
-    R: Read,
-    W: Write,
-    E: Write,
->(
+fn run<F: Runtime, R: Read, W: Write, E: Write>(
     rt: &F,
     words: &[String],
     input: &mut Latch<R>,
@@ -143,15 +124,7 @@ fn nobody(alloc: Global) -> Stop {
 
 // The commands that write on the output, and all others.
 #[tactic(auto, using(crate::proofs::Telling::no_cause))]
-fn print<
-    F: Files<File = File>
-        + Net<Listener = TcpListener, Stream = TcpStream>
-        + RandomSource
-        + AllocGlobal,
-    R: Read,
-    W: Write,
-    E: Write,
->(
+fn print<F: Runtime, R: Read, W: Write, E: Write>(
     rt: &F,
     name: &str,
     words: &ArgMatches<'_>,
@@ -185,11 +158,7 @@ fn print<
 
 // The commands that make a file of files, and all others.
 #[tactic(auto, using(crate::proofs::Telling::no_cause))]
-fn make<
-    F: Files<File = File> + Net<Listener = TcpListener, Stream = TcpStream> + AllocGlobal,
-    W: Write,
-    E: Write,
->(
+fn make<F: Runtime, W: Write, E: Write>(
     rt: &F,
     name: &str,
     words: &ArgMatches<'_>,
@@ -211,10 +180,7 @@ fn make<
 
 // The commands by which editors swap operations.
 #[tactic(auto, using(crate::proofs::Telling::no_cause))]
-fn swap<
-    F: Files<File = File> + Net<Listener = TcpListener, Stream = TcpStream> + AllocGlobal,
-    E: Write,
->(
+fn swap<F: Runtime, E: Write>(
     rt: &F,
     name: &str,
     words: &ArgMatches<'_>,
@@ -246,7 +212,7 @@ fn of_logs() -> &'static [Words] {
     &OF_LOGS
 }
 
-const OF_LOGS: [Words; 7] = [
+static OF_LOGS: [Words; 7] = [
     view::WORDS,
     log::WORDS,
     timeline::WORDS,
@@ -261,7 +227,7 @@ fn of_sessions() -> &'static [Words] {
     &OF_SESSIONS
 }
 
-const OF_SESSIONS: [Words; 5] = [
+static OF_SESSIONS: [Words; 5] = [
     sources::WORDS,
     find::WORDS,
     diff::WORDS,
@@ -274,7 +240,7 @@ fn of_swaps() -> &'static [Words] {
     &OF_SWAPS
 }
 
-const OF_SWAPS: [Words; 5] = [
+static OF_SWAPS: [Words; 5] = [
     have::WORDS,
     lack::WORDS,
     take::WORDS,
@@ -287,7 +253,7 @@ fn of_others() -> &'static [Words] {
     &OF_OTHERS
 }
 
-const OF_OTHERS: [Words; 6] = [
+static OF_OTHERS: [Words; 6] = [
     info::WORDS,
     lay::WORDS,
     id::WORDS,

@@ -3,11 +3,11 @@
 ghost use Rattle.std.specs.Prelude.{◌≡◌, ◌++◌, codes};
 ghost use Rattle.std.specs.List.{flat_map, position};
 ghost use Rattle.mt_latch.specs.Buffered.{Puts};
+ghost use Rattle.cli_calls.specs.Editing.{number_line};
 ghost use Rattle.mt_cli.specs.Telling.{is_word, up_to, asks_why, on_line, why_line, fault_line, HasTold};
 
-use crate::fault::CliFault;
-use crate::put::hand_line;
-use mt_opcodec::{BufferedLatch, Latch};
+use cli_calls::CliFault;
+use mt_latch::{BufferedLatch, Latch};
 use std::io::Write;
 
 // Where the first `--` stands.
@@ -55,6 +55,16 @@ fn hand_text<W: Write>(line: &mut BufferedLatch<'_, W>, text: &[u8])
     for byte in text {
         hand_byte(line, *byte);
     }
+}
+
+// Hands over a line: these bytes and a number.
+#[tactic(auto, using(mt_latch::proofs::Putting::then_puts))]
+fn hand_line<W: Write>(line: &mut BufferedLatch<'_, W>, front: &[u8], number: u64)
+    ensures { Puts W.contents line.old line.new (number_line front.now number) }
+{
+    line.put(front);
+    line.put_decimal(number);
+    line.put(b"\n");
 }
 
 // Hands over the line that tells a cause.

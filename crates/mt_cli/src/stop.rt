@@ -3,8 +3,8 @@
 ghost use Rattle.std.specs.Prelude.{IfErr};
 ghost use Rattle.mt_cli.specs.Mistakes.{IsMistake};
 
-use crate::fault::CliFault;
 use clap::error::ErrorKind;
+use cli_calls::CliFault;
 use std::alloc::Global;
 
 /// What stops the program.

@@ -3,13 +3,14 @@
 ghost use Rattle.std.specs.Prelude.{◌≡◌, IfErr, Err};
 ghost use Rattle.mt_cli.specs.Mistakes.{IsMistake};
 
-use crate::fault::{CliFault, LayFault, PartFault};
 use crate::stop::Stop;
 use clap::ArgMatches;
+use cli_calls::{CliFault, LayFault, PartFault};
 use mt_bwfread::Wave;
 use mt_cuewrite::HeadFault;
+use mt_latch::Latch;
 use mt_op::Digest;
-use mt_opcodec::{Latch, Log, LogFault};
+use mt_opcodec::{Log, LogFault};
 use mt_render::MixFault;
 use mt_script::ScriptFault;
 use mt_stamp::{Dot, Stamp};

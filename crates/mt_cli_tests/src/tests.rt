@@ -8,3 +8,4 @@ mod running;
 mod several;
 mod surface;
 mod texts;
+mod words;

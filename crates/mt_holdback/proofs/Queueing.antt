@@ -13,37 +13,38 @@ use Rattle.mt_stamp.specs.Moment.{Moment, stamp_cmp, stamp_eq}
 use Rattle.mt_stamp.proofs.Order.{stamp_cmp_total, stamp_eq-true}
 use Rattle.mt_stampmap.specs.Index.{first_place, other_place, Finds}
 use Rattle.mt_stampmap.specs.declared.index.StampIndex.{StampIndex}
-use Rattle.mt_holdback.specs.Waiting.{NamesOlder, meets}
-use Rattle.mt_holdback.specs.Laws.{is_met_by, passed}
-use Rattle.mt_holdback.specs.Passing.{left}
-use Rattle.mt_holdback.specs.HoldBack.{queued}
-use Rattle.mt_holdback.specs.Queue.{items_of, is_met_in, LacksAt, MetTo, Lacks, Stands, Works, Takes, NoneIsMet}
+use Rattle.mt_holdback.specs.Waiting.{Rules, NamesOlder, meets}
+use Rattle.mt_holdback.specs.Laws.{is_met_by}
+use Rattle.mt_holdback.specs.Passing.{after_pass}
+use Rattle.mt_holdback.specs.HoldBack.{knows, queued}
+use Rattle.mt_holdback.specs.Queue.{items_of, contents_of, is_under, is_woken, is_met_in, LacksAt, Lacks, Stands, Works, IsQueueOf, FirstLack, Takes, NoneIsMet, IsApart, TakenOut, NextIs}
+use Rattle.mt_holdback.specs.declared.queue.Lack.{Lack}
+use Rattle.mt_holdback.specs.declared.queue.Queue.{Queue}
 use Rattle.mt_holdback.specs.declared.queue.Waiter.{Waiter}
 use Rattle.mt_holdback.proofs.Entries.{found_key, all_inserted, all_removed, none_found, others_left, reinserted}
-use Rattle.mt_holdback.proofs.Keys.{neither, not_and, same_test, is_same, eq_turned, any_push}
+use Rattle.mt_holdback.proofs.Keys.{on_some, on_none, neither, not_and, same_test, is_same, eq_turned, any_push}
 use Rattle.mt_holdback.proofs.Listings.{all_more, any_append}
 use Rattle.mt_holdback.proofs.Needs.{all_at, one_fails}
-use Rattle.mt_holdback.proofs.Offers.{less_clock, queued_is}
+use Rattle.mt_holdback.proofs.Offers.{less_clock, queued_is, goes_by, stays_first}
 use Rattle.mt_holdback.proofs.Released.{finds_more}
 
-module _ {T R : Type 0} (key : T → Moment) (needs : T → List (Moment × R)) (fits : R → T → Bool) where
+module _ {T R : Type 0} (rules : Rules T R) where
   -- what lacks a need is not met
-  lack_unmet : (released : List T) (t : T) (i : ℕ) (stamp : Moment) → LacksAt key needs fits released t i stamp → is_met_by key needs fits released t ≡ false
-  lack_unmet released t i stamp lack = one_fails (is_met_in key needs fits released) (needs t) i (stamp, lack.role) lack.at lack.unmet
+  lack_unmet : (released : List T) (t : T) (i : ℕ) (stamp : Moment) → LacksAt rules released t i stamp → is_met_by rules released t ≡ false
+  lack_unmet released t i stamp lack = one_fails (is_met_in rules released) (rules.needs t) i (stamp, lack.role) lack.at lack.unmet
 
   -- and lacks it still where one is released that the need does not name
-  lack_kept : (released : List T) (t u : T) (i : ℕ) (stamp : Moment) → stamp_eq stamp (key u) ≡ false → LacksAt key needs fits released t i stamp → LacksAt key needs fits (released ++ u ∷ []) t i stamp
+  lack_kept : (released : List T) (t u : T) (i : ℕ) (stamp : Moment) → stamp_eq stamp (rules.key u) ≡ false → LacksAt rules released t i stamp → LacksAt rules (released ++ u ∷ []) t i stamp
   lack_kept released t u i stamp differs lack = record {
     role = lack.role;
     at = lack.at;
-    unmet = any_push (meets key needs fits (stamp, lack.role)) released u ∙ neither _ _ lack.unmet (not_and (stamp_eq stamp (key u)) (fits lack.role u) differs);
+    unmet = any_push (meets rules (stamp, lack.role)) released u ∙ neither _ _ lack.unmet (not_and (stamp_eq stamp (rules.key u)) (rules.fits lack.role u) differs);
   }
 
-  stands_more : (released : List T) (lists lists' : Moment → Moment → Bool) (woken woken' : Moment → Bool)
-      → ((s q : Moment) → lists s q ≡ true → lists' s q ≡ true) → ((q : Moment) → woken q ≡ true → woken' q ≡ true)
-      → (es : List (Moment × Waiter T)) → AllByRecursion (Stands key needs fits released lists woken) es → AllByRecursion (Stands key needs fits released lists' woken') es
-  stands_more released lists lists' woken woken' listed_stay woken_stay [] all = tt
-  stands_more released lists lists' woken woken' listed_stay woken_stay (e ∷ es) all = (
+  stands_more : (released : List T) (lists lists' : Moment → Moment → Bool) (woken : Moment → Bool) → ((s q : Moment) → lists s q ≡ true → lists' s q ≡ true)
+      → (es : List (Moment × Waiter T)) → AllByRecursion (Stands rules released lists woken) es → AllByRecursion (Stands rules released lists' woken) es
+  stands_more released lists lists' woken stay [] all = tt
+  stands_more released lists lists' woken stay (e ∷ es) all = (
     record {
       own = all.0.own;
       older = all.0.older;
@@ -51,18 +52,18 @@ module _ {T R : Type 0} (key : T → Moment) (needs : T → List (Moment × R)) 
       met = all.0.met;
       waits = by all.0.waits;
     },
-    stands_more released lists lists' woken woken' listed_stay woken_stay es all.1,
+    stands_more released lists lists' woken stay es all.1,
   )
     where
-      by : (woken e.0 ≡ true) ⊎ Lacks key needs fits released lists e → (woken' e.0 ≡ true) ⊎ Lacks key needs fits released lists' e
-      by (inl h) = inl (woken_stay e.0 h)
-      by (inr l) = inr (record { stamp = l.stamp; lacks = l.lacks; under = listed_stay l.stamp e.0 l.under })
+      by : (woken e.0 ≡ true) ⊎ Lacks rules released lists e → (woken e.0 ≡ true) ⊎ Lacks rules released lists' e
+      by (inl h) = inl h
+      by (inr l) = inr (record { stamp = l.stamp; lacks = l.lacks; under = stay l.stamp e.0 l.under })
 
   -- a key that no entry has is looked at no more
   stands_less : (released : List T) (lists : Moment → Moment → Bool) (woken woken' : Moment → Bool) (k : Moment)
       → ((q : Moment) → woken' q ≡ cond (is_eq (stamp_cmp k q)) false (woken q))
       → (es : List (Moment × Waiter T)) → AllByRecursion (λ e. is_eq (stamp_cmp k e.0) ≡ false) es
-      → AllByRecursion (Stands key needs fits released lists woken) es → AllByRecursion (Stands key needs fits released lists woken') es
+      → AllByRecursion (Stands rules released lists woken) es → AllByRecursion (Stands rules released lists woken') es
   stands_less released lists woken woken' k popped [] others all = tt
   stands_less released lists woken woken' k popped (e ∷ es) others all = (
     record {
@@ -75,205 +76,208 @@ module _ {T R : Type 0} (key : T → Moment) (needs : T → List (Moment × R)) 
     stands_less released lists woken woken' k popped es others.1 all.1,
   )
     where
-      by : (woken e.0 ≡ true) ⊎ Lacks key needs fits released lists e → (woken' e.0 ≡ true) ⊎ Lacks key needs fits released lists e
+      by : (woken e.0 ≡ true) ⊎ Lacks rules released lists e → (woken' e.0 ≡ true) ⊎ Lacks rules released lists e
       by (inl h) = inl (popped e.0 ∙ ap (λ (b : Bool). cond b false (woken e.0)) others.0 ∙ h)
       by (inr l) = inr l
 
   -- the one of a key
   stands_at : (released : List T) (lists : Moment → Moment → Bool) (woken : Moment → Bool) (k : Moment) (es : List (Moment × Waiter T)) (v : Waiter T) → lookup (is_at (stamp_cmp k)) es ≡ Some v
-      → AllByRecursion (Stands key needs fits released lists woken) es → Stands key needs fits released lists woken (k, v)
+      → AllByRecursion (Stands rules released lists woken) es → Stands rules released lists woken (k, v)
   stands_at released lists woken k [] v found all = absurd (none-some v found)
   stands_at released lists woken k (e ∷ es) v found all = by (is_eq (stamp_cmp k e.0)) refl found (λ h. stands_at released lists woken k es v h all.1)
     where
       by : (b : Bool) → is_eq (stamp_cmp k e.0) ≡ b → cond b (Some e.1) (lookup (is_at (stamp_cmp k)) es) ≡ Some v
-          → (lookup (is_at (stamp_cmp k)) es ≡ Some v → Stands key needs fits released lists woken (k, v)) → Stands key needs fits released lists woken (k, v)
-      by true is h rest = subst (λ (f : Moment × Waiter T). Stands key needs fits released lists woken f) (λ i. (sym (is_same k e.0 is) i, same_Some e.1 v h i)) all.0
+          → (lookup (is_at (stamp_cmp k)) es ≡ Some v → Stands rules released lists woken (k, v)) → Stands rules released lists woken (k, v)
+      by true is h rest = subst (λ (f : Moment × Waiter T). Stands rules released lists woken f) (λ i. (sym (is_same k e.0 is) i, same_Some e.1 v h i)) all.0
       by false is h rest = rest h
 
   -- The next one is taken out, and it is met: a pass comes to it first of all that are met.
-  module _ (released : List T) (t : T) (k : Moment) (own : k ≡ key t) (met : is_met_by key needs fits released t ≡ true) where
-    passed_over : (ws : List T) (u : T) → is_met_by key needs fits released u ≡ false → passed key needs fits released (u ∷ ws) ≡ passed key needs fits released ws
-    passed_over ws u unmet = ap (λ (b : Bool). passed key needs fits (cond b (released ++ u ∷ []) released) ws) unmet
-
+  module _ (released : List T) (t : T) (k : Moment) (own : k ≡ rules.key t) (met : is_met_by rules released t ≡ true) where
     unmet_both : (lists : Moment → Moment → Bool) (woken : Moment → Bool) (e : Moment × Waiter T) → stamp_cmp e.0 k ≡ Less → ((q : Moment) → woken q ≡ true → is_gt (stamp_cmp k q) ≡ false)
-        → Stands key needs fits released lists woken e → (is_met_by key needs fits released e.1.item ≡ false) × (is_met_by key needs fits (released ++ t ∷ []) e.1.item ≡ false)
+        → Stands rules released lists woken e → (is_met_by rules released e.1.item ≡ false) × (is_met_by rules (released ++ t ∷ []) e.1.item ≡ false)
     unmet_both lists woken e less least stands = by stands.waits
       where
-        differs : (stamp : Moment) → (lack : LacksAt key needs fits released e.1.item e.1.met stamp) → stamp_eq stamp (key t) ≡ false
-        differs stamp lack = by (stamp_eq stamp (key t)) refl
+        differs : (stamp : Moment) → (lack : LacksAt rules released e.1.item e.1.met stamp) → stamp_eq stamp (rules.key t) ≡ false
+        differs stamp lack = by (stamp_eq stamp (rules.key t)) refl
           where
-            by : (b : Bool) → stamp_eq stamp (key t) ≡ b → b ≡ false
+            by : (b : Bool) → stamp_eq stamp (rules.key t) ≡ b → b ≡ false
             by false h = refl
             by true h =
-                let smaller = all_at (λ need. need.0.clock < (key e.1.item).clock) (needs e.1.item) e.1.met (stamp, lack.role) stands.older lack.at in
-                let same = ap (λ (s : Moment). s.clock) (stamp_eq-true stamp (key t) h) in
+                let smaller = all_at (λ need. need.0.clock < (rules.key e.1.item).clock) (rules.needs e.1.item) e.1.met (stamp, lack.role) stands.older lack.at in
+                let same = ap (λ (s : Moment). s.clock) (stamp_eq-true stamp (rules.key t) h) in
                 let own_clock = ap (λ (s : Moment). s.clock) own in
                 let e_clock = ap (λ (s : Moment). s.clock) stands.own in
-                absurd (omega (arith, smaller, same, own_clock, e_clock, less_clock key needs fits e.0 k less))
+                absurd (omega (arith, smaller, same, own_clock, e_clock, less_clock rules e.0 k less))
 
-        by : (woken e.0 ≡ true) ⊎ Lacks key needs fits released lists e → (is_met_by key needs fits released e.1.item ≡ false) × (is_met_by key needs fits (released ++ t ∷ []) e.1.item ≡ false)
+        by : (woken e.0 ≡ true) ⊎ Lacks rules released lists e → (is_met_by rules released e.1.item ≡ false) × (is_met_by rules (released ++ t ∷ []) e.1.item ≡ false)
         by (inl h) = absurd (true≢false (sym (ap is_gt (stamp_cmp_total.antisymm k e.0 ∙ ap ordering_reverse less)) ∙ least e.0 h))
         by (inr l) = (lack_unmet released e.1.item e.1.met l.stamp l.lacks, lack_unmet (released ++ t ∷ []) e.1.item e.1.met l.stamp (lack_kept released e.1.item t e.1.met l.stamp (differs l.stamp l.lacks) l.lacks))
 
     pub taken : (lists : Moment → Moment → Bool) (woken : Moment → Bool) (v : Waiter T) → v.item ≡ t → ((q : Moment) → woken q ≡ true → is_gt (stamp_cmp k q) ≡ false)
-        → (es : List (Moment × Waiter T)) → IsStrictlySortedBy stamp_cmp (keys_of es) → lookup (is_at (stamp_cmp k)) es ≡ Some v → AllByRecursion (Stands key needs fits released lists woken) es
-        → Takes key needs fits released t (items_of es) (items_of (remove_entry (is_at (stamp_cmp k)) es))
+        → (es : List (Moment × Waiter T)) → IsStrictlySortedBy stamp_cmp (keys_of es) → lookup (is_at (stamp_cmp k)) es ≡ Some v → AllByRecursion (Stands rules released lists woken) es
+        → Takes rules released t (items_of es) (items_of (remove_entry (is_at (stamp_cmp k)) es))
     unfolding IsStrictlySortedBy
     taken lists woken v is least [] sorted found all = absurd (none-some v found)
     taken lists woken v is least (e ∷ es) sorted found all = by (is_eq (stamp_cmp k e.0)) refl found (λ h. taken lists woken v is least es sorted.1 h all.1)
       where
         by : (b : Bool) → is_eq (stamp_cmp k e.0) ≡ b → cond b (Some e.1) (lookup (is_at (stamp_cmp k)) es) ≡ Some v
-            → (lookup (is_at (stamp_cmp k)) es ≡ Some v → Takes key needs fits released t (items_of es) (items_of (remove_entry (is_at (stamp_cmp k)) es)))
-            → Takes key needs fits released t (e.1.item ∷ items_of es) (items_of (cond b es (e ∷ remove_entry (is_at (stamp_cmp k)) es)))
+            → (lookup (is_at (stamp_cmp k)) es ≡ Some v → Takes rules released t (items_of es) (items_of (remove_entry (is_at (stamp_cmp k)) es)))
+            → Takes rules released t (e.1.item ∷ items_of es) (items_of (cond b es (e ∷ remove_entry (is_at (stamp_cmp k)) es)))
         by true same h rest =
             let item : e.1.item ≡ t = ap (λ (w : Waiter T). w.item) (same_Some e.1 v h) ∙ is in
-            let is_met : is_met_by key needs fits released e.1.item ≡ true = ap (is_met_by key needs fits released) item ∙ met in record {
-              passed = ap (λ (b : Bool). passed key needs fits (cond b (released ++ e.1.item ∷ []) released) (items_of es)) is_met ∙ ap (λ (u : T). passed key needs fits (released ++ u ∷ []) (items_of es)) item;
-              left = ap (λ (b : Bool). cond b (left key needs fits (released ++ e.1.item ∷ []) (items_of es)) (e.1.item ∷ left key needs fits released (items_of es))) is_met ∙ ap (λ (u : T). left key needs fits (released ++ u ∷ []) (items_of es)) item;
-            }
+            ap (goes_by rules released e.1.item (items_of es)) (ap (is_met_by rules released) item ∙ met) ∙ ap (λ (u : T). after_pass rules (record { released = released ++ u ∷ []; waiting = items_of es })) item
         by false same h rest =
-            let unmet = unmet_both lists woken e (found_key (λ y. stamp_cmp e.0 y ≡ Less) k es v h sorted.0) least all.0 in record {
-              passed = passed_over (items_of es) e.1.item unmet.0 ∙ (rest h).passed
-                  ∙ sym (ap (λ (b : Bool). passed key needs fits (cond b ((released ++ t ∷ []) ++ e.1.item ∷ []) (released ++ t ∷ [])) (items_of (remove_entry (is_at (stamp_cmp k)) es))) unmet.1);
-              left = ap (λ (b : Bool). cond b (left key needs fits (released ++ e.1.item ∷ []) (items_of es)) (e.1.item ∷ left key needs fits released (items_of es))) unmet.0
-                  ∙ ap (λ (us : List T). e.1.item ∷ us) (rest h).left
-                  ∙ sym (ap (λ (b : Bool). cond b (left key needs fits ((released ++ t ∷ []) ++ e.1.item ∷ []) (items_of (remove_entry (is_at (stamp_cmp k)) es))) (e.1.item ∷ left key needs fits (released ++ t ∷ []) (items_of (remove_entry (is_at (stamp_cmp k)) es)))) unmet.1);
-            }
+            let unmet = unmet_both lists woken e (found_key (λ y. stamp_cmp e.0 y ≡ Less) k es v h sorted.0) least all.0 in
+            ap (goes_by rules released e.1.item (items_of es)) unmet.0 ∙ ap (stays_first rules e.1.item) (rest h)
+            ∙ sym (ap (goes_by rules (released ++ t ∷ []) e.1.item (items_of (remove_entry (is_at (stamp_cmp k)) es))) unmet.1)
 
-  -- what is taken of what is not met
-  pub passed_none : (released ws : List T) → NoneIsMet key needs fits released ws → passed key needs fits released ws ≡ released
-  passed_none released [] none = refl
-  passed_none released (u ∷ ws) none = ap (λ (b : Bool). passed key needs fits (cond b (released ++ u ∷ []) released) ws) none.0 ∙ passed_none released ws none.1
-
-  pub left_none : (released ws : List T) → NoneIsMet key needs fits released ws → left key needs fits released ws ≡ ws
-  left_none released [] none = refl
-  left_none released (u ∷ ws) none = ap (λ (b : Bool). cond b (left key needs fits (released ++ u ∷ []) ws) (u ∷ left key needs fits released ws)) none.0 ∙ ap (λ (us : List T). u ∷ us) (left_none released ws none.1)
+  -- a pass over what is not met changes nothing
+  pub passes_none : (released ws : List T) → NoneIsMet rules released ws → after_pass rules (record { released = released; waiting = ws }) ≡ record { released = released; waiting = ws }
+  passes_none released [] none = refl
+  passes_none released (u ∷ ws) none = ap (goes_by rules released u ws) none.0 ∙ ap (stays_first rules u) (passes_none released ws none.1)
 
   -- where none is to be looked at, none is met
   pub none_is_met : (released : List T) (lists : Moment → Moment → Bool) (woken : Moment → Bool) → ((q : Moment) → woken q ≡ false)
-      → (es : List (Moment × Waiter T)) → AllByRecursion (Stands key needs fits released lists woken) es → NoneIsMet key needs fits released (items_of es)
+      → (es : List (Moment × Waiter T)) → AllByRecursion (Stands rules released lists woken) es → NoneIsMet rules released (items_of es)
   none_is_met released lists woken asleep [] all = tt
   none_is_met released lists woken asleep (e ∷ es) all = (by all.0.waits, none_is_met released lists woken asleep es all.1)
     where
-      by : (woken e.0 ≡ true) ⊎ Lacks key needs fits released lists e → is_met_by key needs fits released e.1.item ≡ false
+      by : (woken e.0 ≡ true) ⊎ Lacks rules released lists e → is_met_by rules released e.1.item ≡ false
       by (inl h) = absurd (true≢false (sym h ∙ asleep e.0))
       by (inr l) = lack_unmet released e.1.item e.1.met l.stamp l.lacks
 
   -- the next one that is to be looked at does not wait
 
   pub pop_absent : {A : Type 0} (released : List T) (places : StampIndex A) (es fs : List (Moment × Waiter T)) (lists : Moment → Moment → Bool) (woken woken' : Moment → Bool) (k : Moment)
-      → Works key needs fits released places es lists woken → ((q : Moment) → woken' q ≡ cond (is_eq (stamp_cmp k q)) false (woken q)) → lookup (is_at (stamp_cmp k)) es ≡ None → fs ≡ es
-      → Works key needs fits released places fs lists woken'
+      → Works rules released places es lists woken → ((q : Moment) → woken' q ≡ cond (is_eq (stamp_cmp k q)) false (woken q)) → lookup (is_at (stamp_cmp k)) es ≡ None → fs ≡ es
+      → Works rules released places fs lists woken'
   pop_absent released places es fs lists woken woken' k works popped none same =
-      subst (λ (gs : List (Moment × Waiter T)). Works key needs fits released places gs lists woken') (sym same)
+      subst (λ (gs : List (Moment × Waiter T)). Works rules released places gs lists woken') (sym same)
       (record { finds = works.finds; sorted = works.sorted; each = stands_less released lists woken woken' k popped es (none_found k es none) works.each })
 
   -- it waits, and is taken out
-  module _ {A : Type 0} (released : List T) (places : StampIndex A) (es fs : List (Moment × Waiter T)) (lists : Moment → Moment → Bool) (woken woken' : Moment → Bool) (k : Moment) (v : Waiter T)
-      (works : Works key needs fits released places es lists woken) (popped : (q : Moment) → woken' q ≡ cond (is_eq (stamp_cmp k q)) false (woken q)) (found : lookup (is_at (stamp_cmp k)) es ≡ Some v)
-      (taken_out : fs ≡ remove_entry (is_at (stamp_cmp k)) es) (sorted : IsStrictlySortedBy stamp_cmp (keys_of fs)) where
-    pub stood : Stands key needs fits released lists woken (k, v)
-    stood = stands_at released lists woken k es v found works.each
+  pub record IsOut {A : Type 0} (released : List T) (places : StampIndex A) (es fs : List (Moment × Waiter T)) (lists : Moment → Moment → Bool) (woken woken' : Moment → Bool) (k : Moment) (v : Waiter T) : Type 0 where
+    pub works : Works rules released places es lists woken
+    pub popped : (q : Moment) → woken' q ≡ cond (is_eq (stamp_cmp k q)) false (woken q)
+    pub found : lookup (is_at (stamp_cmp k)) es ≡ Some v
+    pub gone : fs ≡ remove_entry (is_at (stamp_cmp k)) es
+    pub sorted : IsStrictlySortedBy stamp_cmp (keys_of fs)
 
-    pub pop_works : Works key needs fits released places fs lists woken'
+  module _ {A : Type 0} {released : List T} {places : StampIndex A} {es fs : List (Moment × Waiter T)} {lists : Moment → Moment → Bool} {woken woken' : Moment → Bool} {k : Moment} {v : Waiter T}
+      (out : IsOut released places es fs lists woken woken' k v) where
+    pub stood : Stands rules released lists woken (k, v)
+    stood = stands_at released lists woken k es v out.found out.works.each
+
+    pub pop_works : Works rules released places fs lists woken'
     pop_works = record {
-      finds = works.finds;
-      sorted = sorted;
-      each = subst (λ (gs : List (Moment × Waiter T)). AllByRecursion (Stands key needs fits released lists woken') gs) (sym taken_out)
-          (stands_less released lists woken woken' k popped (remove_entry (is_at (stamp_cmp k)) es) (others_left k es works.sorted) (all_removed (Stands key needs fits released lists woken) (is_at (stamp_cmp k)) es works.each));
+      finds = out.works.finds;
+      sorted = out.sorted;
+      each = subst (λ (gs : List (Moment × Waiter T)). AllByRecursion (Stands rules released lists woken') gs) (sym out.gone)
+          (stands_less released lists woken woken' k out.popped (remove_entry (is_at (stamp_cmp k)) es) (others_left k es out.works.sorted) (all_removed (Stands rules released lists woken) (is_at (stamp_cmp k)) es out.works.each));
     }
 
-    pub pop_takes : ((q : Moment) → woken q ≡ true → is_gt (stamp_cmp k q) ≡ false) → is_met_by key needs fits released v.item ≡ true → Takes key needs fits released v.item (items_of es) (items_of fs)
+    pub pop_takes : ((q : Moment) → woken q ≡ true → is_gt (stamp_cmp k q) ≡ false) → is_met_by rules released v.item ≡ true → Takes rules released v.item (items_of es) (items_of fs)
     pop_takes least met =
-        subst (λ (gs : List (Moment × Waiter T)). Takes key needs fits released v.item (items_of es) (items_of gs)) (sym taken_out)
-        (taken released v.item k stood.own met lists woken v refl least es works.sorted found works.each)
+        subst (λ (gs : List (Moment × Waiter T)). Takes rules released v.item (items_of es) (items_of gs)) (sym out.gone)
+        (taken released v.item k stood.own met lists woken v refl least es out.works.sorted out.found out.works.each)
 
-    pub pop_fresh : list_any (λ u. stamp_eq (key u) (key v.item)) released ≡ false
-    pop_fresh = subst (λ (q : Moment). list_any (λ u. stamp_eq (key u) q) released ≡ false) stood.own stood.fresh
+    pub pop_fresh : list_any (λ u. stamp_eq (rules.key u) (rules.key v.item)) released ≡ false
+    pop_fresh = subst (λ (q : Moment). list_any (λ u. stamp_eq (rules.key u) q) released ≡ false) stood.own stood.fresh
 
-    pub pop_others : AllByRecursion (λ e. stamp_eq e.0 (key v.item) ≡ false) fs
-    pop_others = subst (λ (gs : List (Moment × Waiter T)). AllByRecursion (λ e. stamp_eq e.0 (key v.item) ≡ false) gs) (sym taken_out) (by (remove_entry (is_at (stamp_cmp k)) es) (others_left k es works.sorted))
+    pub pop_others : AllByRecursion (λ e. stamp_eq e.0 (rules.key v.item) ≡ false) fs
+    pop_others = subst (λ (gs : List (Moment × Waiter T)). AllByRecursion (λ e. stamp_eq e.0 (rules.key v.item) ≡ false) gs) (sym out.gone) (by (remove_entry (is_at (stamp_cmp k)) es) (others_left k es out.works.sorted))
       where
-        by : (gs : List (Moment × Waiter T)) → AllByRecursion (λ e. is_eq (stamp_cmp k e.0) ≡ false) gs → AllByRecursion (λ e. stamp_eq e.0 (key v.item) ≡ false) gs
+        by : (gs : List (Moment × Waiter T)) → AllByRecursion (λ e. is_eq (stamp_cmp k e.0) ≡ false) gs → AllByRecursion (λ e. stamp_eq e.0 (rules.key v.item) ≡ false) gs
         by [] all = tt
         by (g ∷ gs) all = (ap (stamp_eq g.0) (sym stood.own) ∙ eq_turned g.0 k ∙ same_test k g.0 ∙ all.0, by gs all.1)
 
     -- it lacks a need, and is put in again
-    pub held_works : (lists' : Moment → Moment → Bool) (w : Waiter T) (gs : List (Moment × Waiter T)) (stamp : Moment) → w.item ≡ v.item → MetTo key needs fits released w.item w.met → LacksAt key needs fits released w.item w.met stamp
-        → ((s q : Moment) → lists s q ≡ true → lists' s q ≡ true) → lists' stamp k ≡ true → gs ≡ insert_entry stamp_cmp fs k w → IsStrictlySortedBy stamp_cmp (keys_of gs)
-        → Works key needs fits released places gs lists' woken'
-    held_works lists' w gs stamp same met lack stay there put ascend = record {
-      finds = works.finds;
+    pub held_works : (lists' : Moment → Moment → Bool) (gs : List (Moment × Waiter T)) (lack : Lack) → FirstLack rules released v.item lack
+        → ((s q : Moment) → lists s q ≡ true → lists' s q ≡ true) → lists' lack.stamp k ≡ true → gs ≡ insert_entry stamp_cmp fs k (record { item = v.item; met = lack.place }) → IsStrictlySortedBy stamp_cmp (keys_of gs)
+        → Works rules released places gs lists' woken'
+    held_works lists' gs lack first stay there put ascend = record {
+      finds = out.works.finds;
       sorted = ascend;
-      each = subst (λ (hs : List (Moment × Waiter T)). AllByRecursion (Stands key needs fits released lists' woken') hs) (sym put)
-          (all_inserted (Stands key needs fits released lists' woken') k w fs (record {
-            own = stood.own ∙ ap key (sym same);
-            older = subst (λ (t : T). NamesOlder (key t) (needs t)) (sym same) stood.older;
+      each = subst (λ (hs : List (Moment × Waiter T)). AllByRecursion (Stands rules released lists' woken') hs) (sym put)
+          (all_inserted (Stands rules released lists' woken') k (record { item = v.item; met = lack.place }) fs (record {
+            own = stood.own;
+            older = stood.older;
             fresh = stood.fresh;
-            met = met;
-            waits = inr (record { stamp = stamp; lacks = lack; under = there });
-          }) (stands_more released lists lists' woken' woken' stay (λ q h. h) fs pop_works.each));
+            met = first.met;
+            waits = inr (record { stamp = lack.stamp; lacks = first.lacks; under = there });
+          }) (stands_more released lists lists' woken' stay fs pop_works.each));
     }
 
-    pub held_same : (w : Waiter T) (gs : List (Moment × Waiter T)) → w.item ≡ v.item → gs ≡ insert_entry stamp_cmp fs k w → items_of gs ≡ items_of es
-    held_same w gs same put =
-        ap items_of put ∙ ap (λ (hs : List (Moment × Waiter T)). items_of (insert_entry stamp_cmp hs k w)) taken_out ∙ reinserted k es v w works.sorted found same
+    pub held_same : (gs : List (Moment × Waiter T)) (place : ℕ) → gs ≡ insert_entry stamp_cmp fs k (record { item = v.item; met = place }) → items_of gs ≡ items_of es
+    held_same gs place put =
+        ap items_of put ∙ ap (λ (hs : List (Moment × Waiter T)). items_of (insert_entry stamp_cmp hs k (record { item = v.item; met = place }))) out.gone
+        ∙ reinserted k es v (record { item = v.item; met = place }) out.works.sorted out.found refl
+
+  -- the next one, if there is one
+  pub out_some : {A : Type 0} {released released' : List T} {before after : Queue T A} {next : Option T} {t : T} → NextIs rules released before after next → next ≡ Some t → released ≡ released' → TakenOut rules released' before after t
+  out_some {released} {released'} {before} {after} {next} {t} step is same = subst (λ (rs : List T). TakenOut rules rs before after t) same (on_some next t (TakenOut rules released before after) is step.out)
+
+  pub none_left : {A : Type 0} {released released' : List T} {before after : Queue T A} {next : Option T} → NextIs rules released before after next → next ≡ None → released ≡ released'
+      → after_pass rules (contents_of released' (Some before)) ≡ contents_of released' (Some after)
+  none_left {released} {released'} {before} {after} {next} step is same =
+      subst (λ (rs : List T). after_pass rules (contents_of rs (Some before)) ≡ contents_of rs (Some after)) same
+      (ap (λ (ws : List T). after_pass rules (record { released = released; waiting = ws })) (sym (on_none next _ is step.same)) ∙ passes_none released (items_of after.items.entries) (on_none next _ is step.none))
 
   -- one more is released
 
   module _ (released : List T) (t : T) (lists lists' : Moment → Moment → Bool) (woken woken' : Moment → Bool)
-      (others : (s q : Moment) → stamp_eq s (key t) ≡ false → lists s q ≡ true → lists' s q ≡ true) (woke : (q : Moment) → lists (key t) q ≡ true → woken' q ≡ true)
+      (others : (s q : Moment) → stamp_eq s (rules.key t) ≡ false → lists s q ≡ true → lists' s q ≡ true) (woke : (q : Moment) → lists (rules.key t) q ≡ true → woken' q ≡ true)
       (stay : (q : Moment) → woken q ≡ true → woken' q ≡ true) where
-    stands_released : (es : List (Moment × Waiter T)) → AllByRecursion (λ e. stamp_eq e.0 (key t) ≡ false) es → AllByRecursion (Stands key needs fits released lists woken) es
-        → AllByRecursion (Stands key needs fits (released ++ t ∷ []) lists' woken') es
+    stands_released : (es : List (Moment × Waiter T)) → AllByRecursion (λ e. stamp_eq e.0 (rules.key t) ≡ false) es → AllByRecursion (Stands rules released lists woken) es
+        → AllByRecursion (Stands rules (released ++ t ∷ []) lists' woken') es
     stands_released [] apart all = tt
     stands_released (e ∷ es) apart all = (
       record {
         own = all.0.own;
         older = all.0.older;
-        fresh = any_push (λ u. stamp_eq (key u) e.0) released t ∙ neither _ _ all.0.fresh (eq_turned (key t) e.0 ∙ apart.0);
-        met = all_more (is_met_in key needs fits released) (is_met_in key needs fits (released ++ t ∷ [])) (take e.1.met (needs e.1.item))
-            (λ need h. any_push (meets key needs fits need) released t ∙ ap (λ (b : Bool). b || meets key needs fits need t) h) all.0.met;
+        fresh = any_push (λ u. stamp_eq (rules.key u) e.0) released t ∙ neither _ _ all.0.fresh (eq_turned (rules.key t) e.0 ∙ apart.0);
+        met = all_more (is_met_in rules released) (is_met_in rules (released ++ t ∷ [])) (take e.1.met (rules.needs e.1.item))
+            (λ need h. any_push (meets rules need) released t ∙ ap (λ (b : Bool). b || meets rules need t) h) all.0.met;
         waits = by all.0.waits;
       },
       stands_released es apart.1 all.1,
     )
       where
-        waits_for : (l : Lacks key needs fits released lists e) (b : Bool) → stamp_eq l.stamp (key t) ≡ b → (woken' e.0 ≡ true) ⊎ Lacks key needs fits (released ++ t ∷ []) lists' e
-        waits_for l true h = inl (woke e.0 (subst (λ (s : Moment). lists s e.0 ≡ true) (stamp_eq-true l.stamp (key t) h) l.under))
+        waits_for : (l : Lacks rules released lists e) (b : Bool) → stamp_eq l.stamp (rules.key t) ≡ b → (woken' e.0 ≡ true) ⊎ Lacks rules (released ++ t ∷ []) lists' e
+        waits_for l true h = inl (woke e.0 (subst (λ (s : Moment). lists s e.0 ≡ true) (stamp_eq-true l.stamp (rules.key t) h) l.under))
         waits_for l false h = inr (record { stamp = l.stamp; lacks = lack_kept released e.1.item t e.1.met l.stamp h l.lacks; under = others l.stamp e.0 h l.under })
 
-        by : (woken e.0 ≡ true) ⊎ Lacks key needs fits released lists e → (woken' e.0 ≡ true) ⊎ Lacks key needs fits (released ++ t ∷ []) lists' e
+        by : (woken e.0 ≡ true) ⊎ Lacks rules released lists e → (woken' e.0 ≡ true) ⊎ Lacks rules (released ++ t ∷ []) lists' e
         by (inl h) = inl (stay e.0 h)
-        by (inr l) = waits_for l (stamp_eq l.stamp (key t)) refl
+        by (inr l) = waits_for l (stamp_eq l.stamp (rules.key t)) refl
 
-    pub release_works : {A : Type 0} (more : List T) (places places' : StampIndex A) (es : List (Moment × Waiter T)) → Works key needs fits released places es lists woken
-        → more ≡ released ++ t ∷ [] → ((s : Moment) (i : ℕ) → first_place places s ≡ Some i → first_place places' s ≡ Some i) → ((s : Moment) → stamp_eq (key t) s ≡ false → other_place places' s ≡ other_place places s)
-        → (first_place places' (key t) ≡ Some (length released)) ⊎ (other_place places' (key t) ≡ Some (length released)) → list_any (λ u. stamp_eq (key u) (key t)) released ≡ false
-        → AllByRecursion (λ e. stamp_eq e.0 (key t) ≡ false) es → Works key needs fits more places' es lists' woken'
+    pub release_works : {A : Type 0} (more : List T) (places places' : StampIndex A) (es : List (Moment × Waiter T)) → Works rules released places es lists woken
+        → more ≡ released ++ t ∷ [] → ((s : Moment) (i : ℕ) → first_place places s ≡ Some i → first_place places' s ≡ Some i) → ((s : Moment) → stamp_eq (rules.key t) s ≡ false → other_place places' s ≡ other_place places s)
+        → (first_place places' (rules.key t) ≡ Some (length released)) ⊎ (other_place places' (rules.key t) ≡ Some (length released)) → list_any (λ u. stamp_eq (rules.key u) (rules.key t)) released ≡ false
+        → AllByRecursion (λ e. stamp_eq e.0 (rules.key t) ≡ false) es → Works rules more places' es lists' woken'
     release_works more places places' es works is_more stays others_stay points fresh apart =
-        subst (λ (rs : List T). Works key needs fits rs places' es lists' woken') (sym is_more)
-        (record { finds = finds_more key released t places places' works.finds stays others_stay points fresh; sorted = works.sorted; each = stands_released es apart works.each })
+        subst (λ (rs : List T). Works rules rs places' es lists' woken') (sym is_more)
+        (record { finds = finds_more rules.key released t places places' works.finds stays others_stay points fresh; sorted = works.sorted; each = stands_released es apart works.each })
 
   -- what is known
 
-  pub items_known : (released : List T) (lists : Moment → Moment → Bool) (woken : Moment → Bool) (q : Moment) (es : List (Moment × Waiter T)) → AllByRecursion (Stands key needs fits released lists woken) es
-      → list_any (λ t. stamp_eq (key t) q) (items_of es) ≡ is_some (lookup (is_at (stamp_cmp q)) es)
+  pub items_known : (released : List T) (lists : Moment → Moment → Bool) (woken : Moment → Bool) (q : Moment) (es : List (Moment × Waiter T)) → AllByRecursion (Stands rules released lists woken) es
+      → list_any (λ t. stamp_eq (rules.key t) q) (items_of es) ≡ is_some (lookup (is_at (stamp_cmp q)) es)
   items_known released lists woken q [] all = refl
   items_known released lists woken q (e ∷ es) all =
-      ap (λ (b : Bool). b || list_any (λ t. stamp_eq (key t) q) (items_of es)) (ap (λ (k : Moment). stamp_eq k q) (sym all.0.own) ∙ eq_turned e.0 q ∙ same_test q e.0)
+      ap (λ (b : Bool). b || list_any (λ t. stamp_eq (rules.key t) q) (items_of es)) (ap (λ (k : Moment). stamp_eq k q) (sym all.0.own) ∙ eq_turned e.0 q ∙ same_test q e.0)
       ∙ by (is_eq (stamp_cmp q e.0)) (items_known released lists woken q es all.1)
     where
-      by : (b : Bool) → list_any (λ t. stamp_eq (key t) q) (items_of es) ≡ is_some (lookup (is_at (stamp_cmp q)) es)
-          → (b || list_any (λ t. stamp_eq (key t) q) (items_of es)) ≡ is_some (cond b (Some e.1) (lookup (is_at (stamp_cmp q)) es))
+      by : (b : Bool) → list_any (λ t. stamp_eq (rules.key t) q) (items_of es) ≡ is_some (lookup (is_at (stamp_cmp q)) es)
+          → (b || list_any (λ t. stamp_eq (rules.key t) q) (items_of es)) ≡ is_some (cond b (Some e.1) (lookup (is_at (stamp_cmp q)) es))
       by true rest = refl
       by false rest = rest
 
-  pub works_known : {A : Type 0} (released : List T) (places : StampIndex A) (es : List (Moment × Waiter T)) (lists : Moment → Moment → Bool) (woken : Moment → Bool) (q : Moment) → Works key needs fits released places es lists woken
-      → list_any (λ t. stamp_eq (key t) q) (released ++ items_of es) ≡ (list_any (λ t. stamp_eq (key t) q) released || is_some (lookup (is_at (stamp_cmp q)) es))
+  pub works_known : {A : Type 0} (released : List T) (places : StampIndex A) (es : List (Moment × Waiter T)) (lists : Moment → Moment → Bool) (woken : Moment → Bool) (q : Moment) → Works rules released places es lists woken
+      → list_any (λ t. stamp_eq (rules.key t) q) (released ++ items_of es) ≡ (list_any (λ t. stamp_eq (rules.key t) q) released || is_some (lookup (is_at (stamp_cmp q)) es))
   works_known released places es lists woken q works =
-      any_append (λ t. stamp_eq (key t) q) released (items_of es)
-      ∙ ap (λ (b : Bool). list_any (λ t. stamp_eq (key t) q) released || b) (items_known released lists woken q es works.each)
+      any_append (λ t. stamp_eq (rules.key t) q) released (items_of es)
+      ∙ ap (λ (b : Bool). list_any (λ t. stamp_eq (rules.key t) q) released || b) (items_known released lists woken q es works.each)
 
   -- one more item waits, or is released at once
 
@@ -285,72 +289,74 @@ module _ {T R : Type 0} (key : T → Moment) (needs : T → List (Moment × R)) 
   second_false true b h = absurd (true≢false h)
   second_false false b h = h
 
-  queued_items : (released : List T) (lists : Moment → Moment → Bool) (woken : Moment → Bool) (w : Waiter T) (es : List (Moment × Waiter T)) → AllByRecursion (Stands key needs fits released lists woken) es
-      → AllByRecursion (λ e. is_eq (stamp_cmp (key w.item) e.0) ≡ false) es → items_of (insert_entry stamp_cmp es (key w.item) w) ≡ queued key needs fits w.item (items_of es)
+  queued_items : (released : List T) (lists : Moment → Moment → Bool) (woken : Moment → Bool) (w : Waiter T) (es : List (Moment × Waiter T)) → AllByRecursion (Stands rules released lists woken) es
+      → AllByRecursion (λ e. is_eq (stamp_cmp (rules.key w.item) e.0) ≡ false) es → items_of (insert_entry stamp_cmp es (rules.key w.item) w) ≡ queued rules w.item (items_of es)
   queued_items released lists woken w [] all apart = refl
   queued_items released lists woken w (e ∷ es) all apart =
-      by (stamp_cmp (key w.item) e.0) refl (queued_items released lists woken w es all.1 apart.1)
-      ∙ sym (queued_is key needs fits w.item e.1.item (items_of es) ∙ ap (λ (k : Moment). cond (is_lt (stamp_cmp k (key w.item))) (e.1.item ∷ queued key needs fits w.item (items_of es)) (w.item ∷ e.1.item ∷ items_of es)) (sym all.0.own))
+      by (stamp_cmp (rules.key w.item) e.0) refl (queued_items released lists woken w es all.1 apart.1)
+      ∙ sym (queued_is rules w.item e.1.item (items_of es) ∙ ap (λ (k : Moment). cond (is_lt (stamp_cmp k (rules.key w.item))) (e.1.item ∷ queued rules w.item (items_of es)) (w.item ∷ e.1.item ∷ items_of es)) (sym all.0.own))
     where
-      by : (o : Ordering) → stamp_cmp (key w.item) e.0 ≡ o → items_of (insert_entry stamp_cmp es (key w.item) w) ≡ queued key needs fits w.item (items_of es)
-          → items_of (match_ordering (stamp_cmp (key w.item) e.0) ((key w.item, w) ∷ e ∷ es) ((e.0, w) ∷ es) (e ∷ insert_entry stamp_cmp es (key w.item) w))
-          ≡ cond (is_lt (stamp_cmp e.0 (key w.item))) (e.1.item ∷ queued key needs fits w.item (items_of es)) (w.item ∷ e.1.item ∷ items_of es)
+      by : (o : Ordering) → stamp_cmp (rules.key w.item) e.0 ≡ o → items_of (insert_entry stamp_cmp es (rules.key w.item) w) ≡ queued rules w.item (items_of es)
+          → items_of (match_ordering (stamp_cmp (rules.key w.item) e.0) ((rules.key w.item, w) ∷ e ∷ es) ((e.0, w) ∷ es) (e ∷ insert_entry stamp_cmp es (rules.key w.item) w))
+          ≡ cond (is_lt (stamp_cmp e.0 (rules.key w.item))) (e.1.item ∷ queued rules w.item (items_of es)) (w.item ∷ e.1.item ∷ items_of es)
       by Less is rest =
-          ap (λ (o : Ordering). items_of (match_ordering o ((key w.item, w) ∷ e ∷ es) ((e.0, w) ∷ es) (e ∷ insert_entry stamp_cmp es (key w.item) w))) is
-          ∙ ap (λ (o : Ordering). cond (is_lt o) (e.1.item ∷ queued key needs fits w.item (items_of es)) (w.item ∷ e.1.item ∷ items_of es)) (sym (stamp_cmp_total.antisymm e.0 (key w.item) ∙ ap ordering_reverse is))
+          ap (λ (o : Ordering). items_of (match_ordering o ((rules.key w.item, w) ∷ e ∷ es) ((e.0, w) ∷ es) (e ∷ insert_entry stamp_cmp es (rules.key w.item) w))) is
+          ∙ ap (λ (o : Ordering). cond (is_lt o) (e.1.item ∷ queued rules w.item (items_of es)) (w.item ∷ e.1.item ∷ items_of es)) (sym (stamp_cmp_total.antisymm e.0 (rules.key w.item) ∙ ap ordering_reverse is))
       by Equal is rest = absurd (true≢false (sym (ap is_eq is) ∙ apart.0))
       by Greater is rest =
-          ap (λ (o : Ordering). items_of (match_ordering o ((key w.item, w) ∷ e ∷ es) ((e.0, w) ∷ es) (e ∷ insert_entry stamp_cmp es (key w.item) w))) is
+          ap (λ (o : Ordering). items_of (match_ordering o ((rules.key w.item, w) ∷ e ∷ es) ((e.0, w) ∷ es) (e ∷ insert_entry stamp_cmp es (rules.key w.item) w))) is
           ∙ ap (λ (ts : List T). e.1.item ∷ ts) rest
-          ∙ ap (λ (o : Ordering). cond (is_lt o) (e.1.item ∷ queued key needs fits w.item (items_of es)) (w.item ∷ e.1.item ∷ items_of es)) (sym (stamp_cmp_total.antisymm e.0 (key w.item) ∙ ap ordering_reverse is))
+          ∙ ap (λ (o : Ordering). cond (is_lt o) (e.1.item ∷ queued rules w.item (items_of es)) (w.item ∷ e.1.item ∷ items_of es)) (sym (stamp_cmp_total.antisymm e.0 (rules.key w.item) ∙ ap ordering_reverse is))
 
-  module _ {A : Type 0} (released : List T) (places : StampIndex A) (es : List (Moment × Waiter T)) (lists : Moment → Moment → Bool) (woken : Moment → Bool) (t : T)
-      (works : Works key needs fits released places es lists woken) (unknown : list_any (λ u. stamp_eq (key u) (key t)) (released ++ items_of es) ≡ false) where
-    apart : AllByRecursion (λ e. is_eq (stamp_cmp (key t) e.0) ≡ false) es
-    apart = none_found (key t) es (absent (lookup (is_at (stamp_cmp (key t))) es) (second_false _ _ (sym (works_known released places es lists woken (key t) works) ∙ unknown)))
+  module _ {A : Type 0} (released : List T) (queue : Queue T A) (t : T) (works : IsQueueOf rules released queue) (unknown : knows rules (contents_of released (Some queue)) (rules.key t) ≡ false) where
+    abbrev entries : List (Moment × Waiter T)
+    entries = queue.items.entries
+
+    apart : AllByRecursion (λ e. is_eq (stamp_cmp (rules.key t) e.0) ≡ false) entries
+    apart = none_found (rules.key t) entries (absent (lookup (is_at (stamp_cmp (rules.key t))) entries) (second_false _ _ (sym (works_known released queue.places entries (is_under queue) (is_woken queue) (rules.key t) works) ∙ unknown)))
       where
         absent : (o : Option (Waiter T)) → is_some o ≡ false → o ≡ None
         absent None h = refl
         absent (Some v) h = absurd (true≢false h)
 
-    pub new_fresh : list_any (λ u. stamp_eq (key u) (key t)) released ≡ false
-    new_fresh = first_false _ _ (sym (any_append (λ u. stamp_eq (key u) (key t)) released (items_of es)) ∙ unknown)
+    new_fresh : list_any (λ u. stamp_eq (rules.key u) (rules.key t)) released ≡ false
+    new_fresh = first_false _ _ (sym (any_append (λ u. stamp_eq (rules.key u) (rules.key t)) released (items_of entries)) ∙ unknown)
 
-    pub new_others : AllByRecursion (λ e. stamp_eq e.0 (key t) ≡ false) es
-    new_others = by es apart
+    pub new_apart : IsApart rules released queue t
+    new_apart = record { fresh = new_fresh; others = by entries apart }
       where
-        by : (gs : List (Moment × Waiter T)) → AllByRecursion (λ e. is_eq (stamp_cmp (key t) e.0) ≡ false) gs → AllByRecursion (λ e. stamp_eq e.0 (key t) ≡ false) gs
+        by : (gs : List (Moment × Waiter T)) → AllByRecursion (λ e. is_eq (stamp_cmp (rules.key t) e.0) ≡ false) gs → AllByRecursion (λ e. stamp_eq e.0 (rules.key t) ≡ false) gs
         by [] all = tt
-        by (g ∷ gs) all = (eq_turned g.0 (key t) ∙ same_test (key t) g.0 ∙ all.0, by gs all.1)
+        by (g ∷ gs) all = (eq_turned g.0 (rules.key t) ∙ same_test (rules.key t) g.0 ∙ all.0, by gs all.1)
 
-    module _ (fs : List (Moment × Waiter T)) (i : ℕ) (put : fs ≡ insert_entry stamp_cmp es (key t) (record { item = t; met = i })) where
-      pub put_works : (lists' : Moment → Moment → Bool) (stamp : Moment) → NamesOlder (key t) (needs t) → MetTo key needs fits released t i → LacksAt key needs fits released t i stamp
-          → ((s q : Moment) → lists s q ≡ true → lists' s q ≡ true) → lists' stamp (key t) ≡ true → IsStrictlySortedBy stamp_cmp (keys_of fs) → Works key needs fits released places fs lists' woken
-      put_works lists' stamp older met lack stay there sorted = record {
+    module _ (fs : List (Moment × Waiter T)) (lack : Lack) (put : fs ≡ insert_entry stamp_cmp entries (rules.key t) (record { item = t; met = lack.place })) where
+      pub put_works : (lists' : Moment → Moment → Bool) → NamesOlder rules t → FirstLack rules released t lack
+          → ((s q : Moment) → is_under queue s q ≡ true → lists' s q ≡ true) → lists' lack.stamp (rules.key t) ≡ true → IsStrictlySortedBy stamp_cmp (keys_of fs) → Works rules released queue.places fs lists' (is_woken queue)
+      put_works lists' older first stay there sorted = record {
         finds = works.finds;
         sorted = sorted;
-        each = subst (λ (gs : List (Moment × Waiter T)). AllByRecursion (Stands key needs fits released lists' woken) gs) (sym put)
-            (all_inserted (Stands key needs fits released lists' woken) (key t) (record { item = t; met = i }) es (record {
+        each = subst (λ (gs : List (Moment × Waiter T)). AllByRecursion (Stands rules released lists' (is_woken queue)) gs) (sym put)
+            (all_inserted (Stands rules released lists' (is_woken queue)) (rules.key t) (record { item = t; met = lack.place }) entries (record {
               own = refl;
               older = older;
               fresh = new_fresh;
-              met = met;
-              waits = inr (record { stamp = stamp; lacks = lack; under = there });
-            }) (stands_more released lists lists' woken woken stay (λ q h. h) es works.each));
+              met = first.met;
+              waits = inr (record { stamp = lack.stamp; lacks = first.lacks; under = there });
+            }) (stands_more released (is_under queue) lists' (is_woken queue) stay entries works.each));
       }
 
-      pub put_items : items_of fs ≡ queued key needs fits t (items_of es)
-      put_items = ap items_of put ∙ queued_items released lists woken (record { item = t; met = i }) es works.each apart
+      pub put_items : items_of fs ≡ queued rules t (items_of entries)
+      put_items = ap items_of put ∙ queued_items released (is_under queue) (is_woken queue) (record { item = t; met = lack.place }) entries works.each apart
 
   -- nothing waits yet
   pub none_yet : {A : Type 0} (released : List T) (places : StampIndex A) (es : List (Moment × Waiter T)) (lists : Moment → Moment → Bool) (woken : Moment → Bool) → released ≡ [] → es ≡ []
-      → IsStrictlySortedBy stamp_cmp (keys_of es) → Works key needs fits released places es lists woken
+      → IsStrictlySortedBy stamp_cmp (keys_of es) → Works rules released places es lists woken
   none_yet released places es lists woken no_released empty sorted = record {
-    finds = subst (λ (rs : List T). Finds (map key rs) places) (sym no_released) (λ k stamp at. absurd (none-some stamp at));
+    finds = subst (λ (rs : List T). Finds (map rules.key rs) places) (sym no_released) (λ k stamp at. absurd (none-some stamp at));
     sorted = sorted;
-    each = subst (λ (gs : List (Moment × Waiter T)). AllByRecursion (Stands key needs fits released lists woken) gs) (sym empty) tt;
+    each = subst (λ (gs : List (Moment × Waiter T)). AllByRecursion (Stands rules released lists woken) gs) (sym empty) tt;
   }
 
   pub asleep_works : {A : Type 0} (released : List T) (places : StampIndex A) (es : List (Moment × Waiter T)) (lists : Moment → Moment → Bool) (keys keys' : List Moment) → keys' ≡ keys
-      → Works key needs fits released places es lists (λ q. list_any (is_at (stamp_cmp q)) keys) → Works key needs fits released places es lists (λ q. list_any (is_at (stamp_cmp q)) keys')
-  asleep_works released places es lists keys keys' same works = subst (λ (ks : List Moment). Works key needs fits released places es lists (λ q. list_any (is_at (stamp_cmp q)) ks)) (sym same) works
+      → Works rules released places es lists (λ q. list_any (is_at (stamp_cmp q)) keys) → Works rules released places es lists (λ q. list_any (is_at (stamp_cmp q)) keys')
+  asleep_works released places es lists keys keys' same works = subst (λ (ks : List Moment). Works rules released places es lists (λ q. list_any (is_at (stamp_cmp q)) ks)) (sym same) works

@@ -10,7 +10,7 @@ use Rattle.mt_stamp.proofs.Order.{stamp_eq-true}
 use Rattle.mt_stampmap.specs.Index.{first_place, other_place, is_key, or_else, checked, Finds}
 use Rattle.mt_stampmap.specs.declared.index.StampIndex.{StampIndex}
 use Rattle.mt_stampmap.proofs.Finding.{IsNew, pointed}
-use Rattle.mt_holdback.specs.Waiting.{meets}
+use Rattle.mt_holdback.specs.Waiting.{Rules, meets}
 use Rattle.mt_holdback.specs.Queue.{is_met_in, passes, passes_at}
 use Rattle.mt_holdback.proofs.Keys.{same_answer, or_second, eq_turned}
 
@@ -92,15 +92,15 @@ module _ {T : Type 0} (key : T → Moment) where
       (pointed (map key items) places places' (key t) (new_keys items (key t) fresh) stays others
       (subst (λ (n : ℕ). (first_place places' (key t) ≡ Some n) ⊎ (other_place places' (key t) ≡ Some n)) (sym (length-map items key)) points) finds)
 
-module _ {T R : Type 0} (key : T → Moment) (needs : T → List (Moment × R)) (fits : R → T → Bool) where
+module _ {T R : Type 0} (rules : Rules T R) where
   -- one that meets a need
-  pub found_need : {A : Type 0} (need : Moment × R) (items : List T) (places : StampIndex A) → Finds (map key items) places
-      → passes_at (meets key needs fits need) items (first_place places need.0) ≡ false → passes_at (meets key needs fits need) items (other_place places need.0) ≡ is_met_in key needs fits items need
-  found_need need items places finds none = found key (meets key needs fits need) need.0 own items places finds none
+  pub found_need : {A : Type 0} (need : Moment × R) (items : List T) (places : StampIndex A) → Finds (map rules.key items) places
+      → passes_at (meets rules need) items (first_place places need.0) ≡ false → passes_at (meets rules need) items (other_place places need.0) ≡ is_met_in rules items need
+  found_need need items places finds none = found rules.key (meets rules need) need.0 own items places finds none
     where
-      own : (t : T) → (stamp_eq need.0 (key t) && fits need.1 t) ≡ true → key t ≡ need.0
-      own t met = by (stamp_eq need.0 (key t)) refl met
+      own : (t : T) → (stamp_eq need.0 (rules.key t) && rules.fits need.1 t) ≡ true → rules.key t ≡ need.0
+      own t met = by (stamp_eq need.0 (rules.key t)) refl met
         where
-          by : (b : Bool) → stamp_eq need.0 (key t) ≡ b → (b && fits need.1 t) ≡ true → key t ≡ need.0
-          by true is met = sym (stamp_eq-true need.0 (key t) is)
+          by : (b : Bool) → stamp_eq need.0 (rules.key t) ≡ b → (b && rules.fits need.1 t) ≡ true → rules.key t ≡ need.0
+          by true is met = sym (stamp_eq-true need.0 (rules.key t) is)
           by false is met = absurd (true≢false (sym met))

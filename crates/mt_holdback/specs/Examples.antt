@@ -2,9 +2,8 @@
 use Rattle.std.specs.Prelude.{◌≡◌, ℕ, Bool, true, false, List, [], ◌∷◌, Some, None, refl, codes}
 use Rattle.mt_stamp.specs.Moment.{Moment}
 use Rattle.mt_op.specs.Gain.{unchanged}
-use Rattle.mt_op.specs.Needs.{fits}
 use Rattle.mt_op.specs.Operation.{AddTrack, SetGain, Remove, Restore, AddMarker, Retitle, Operation}
-use Rattle.mt_holdback.specs.Ops.{op_key, op_needs}
+use Rattle.mt_holdback.specs.Ops.{op_rules}
 use Rattle.mt_holdback.specs.HoldBack.{Contents, knows, contents_with, newly_ready}
 use Rattle.mt_holdback.specs.Offering.{empty, answer}
 use Rattle.mt_holdback.specs.declared.hold_back.Offered.{Offered}
@@ -15,16 +14,16 @@ by c r n = record { clock = c; replica = record { 0 = r }; seq = n }
 
 -- what an offer answers, what is kept after it, and what it releases
 abbrev told : Contents Operation → Operation → Offered
-told contents o = answer op_key op_needs fits contents o
+told contents o = answer op_rules contents o
 
 abbrev after : Contents Operation → Operation → Contents Operation
-after contents o = contents_with op_key op_needs fits contents o
+after contents o = contents_with op_rules contents o
 
 abbrev released_by : Contents Operation → Operation → List Operation
-released_by contents o = newly_ready op_key op_needs fits contents o
+released_by contents o = newly_ready op_rules contents o
 
 abbrev is_known : Contents Operation → Moment → Bool
-is_known contents stamp = knows op_key op_needs fits contents stamp
+is_known contents stamp = knows op_rules contents stamp
 
 abbrev kept_of : List Operation → List Operation → Contents Operation
 kept_of released waiting = record { released = released; waiting = waiting }

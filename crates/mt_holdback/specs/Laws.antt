@@ -1,27 +1,26 @@
 -- What holds of every list of items that wait.
 use Rattle.std.specs.Prelude.{◌≡◌, ◌≤◌, Bool, true, false, cond, List, [], ◌∷◌, ◌++◌, filter}
 use Rattle.std.specs.List.{AllByRecursion, list_all, list_any}
-use Rattle.mt_stamp.specs.Moment.{Moment}
 use Rattle.mt_op.specs.Ready as rule
-use Rattle.mt_holdback.specs.Waiting.{clock_of, meets, is_ready, AllNameOlder}
+use Rattle.mt_holdback.specs.Waiting.{Rules, clock_of, meets, is_ready, AllNameOlder}
 
-module _ {T R : Type 0} (key : T → Moment) (needs : T → List (Moment × R)) (fits : R → T → Bool) where
+module _ {T R : Type 0} (rules : Rules T R) where
   -- Ready is the only set that satisfies its rule.
   abbrev pub ReadyIsDefined : Type 0
-  ReadyIsDefined = (items : List T) → AllNameOlder key needs fits items → rule.IsTheOnlyReady (clock_of key needs fits) needs (meets key needs fits) items
+  ReadyIsDefined = (items : List T) → AllNameOlder rules items → rule.IsTheOnlyReady (clock_of rules) rules.needs (meets rules) items
 
   -- What is ready among some items is ready among more.
   abbrev pub MoreIsReady : Type 0
-  MoreIsReady = (some others : List T) (t : T) → is_ready key needs fits some t ≡ true → is_ready key needs fits (some ++ others) t ≡ true
+  MoreIsReady = (some others : List T) (t : T) → is_ready rules some t ≡ true → is_ready rules (some ++ others) t ≡ true
 
   -- An item that is held changes nothing for the others.
   abbrev pub HeldChangesNothing : Type 0
-  HeldChangesNothing = (items : List T) (t : T) → AllNameOlder key needs fits (t ∷ items) → is_ready key needs fits (t ∷ items) t ≡ false
-      → AllByRecursion (λ u. is_ready key needs fits (t ∷ items) u ≡ is_ready key needs fits items u) items
+  HeldChangesNothing = (items : List T) (t : T) → AllNameOlder rules (t ∷ items) → is_ready rules (t ∷ items) t ≡ false
+      → AllByRecursion (λ u. is_ready rules (t ∷ items) u ≡ is_ready rules items u) items
 
   -- whether each need of an item is met by one of these
   abbrev pub is_met_by : List T → T → Bool
-  is_met_by items t = list_all (λ need. list_any (meets key needs fits need) items) (needs t)
+  is_met_by items t = list_all (λ need. list_any (meets rules need) items) (rules.needs t)
 
   -- A pass over what waits takes each item whose needs are met by those that were taken before.
   abbrev pub passed : List T → List T → List T
@@ -31,9 +30,9 @@ module _ {T R : Type 0} (key : T → Moment) (needs : T → List (Moment × R)) 
   -- no clock is smaller than an earlier one
   abbrev pub ClocksRise : List T → Type 0
   ClocksRise [] = Unit {0}
-  ClocksRise (t ∷ items) = AllByRecursion (λ u. clock_of key needs fits t ≤ clock_of key needs fits u) items × ClocksRise items
+  ClocksRise (t ∷ items) = AllByRecursion (λ u. clock_of rules t ≤ clock_of rules u) items × ClocksRise items
 
   -- Where all that was taken before is ready, and the others wait by rising clock, a pass takes exactly the ready ones of them.
   abbrev pub OnePassFindsAll : Type 0
-  OnePassFindsAll = (taken waiting : List T) → AllNameOlder key needs fits (taken ++ waiting) → AllByRecursion (λ t. is_ready key needs fits (taken ++ waiting) t ≡ true) taken → ClocksRise waiting
-      → passed taken waiting ≡ taken ++ filter (is_ready key needs fits (taken ++ waiting)) waiting
+  OnePassFindsAll = (taken waiting : List T) → AllNameOlder rules (taken ++ waiting) → AllByRecursion (λ t. is_ready rules (taken ++ waiting) t ≡ true) taken → ClocksRise waiting
+      → passed taken waiting ≡ taken ++ filter (is_ready rules (taken ++ waiting)) waiting

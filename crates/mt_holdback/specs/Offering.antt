@@ -1,8 +1,10 @@
 -- A hold-back with its failure, and what a call answers.
-use Rattle.std.specs.Prelude.{Bool, cond, List, [], length}
-use Rattle.mt_stamp.specs.Moment.{Moment}
-use Rattle.mt_holdback.specs.Waiting.{is_ready}
-use Rattle.mt_holdback.specs.HoldBack.{Contents, offered_with}
+use Rattle.std.specs.Prelude.{◌≡◌, ◌↔◌, true, false, cond, [], length, Result, IfOk, OnOk, IsErrOf}
+use Rattle.mt_holdback.specs.Waiting.{Rules, is_ready}
+use Rattle.mt_holdback.specs.HoldBack.{Contents, KeysRise, offered_with, newly_ready, contents_with}
+use Rattle.mt_holdback.specs.Value.{HoldBackValue}
+use Rattle.mt_holdback.specs.declared.fault.HoldBackFault.{HoldBackFault}
+use Rattle.mt_holdback.specs.declared.fault.HoldBackFault.TheVariants.{Memory, Failed}
 use Rattle.mt_holdback.specs.declared.hold_back.Offered.{Offered}
 use Rattle.mt_holdback.specs.declared.hold_back.Offered.TheVariants.{Held, Ready}
 
@@ -10,7 +12,21 @@ use Rattle.mt_holdback.specs.declared.hold_back.Offered.TheVariants.{Held, Ready
 abbrev pub empty : {T : Type 0} → Contents T
 empty = record { released = []; waiting = [] }
 
-module _ {T R : Type 0} (key : T → Moment) (needs : T → List (Moment × R)) (fits : R → T → Bool) where
+module _ {T R : Type 0} (rules : Rules T R) where
   -- what an offer answers: from where on what was released is new, or that the item is held
   abbrev pub answer : Contents T → T → Offered
-  answer contents t = cond (is_ready key needs fits (offered_with key needs fits contents t) t) (Ready (length contents.released)) Held
+  answer contents t = cond (is_ready rules (offered_with rules contents t) t) (Ready (length contents.released)) Held
+
+  -- An item was offered.
+  pub record OfferGives (before after : HoldBackValue T) (t : T) (result : Result Offered HoldBackFault) : Type 0 where
+    -- It is held, or what was released from an index on is new.
+    pub answered : IfOk result (λ offered. offered ≡ answer before.contents t)
+    -- What it makes ready is released then, and the rest waits.
+    pub kept : OnOk result (after ≡ record { contents = contents_with rules before.contents t; failed = false })
+    -- What it makes ready rises by key.
+    pub rising : OnOk result (KeysRise rules (newly_ready rules before.contents t))
+    -- It is refused as failed exactly where the hold-back had failed, which changes nothing.
+    pub failed : IsErrOf result Failed ↔ (before.failed ≡ true)
+    pub unchanged : IsErrOf result Failed → after ≡ before
+    -- Where an allocation failed, the hold-back has failed and is empty.
+    pub emptied : IsErrOf result Memory → after ≡ record { contents = empty; failed = true }

@@ -1,12 +1,13 @@
--- What an operation waits for, as its stamp and pairs of stamps and roles.
-use Rattle.std.specs.Prelude.{List, map}
-use Rattle.mt_stamp.specs.Moment.{Moment}
+-- What operations wait by: their stamps, and pairs of stamps and roles.
+use Rattle.std.specs.Prelude.{map}
 use Rattle.mt_op.specs.declared.need.Role.{Role}
 use Rattle.mt_op.specs.Operation.{Operation}
-use Rattle.mt_op.specs.Needs.{needs}
+use Rattle.mt_op.specs.Needs.{needs, fits}
+use Rattle.mt_holdback.specs.Waiting.{Rules}
 
-abbrev pub op_key : Operation → Moment
-op_key o = o.stamp
-
-abbrev pub op_needs : Operation → List (Moment × Role)
-op_needs o = map (λ need. (need.stamp, need.role)) (needs o)
+abbrev pub op_rules : Rules Operation Role
+op_rules = record {
+  key = λ o. o.stamp;
+  needs = λ o. map (λ need. (need.stamp, need.role)) (needs o);
+  fits = fits;
+}

@@ -1,9 +1,14 @@
 -- What a pass leaves.
-use Rattle.std.specs.Prelude.{Bool, cond, List, [], ◌∷◌, ◌++◌}
-use Rattle.mt_stamp.specs.Moment.{Moment}
-use Rattle.mt_holdback.specs.Laws.{is_met_by}
+use Rattle.std.specs.Prelude.{cond, List, [], ◌∷◌, ◌++◌}
+use Rattle.mt_holdback.specs.Waiting.{Rules}
+use Rattle.mt_holdback.specs.Laws.{is_met_by, passed}
+use Rattle.mt_holdback.specs.HoldBack.{Contents}
 
-module _ {T R : Type 0} (key : T → Moment) (needs : T → List (Moment × R)) (fits : R → T → Bool) where
+module _ {T R : Type 0} (rules : Rules T R) where
   abbrev pub left : List T → List T → List T
   left taken [] = []
-  left taken (t ∷ waiting) = cond (is_met_by key needs fits taken t) (left (taken ++ t ∷ []) waiting) (t ∷ left taken waiting)
+  left taken (t ∷ waiting) = cond (is_met_by rules taken t) (left (taken ++ t ∷ []) waiting) (t ∷ left taken waiting)
+
+  -- what a pass makes of what is held
+  abbrev pub after_pass : Contents T → Contents T
+  after_pass contents = record { released = passed rules contents.released contents.waiting; waiting = left contents.released contents.waiting }

@@ -5,21 +5,30 @@ use Rattle.std.specs.List.{AllByRecursion}
 use Rattle.mt_stamp.specs.Moment.{Moment, stamp_eq}
 use Rattle.mt_op.specs.Ready as rule
 
--- each needed stamp has a smaller clock than the item's own
-abbrev pub NamesOlder : {R : Type 0} → Moment → List (Moment × R) → Type 0
-NamesOlder own needs = AllByRecursion (λ need. need.0.clock < own.clock) needs
+-- What items wait by.
+pub record Rules (T R : Type 0) : Type 0 where
+  -- The stamp of an item.
+  pub key : T → Moment
+  -- What it needs: the stamp of each item, and the role in which that is needed.
+  pub needs : T → List (Moment × R)
+  -- Whether an item may be needed in a role.
+  pub fits : R → T → Bool
 
-module _ {T R : Type 0} (key : T → Moment) (needs : T → List (Moment × R)) (fits : R → T → Bool) where
+module _ {T R : Type 0} (rules : Rules T R) where
+  -- each needed stamp has a smaller clock than the item's own
+  abbrev pub NamesOlder : T → Type 0
+  NamesOlder t = AllByRecursion (λ need. need.0.clock < (rules.key t).clock) (rules.needs t)
+
   abbrev pub clock_of : T → ℕ
-  clock_of t = (key t).clock
+  clock_of t = (rules.key t).clock
 
   -- Whether an item is the one that a need names: by its whole stamp and its role.
   abbrev pub meets : Moment × R → T → Bool
-  meets need t = stamp_eq need.0 (key t) && fits need.1 t
+  meets need t = stamp_eq need.0 (rules.key t) && rules.fits need.1 t
 
   -- Whether an item is ready in a list: each of its needs is met by a ready item of the list.
   abbrev pub is_ready : List T → T → Bool
-  is_ready items t = rule.is_ready clock_of needs meets items t
+  is_ready items t = rule.is_ready clock_of rules.needs meets items t
 
   abbrev pub AllNameOlder : List T → Type 0
-  AllNameOlder items = AllByRecursion (λ t. NamesOlder (key t) (needs t)) items
+  AllNameOlder items = AllByRecursion (λ t. NamesOlder t) items

@@ -1,9 +1,8 @@
 //! The hold-back.
 
-ghost use Rattle.std.specs.Prelude.{◌≡◌, IsTrue, true, false, cond, ltb, length, IfOk, OnOk, OnErr, IsErrOf, ◌↔◌};
-ghost use Rattle.mt_stamp.specs.Moment.{Moment};
+ghost use Rattle.std.specs.Prelude.{◌≡◌, true, false, cond, ltb, length};
 ghost use Rattle.mt_holdback.specs.Laws.{is_met_by};
-ghost use Rattle.mt_holdback.specs.HoldBack.{KeysRise, knows, contents_with, newly_ready, IsHoldBack};
+ghost use Rattle.mt_holdback.specs.HoldBack.{knows, IsHoldBack};
 ghost use Rattle.mt_holdback.specs.declared.hold_back.Offered.TheVariants.{Held, Ready};
 
 use crate::fault::HoldBackFault;
@@ -32,25 +31,19 @@ pub struct HoldBack<T: Waits, A: Allocator = Global> {
 }
 
 impl<T: Waits, A: Allocator> Model for HoldBack<T, A> {
-    ghost use Rattle.mt_holdback.specs.Value.{HoldBackValue, items_in};
-    ghost use Rattle.std.specs.Prelude.{◌≡◌, [], MatchOption};
-    ghost use Rattle.std.specs.BTreeMap.{get};
-    ghost use Rattle.std.specs.BTreeSet.{contains};
-    ghost use Rattle.mt_stamp.specs.Moment.{stamp_cmp};
-    ghost use Rattle.mt_holdback.specs.HoldBack.{IsHoldBack};
-    ghost use Rattle.mt_holdback.specs.Queue.{items_of, listed, IsQueueOf};
+    ghost use Rattle.mt_holdback.specs.Value.{HoldBackValue};
+    ghost use Rattle.mt_holdback.specs.Queue.{contents_of, InOrder};
 
     ghost Value = { HoldBackValue T };
 
-    ghost view = { λ h. record { contents = record { released = h.released.items; waiting = items_in (λ q. items_of q.items.entries) h.waiting }; failed = h.failed } };
+    ghost view = { λ h. record { contents = contents_of h.released.items h.waiting; failed = h.failed } };
 
-    ghost invariant = { λ h. IsHoldBack T.key_of T.needs_of T.fits_role (record { released = h.released.items; waiting = items_in (λ q. items_of q.items.entries) h.waiting })
-        × MatchOption h.waiting (h.released.items ≡ [])
-        (λ q. IsQueueOf T.key_of T.needs_of T.fits_role h.released.items q) };
+    ghost invariant = { λ h. InOrder T.rules h.released.items h.waiting };
 }
 
 impl<T: Waits + Drop, A: Allocator> HoldBack<T, A> {
-    ghost use Rattle.mt_holdback.specs.Offering.{empty, answer};
+    ghost use Rattle.mt_holdback.specs.Offering.{empty, OfferGives};
+    ghost use Rattle.mt_holdback.specs.Queue.{MayOffer};
 
     /// A hold-back to which nothing was offered. Takes no memory.
     pub fn new(alloc: A) -> Self
@@ -65,7 +58,7 @@ impl<T: Waits + Drop, A: Allocator> HoldBack<T, A> {
 
     /// Whether an item with this key was offered. Never, where the hold-back has failed.
     pub fn knows(&self, key: &Stamp) -> bool
-        ensures { result ≡ knows T.key_of T.needs_of T.fits_role self.now.contents key.now }
+        ensures { result ≡ knows T.rules self.now.contents key.now }
     {
         match &self.waiting {
             Some(queue) => knows_key(&self.released, queue, *key),
@@ -86,7 +79,7 @@ impl<T: Waits + Drop, A: Allocator> HoldBack<T, A> {
     /// The items that were released, in the order in which they were; none where the hold-back has failed.
     pub fn released(&self) -> &[T]
         ensures value { result.now ≡ self.now.contents.released }
-        ensures exact { IsHoldBack T.key_of T.needs_of T.fits_role self.now.contents }
+        ensures exact { IsHoldBack T.rules self.now.contents }
     {
         self.released.as_slice()
     }
@@ -98,19 +91,8 @@ impl<T: Waits + Drop, A: Allocator> HoldBack<T, A> {
     pub fn offer(&mut self, item: T) -> Result<Offered, HoldBackFault>
     where
         A: Clone,
-        requires unknown { knows T.key_of T.needs_of T.fits_role self.old.contents (T.key_of item) ≡ false }
-        ensures answered { IfOk result (λ offered. offered
-            ≡ answer T.key_of T.needs_of T.fits_role self.old.contents item) }
-        ensures kept { OnOk result (self.new ≡ record {
-          contents = contents_with T.key_of T.needs_of T.fits_role
-              self.old.contents item;
-          failed = false;
-        }) }
-        ensures rising { OnOk result (KeysRise T.key_of T.needs_of T.fits_role
-            (newly_ready T.key_of T.needs_of T.fits_role self.old.contents item)) }
-        ensures failed { IsErrOf result HoldBackFault.Failed ↔ (self.old.failed ≡ true) }
-        ensures unchanged { IsErrOf result HoldBackFault.Failed → self.new ≡ self.old }
-        ensures emptied { IsErrOf result HoldBackFault.Memory → self.new ≡ record { contents = empty; failed = true } }
+        requires unknown { knows T.rules self.old.contents (T.rules.key item) ≡ false }
+        ensures { OfferGives T.rules self.old self.new item result }
     {
         self.take(item, false)
     }
@@ -120,20 +102,9 @@ impl<T: Waits + Drop, A: Allocator> HoldBack<T, A> {
     pub fn offer_met(&mut self, item: T) -> Result<Offered, HoldBackFault>
     where
         A: Clone,
-        requires unknown { knows T.key_of T.needs_of T.fits_role self.old.contents (T.key_of item) ≡ false }
-        requires met { is_met_by T.key_of T.needs_of T.fits_role self.old.contents.released item ≡ true }
-        ensures answered { IfOk result (λ offered. offered
-            ≡ answer T.key_of T.needs_of T.fits_role self.old.contents item) }
-        ensures kept { OnOk result (self.new ≡ record {
-          contents = contents_with T.key_of T.needs_of T.fits_role
-              self.old.contents item;
-          failed = false;
-        }) }
-        ensures rising { OnOk result (KeysRise T.key_of T.needs_of T.fits_role
-            (newly_ready T.key_of T.needs_of T.fits_role self.old.contents item)) }
-        ensures failed { IsErrOf result HoldBackFault.Failed ↔ (self.old.failed ≡ true) }
-        ensures unchanged { IsErrOf result HoldBackFault.Failed → self.new ≡ self.old }
-        ensures emptied { IsErrOf result HoldBackFault.Memory → self.new ≡ record { contents = empty; failed = true } }
+        requires unknown { knows T.rules self.old.contents (T.rules.key item) ≡ false }
+        requires met { is_met_by T.rules self.old.contents.released item ≡ true }
+        ensures { OfferGives T.rules self.old self.new item result }
     {
         self.take(item, true)
     }
@@ -142,21 +113,8 @@ impl<T: Waits + Drop, A: Allocator> HoldBack<T, A> {
     fn take(&mut self, item: T, is_met: bool) -> Result<Offered, HoldBackFault>
     where
         A: Clone,
-        requires unknown { knows T.key_of T.needs_of T.fits_role self.old.contents (T.key_of item) ≡ false }
-        requires told { IsTrue is_met → is_met_by T.key_of T.needs_of T.fits_role self.old.contents.released item
-            ≡ true }
-        ensures answered { IfOk result (λ offered. offered
-            ≡ answer T.key_of T.needs_of T.fits_role self.old.contents item) }
-        ensures kept { OnOk result (self.new ≡ record {
-          contents = contents_with T.key_of T.needs_of T.fits_role
-              self.old.contents item;
-          failed = false;
-        }) }
-        ensures rising { OnOk result (KeysRise T.key_of T.needs_of T.fits_role
-            (newly_ready T.key_of T.needs_of T.fits_role self.old.contents item)) }
-        ensures failed { IsErrOf result HoldBackFault.Failed ↔ (self.old.failed ≡ true) }
-        ensures unchanged { IsErrOf result HoldBackFault.Failed → self.new ≡ self.old }
-        ensures emptied { IsErrOf result HoldBackFault.Memory → self.new ≡ record { contents = empty; failed = true } }
+        requires { MayOffer T.rules self.old.contents item is_met }
+        ensures { OfferGives T.rules self.old self.new item result }
     {
         if self.failed {
             return Err(HoldBackFault::Failed);

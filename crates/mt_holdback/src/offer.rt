@@ -1,16 +1,10 @@
 //! One item more.
 
-ghost use Rattle.std.specs.Prelude.{◌≡◌, true, false, [], IsTrue, ltb, length, IfOk, OnOk, MatchOption, map};
-ghost use Rattle.std.specs.BTreeMap.{get};
-ghost use Rattle.std.specs.BTreeSet.{contains};
-ghost use Rattle.mt_stamp.specs.Moment.{stamp_cmp};
-ghost use Rattle.mt_holdback.specs.Waiting.{NamesOlder, is_ready};
-ghost use Rattle.mt_holdback.specs.Laws.{is_met_by, passed};
-ghost use Rattle.mt_holdback.specs.Passing.{left};
-ghost use Rattle.mt_holdback.specs.HoldBack.{KeysRise, knows, queued, newly_ready, contents_with, offered_with, IsHoldBack};
-ghost use Rattle.mt_holdback.specs.Value.{items_in};
+ghost use Rattle.std.specs.Prelude.{◌≡◌, Some, true, false, [], IsTrue, IfOk, OnOk, MatchOption, map};
 ghost use Rattle.mt_stampmap.specs.Index.{Finds};
-ghost use Rattle.mt_holdback.specs.Queue.{items_of, listed, MetTo, LacksAt, IsQueueOf};
+ghost use Rattle.mt_holdback.specs.Laws.{is_met_by};
+ghost use Rattle.mt_holdback.specs.HoldBack.{knows, with_queued};
+ghost use Rattle.mt_holdback.specs.Queue.{waiting_in, contents_of, IsQueueOf, InOrder, MayOffer, Admitted, TakenIn, FirstLack};
 
 use crate::fault::HoldBackFault;
 use crate::queue::{Lack, Queue, Waiter, first_lack, put_under, release, settle};
@@ -25,9 +19,9 @@ fn queue_of<T: Waits + Drop, A: Allocator + Clone>(
     released: &[T],
     waiting: Option<Queue<T, A>>,
 ) -> Result<Queue<T, A>, HoldBackFault>
-    requires { MatchOption waiting (released.now ≡ []) (λ q. IsQueueOf T.key_of T.needs_of T.fits_role released.now q) }
-    ensures works { IfOk result (λ q. IsQueueOf T.key_of T.needs_of T.fits_role released.now q) }
-    ensures same { IfOk result (λ q. items_of q.items.entries ≡ items_in (λ q. items_of q.items.entries) waiting) }
+    requires { MatchOption waiting (released.now ≡ []) (IsQueueOf T.rules released.now) }
+    ensures works { IfOk result (IsQueueOf T.rules released.now) }
+    ensures same { IfOk result (λ queue. waiting_in (Some queue) ≡ waiting_in waiting) }
 {
     match waiting {
         Some(queue) => Ok(queue),
@@ -48,14 +42,12 @@ fn hold<T: Waits + Drop, A: Allocator + Clone>(
     item: T,
     lack: Lack,
 ) -> Result<(), HoldBackFault>
-    requires works { IsQueueOf T.key_of T.needs_of T.fits_role released.now queue.old }
-    requires unknown { knows T.key_of T.needs_of T.fits_role
-        (record { released = released.now; waiting = items_of queue.old.items.entries }) (T.key_of item) ≡ false }
-    requires lacks { MetTo T.key_of T.needs_of T.fits_role released.now item lack.place
-        × LacksAt T.key_of T.needs_of T.fits_role released.now item lack.place lack.stamp }
-    ensures works { OnOk result (IsQueueOf T.key_of T.needs_of T.fits_role released.now queue.new) }
-    ensures queued { OnOk result (items_of queue.new.items.entries
-        ≡ queued T.key_of T.needs_of T.fits_role item (items_of queue.old.items.entries)) }
+    requires works { IsQueueOf T.rules released.now queue.old }
+    requires unknown { knows T.rules (contents_of released.now (Some queue.old)) (T.rules.key item) ≡ false }
+    requires lacks { FirstLack T.rules released.now item lack }
+    ensures works { OnOk result (IsQueueOf T.rules released.now queue.new) }
+    ensures queued { OnOk result (contents_of released.now (Some queue.new)
+        ≡ with_queued T.rules (contents_of released.now (Some queue.old)) item) }
 {
     let key = item.key();
     put_under(alloc, &mut queue.lacking, lack.stamp, key)?;
@@ -71,11 +63,10 @@ fn lack_of<T: Waits, A: Allocator>(
     item: &T,
     is_met: bool,
 ) -> Option<Lack>
-    requires finds { Finds (map T.key_of released.now) places.now }
-    requires told { IsTrue is_met → is_met_by T.key_of T.needs_of T.fits_role released.now item.now ≡ true }
-    ensures { MatchOption result (is_met_by T.key_of T.needs_of T.fits_role released.now item.now ≡ true)
-        (λ lack. MetTo T.key_of T.needs_of T.fits_role released.now item.now lack.place
-        × LacksAt T.key_of T.needs_of T.fits_role released.now item.now lack.place lack.stamp) }
+    requires finds { Finds (map T.rules.key released.now) places.now }
+    requires told { IsTrue is_met → is_met_by T.rules released.now item.now ≡ true }
+    ensures { MatchOption result (is_met_by T.rules released.now item.now ≡ true)
+        (FirstLack T.rules released.now item.now) }
 {
     if is_met {
         return None;
@@ -92,24 +83,11 @@ fn admit<T: Waits + Drop, A: Allocator + Clone>(
     item: T,
     is_met: bool,
 ) -> Result<(), HoldBackFault>
-    requires rule { IsHoldBack T.key_of T.needs_of T.fits_role
-        (record { released = released.old.items; waiting = items_of queue.old.items.entries }) }
-    requires works { IsQueueOf T.key_of T.needs_of T.fits_role released.old.items queue.old }
-    requires unknown { knows T.key_of T.needs_of T.fits_role
-        (record { released = released.old.items; waiting = items_of queue.old.items.entries }) (T.key_of item)
-        ≡ false }
-    requires told { IsTrue is_met → is_met_by T.key_of T.needs_of T.fits_role released.old.items item ≡ true }
-    ensures older { NamesOlder (T.key_of item) (T.needs_of item) }
-    ensures works { OnOk result (IsQueueOf T.key_of T.needs_of T.fits_role released.new.items queue.new) }
-    ensures passes { OnOk result (passed T.key_of T.needs_of T.fits_role released.old.items
-        (queued T.key_of T.needs_of T.fits_role item (items_of queue.old.items.entries))
-        ≡ passed T.key_of T.needs_of T.fits_role released.new.items (items_of queue.new.items.entries)) }
-    ensures leaves { OnOk result (left T.key_of T.needs_of T.fits_role released.old.items
-        (queued T.key_of T.needs_of T.fits_role item (items_of queue.old.items.entries))
-        ≡ left T.key_of T.needs_of T.fits_role released.new.items (items_of queue.new.items.entries)) }
+    requires order { InOrder T.rules released.old.items (Some queue.old) }
+    requires offer { MayOffer T.rules (contents_of released.old.items (Some queue.old)) item is_met }
+    ensures { OnOk result (Admitted T.rules (contents_of released.old.items (Some queue.old)) item
+        released.new.items queue.new) }
 {
-    // for the proof: that it names older ones
-    let _ = item.key();
     match lack_of(released, &queue.places, &item, is_met) {
         None => release(alloc, released, queue, item),
         Some(lack) => hold(alloc, released, queue, item, lack),
@@ -123,30 +101,12 @@ pub(crate) fn take_in<T: Waits + Drop, A: Allocator + Clone>(
     item: T,
     is_met: bool,
 ) -> Result<Queue<T, A>, HoldBackFault>
-    requires rule { IsHoldBack T.key_of T.needs_of T.fits_role
-        (record { released = released.old.items; waiting = items_in (λ q. items_of q.items.entries) waiting }) }
-    requires works { MatchOption waiting (released.old.items ≡ [])
-        (λ q. IsQueueOf T.key_of T.needs_of T.fits_role released.old.items q) }
-    requires unknown { knows T.key_of T.needs_of T.fits_role
-        (record { released = released.old.items; waiting = items_in (λ q. items_of q.items.entries) waiting })
-        (T.key_of item) ≡ false }
-    requires told { IsTrue is_met → is_met_by T.key_of T.needs_of T.fits_role released.old.items item ≡ true }
-    ensures kept { IfOk result (λ q. record { released = released.new.items; waiting = items_of q.items.entries }
-        ≡ contents_with T.key_of T.needs_of T.fits_role
-        (record { released = released.old.items; waiting = items_in (λ q. items_of q.items.entries) waiting }) item) }
-    ensures rule { IfOk result (λ q. IsHoldBack T.key_of T.needs_of T.fits_role
-        (record { released = released.new.items; waiting = items_of q.items.entries })) }
-    ensures works { IfOk result (λ q. IsQueueOf T.key_of T.needs_of T.fits_role released.new.items q) }
-    ensures rising { OnOk result (KeysRise T.key_of T.needs_of T.fits_role
-        (newly_ready T.key_of T.needs_of T.fits_role
-        (record { released = released.old.items; waiting = items_in (λ q. items_of q.items.entries) waiting })
-        item)) }
-    ensures ready { OnOk result (ltb (length released.old.items) (length released.new.items)
-        ≡ is_ready T.key_of T.needs_of T.fits_role
-        (offered_with T.key_of T.needs_of T.fits_role
-        (record { released = released.old.items; waiting = items_in (λ q. items_of q.items.entries) waiting }) item)
-        item) }
+    requires order { InOrder T.rules released.old.items waiting }
+    requires offer { MayOffer T.rules (contents_of released.old.items waiting) item is_met }
+    ensures { IfOk result (TakenIn T.rules (contents_of released.old.items waiting) item released.new.items) }
 {
+    // for the proof: that it names older ones
+    let _ = item.key();
     let alloc = released.allocator().clone()?;
     let mut queue = queue_of(&alloc, released, waiting)?;
     admit(&alloc, released, &mut queue, item, is_met)?;

@@ -7,16 +7,11 @@ use std::alloc::Allocator;
 
 /// An operation waits under its stamp, for the operations that its body names, in their roles.
 impl<A: Allocator> Waits for Op<A> {
-    ghost use Rattle.mt_op.specs.Needs.{fits};
-    ghost use Rattle.mt_holdback.specs.Ops.{op_key, op_needs};
+    ghost use Rattle.mt_holdback.specs.Ops.{op_rules};
 
     type Role = Role;
 
-    ghost key_of = { op_key };
-
-    ghost needs_of = { op_needs };
-
-    ghost fits_role = { fits };
+    ghost rules = { op_rules };
 
     fn key(&self) -> Stamp {
         self.stamp()

@@ -1,16 +1,16 @@
 //! What waits, each item under one stamp that it lacks.
 
-ghost use Rattle.std.specs.Prelude.{◌≡◌, ◌+◌, ◌<◌, ◌++◌, ◌||◌, is_some, ◌∷◌, [], false, true, length, IfOk, OnOk, IfSome, IfNone, MatchOption, IsTrue, None, cond, map};
+ghost use Rattle.std.specs.Prelude.{◌≡◌, ◌+◌, ◌<◌, ◌++◌, ◌||◌, is_some, ◌∷◌, [], false, true, length, IfOk, OnOk, IfSome, IfNone, MatchOption, IsTrue, None, Some, cond, map};
 ghost use Rattle.std.specs.Ordering.{is_eq, is_gt};
-ghost use Rattle.std.specs.List.{AllByRecursion, list_any};
+ghost use Rattle.std.specs.List.{list_any};
 ghost use Rattle.std.specs.BTreeMap.{get};
 ghost use Rattle.std.specs.BTreeSet.{contains};
 ghost use Rattle.mt_stamp.specs.Moment.{Moment, stamp_cmp, stamp_eq};
-ghost use Rattle.mt_holdback.specs.Laws.{is_met_by, passed};
-ghost use Rattle.mt_holdback.specs.Passing.{left};
+ghost use Rattle.mt_holdback.specs.Laws.{is_met_by};
+ghost use Rattle.mt_holdback.specs.Passing.{after_pass};
 ghost use Rattle.mt_stampmap.specs.Index.{Finds};
 ghost use Rattle.mt_holdback.specs.Waiting.{meets};
-ghost use Rattle.mt_holdback.specs.Queue.{items_of, listed, passes_at, is_met_in, MetTo, LacksAt, IsQueueOf, Takes, NoneIsMet};
+ghost use Rattle.mt_holdback.specs.Queue.{contents_of, listed, passes_at, is_met_in, MetTo, LacksAt, FirstLack, IsQueueOf, IsApart, NextIs};
 
 use crate::fault::HoldBackFault;
 use crate::waits::Waits;
@@ -54,7 +54,7 @@ pub(crate) fn count_of<T: Waits, A: Allocator>(queue: &Queue<T, A>) -> u64
 
 // Whether the item at a place has this key.
 fn has_key<T: Waits>(released: &[T], place: Option<usize>, key: Stamp) -> bool
-    ensures { result ≡ passes_at (λ t. stamp_eq (T.key_of t) key) released.now place }
+    ensures { result ≡ passes_at (λ t. stamp_eq (T.rules.key t) key) released.now place }
 {
     match place {
         Some(i) => match released.get(i) {
@@ -67,8 +67,8 @@ fn has_key<T: Waits>(released: &[T], place: Option<usize>, key: Stamp) -> bool
 
 // Whether an item with this key was released.
 fn was_released<T: Waits, A: Allocator>(released: &[T], places: &StampIndex<A>, key: Stamp) -> bool
-    requires { Finds (map T.key_of released.now) places.now }
-    ensures { result ≡ list_any (λ t. stamp_eq (T.key_of t) key) released.now }
+    requires { Finds (map T.rules.key released.now) places.now }
+    ensures { result ≡ list_any (λ t. stamp_eq (T.rules.key t) key) released.now }
 {
     has_key(released, places.first_place(key), key)
         || has_key(released, places.other_place(key), key)
@@ -80,8 +80,8 @@ pub(crate) fn knows_key<T: Waits, A: Allocator>(
     queue: &Queue<T, A>,
     key: Stamp,
 ) -> bool
-    requires { Finds (map T.key_of released.now) queue.now.places }
-    ensures { result ≡ (list_any (λ t. stamp_eq (T.key_of t) key) released.now
+    requires { Finds (map T.rules.key released.now) queue.now.places }
+    ensures { result ≡ (list_any (λ t. stamp_eq (T.rules.key t) key) released.now
         || is_some (get stamp_cmp queue.now.items key)) }
 {
     was_released(released, &queue.places, key) || queue.items.contains_key(&key)
@@ -89,7 +89,7 @@ pub(crate) fn knows_key<T: Waits, A: Allocator>(
 
 // Whether the item at a place has this stamp, and fits this role.
 fn meets_at<T: Waits>(released: &[T], place: Option<usize>, stamp: Stamp, role: &T::Role) -> bool
-    ensures { result ≡ passes_at (meets T.key_of T.needs_of T.fits_role (stamp, role.now)) released.now place }
+    ensures { result ≡ passes_at (meets T.rules (stamp, role.now)) released.now place }
 {
     match place {
         Some(i) => match released.get(i) {
@@ -107,8 +107,8 @@ fn has<T: Waits, A: Allocator>(
     stamp: Stamp,
     role: &T::Role,
 ) -> bool
-    requires { Finds (map T.key_of released.now) places.now }
-    ensures { result ≡ is_met_in T.key_of T.needs_of T.fits_role released.now (stamp, role.now) }
+    requires { Finds (map T.rules.key released.now) places.now }
+    ensures { result ≡ is_met_in T.rules released.now (stamp, role.now) }
 {
     meets_at(released, places.first_place(stamp), stamp, role)
         || meets_at(released, places.other_place(stamp), stamp, role)
@@ -121,10 +121,10 @@ fn lacks_at<T: Waits, A: Allocator>(
     item: &T,
     i: usize,
 ) -> Option<Stamp>
-    requires { Finds (map T.key_of released.now) places.now }
-    ensures { MatchOption result (MetTo T.key_of T.needs_of T.fits_role released.now item.now i
-        → MetTo T.key_of T.needs_of T.fits_role released.now item.now (i + 1))
-        (LacksAt T.key_of T.needs_of T.fits_role released.now item.now i) }
+    requires { Finds (map T.rules.key released.now) places.now }
+    ensures { MatchOption result (MetTo T.rules released.now item.now i
+        → MetTo T.rules released.now item.now (i + 1))
+        (LacksAt T.rules released.now item.now i) }
 {
     let (stamp, role) = item.need(i)?;
     if has(released, places, stamp, &role) {
@@ -140,11 +140,10 @@ pub(crate) fn first_lack<T: Waits, A: Allocator>(
     item: &T,
     from: usize,
 ) -> Option<Lack>
-    requires finds { Finds (map T.key_of released.now) places.now }
-    requires met { MetTo T.key_of T.needs_of T.fits_role released.now item.now from }
-    ensures { MatchOption result (is_met_by T.key_of T.needs_of T.fits_role released.now item.now ≡ true)
-        (λ lack. MetTo T.key_of T.needs_of T.fits_role released.now item.now lack.place
-        × LacksAt T.key_of T.needs_of T.fits_role released.now item.now lack.place lack.stamp) }
+    requires finds { Finds (map T.rules.key released.now) places.now }
+    requires met { MetTo T.rules released.now item.now from }
+    ensures { MatchOption result (is_met_by T.rules released.now item.now ≡ true)
+        (FirstLack T.rules released.now item.now) }
 {
     for i in from..item.need_count() {
         if let Some(stamp) = lacks_at(released, places, item, i) {
@@ -243,21 +242,8 @@ fn next_ready<T: Waits + Drop, A: Allocator + Clone>(
     released: &[T],
     queue: &mut Queue<T, A>,
 ) -> Result<Option<T>, HoldBackFault>
-    requires { IsQueueOf T.key_of T.needs_of T.fits_role released.now queue.old }
-    ensures works { OnOk result (IsQueueOf T.key_of T.needs_of T.fits_role released.now queue.new) }
-    ensures same { IfOk result (λ next. IfNone next
-        (items_of queue.new.items.entries ≡ items_of queue.old.items.entries)) }
-    ensures none { IfOk result (λ next. IfNone next
-        (NoneIsMet T.key_of T.needs_of T.fits_role released.now (items_of queue.new.items.entries))) }
-    ensures takes { IfOk result (λ next. IfSome next
-        (λ t. Takes T.key_of T.needs_of T.fits_role released.now t (items_of queue.old.items.entries)
-        (items_of queue.new.items.entries))) }
-    ensures fresh { IfOk result (λ next. IfSome next
-        (λ t. list_any (λ u. stamp_eq (T.key_of u) (T.key_of t)) released.now ≡ false)) }
-    ensures others { IfOk result (λ next. IfSome next
-        (λ t. AllByRecursion (λ e. stamp_eq e.0 (T.key_of t) ≡ false) queue.new.items.entries)) }
-    ensures shorter { IfOk result (λ next. IfSome next
-        (λ t. length queue.new.items.entries < length queue.old.items.entries)) }
+    requires { IsQueueOf T.rules released.now queue.old }
+    ensures { IfOk result (NextIs T.rules released.now queue.old queue.new) }
 {
     while let Some(key) = next_woken(&mut queue.woken) {
         let Some(waiter) = queue.items.remove(&key) else {
@@ -283,10 +269,9 @@ pub(crate) fn release<T: Waits + Drop, A: Allocator + Clone>(
     queue: &mut Queue<T, A>,
     item: T,
 ) -> Result<(), HoldBackFault>
-    requires works { IsQueueOf T.key_of T.needs_of T.fits_role released.old.items queue.old }
-    requires fresh { list_any (λ u. stamp_eq (T.key_of u) (T.key_of item)) released.old.items ≡ false }
-    requires others { AllByRecursion (λ e. stamp_eq e.0 (T.key_of item) ≡ false) queue.old.items.entries }
-    ensures works { OnOk result (IsQueueOf T.key_of T.needs_of T.fits_role released.new.items queue.new) }
+    requires works { IsQueueOf T.rules released.old.items queue.old }
+    requires apart { IsApart T.rules released.old.items queue.old item }
+    ensures works { OnOk result (IsQueueOf T.rules released.new.items queue.new) }
     ensures released { OnOk result (released.new.items ≡ released.old.items ++ item ∷ []) }
     ensures same { OnOk result (queue.new.items.entries ≡ queue.old.items.entries) }
 {
@@ -303,12 +288,10 @@ pub(crate) fn settle<T: Waits + Drop, A: Allocator + Clone>(
     released: &mut Vec<T, A>,
     queue: &mut Queue<T, A>,
 ) -> Result<(), HoldBackFault>
-    requires { IsQueueOf T.key_of T.needs_of T.fits_role released.old.items queue.old }
-    ensures works { OnOk result (IsQueueOf T.key_of T.needs_of T.fits_role released.new.items queue.new) }
-    ensures released { OnOk result (released.new.items
-        ≡ passed T.key_of T.needs_of T.fits_role released.old.items (items_of queue.old.items.entries)) }
-    ensures left { OnOk result (items_of queue.new.items.entries
-        ≡ left T.key_of T.needs_of T.fits_role released.old.items (items_of queue.old.items.entries)) }
+    requires { IsQueueOf T.rules released.old.items queue.old }
+    ensures works { OnOk result (IsQueueOf T.rules released.new.items queue.new) }
+    ensures passed { OnOk result (contents_of released.new.items (Some queue.new)
+        ≡ after_pass T.rules (contents_of released.old.items (Some queue.old))) }
 {
     while let Some(item) = next_ready(alloc, released, queue)? {
         release(alloc, released, queue, item)?;

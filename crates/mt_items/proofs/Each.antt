@@ -17,7 +17,8 @@ use Rattle.mt_op.specs.declared.need.Role.{Role}
 use Rattle.mt_op.specs.Operation.{Operation}
 use Rattle.mt_op.specs.Needs.{need_of, fits}
 use Rattle.mt_op.specs.ByStamp.{stamp_of}
-use Rattle.mt_items.specs.Noting.{MayFollow, is_need_met, Concerns, subject}
+use Rattle.mt_op.specs.Writes.{subject}
+use Rattle.mt_items.specs.Noting.{MayFollow, is_need_met, Concerns}
 use Rattle.mt_items.specs.Cells.{HoldsEach, items_of}
 use Rattle.mt_items.proofs.Noting.{met_noted, listed}
 

@@ -3,8 +3,8 @@ use Rattle.std.proofs.Common.{◌≡◌, true, List, ◌∷◌, None, refl, sym,
 use Rattle.mt_stamp.specs.Moment.{Moment}
 use Rattle.mt_op.specs.Operation.{Act, AddTrack, AddClip, AddMarker, Operation}
 use Rattle.mt_op.specs.Needs.{adds_track, adds_clip, adds_marker}
-use Rattle.mt_op.specs.Writes.{title_in, gain_in, mute_in, track_place_in, clip_place_in, trim_in, source_in, position_in, fades_in, marker_length_in, title_written, gain_written, mute_written, track_place_written, clip_place_written, trim_written, source_written, position_written, fades_written, marker_length_written, kept, written_by}
-use Rattle.mt_items.specs.Noting.{subject, Concerns}
+use Rattle.mt_op.specs.Writes.{title_in, gain_in, mute_in, track_place_in, clip_place_in, trim_in, source_in, position_in, fades_in, marker_length_in, title_written, gain_written, mute_written, track_place_written, clip_place_written, trim_written, source_written, position_written, fades_written, marker_length_written, kept, written_by, subject}
+use Rattle.mt_items.specs.Noting.{Concerns}
 use Rattle.mt_items.specs.Cells.{HoldsMarker, HoldsClip, HoldsTrack}
 use Rattle.mt_items.specs.declared.cells.MarkerCells.{MarkerCells}
 use Rattle.mt_items.specs.declared.cells.ClipCells.{ClipCells}

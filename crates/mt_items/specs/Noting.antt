@@ -3,8 +3,9 @@ use Rattle.std.specs.Prelude.{◌≡◌, Bool, true, false, List, [], ◌∷◌,
 use Rattle.std.specs.List.{list_any, list_all}
 use Rattle.mt_stamp.specs.Moment.{Moment, stamp_eq}
 use Rattle.mt_op.specs.declared.need.Need.{Need}
-use Rattle.mt_op.specs.Operation.{Act, MoveTrack, MoveClip, TrimClip, SetGain, SetMute, Remove, Restore, MoveMarker, Retitle, SetFade, SetMarkerLength, Operation}
+use Rattle.mt_op.specs.Operation.{Operation}
 use Rattle.mt_op.specs.Needs.{needs, meets}
+use Rattle.mt_op.specs.Writes.{subject}
 
 -- whether an operation of this stamp is among these
 abbrev pub is_noted : List Operation → Moment → Bool
@@ -28,21 +29,6 @@ pub record MayFollow (ops : List Operation) (o : Operation) : Type 0 where
 abbrev pub AreNoted : List Operation → Type 0
 AreNoted [] = Unit {0}
 AreNoted (o ∷ ops) = MayFollow ops o × AreNoted ops
-
--- the item that an operation adds or names, which is all that it changes (profile)
-abbrev pub subject : Moment → Act → Moment
-subject own (MoveTrack track after) = track
-subject own (MoveClip clip track at) = clip
-subject own (TrimClip clip offset len) = clip
-subject own (SetGain item gain) = item
-subject own (SetMute item on) = item
-subject own (Remove item tags) = item
-subject own (Restore item) = item
-subject own (MoveMarker marker at) = marker
-subject own (Retitle item title) = item
-subject own (SetFade clip fade_in fade_out) = clip
-subject own (SetMarkerLength marker len) = marker
-subject own _ = own
 
 -- an operation on an item that was noted before it
 pub record Concerns (ops : List Operation) (item : Moment) (o : Operation) : Type 0 where

@@ -3,7 +3,7 @@
 //! The cells of a great log lie far apart, so that each look at some waits for the memory. Whoever looks for those of several operations at once waits for all of
 //! them together. Nothing here decides anything: what it tells is where to look first, and no clause speaks of it.
 
-use crate::cells::{ClipCells, MarkerCells, subject};
+use crate::cells::{ClipCells, MarkerCells};
 use crate::items::Items;
 use mt_op::{Body, Op};
 use mt_stamp::Stamp;
@@ -48,8 +48,8 @@ impl<A: Allocator> Items<A> {
             | Body::TrimClip { .. }
             | Body::SetFade { .. }
             | Body::SetGain { .. }
-            | Body::SetMute { .. } => self.clips.likely_index(subject(op)),
-            _ => self.markers.likely_index(subject(op)),
+            | Body::SetMute { .. } => self.clips.likely_index(op.item()),
+            _ => self.markers.likely_index(op.item()),
         }
     }
 
@@ -66,7 +66,7 @@ impl<A: Allocator> Items<A> {
 
     // The same of an operation's item, looked for at an index first.
     fn found(&self, likely: usize, op: &Op<A>) -> usize {
-        let item = subject(op);
+        let item = op.item();
         if likely == NOWHERE
             || self.markers.stands_at(likely, item)
             || self.clips.stands_at(likely, item)
@@ -78,7 +78,7 @@ impl<A: Allocator> Items<A> {
 
     // The index again, where what the operation changes there is not its own yet.
     fn read(&self, near: usize, op: &Op<A>) -> usize {
-        let item = subject(op);
+        let item = op.item();
         if self.markers.stands_at(near, item) {
             match self.markers.entries().get(near) {
                 Some(entry) if is_marker_changed(&entry.1, op) => NOWHERE,

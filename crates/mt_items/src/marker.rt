@@ -7,7 +7,7 @@ ghost use Rattle.mt_op.specs.Needs.{adds_marker};
 ghost use Rattle.mt_items.specs.Keeping.{Makes, Keeps, KeepsAll};
 ghost use Rattle.mt_items.specs.Cells.{HoldsMarker, HoldsMarkers};
 
-use crate::cells::{MarkerCells, mark, subject};
+use crate::cells::{MarkerCells, mark};
 use crate::fields::{write, written_marker_length, written_position, written_title};
 use crate::marks::ItemMarks;
 use mt_cells::Register;
@@ -65,7 +65,7 @@ pub(crate) fn note<A: Allocator + Clone>(
         markers.insert(op.stamp(), cells)?;
         return Ok(());
     }
-    if let Some(cells) = markers.get_mut_near(near, subject(op)) {
+    if let Some(cells) = markers.get_mut_near(near, op.item()) {
         change(alloc, cells, op)?;
     }
     Ok(())

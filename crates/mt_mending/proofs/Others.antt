@@ -14,9 +14,9 @@ use Rattle.mt_op.specs.declared.value.Placement.{Placement}
 use Rattle.mt_op.specs.Operation.{Act, Operation}
 use Rattle.mt_op.specs.Needs.{need_of, meets, fits, is_tag_of, adds_clip}
 use Rattle.mt_op.specs.Presence.{is_listed, is_any, tags, removed_tags, is_present}
-use Rattle.mt_op.specs.Writes.{Write, title_in, gain_in, mute_in, track_place_in as track_place_value, clip_place_in as clip_place_value, trim_in, source_in, position_in, fades_in, marker_length_in, title_written, gain_written, mute_written, track_place_written, clip_place_written, trim_written, source_written, position_written, fades_written, marker_length_written, no_fades, last_write}
+use Rattle.mt_op.specs.Writes.{Write, title_in, gain_in, mute_in, track_place_in as track_place_value, clip_place_in as clip_place_value, trim_in, source_in, position_in, fades_in, marker_length_in, title_written, gain_written, mute_written, track_place_written, clip_place_written, trim_written, source_written, position_written, fades_written, marker_length_written, no_fades, last_write, subject}
 use Rattle.mt_op.proofs.Needs.{and_first, and_second}
-use Rattle.mt_items.specs.Noting.{AreNoted, is_noted, is_need_met, subject}
+use Rattle.mt_items.specs.Noting.{AreNoted, is_noted, is_need_met}
 use Rattle.mt_items.proofs.Noting.{either_true, subject_noted, AtSubject, at_subject, last_same, other_write}
 use Rattle.mt_items.proofs.Marking.{other_tag}
 use Rattle.mt_sessionview.specs.Noted.{value_in, is_shown_in, marker_in, clip_place_in, clip_in, is_clip_on_in, track_place_in}

@@ -12,7 +12,8 @@ use Rattle.mt_op.specs.declared.need.Role.TheVariants.{Marker as MarkerRole, Cli
 use Rattle.mt_op.specs.Operation.{Operation}
 use Rattle.mt_op.specs.Needs.{need_of}
 use Rattle.mt_op.specs.Presence.{is_present}
-use Rattle.mt_items.specs.Noting.{AreNoted, is_noted, is_need_met, subject}
+use Rattle.mt_op.specs.Writes.{subject}
+use Rattle.mt_items.specs.Noting.{AreNoted, is_noted, is_need_met}
 use Rattle.mt_sessionview.specs.Content.{Clip, Track, Marker, Content, clip_cmp, marker_cmp}
 use Rattle.mt_sessionview.specs.Session.{ready_ops, held_ops, place_added, session_of}
 use Rattle.mt_sessionview.specs.Noted.{markers_in, clips_in, tracks_in, places_in, track_place_in}

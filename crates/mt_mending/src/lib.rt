@@ -27,14 +27,14 @@
 //!
 //! Operations are noted after what they need, in any order else.
 //!
-//! The calls that mend a session do what the laws say. Before an operation is noted, [`stood`] tells where its item ([`subject_of`]) stands, and
+//! The calls that mend a session do what the laws say. Before an operation is noted, [`stood`] tells where its item (`Op::item`) stands, and
 //! [`add_place`] puts the place that it gives a track, if it gives one, into the list of all places; after it, [`mend`] takes the item's entry out where it
 //! stood, and puts in the one that is shown now; a marker or a clip that stays where it stood is rewritten there, and nothing moves. The session is then
 //! the one that all noted operations show:
 //!
 //! ```rust
 //! use mt_items::Items;
-//! use mt_mending::{add_place, mend, stood, subject_of};
+//! use mt_mending::{add_place, mend, stood};
 //! use mt_op::{Body, Op, Title};
 //! use mt_opcodec::Log;
 //! use mt_sessionview::from_scratch;
@@ -53,7 +53,7 @@
 //!         Op::new(weather, Body::AddMarker { at: 960, title: second })?,
 //!         Op::new(Stamp::new(5, Replica(11), 1)?, Body::MoveMarker { marker: news, at: 1200 })?,
 //!     ] {
-//!         let item = subject_of(&op);
+//!         let item = op.item();
 //!         let stood = stood(&items, item);
 //!         add_place(&mut places, &items, &op)?;
 //!         items = items.note(&op)?;
@@ -80,7 +80,6 @@ mod mend_track;
 mod place;
 mod read;
 mod session;
-mod subject;
 mod track;
 
 pub use before::Stood;
@@ -89,5 +88,4 @@ pub use marker::{marker_position, mend_markers};
 pub use mend_track::mend_tracks;
 pub use place::add_place;
 pub use session::{mend, stood};
-pub use subject::subject_of;
 pub use track::{track_clips, whole_track};

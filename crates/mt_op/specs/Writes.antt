@@ -8,7 +8,7 @@ use Rattle.mt_op.specs.declared.digest.Digest.{Digest}
 use Rattle.mt_op.specs.declared.value.Placement.{Placement}
 use Rattle.mt_op.specs.declared.value.TrimRange.{TrimRange}
 use Rattle.mt_op.specs.declared.value.FadeLengths.{FadeLengths}
-use Rattle.mt_op.specs.Operation.{Act, AddTrack, MoveTrack, AddClip, MoveClip, TrimClip, SetGain, SetMute, AddMarker, MoveMarker, Retitle, SetFade, SetMarkerLength, Operation}
+use Rattle.mt_op.specs.Operation.{Act, AddTrack, MoveTrack, AddClip, MoveClip, TrimClip, SetGain, SetMute, AddMarker, MoveMarker, Remove, Restore, Retitle, SetFade, SetMarkerLength, Operation}
 use Rattle.mt_op.specs.Needs.{stamp_eq}
 
 -- a value of a field: the fields of tracks, of clips and of markers (profile)
@@ -42,6 +42,21 @@ sets item value = record { item = item; value = value }
 -- the fades of a clip that is added
 abbrev pub no_fades : FadeLengths
 no_fades = record { fade_in = 0; fade_out = 0 }
+
+-- the item that an operation adds or names, which is all that it changes (profile)
+abbrev pub subject : Moment → Act → Moment
+subject own (MoveTrack track after) = track
+subject own (MoveClip clip track at) = clip
+subject own (TrimClip clip offset len) = clip
+subject own (SetGain item gain) = item
+subject own (SetMute item on) = item
+subject own (Remove item tags) = item
+subject own (Restore item) = item
+subject own (MoveMarker marker at) = marker
+subject own (Retitle item title) = item
+subject own (SetFade clip fade_in fade_out) = clip
+subject own (SetMarkerLength marker len) = marker
+subject own _ = own
 
 -- what each act writes, `own` being the operation's stamp (profile)
 abbrev pub writes : Moment → Act → List (Write Value)

@@ -51,5 +51,5 @@ module _ {A : Type 0} where
     };
   }
 
-  pub prefix_on : (a b c : Option (List ℕ)) (old new : Passing A) → Passes a b old new None → ConsumesPrefix b c → ConsumesPrefix a c
-  prefix_on a b c old new p rest = (p.bytes ++ rest.0, Consumes-trans a b c p.bytes rest.0 p.consumed rest.1)
+  pub prefix_on : (a b c : Option (List ℕ)) (old new : Passing A) (digest : Option (List ℕ)) → Passes a b old new digest → ConsumesPrefix b c → ConsumesPrefix a c
+  prefix_on a b c old new digest p rest = (p.bytes ++ rest.0, Consumes-trans a b c p.bytes rest.0 p.consumed rest.1)

@@ -1,7 +1,10 @@
--- What an outline has of a file.
-use Rattle.std.specs.Prelude.{◌≡◌, ℕ, List, ◌++◌, length, codes, Option, IfSome, unwrap_or}
-use Rattle.std.specs.Io.KnownBytes.{Consumes}
+-- What an outline has of a file, and how the file is read.
+use Rattle.std.specs.Prelude.{◌≡◌, ◌≢◌, ℕ, true, false, List, ◌++◌, length, codes, Option, IfSome, unwrap_or, Result, OnOk, IfErr}
+use Rattle.std.specs.Io.KnownBytes.{Consumes, IsAtEnd}
 use Rattle.sha2.specs.Sha256.{sha256}
+use Rattle.mt_latch.specs.Latch.{Latched, ConsumesPrefix}
+use Rattle.mt_latch.specs.declared.fault.LatchFault.{LatchFault}
+use Rattle.mt_latch.specs.declared.fault.LatchFault.TheVariants.{Memory, Write, Read}
 use Rattle.mt_bwfread.specs.Riff.{content_of}
 use Rattle.mt_bwfread.specs.Wave.{fault_of, IsWave, chunks_in, samples_of}
 use Rattle.mt_bwfread.specs.Cues.{listed_in}
@@ -32,3 +35,27 @@ pub record Gives {A : Type 0} (left : Option (List ℕ)) (o : Outline A) : Type 
   pub text : List ℕ
   pub all : IfSome left (λ bytes. text ≡ bytes)
   pub outline : IsOutline text o
+
+-- of a reader in a latch, before and after, and of what was answered
+module _ {R X : Type 0} (remaining : R → Option (List ℕ)) (old new : Latched R) (result : Result X LatchFault) where
+  -- It was read on, or why not.
+  pub record ReadsOn : Type 0 where
+    -- What is left is a rest of what there was.
+    pub prefix : ConsumesPrefix (remaining old.inner) (remaining new.inner)
+    -- It is never refused as Write.
+    pub never_write : IfErr result (λ fault. fault ≢ Write)
+    -- It is refused as Read where the latch has failed.
+    pub refused_when_failed : IfErr result (λ fault. fault ≡ Read → new.failed ≡ true)
+    -- Where memory runs out, the latch does not fail.
+    pub memory_leaves : IfErr result (λ fault. fault ≡ Memory → old.failed ≡ false → new.failed ≡ false)
+    -- A latch that had failed stays as it was.
+    pub stays_failed : old.failed ≡ true → new ≡ old
+
+  -- It was read to its end, or why not.
+  pub record ReadsToEnd : Type 0 where
+    -- It was read on, or why not.
+    pub reads : ReadsOn
+    -- After Ok nothing is left.
+    pub at_end : OnOk result (IsAtEnd (remaining new.inner))
+    -- After Ok the latch has not failed.
+    pub sound_when_read : OnOk result (new.failed ≡ false)

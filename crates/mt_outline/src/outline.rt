@@ -54,13 +54,8 @@ fn head_of<A: Allocator>(
 }
 
 impl<A: Allocator + Clone> Outline<A> {
-    ghost use Rattle.std.specs.Prelude.{◌≢◌, true, false, IfErr, IfSome, OnOk, length};
-    ghost use Rattle.std.specs.Io.KnownBytes.{IsAtEnd};
-    ghost use Rattle.mt_bwfread.specs.Wave.{IsWave, frames_of};
-    ghost use Rattle.mt_latch.specs.Latch.{ConsumesPrefix};
-    ghost use Rattle.mt_latch.specs.declared.fault.LatchFault.TheVariants.{Memory, Write as WriteFault, Read as ReadFault};
     ghost use Rattle.mt_digests.specs.Pieces.{Holds};
-    ghost use Rattle.mt_outline.specs.Outline.{Gives, Outlines};
+    ghost use Rattle.mt_outline.specs.Outline.{Gives, Outlines, ReadsToEnd};
 
     // Reads what stands behind the front of a file, and keeps all of it.
     #[tactic(auto, using(crate::proofs::Outlining::keeps_all))]
@@ -72,13 +67,7 @@ impl<A: Allocator + Clone> Outline<A> {
         requires come { Holds front.hashing front.kept.items }
         requires all { front.skip ≡ 0 }
         ensures outline { IfOk result (λ o. Outlines (R.remaining input.old.inner) (R.remaining input.new.inner) front.kept.items o) }
-        ensures at_end { OnOk result (IsAtEnd (R.remaining input.new.inner)) }
-        ensures prefix { ConsumesPrefix (R.remaining input.old.inner) (R.remaining input.new.inner) }
-        ensures never_write { IfErr result (λ fault. fault ≢ WriteFault) }
-        ensures refused_when_failed { IfErr result (λ fault. fault ≡ ReadFault → input.new.failed ≡ true) }
-        ensures sound_when_read { OnOk result (input.new.failed ≡ false) }
-        ensures memory_leaves { IfErr result (λ fault. fault ≡ Memory → input.old.failed ≡ false → input.new.failed ≡ false) }
-        ensures stays_failed { input.old.failed ≡ true → input.new ≡ input.old }
+        ensures reads { ReadsToEnd R.remaining input.old input.new result }
     {
         let mut passing = front;
         let digest = passing.take_all(input, piece)?;
@@ -102,13 +91,7 @@ impl<A: Allocator + Clone> Outline<A> {
         requires begins { BeginsSamples front.kept.items samples.at samples.len }
         requires goes_on { length front.kept.items + samples.len % 2 < samples.at + 8 + samples.len }
         ensures outline { IfOk result (λ o. Outlines (R.remaining input.old.inner) (R.remaining input.new.inner) front.kept.items o) }
-        ensures at_end { OnOk result (IsAtEnd (R.remaining input.new.inner)) }
-        ensures prefix { ConsumesPrefix (R.remaining input.old.inner) (R.remaining input.new.inner) }
-        ensures never_write { IfErr result (λ fault. fault ≢ WriteFault) }
-        ensures refused_when_failed { IfErr result (λ fault. fault ≡ ReadFault → input.new.failed ≡ true) }
-        ensures sound_when_read { OnOk result (input.new.failed ≡ false) }
-        ensures memory_leaves { IfErr result (λ fault. fault ≡ Memory → input.old.failed ≡ false → input.new.failed ≡ false) }
-        ensures stays_failed { input.old.failed ≡ true → input.new ≡ input.old }
+        ensures reads { ReadsToEnd R.remaining input.old input.new result }
     {
         let odd = samples.len % 2;
         let from = samples.at + 8;
@@ -143,13 +126,7 @@ impl<A: Allocator + Clone> Outline<A> {
         requires come { Holds front.hashing front.kept.items }
         requires all { front.skip ≡ 0 }
         ensures outline { IfOk result (λ o. Outlines (R.remaining input.old.inner) (R.remaining input.new.inner) front.kept.items o) }
-        ensures at_end { OnOk result (IsAtEnd (R.remaining input.new.inner)) }
-        ensures prefix { ConsumesPrefix (R.remaining input.old.inner) (R.remaining input.new.inner) }
-        ensures never_write { IfErr result (λ fault. fault ≢ WriteFault) }
-        ensures refused_when_failed { IfErr result (λ fault. fault ≡ ReadFault → input.new.failed ≡ true) }
-        ensures sound_when_read { OnOk result (input.new.failed ≡ false) }
-        ensures memory_leaves { IfErr result (λ fault. fault ≡ Memory → input.old.failed ≡ false → input.new.failed ≡ false) }
-        ensures stays_failed { input.old.failed ≡ true → input.new ≡ input.old }
+        ensures reads { ReadsToEnd R.remaining input.old input.new result }
     {
         match samples_in(&front.kept) {
             Some(samples) if front.kept.len() + samples.len % 2 < samples.at + 8 + samples.len => {
@@ -168,13 +145,7 @@ impl<A: Allocator + Clone> Outline<A> {
     #[tactic(auto, using(crate::proofs::Outlining::gives_front, crate::proofs::Outlining::gives_behind))]
     pub fn read<R: Read>(alloc: A, input: &mut Latch<R>) -> Result<Outline<A>, LatchFault>
         ensures outline { IfOk result (λ o. Gives (R.remaining input.old.inner) o) }
-        ensures at_end { OnOk result (IsAtEnd (R.remaining input.new.inner)) }
-        ensures prefix { ConsumesPrefix (R.remaining input.old.inner) (R.remaining input.new.inner) }
-        ensures never_write { IfErr result (λ fault. fault ≢ WriteFault) }
-        ensures refused_when_failed { IfErr result (λ fault. fault ≡ ReadFault → input.new.failed ≡ true) }
-        ensures sound_when_read { OnOk result (input.new.failed ≡ false) }
-        ensures memory_leaves { IfErr result (λ fault. fault ≡ Memory → input.old.failed ≡ false → input.new.failed ≡ false) }
-        ensures stays_failed { input.old.failed ≡ true → input.new ≡ input.old }
+        ensures reads { ReadsToEnd R.remaining input.old input.new result }
     {
         let mut piece = [0; PIECE];
         let mut passing = Passing {

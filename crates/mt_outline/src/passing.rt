@@ -1,9 +1,10 @@
 //! A file on its way: all of it into its digest, and some of it kept.
 
-ghost use Rattle.std.specs.Prelude.{◌≡◌, ◌≢◌, ◌<◌, ◌≤◌, ◌++◌, ◌-◌, true, false, is_err, IfOk, IfErr, OnOk, OnSome, Some, length, drop, take};
+ghost use Rattle.std.specs.Prelude.{◌≡◌, ◌<◌, ◌≤◌, ◌++◌, ◌-◌, true, false, is_err, IfOk, IfErr, OnOk, OnSome, Some, length, drop, take};
 ghost use Rattle.std.specs.Io.KnownBytes.{Consumes, IsAtEnd};
 ghost use Rattle.mt_latch.specs.Latch.{ConsumesPrefix};
-ghost use Rattle.mt_latch.specs.declared.fault.LatchFault.TheVariants.{Memory, Write as WriteFault, Read as ReadFault};
+ghost use Rattle.mt_latch.specs.declared.fault.LatchFault.TheVariants.{Memory, Read as ReadFault};
+ghost use Rattle.mt_outline.specs.Outline.{ReadsOn, ReadsToEnd};
 ghost use Rattle.mt_outline.specs.Passing.{Takes};
 
 use mt_digests::Hashing;
@@ -69,12 +70,9 @@ impl<A: Allocator> Passing<A> {
     ) -> Result<Option<[u8; 32]>, LatchFault>
         ensures bytes { IfOk result (Takes R.remaining input.old input.new self.old self.new) }
         ensures at_end { IfOk result (λ digest. OnSome digest (IsAtEnd (R.remaining input.new.inner))) }
-        ensures prefix { ConsumesPrefix (R.remaining input.old.inner) (R.remaining input.new.inner) }
-        ensures never_write { IfErr result (λ fault. fault ≢ WriteFault) }
-        ensures refused_when_failed { IfErr result (λ fault. fault ≡ ReadFault → input.new.failed ≡ true) }
+        ensures reads { ReadsOn R.remaining input.old input.new result }
         ensures sound_without_memory { IfErr result (λ fault. fault ≡ Memory → input.new.failed ≡ false) }
         ensures sound_when_read { OnOk result (input.new.failed ≡ false) }
-        ensures stays_failed { input.old.failed ≡ true → input.new ≡ input.old }
         ensures counted { OnOk result (input.new.reads_left < input.old.reads_left) }
     {
         let count = fill(input, piece)?;
@@ -88,7 +86,7 @@ impl<A: Allocator> Passing<A> {
     }
 
     /// Takes at most so many pieces, and tells the digest of all where the file ends with the last of them.
-    #[tactic(auto, using(crate::proofs::Passages::nothing, crate::proofs::Passages::goes_on, crate::proofs::Passages::prefix_on))]
+    #[tactic(auto, using(crate::proofs::Passages::nothing, crate::proofs::Passages::goes_on))]
     pub(crate) fn take_some<R: Read>(
         &mut self,
         input: &mut Latch<R>,
@@ -97,11 +95,7 @@ impl<A: Allocator> Passing<A> {
     ) -> Result<Option<[u8; 32]>, LatchFault>
         ensures bytes { IfOk result (Takes R.remaining input.old input.new self.old self.new) }
         ensures at_end { IfOk result (λ digest. OnSome digest (IsAtEnd (R.remaining input.new.inner))) }
-        ensures prefix { ConsumesPrefix (R.remaining input.old.inner) (R.remaining input.new.inner) }
-        ensures never_write { IfErr result (λ fault. fault ≢ WriteFault) }
-        ensures refused_when_failed { IfErr result (λ fault. fault ≡ ReadFault → input.new.failed ≡ true) }
-        ensures memory_leaves { IfErr result (λ fault. fault ≡ Memory → input.old.failed ≡ false → input.new.failed ≡ false) }
-        ensures stays_failed { input.old.failed ≡ true → input.new ≡ input.old }
+        ensures reads { ReadsOn R.remaining input.old input.new result }
         ensures sound_when_over { IfOk result (λ digest. OnSome digest (input.new.failed ≡ false)) }
         ensures stays_sound { OnOk result (input.old.failed ≡ false → input.new.failed ≡ false) }
     {
@@ -114,20 +108,14 @@ impl<A: Allocator> Passing<A> {
     }
 
     /// Takes all pieces to the end, and tells the digest of all.
-    #[tactic(auto, using(crate::proofs::Passages::nothing, crate::proofs::Passages::goes_on, crate::proofs::Passages::prefix_on))]
+    #[tactic(auto, using(crate::proofs::Passages::nothing, crate::proofs::Passages::goes_on))]
     pub(crate) fn take_all<R: Read>(
         &mut self,
         input: &mut Latch<R>,
         piece: &mut [u8; PIECE],
     ) -> Result<[u8; 32], LatchFault>
         ensures bytes { IfOk result (λ digest. Takes R.remaining input.old input.new self.old self.new (Some digest)) }
-        ensures at_end { OnOk result (IsAtEnd (R.remaining input.new.inner)) }
-        ensures prefix { ConsumesPrefix (R.remaining input.old.inner) (R.remaining input.new.inner) }
-        ensures never_write { IfErr result (λ fault. fault ≢ WriteFault) }
-        ensures refused_when_failed { IfErr result (λ fault. fault ≡ ReadFault → input.new.failed ≡ true) }
-        ensures sound_when_read { OnOk result (input.new.failed ≡ false) }
-        ensures memory_leaves { IfErr result (λ fault. fault ≡ Memory → input.old.failed ≡ false → input.new.failed ≡ false) }
-        ensures stays_failed { input.old.failed ≡ true → input.new ≡ input.old }
+        ensures reads { ReadsToEnd R.remaining input.old input.new result }
     {
         loop {
             if let Some(digest) = self.take(input, piece)? {

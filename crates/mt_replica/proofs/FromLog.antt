@@ -17,7 +17,7 @@ use Rattle.mt_holdback.specs.Laws.{is_met_by}
 use Rattle.mt_holdback.specs.HoldBack.{Contents, IsHoldBack}
 use Rattle.mt_holdback.specs.Offering.{empty}
 use Rattle.mt_holdback.specs.Value.{HoldBackValue}
-use Rattle.mt_holdback.specs.Ops.{op_key, op_needs}
+use Rattle.mt_holdback.specs.Ops.{op_rules}
 use Rattle.mt_holdback.proofs.Offers.{last_released, all_waiting}
 use Rattle.mt_replica.specs.Holding.{is_offered, with_offered, AreOffered}
 use Rattle.mt_replica.proofs.HeldBack.{pair}
@@ -39,16 +39,16 @@ module _ (items : List Operation) (kept : Contents Operation) (same : SameItems 
   not_noted unknown = same_any items kept.released same (λ (x : Operation). stamp_eq o.stamp x.stamp) ∙ unknown_noted kept.released kept.waiting o.stamp unknown
 
   -- its needs are met by what was released where they are met by what was noted
-  pub met_same : is_met_by op_key op_needs fits kept.released o ≡ are_needs_met items o
+  pub met_same : is_met_by op_rules kept.released o ≡ are_needs_met items o
   met_same = each (needs o)
     where
       each : (ns : List Need) → list_all (λ need. list_any (λ (t : Operation). stamp_eq need.0 t.stamp && fits need.1 t) kept.released) (map pair ns) ≡ list_all (is_need_met items) ns
       each [] = refl
       each (n ∷ ns) = λ i. sym (same_any items kept.released same (meets n)) i && each ns i
 
-  module _ (is : IsHoldBack op_key op_needs fits kept) (unknown : is_offered kept o.stamp ≡ false) (older : NamesOlder (op_key o) (op_needs o)) (above : AllByRecursion (λ u. op_cmp u o ≡ Less) kept.waiting) where
+  module _ (is : IsHoldBack op_rules kept) (unknown : is_offered kept o.stamp ≡ false) (older : NamesOlder op_rules o) (above : AllByRecursion (λ u. op_cmp u o ≡ Less) kept.waiting) where
     released_is : (b : Bool) → are_needs_met items o ≡ b → (with_offered kept o).released ≡ cond b (kept.released ++ o ∷ []) kept.released
-    released_is b met = last_released op_key op_needs fits kept o is unknown older above ∙ ap (λ (c : Bool). cond c (kept.released ++ o ∷ []) kept.released) (met_same ∙ met)
+    released_is b met = last_released op_rules kept o is unknown older above ∙ ap (λ (c : Bool). cond c (kept.released ++ o ∷ []) kept.released) (met_same ∙ met)
 
     -- where it is noted it is released
     pub noted_released : (after : List Operation) → after ≡ o ∷ items → are_needs_met items o ≡ true → SameItems after (with_offered kept o).released
@@ -94,6 +94,6 @@ next_taken waiting after o items now rest all so_far is same = record {
   offered = next_offered waiting after o rest all so_far.offered is;
   same = same;
   below = subst (λ (w : HoldBackValue Operation). AreBelow w.contents.waiting rest) (sym is)
-      (all_waiting op_key op_needs fits (λ u. AllByRecursion (λ v. op_cmp u v ≡ Less) rest) waiting.contents o so_far.rises.0 (below_rest o rest waiting.contents.waiting so_far.below));
+      (all_waiting op_rules (λ u. AllByRecursion (λ v. op_cmp u v ≡ Less) rest) waiting.contents o so_far.rises.0 (below_rest o rest waiting.contents.waiting so_far.below));
   rises = so_far.rises.1;
 }

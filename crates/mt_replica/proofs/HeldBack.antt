@@ -11,7 +11,7 @@ use Rattle.mt_stamp.proofs.SameItems.{SameItems, same_any, same_filter}
 use Rattle.mt_op.specs.declared.need.Need.{Need}
 use Rattle.mt_op.specs.declared.need.Role.{Role}
 use Rattle.mt_op.specs.Operation.{Operation}
-use Rattle.mt_op.specs.Needs.{needs, meets, clock_of, fits}
+use Rattle.mt_op.specs.Needs.{needs, meets, clock_of}
 use Rattle.mt_op.specs.Ready as rule
 use Rattle.mt_op.proofs.Needs.{and_first}
 use Rattle.mt_op.proofs.Readiness.{is_ready-met}
@@ -19,7 +19,7 @@ use Rattle.mt_items.specs.Noting.{is_need_met}
 use Rattle.mt_holdback.specs.Waiting as waits
 use Rattle.mt_holdback.specs.Waiting.{NamesOlder}
 use Rattle.mt_holdback.specs.HoldBack.{Contents, IsHoldBack, queued, offered_with}
-use Rattle.mt_holdback.specs.Ops.{op_key, op_needs}
+use Rattle.mt_holdback.specs.Ops.{op_rules}
 use Rattle.mt_holdback.proofs.Readiness.{all_older}
 use Rattle.mt_holdback.proofs.Offers.{less_clock, offered_stays}
 use Rattle.mt_sessionview.specs.Session.{ready_ops}
@@ -35,20 +35,20 @@ abbrev pub pair : Need → Moment × Role
 pair need = (need.stamp, need.role)
 
 abbrev pub as_waiting : List Operation → Operation → Bool
-as_waiting ops = waits.is_ready op_key op_needs fits ops
+as_waiting ops = waits.is_ready op_rules ops
 
 abbrev meets_pair : Moment × Role → Operation → Bool
-meets_pair need = waits.meets op_key op_needs fits need
+meets_pair need = waits.meets op_rules need
 
 met_is : (p q : Operation → Bool) → p ≡ q → (s : List Operation) (ns : List Need) → list_all (λ need. list_any p (filter (meets_pair need) s)) (map pair ns) ≡ list_all (λ need. list_any q (filter (meets need) s)) ns
 met_is p q e s [] = refl
 met_is p q e s (n ∷ ns) = λ i. list_any (e i) (filter (meets n) s) && met_is p q e s ns i
 
-below_is : (n : ℕ) (s : List Operation) → rule.is_ready_below (waits.clock_of op_key op_needs fits) op_needs meets_pair n s ≡ rule.is_ready_below clock_of needs meets n s
+below_is : (n : ℕ) (s : List Operation) → rule.is_ready_below (waits.clock_of op_rules) op_rules.needs meets_pair n s ≡ rule.is_ready_below clock_of needs meets n s
 below_is zero s = refl
 below_is (suc n) s =
-    let each : (d : Operation) → rule.is_ready_below (waits.clock_of op_key op_needs fits) op_needs meets_pair (suc n) s d ≡ rule.is_ready_below clock_of needs meets (suc n) s d
-    = λ d. met_is (rule.is_ready_below (waits.clock_of op_key op_needs fits) op_needs meets_pair n s) (rule.is_ready_below clock_of needs meets n s) (below_is n s) s (needs d) in
+    let each : (d : Operation) → rule.is_ready_below (waits.clock_of op_rules) op_rules.needs meets_pair (suc n) s d ≡ rule.is_ready_below clock_of needs meets (suc n) s d
+    = λ d. met_is (rule.is_ready_below (waits.clock_of op_rules) op_rules.needs meets_pair n s) (rule.is_ready_below clock_of needs meets n s) (below_is n s) s (needs d) in
     λ i d. each d i
 
 -- what is ready among what was offered is ready among operations of which there are the same
@@ -62,7 +62,7 @@ split_by r [] [] pass fail = refl
 split_by r [] (y ∷ ys) pass fail = ap (λ (b : Bool). cond b (y ∷ filter r ys) (filter r ys)) fail.0 ∙ split_by r [] ys tt fail.1
 split_by r (x ∷ xs) ys pass fail = ap (λ (b : Bool). cond b (x ∷ filter r (xs ++ ys)) (filter r (xs ++ ys))) pass.0 ∙ ap (λ (zs : List Operation). x ∷ zs) (split_by r xs ys pass.1 fail)
 
-pub released_same : (kept : Contents Operation) (ops : List Operation) → IsHoldBack op_key op_needs fits kept → SameItems (all_offered kept) ops → SameItems kept.released (ready_ops ops)
+pub released_same : (kept : Contents Operation) (ops : List Operation) → IsHoldBack op_rules kept → SameItems (all_offered kept) ops → SameItems kept.released (ready_ops ops)
 released_same kept ops is same f =
     ap (sum_by f) (sym (split_by (as_waiting (all_offered kept)) kept.released kept.waiting is.ready is.held))
     ∙ (λ i. sum_by f (filter (one_readiness (all_offered kept) ops same i) (all_offered kept)))
@@ -70,17 +70,17 @@ released_same kept ops is same f =
 
 -- ---- one operation more
 
-with_one : (f : Operation → ℕ) (kept : Contents Operation) (o : Operation) → sum_by f (offered_with op_key op_needs fits kept o) ≡ f o + sum_by f (all_offered kept)
+with_one : (f : Operation → ℕ) (kept : Contents Operation) (o : Operation) → sum_by f (offered_with op_rules kept o) ≡ f o + sum_by f (all_offered kept)
 with_one f kept o =
-    let both = sum_by-append f kept.released (queued op_key op_needs fits o kept.waiting) in
-    let one = sum_by-insert f kept.waiting (prefix_len (λ u. is_lt (stamp_cmp (op_key u) (op_key o))) kept.waiting) o in
+    let both = sum_by-append f kept.released (queued op_rules o kept.waiting) in
+    let one = sum_by-insert f kept.waiting (prefix_len (λ u. is_lt (stamp_cmp u.stamp o.stamp)) kept.waiting) o in
     let all = sum_by-append f kept.released kept.waiting in
     omega (arith, both, one, all)
 
 -- what was offered stays offered
 pub offered_more : (f : Operation → ℕ) (kept : Contents Operation) (o : Operation) → sum_by f (all_offered (with_offered kept o)) ≡ f o + sum_by f (all_offered kept)
 offered_more f kept o =
-    sum_by-IsPermutation f (o ∷ all_offered kept) (all_offered (with_offered kept o)) (offered_stays op_key op_needs fits kept o) ∙ sum_by-cons f o (all_offered kept)
+    sum_by-IsPermutation f (o ∷ all_offered kept) (all_offered (with_offered kept o)) (offered_stays op_rules kept o) ∙ sum_by-cons f o (all_offered kept)
 
 module _ (kept : Contents Operation) (o : Operation) (ops all : List Operation) (was : SameItems (all_offered kept) ops) (are : SameItems all (o ∷ ops)) where
   added : (f : Operation → ℕ) → f o + sum_by f (all_offered kept) ≡ sum_by f all
@@ -91,8 +91,8 @@ module _ (kept : Contents Operation) (o : Operation) (ops all : List Operation) 
   offered_same f = offered_more f kept o ∙ added f
 
   -- it is ready among what was offered where it is ready among what is there
-  pub ready_tells : as_waiting (offered_with op_key op_needs fits kept o) o ≡ rule.is_ready clock_of needs meets all o
-  ready_tells = λ i. one_readiness (offered_with op_key op_needs fits kept o) all (λ f. with_one f kept o ∙ added f) i o
+  pub ready_tells : as_waiting (offered_with op_rules kept o) o ≡ rule.is_ready clock_of needs meets all o
+  ready_tells = λ i. one_readiness (offered_with op_rules kept o) all (λ f. with_one f kept o ∙ added f) i o
 
 -- ---- what is released may be noted, one after another
 
@@ -131,15 +131,15 @@ none_meets need c smaller (x ∷ xs) after =
 
 later_clocks : (d : Operation) (xs : List Operation) → AllByRecursion (λ u. stamp_cmp d.stamp u.stamp ≡ Less) xs → AllByRecursion (λ x. clock_of d ≤ clock_of x) xs
 later_clocks d [] rise = tt
-later_clocks d (x ∷ xs) rise = (less_clock op_key op_needs fits d.stamp x.stamp rise.0, later_clocks d xs rise.1)
+later_clocks d (x ∷ xs) rise = (less_clock op_rules d.stamp x.stamp rise.0, later_clocks d xs rise.1)
 
 -- Of what is held back, `seen` and `after` became ready last.
 module _ (first waiting : List Operation) where
   abbrev whole : List Operation → List Operation
   whole newly = (first ++ newly) ++ waiting
 
-  module _ (newly : List Operation) (older : AllByRecursion (λ t. NamesOlder (op_key t) (op_needs t)) (whole newly)) (pass : AllByRecursion (λ t. as_waiting (whole newly) t ≡ true) (first ++ newly)) (fail : AllByRecursion (λ t. as_waiting (whole newly) t ≡ false) waiting) (own : HaveOwnStamps (whole newly)) where
-    needs_met : (seen after : List Operation) (d : Operation) (noted : List Operation) → newly ≡ seen ++ (d ∷ after) → SameItems noted (first ++ seen) → AllByRecursion (λ u. stamp_cmp d.stamp u.stamp ≡ Less) after → (ns : List Need) → NamesOlder (op_key d) (map pair ns)
+  module _ (newly : List Operation) (older : AllByRecursion (λ t. NamesOlder op_rules t) (whole newly)) (pass : AllByRecursion (λ t. as_waiting (whole newly) t ≡ true) (first ++ newly)) (fail : AllByRecursion (λ t. as_waiting (whole newly) t ≡ false) waiting) (own : HaveOwnStamps (whole newly)) where
+    needs_met : (seen after : List Operation) (d : Operation) (noted : List Operation) → newly ≡ seen ++ (d ∷ after) → SameItems noted (first ++ seen) → AllByRecursion (λ u. stamp_cmp d.stamp u.stamp ≡ Less) after → (ns : List Need) → AllByRecursion (λ (need : Moment × Role). need.0.clock < clock_of d) (map pair ns)
         → list_all (λ need. list_any (as_waiting (whole newly)) (filter (meets_pair need) (whole newly))) (map pair ns) ≡ list_all (is_need_met noted) ns
     needs_met seen after d noted cut same rise [] names = refl
     needs_met seen after d noted cut same rise (n ∷ ns) names =
@@ -163,13 +163,13 @@ module _ (first waiting : List Operation) where
         let h = count_append s first seen in
         omega (arith, all, a, b, c, e, g, h)
 
-    pub may_follow : (seen after noted : List Operation) → newly ≡ seen ++ after → SameItems noted (first ++ seen) → StampsRise after → AllByRecursion (λ t. NamesOlder (op_key t) (op_needs t)) after → AllByRecursion (λ t. as_waiting (whole newly) t ≡ true) after
+    pub may_follow : (seen after noted : List Operation) → newly ≡ seen ++ after → SameItems noted (first ++ seen) → StampsRise after → AllByRecursion (λ t. NamesOlder op_rules t) after → AllByRecursion (λ t. as_waiting (whole newly) t ≡ true) after
         → MayAllFollow noted after
     may_follow seen [] noted cut same rise names ready = tt
     may_follow seen (d ∷ after) noted cut same rise names ready =
-        let are_older = all_older op_key op_needs fits (whole newly) older in
-        let is_older = all_older op_key op_needs fits (d ∷ []) (names.0, tt) in
-        let met = is_ready-met (waits.clock_of op_key op_needs fits) op_needs meets_pair (whole newly) are_older d is_older.0 in (
+        let are_older = all_older op_rules (whole newly) older in
+        let is_older = all_older op_rules (d ∷ []) (names.0, tt) in
+        let met = is_ready-met (waits.clock_of op_rules) op_rules.needs meets_pair (whole newly) are_older d is_older.0 in (
           record {
             fresh = same_any noted (first ++ seen) same (λ (x : Operation). stamp_eq d.stamp x.stamp) ∙ none_noted d.stamp (first ++ seen) (count_cut seen after d cut);
             met = sym (needs_met seen after d noted cut same rise.0 (needs d) names.0) ∙ sym met ∙ ready.0;
@@ -196,7 +196,7 @@ noted_more noted (o ∷ ops) f =
     omega (arith, rest, first, second)
 
 -- what one offer releases
-module _ (kept : Contents Operation) (o : Operation) (ops all noted : List Operation) (was : SameItems (all_offered kept) ops) (are : SameItems all (o ∷ ops)) (own : HaveOwnStamps all) (before : IsHoldBack op_key op_needs fits kept) (after : IsHoldBack op_key op_needs fits (with_offered kept o)) (rise : StampsRise (newly_released kept o)) (same : SameItems noted (ready_ops ops)) where
+module _ (kept : Contents Operation) (o : Operation) (ops all noted : List Operation) (was : SameItems (all_offered kept) ops) (are : SameItems all (o ∷ ops)) (own : HaveOwnStamps all) (before : IsHoldBack op_rules kept) (after : IsHoldBack op_rules (with_offered kept o)) (rise : StampsRise (newly_released kept o)) (same : SameItems noted (ready_ops ops)) where
   as_released : SameItems noted kept.released
   as_released f = same f ∙ sym (released_same kept ops before was f)
 
@@ -205,7 +205,7 @@ module _ (kept : Contents Operation) (o : Operation) (ops all noted : List Opera
       let newly : List Operation = newly_released kept o in
       may_follow kept.released (with_offered kept o).waiting newly after.older after.ready after.held (λ s. subst (λ (n : ℕ). n ≤ 1) (sym (offered_same kept o ops all was are (λ (x : Operation). cond (stamp_eq s x.stamp) 1 0))) (own s))
       [] newly noted refl (λ f. as_released f ∙ ap (sum_by f) (sym (append-nil kept.released))) rise
-      (all_right (λ t. NamesOlder (op_key t) (op_needs t)) kept.released newly (all_left (λ t. NamesOlder (op_key t) (op_needs t)) (kept.released ++ newly) (with_offered kept o).waiting after.older))
+      (all_right (λ t. NamesOlder op_rules t) kept.released newly (all_left (λ t. NamesOlder op_rules t) (kept.released ++ newly) (with_offered kept o).waiting after.older))
       (all_right (λ t. as_waiting (all_offered (with_offered kept o)) t ≡ true) kept.released newly after.ready)
 
   -- with them, noted are the ready operations

@@ -20,7 +20,7 @@ use Rattle.mt_op.specs.Ready.{is_ready}
 use Rattle.mt_op.specs.Operation.{Operation}
 use Rattle.mt_items.specs.Noting.{AreNoted}
 use Rattle.mt_holdback.specs.HoldBack.{Contents, IsHoldBack}
-use Rattle.mt_holdback.specs.Ops.{op_key, op_needs}
+use Rattle.mt_holdback.specs.Ops.{op_rules}
 use Rattle.mt_opcodec.specs.LogValue.{LogMap, operations, AreLogged}
 use Rattle.mt_sessionview.specs.Noted.{places_in, by_place, placed_in}
 use Rattle.mt_sessionview.specs.Read.{tree_place}
@@ -131,7 +131,7 @@ parts {X} p (x ∷ xs) = by (p x) (parts p xs)
     by true rest = omega (arith, rest)
     by false rest = omega (arith, rest)
 
-pub held_count : (kept : Contents Operation) (ops : List Operation) → IsHoldBack op_key op_needs fits kept → SameItems (all_offered kept) ops → length kept.waiting ≡ length (held_ops ops)
+pub held_count : (kept : Contents Operation) (ops : List Operation) → IsHoldBack op_rules kept → SameItems (all_offered kept) ops → length kept.waiting ≡ length (held_ops ops)
 held_count kept ops rule offered =
     let all = same_length (all_offered kept) ops offered in
     let split = length-append kept.released kept.waiting in

@@ -23,7 +23,7 @@ use Rattle.mt_stamp.proofs.SameItems.{SameItems, same_any, same_filter, all_map}
 use Rattle.mt_op.specs.Operation.{Operation}
 use Rattle.mt_op.specs.ByStamp.{stamp_of}
 use Rattle.mt_op.specs.Dots.{op_dot}
-use Rattle.mt_op.specs.Needs.{needs, meets, clock_of, fits}
+use Rattle.mt_op.specs.Needs.{needs, meets, clock_of}
 use Rattle.mt_op.specs.Ready.{is_ready}
 use Rattle.mt_op.specs.Presence.{is_listed}
 use Rattle.mt_op.proofs.Needs.{stamp_eq-true}
@@ -32,7 +32,7 @@ use Rattle.mt_items.specs.Noting.{is_noted}
 use Rattle.mt_holdback.specs.declared.hold_back.Offered.{Offered}
 use Rattle.mt_holdback.specs.HoldBack.{Contents, IsHoldBack, offered_with}
 use Rattle.mt_holdback.specs.Value.{HoldBackValue}
-use Rattle.mt_holdback.specs.Ops.{op_key, op_needs}
+use Rattle.mt_holdback.specs.Ops.{op_rules}
 use Rattle.mt_sessionview.specs.Session.{ready_ops, stamps_of}
 use Rattle.mt_sessionview.proofs.Items.{stamp_eq_same}
 use Rattle.mt_sessionview.proofs.TrackSorting.{every_stamp}
@@ -231,12 +231,12 @@ module _ (state : Named) (o : Operation) (was : HoldBackValue Operation) (items 
       ap (max (own_seq state.name o)) (is.seq_is ∙ sym (own_is state.name (operations state.log))) ∙ own_is state.name (o ∷ operations state.log)
       ∙ sym (seq_same state.name (operations (with_op state.log o)) (o ∷ operations state.log) are)
 
-  module _ (now : HoldBackValue Operation) (before : ℕ) (offered : now ≡ record { contents = with_offered was.contents o; failed = false }) (rule_was : IsHoldBack op_key op_needs fits was.contents) (rule_now : IsHoldBack op_key op_needs fits now.contents) (rise : StampsRise (newly_released was.contents o)) (before_is : before ≡ length was.contents.released) where
+  module _ (now : HoldBackValue Operation) (before : ℕ) (offered : now ≡ record { contents = with_offered was.contents o; failed = false }) (rule_was : IsHoldBack op_rules was.contents) (rule_now : IsHoldBack op_rules now.contents) (rise : StampsRise (newly_released was.contents o)) (before_is : before ≡ length was.contents.released) where
     abbrev newly : List Operation
     newly = drop before now.contents.released
 
-    rule_with : IsHoldBack op_key op_needs fits (with_offered was.contents o)
-    rule_with = subst (λ (w : HoldBackValue Operation). IsHoldBack op_key op_needs fits w.contents) offered rule_now
+    rule_with : IsHoldBack op_rules (with_offered was.contents o)
+    rule_with = subst (λ (w : HoldBackValue Operation). IsHoldBack op_rules w.contents) offered rule_now
 
     newly_are : newly ≡ newly_released was.contents o
     newly_are = (λ i. drop (before_is i) (offered i).contents.released) ∙ drop-append_seam was.contents.released (newly_released was.contents o)
@@ -273,9 +273,9 @@ module _ (state : Named) (o : Operation) (was : HoldBackValue Operation) (items 
     told : (offer : Offered) (b : Bool) → offer ≡ offer_gives was.contents o → is_held offer ≡ b → is_ready clock_of needs meets (operations (with_op state.log o)) o ≡ not b
     told offer b answered held =
         sym (ready_tells was.contents o (operations state.log) (operations (with_op state.log o)) waits.offered are)
-        ∙ by (as_waiting (offered_with op_key op_needs fits was.contents o) o) refl
+        ∙ by (as_waiting (offered_with op_rules was.contents o) o) refl
       where
-        by : (r : Bool) → as_waiting (offered_with op_key op_needs fits was.contents o) o ≡ r → r ≡ not b
+        by : (r : Bool) → as_waiting (offered_with op_rules was.contents o) o ≡ r → r ≡ not b
         by true r_is = ap not (sym (ap (λ (r : Bool). is_held (cond r (Offered.Ready (length was.contents.released)) Offered.Held)) r_is) ∙ ap is_held (sym answered) ∙ held)
         by false r_is = ap not (sym (ap (λ (r : Bool). is_held (cond r (Offered.Ready (length was.contents.released)) Offered.Held)) r_is) ∙ ap is_held (sym answered) ∙ held)
 

@@ -3,14 +3,13 @@ use Rattle.std.specs.Prelude.{◌≡◌, ℕ, ◌+◌, ◌≤◌, Bool, true, fa
 use Rattle.std.specs.List.{sum_by}
 use Rattle.mt_stamp.specs.Moment.{Moment, stamp_eq}
 use Rattle.mt_op.specs.Operation.{Operation}
-use Rattle.mt_op.specs.Needs.{fits}
 use Rattle.mt_items.specs.Noting.{MayFollow}
 use Rattle.mt_holdback.specs.declared.hold_back.Offered.{Offered}
 use Rattle.mt_holdback.specs.declared.hold_back.Offered.TheVariants as offer
 use Rattle.mt_holdback.specs.HoldBack as holding
 use Rattle.mt_holdback.specs.Value.{HoldBackValue}
 use Rattle.mt_holdback.specs.Offering.{answer}
-use Rattle.mt_holdback.specs.Ops.{op_key, op_needs}
+use Rattle.mt_holdback.specs.Ops.{op_rules}
 use Rattle.mt_sessionview.specs.Session.{stamps_of}
 use Rattle.mt_replica.specs.declared.taken.Taken.{Taken}
 use Rattle.mt_replica.specs.declared.taken.Taken.TheVariants.{Already, Held, Applied}
@@ -19,24 +18,24 @@ use Rattle.mt_replica.specs.declared.taken.Taken.TheVariants.{Already, Held, App
 
 -- all operations that were offered, those that were released and those that wait
 abbrev pub all_offered : holding.Contents Operation → List Operation
-all_offered kept = holding.offered op_key op_needs fits kept
+all_offered kept = holding.offered op_rules kept
 
 -- whether an operation of this stamp was offered
 abbrev pub is_offered : holding.Contents Operation → Moment → Bool
-is_offered kept stamp = holding.knows op_key op_needs fits kept stamp
+is_offered kept stamp = holding.knows op_rules kept stamp
 
 -- the operations that one more makes ready, by rising stamp
 abbrev pub newly_released : holding.Contents Operation → Operation → List Operation
-newly_released kept o = holding.newly_ready op_key op_needs fits kept o
+newly_released kept o = holding.newly_ready op_rules kept o
 
 abbrev pub with_offered : holding.Contents Operation → Operation → holding.Contents Operation
-with_offered kept o = holding.contents_with op_key op_needs fits kept o
+with_offered kept o = holding.contents_with op_rules kept o
 
 abbrev pub StampsRise : List Operation → Type 0
-StampsRise ops = holding.KeysRise op_key op_needs fits ops
+StampsRise ops = holding.KeysRise op_rules ops
 
 abbrev pub offer_gives : holding.Contents Operation → Operation → Offered
-offer_gives kept o = answer op_key op_needs fits kept o
+offer_gives kept o = answer op_rules kept o
 
 -- how many operations of a list have a stamp
 abbrev pub stamp_count : Moment → List Operation → ℕ

@@ -1,10 +1,9 @@
 //! Operations are offered to what holds them back until they are ready.
 
 ghost use Rattle.std.specs.Prelude.{◌≡◌, ◌≤◌, drop, length, true, false, IfOk, OnOk};
-ghost use Rattle.mt_op.specs.Needs.{fits};
 ghost use Rattle.mt_holdback.specs.HoldBack.{IsHoldBack};
 ghost use Rattle.mt_holdback.specs.Laws.{is_met_by};
-ghost use Rattle.mt_holdback.specs.Ops.{op_key, op_needs};
+ghost use Rattle.mt_holdback.specs.Ops.{op_rules};
 ghost use Rattle.mt_replica.specs.Holding.{is_offered, newly_released, with_offered, offer_gives, StampsRise};
 
 use mt_holdback::{HoldBack, HoldBackFault, Offered};
@@ -47,7 +46,7 @@ pub(crate) fn offer_met<A: Allocator + Clone>(
 ) -> Result<(), AllocError>
     requires whole { waiting.old.failed ≡ false }
     requires unknown { is_offered waiting.old.contents op.stamp ≡ false }
-    requires met { is_met_by op_key op_needs fits waiting.old.contents.released op ≡ true }
+    requires met { is_met_by op_rules waiting.old.contents.released op ≡ true }
     ensures kept { OnOk result (waiting.new
         ≡ record { contents = with_offered waiting.old.contents op; failed = false }) }
 {
@@ -62,7 +61,7 @@ pub(crate) fn offer_met<A: Allocator + Clone>(
 pub(crate) fn released_from<A: Allocator>(waiting: &HoldBack<Op<A>, A>, first: usize) -> &[Op<A>]
     requires bound { first ≤ length waiting.now.contents.released }
     ensures value { result.now ≡ drop first waiting.now.contents.released }
-    ensures exact { IsHoldBack op_key op_needs fits waiting.now.contents }
+    ensures exact { IsHoldBack op_rules waiting.now.contents }
 {
     &waiting.released()[first..]
 }

@@ -5,8 +5,7 @@ ghost use Rattle.std.specs.Option.{option_copied};
 ghost use Rattle.std.specs.FinMap as map;
 ghost use Rattle.std.specs.List.{sum_by};
 ghost use Rattle.mt_holdback.specs.HoldBack.{IsHoldBack};
-ghost use Rattle.mt_holdback.specs.Ops.{op_key, op_needs};
-ghost use Rattle.mt_op.specs.Needs.{fits};
+ghost use Rattle.mt_holdback.specs.Ops.{op_rules};
 ghost use Rattle.mt_op.specs.Operation.{Operation};
 ghost use Rattle.mt_replica.specs.Holding.{newly_released, offer_gives, with_offered, StampsRise};
 ghost use Rattle.mt_op.specs.Dots.{op_dot};
@@ -318,7 +317,7 @@ fn taken_in<A: Allocator + Clone>(
         ≡ record { contents = with_offered waiting.old.contents op; failed = false }) }
     ensures answered { IfOk result (λ offered. offered ≡ offer_gives waiting.old.contents op) }
     ensures rising { OnOk result (StampsRise (newly_released waiting.old.contents op)) }
-    ensures exact { OnOk result (IsHoldBack op_key op_needs fits waiting.new.contents) }
+    ensures exact { OnOk result (IsHoldBack op_rules waiting.new.contents) }
 {
     add_copy(log, &op)?;
     // for the proof: that the log's operations have stamps of their own

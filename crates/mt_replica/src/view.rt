@@ -12,7 +12,7 @@ ghost use Rattle.mt_replica.specs.Viewed.{AreShown};
 
 use crate::shown::{Shown, shown_of};
 use mt_items::Items;
-use mt_mending::{add_place, mend, stood, subject_of};
+use mt_mending::{add_place, mend, stood};
 use mt_op::Op;
 use mt_sessionview::Session;
 use std::alloc::{AllocError, Allocator};
@@ -134,7 +134,7 @@ fn note_shown<A: Allocator + Clone>(
     ensures shown { IfOk result (λ both. AreShown both.0 both.1.places both.1.session) }
     ensures held { IfOk result (λ both. both.1.session.held ≡ shown.session.held) }
 {
-    let item = subject_of(op);
+    let item = op.item();
     let stood = stood(&items, item);
     let Shown {
         mut places,

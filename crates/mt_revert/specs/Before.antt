@@ -8,9 +8,9 @@ use Rattle.mt_stamp.specs.Written.{Written}
 use Rattle.mt_op.specs.ByStamp.{op_cmp}
 use Rattle.mt_op.specs.Operation.{Act, MoveTrack, MoveClip, TrimClip, SetGain, SetMute, MoveMarker, Retitle, SetFade, SetMarkerLength, Operation}
 use Rattle.mt_op.specs.Presence.{is_present, is_listed}
-use Rattle.mt_op.specs.Writes.{title_written, gain_written, mute_written, track_place_written, clip_place_written, trim_written, position_written, fades_written, marker_length_written, last_write}
+use Rattle.mt_op.specs.Writes.{title_written, gain_written, mute_written, track_place_written, clip_place_written, trim_written, position_written, fades_written, marker_length_written, last_write, subject}
 use Rattle.mt_opcodec.specs.LogValue.{LogMap, operations}
-use Rattle.mt_items.specs.Noting.{are_needs_met, subject}
+use Rattle.mt_items.specs.Noting.{are_needs_met}
 use Rattle.mt_sessionview.specs.Session.{ready_ops}
 
 -- the operations of a log, by rising stamp

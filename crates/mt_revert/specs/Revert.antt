@@ -10,7 +10,7 @@ use Rattle.mt_stamp.specs.Written.{Written}
 use Rattle.mt_op.specs.Operation.{Act, MoveTrack, MoveClip, Operation}
 use Rattle.mt_op.specs.Presence.{is_present}
 use Rattle.mt_opcodec.specs.LogValue.{LogMap}
-use Rattle.mt_items.specs.Noting.{subject}
+use Rattle.mt_op.specs.Writes.{subject}
 use Rattle.mt_sessionview.specs.SessionText.{newline}
 use Rattle.mt_logtext.specs.LogText.{stamp_word, act_text}
 use Rattle.mt_revert.specs.Before.{now, standing, TakenBack, all_taken_back}

@@ -5,7 +5,7 @@ ghost use Rattle.mt_op.specs.Bodies.{act_of};
 ghost use Rattle.mt_revert.specs.Revert.{changed_presence, is_there, writer_before, left_before, writer_left, other_item, absent_other, first_absent, last_writer};
 
 use crate::standing::{StandingAct, standing};
-use crate::taken::{TakenBack, item_of};
+use crate::taken::TakenBack;
 use mt_items::Items;
 use mt_op::{Body, Op};
 use mt_opcodec::Log;
@@ -16,7 +16,7 @@ use std::alloc::{AllocError, Allocator};
 fn changed_presence<A: Allocator>(item: Stamp, taken: &TakenBack<'_, A>) -> bool
     ensures { result ≡ changed_presence item taken.now }
 {
-    taken.ready && taken.back.is_none() && item_of(taken.op) == item
+    taken.ready && taken.back.is_none() && taken.op.item() == item
 }
 
 /// Whether an item is present where these operations have been taken back.

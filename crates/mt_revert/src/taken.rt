@@ -4,7 +4,6 @@ ghost use Rattle.std.specs.Prelude.{◌≡◌, [], ◌∷◌, ◌++◌, map, fil
 ghost use Rattle.mt_stamp.specs.Moment.{stamp_cmp};
 ghost use Rattle.mt_stamp.specs.Sorting.{Rises};
 ghost use Rattle.mt_op.specs.Presence.{is_listed};
-ghost use Rattle.mt_items.specs.Noting.{subject};
 ghost use Rattle.mt_revert.specs.Before.{by_stamp, now, taken_after, all_taken_back};
 
 use crate::standing::{StandingAct, standing};
@@ -40,25 +39,6 @@ pub(crate) struct Taken<'a, A: Allocator> {
     pub(crate) items: Items<A>,
 }
 
-/// The item that an operation adds or names.
-pub(crate) fn item_of<A: Allocator>(op: &Op<A>) -> Stamp
-    ensures { result ≡ subject op.now.stamp op.now.act }
-{
-    match op.body() {
-        Body::MoveTrack { track, .. } => *track,
-        Body::MoveClip { clip, .. } | Body::TrimClip { clip, .. } | Body::SetFade { clip, .. } => {
-            *clip
-        }
-        Body::SetGain { item, .. }
-        | Body::SetMute { item, .. }
-        | Body::Remove { item, .. }
-        | Body::Restore { item }
-        | Body::Retitle { item, .. } => *item,
-        Body::MoveMarker { marker, .. } | Body::SetMarkerLength { marker, .. } => *marker,
-        Body::AddTrack { .. } | Body::AddClip { .. } | Body::AddMarker { .. } => op.stamp(),
-    }
-}
-
 // An operation, and what stands before it.
 fn taken_after<'a, A: Allocator + Clone>(
     items: &Items<A>,
@@ -70,7 +50,7 @@ fn taken_after<'a, A: Allocator + Clone>(
     Ok(TakenBack {
         op,
         ready: items.are_needs_met(op),
-        present: items.is_present(item_of(op)),
+        present: items.is_present(op.item()),
         back: standing(items, log, op)?,
     })
 }

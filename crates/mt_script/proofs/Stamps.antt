@@ -10,9 +10,10 @@ use Rattle.mt_stamp.specs.Texts.{point, replica_text, stamp_text}
 use Rattle.mt_stamp.proofs.Texts.{replica_text_parses, decimal_has_no_point}
 use Rattle.mt_stamp.proofs.Words.{from_be_bytes-to_be_bytes_16}
 use Rattle.mt_opcodec.specs.OpReading.{is_in_range, is_stamp}
-use Rattle.mt_script.specs.Words.{cut, parts_of_stamp, is_moment, spelled_so, stamp}
+use Rattle.base_text.specs.Cutting.{cut}
+use Rattle.mt_script.specs.Words.{parts_of_stamp, is_moment, spelled_so, stamp}
 use Rattle.mt_script.specs.Laws.{StampsAreSpelled}
-use Rattle.mt_script.proofs.Cuts.{cut_there}
+use Rattle.base_text.proofs.Cuts.{cut_there}
 use Rattle.mt_script.proofs.Options.{passed, nothing}
 
 -- the parts of a stamp's text are those of the stamp
@@ -60,7 +61,7 @@ stamp_spelled m text fits is =
     let same : bytes_eq text (stamp_text m) ≡ true = (bytes_eq-Decides text (stamp_text m)).1 is in
     rw (parts, is_moment_true m fits, same)
 
-bound : {X Y : Type 0} (o : Option X) (f : X → Option Y) (y : Y) → Rattle.mt_script.specs.Words.◌>>=◌ o f ≡ Some y → (x : X) × (f x ≡ Some y)
+bound : {X Y : Type 0} (o : Option X) (f : X → Option Y) (y : Y) → Rattle.base_text.specs.Cutting.◌>>=◌ o f ≡ Some y → (x : X) × (f x ≡ Some y)
 bound None f y is = absurd cc
 bound (Some x) f y is = (x, is)
 

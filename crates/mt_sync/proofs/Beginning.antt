@@ -4,7 +4,7 @@ use Rattle.std.specs.Io.KnownBytes.{Appends}
 use Rattle.mt_opcodec.specs.LogValue.{LogMap}
 use Rattle.mt_latch.specs.Latch.{AppendsPrefix}
 use Rattle.mt_sync.specs.declared.fault.TalkFault.{TalkFault}
-use Rattle.mt_sync.specs.declared.fault.TalkFault.TheVariants.{Memory, Conflict, Failed, BadMessage, OutOfTurn, FrameTooLong}
+use Rattle.mt_sync.specs.declared.fault.TalkFault.TheVariants.{Memory, FrameTooLong}
 use Rattle.mt_sync.specs.declared.fault.SyncFault.{SyncFault}
 use Rattle.mt_sync.specs.declared.fault.SyncFault.TheVariants as fault
 use Rattle.mt_sync.specs.declared.fault.Side.{Side}
@@ -19,10 +19,7 @@ use Rattle.mt_sync.specs.Conversing.{Begins, NotBegun, conversant, ConversesAs}
 pub not_called : (set : LogMap) (f : TalkFault) (written : Option (List ℕ)) → CallRefused set f → NotBegun (Some set) written written (Err (fault.Talk f))
 not_called set Memory written h = refl
 not_called set FrameTooLong written h = (set, (refl, (h, refl)))
-not_called set (Conflict dot) written h = absurd h
-not_called set Failed written h = absurd h
-not_called set BadMessage written h = absurd h
-not_called set OutOfTurn written h = absurd h
+not_called set _ written h = absurd h
 
 -- the Have was written
 pub begins : (set : LogMap) (bytes text : List ℕ) (written written' : Option (List ℕ)) → can_say (summary_of set) ≡ true → bytes ≡ frame_text (have_text (summary_of set)) → text ≡ bytes → Appends written written' text

@@ -12,9 +12,9 @@ use Rattle.std.proofs.lemmas.Bool.{ne_eqb}
 use Rattle.mt_frames.specs.Frames.{body_len}
 use Rattle.mt_frames.proofs.Fronts.{whole_of}
 use Rattle.mt_sync.specs.declared.fault.TalkFault.{TalkFault}
-use Rattle.mt_sync.specs.declared.fault.TalkFault.TheVariants.{Memory, Conflict, Failed, BadMessage, OutOfTurn, FrameTooLong}
-use Rattle.mt_sync.specs.Conversation.{Turn, awaits_have, awaits_ops, ended, stopped, End, Heard, stop, body_in, hears}
-use Rattle.mt_sync.specs.Feeding.{IsOpen, IsGoing, Waits, end_at, ReadsBody, Hears, IsFaultOf, over_at}
+use Rattle.mt_sync.specs.declared.fault.TalkFault.TheVariants.{Memory}
+use Rattle.mt_sync.specs.Conversation.{Turn, awaits_have, awaits_ops, ended, stopped, End, Heard, body_in, hears}
+use Rattle.mt_sync.specs.Feeding.{IsOpen, IsGoing, Waits, end_at, Stops, ReadsBody, ComesTo, IsFaultOf, over_at}
 use Rattle.mt_sync.proofs.Cuts.{after, with_reply}
 use Rattle.mt_sync.proofs.Fronting.{told_stopped, told_ended, told_short, told_long, told_whole, told_again}
 
@@ -39,57 +39,46 @@ moves_on turn bytes body rest set out next new more total reads front taken so_f
     ∙ ap (λ (o : List ℕ). ((hears (end_at next [] new) rest).0, o)) group
     ∙ ap (with_reply out) (sym one) ∙ so_far
 
-is_going : (turn : Turn) → IsOpen turn → IsGoing turn
-is_going (awaits_have side) h = tt
-is_going (awaits_ops owed) h = tt
-is_going ended h = tt
+pub is_going : (turn : Turn) → IsOpen turn → IsGoing turn
 is_going (stopped fault) h = absurd h
+is_going turn h = tt
 
 pub waits_short : (turn : Turn) (rest : List ℕ) → IsOpen turn → front_of rest ≡ cut_short → Waits turn rest
-waits_short (awaits_have side) rest h short = short
-waits_short (awaits_ops owed) rest h short = short
 waits_short ended rest h short = absurd h
 waits_short (stopped fault) rest h short = absurd h
+waits_short turn rest h short = short
 
 -- no frame is whole
-pub pauses : (turn : Turn) (bytes rest : List ℕ) (set : Option LogMap) (out : List ℕ) (total : Heard) → IsOpen turn → front_of bytes ≡ cut_short → rest ≡ bytes → still turn bytes set out ≡ total → Hears total (Ok tt) (end_at turn rest set) out
+pub pauses : (turn : Turn) (bytes rest : List ℕ) (set : Option LogMap) (out : List ℕ) (total : Heard) → IsOpen turn → front_of bytes ≡ cut_short → rest ≡ bytes → still turn bytes set out ≡ total → ComesTo {X = Unit {0}} (λ _. out) total (Ok tt) (end_at turn rest set)
 pauses turn bytes rest set out total reads front same so_far = (
   is_going turn reads,
   waits_short turn rest reads (ap front_of same ∙ front),
   sym so_far ∙ ap (with_reply out) (told_short turn [] set bytes reads front) ∙ ap (λ (o : List ℕ). (end_at turn bytes set, o)) (append-nil out) ∙ ap (λ (l : List ℕ). (end_at turn l set, out)) (sym same),
 )
 
-pub refuses : (turn : Turn) (bytes : List ℕ) (set : Option LogMap) (out : List ℕ) (total : Heard) (given : FrameFault) (fault : TalkFault) (next : Turn) (rest : List ℕ) → IsOpen turn → unread.TakesBody bytes (Err given) rest → IsFaultOf given fault → still turn bytes set out ≡ total → Hears total (Err fault) (end_at next rest set) out
-refuses turn bytes set out total frame.Memory fault next rest reads h is so_far = subst (λ (f : TalkFault). Hears total (Err f) (end_at next rest set) out) (sym is) tt
-refuses turn bytes set out total frame.TooLong fault next rest reads h is so_far =
-    subst (λ (f : TalkFault). Hears total (Err f) (end_at next rest set) out) (sym is)
-    (ap (λ (t : Heard). t.0) (sym so_far ∙ ap (with_reply out) (told_long turn set bytes reads h.0)))
+pub refuses : (turn : Turn) (bytes : List ℕ) (set : Option LogMap) (out : List ℕ) (total : Heard) (given : FrameFault) (fault : TalkFault) (rest : List ℕ) → IsOpen turn → unread.TakesBody bytes (Err given) rest → IsFaultOf given fault → still turn bytes set out ≡ total → Stops total set fault
+refuses turn bytes set out total frame.Memory fault rest reads h is so_far = subst (Stops total set) (sym is) tt
+refuses turn bytes set out total frame.TooLong fault rest reads h is so_far =
+    subst (Stops total set) (sym is) (ap (λ (t : Heard). t.0) (sym so_far ∙ ap (with_reply out) (told_long turn set bytes reads h.0)))
 
--- the end of an end that reading a body stopped
-stops_by : (turn : Turn) (bytes body rest : List ℕ) (set : Option LogMap) (out : List ℕ) (total : Heard) (fault : TalkFault) (new : Option LogMap) → IsOpen turn → front_of bytes ≡ whole body rest → (body_in turn set body).0 ≡ (stop fault new).0 → still turn bytes set out ≡ total → total.0 ≡ (stop fault new).0
-stops_by turn bytes body rest set out total fault new reads front is so_far =
+-- reading a body stopped
+pub stops : (fault : TalkFault) (turn : Turn) (bytes body rest : List ℕ) (set : Option LogMap) (out : List ℕ) (total : Heard) (new : Option LogMap) → IsOpen turn → front_of bytes ≡ whole body rest → Stops (body_in turn set body) new fault → still turn bytes set out ≡ total → Stops total new fault
+stops Memory turn bytes body rest set out total new reads front taken so_far = tt
+stops fault turn bytes body rest set out total new reads front taken so_far =
     ap (λ (t : Heard). t.0) (sym so_far ∙ ap (with_reply out) (told_whole turn set bytes body rest reads front))
-    ∙ ap (λ (e : End). (hears e rest).0) is ∙ ap (λ (t : Heard). t.0) (told_stopped fault [] new rest)
-
-pub stops : (fault : TalkFault) (turn : Turn) (bytes body rest : List ℕ) (set : Option LogMap) (out : List ℕ) (total : Heard) (next : Turn) (new : Option LogMap) (more : List ℕ) → IsOpen turn → front_of bytes ≡ whole body rest → ReadsBody (body_in turn set body) (Err fault) (end_at next [] new) out more → still turn bytes set out ≡ total → Hears total (Err fault) (end_at next rest new) more
-stops Memory turn bytes body rest set out total next new more reads front taken so_far = tt
-stops (Conflict dot) turn bytes body rest set out total next new more reads front taken so_far = stops_by turn bytes body rest set out total (Conflict dot) new reads front taken so_far
-stops Failed turn bytes body rest set out total next new more reads front taken so_far = stops_by turn bytes body rest set out total Failed new reads front taken so_far
-stops BadMessage turn bytes body rest set out total next new more reads front taken so_far = stops_by turn bytes body rest set out total BadMessage new reads front taken so_far
-stops OutOfTurn turn bytes body rest set out total next new more reads front taken so_far = stops_by turn bytes body rest set out total OutOfTurn new reads front taken so_far
-stops FrameTooLong turn bytes body rest set out total next new more reads front taken so_far = stops_by turn bytes body rest set out total FrameTooLong new reads front taken so_far
+    ∙ ap (λ (e : End). (hears e rest).0) taken ∙ ap (λ (t : Heard). t.0) (told_stopped fault [] new rest)
 
 -- the turn is over, with bytes left or without
-pub ends : (next : Turn) (rest : List ℕ) (new : Option LogMap) (more : List ℕ) (total : Heard) (last : Bool) (r : Result (Unit {0}) TalkFault) → IsGoing next → (IsOpen next → ⊥) → last ≡ eqb (length rest) 0 → r ≡ over_at last → still next rest new more ≡ total → Hears total r (end_at next rest new) more
+pub ends : (next : Turn) (rest : List ℕ) (new : Option LogMap) (more : List ℕ) (total : Heard) (last : Bool) (r : Result (Unit {0}) TalkFault) → IsGoing next → (IsOpen next → ⊥) → last ≡ eqb (length rest) 0 → r ≡ over_at last → still next rest new more ≡ total → ComesTo (λ _. more) total r (end_at next rest new)
 ends (awaits_have side) rest new more total last r going over is ends_so so_far = absurd (over tt)
 ends (awaits_ops owed) rest new more total last r going over is ends_so so_far = absurd (over tt)
 ends (stopped fault) rest new more total last r going over is ends_so so_far = absurd going
 ends ended [] new more total last r going over is ends_so so_far =
-    subst (λ (x : Result (Unit {0}) TalkFault). Hears total x (end_at ended [] new) more) (sym (ends_so ∙ ap over_at is))
+    subst (λ (x : Result (Unit {0}) TalkFault). ComesTo (λ _. more) total x (end_at ended [] new)) (sym (ends_so ∙ ap over_at is))
     (tt, refl, sym so_far ∙ ap (λ (o : List ℕ). (end_at ended [] new, o)) (append-nil more))
 ends ended (b ∷ rest) new more total last r going over is ends_so so_far =
     let false_is : eqb (length (b ∷ rest)) 0 ≡ false = ne_eqb (length (b ∷ rest)) 0 (λ e. omega (arith, e)) in
-    subst (λ (x : Result (Unit {0}) TalkFault). Hears total x (end_at ended (b ∷ rest) new) more) (sym (ends_so ∙ ap over_at (is ∙ false_is)))
+    subst (λ (x : Result (Unit {0}) TalkFault). ComesTo (λ _. more) total x (end_at ended (b ∷ rest) new)) (sym (ends_so ∙ ap over_at (is ∙ false_is)))
     (ap (λ (t : Heard). t.0) (sym so_far ∙ ap (with_reply more) (told_ended [] new b rest)))
 
 -- what is unread grows less
@@ -115,14 +104,14 @@ pub is_not_over : (turn : Turn) (test : Bool) → (IsTrue test → IsOpen turn) 
 is_not_over turn test tells is = tells.0 is
 
 -- a turn that is over hears nothing more
-pub hears_nothing : (turn : Turn) (rest : List ℕ) (set : Option LogMap) (piece out : List ℕ) (r : Result (Unit {0}) TalkFault) → IsGoing turn → (IsOpen turn → ⊥) → Waits turn rest → out ≡ [] → r ≡ over_at (eqb (length piece) 0) → Hears (hears (end_at turn rest set) piece) r (end_at turn rest set) out
+pub hears_nothing : (turn : Turn) (rest : List ℕ) (set : Option LogMap) (piece out : List ℕ) (r : Result (Unit {0}) TalkFault) → IsGoing turn → (IsOpen turn → ⊥) → Waits turn rest → out ≡ [] → r ≡ over_at (eqb (length piece) 0) → ComesTo (λ _. out) (hears (end_at turn rest set) piece) r (end_at turn rest set)
 hears_nothing (awaits_have side) rest set piece out r going over waits none is = absurd (over tt)
 hears_nothing (awaits_ops owed) rest set piece out r going over waits none is = absurd (over tt)
 hears_nothing (stopped fault) rest set piece out r going over waits none is = absurd going
 hears_nothing ended rest set [] out r going over waits none is =
-    subst (λ (x : Result (Unit {0}) TalkFault). Hears (end_at ended rest set, []) x (end_at ended rest set) out) (sym is)
+    subst (λ (x : Result (Unit {0}) TalkFault). ComesTo (λ _. out) (end_at ended rest set, []) x (end_at ended rest set)) (sym is)
     (tt, waits, ap (λ (o : List ℕ). (end_at ended rest set, o)) (sym none))
 hears_nothing ended rest set (b ∷ piece) out r going over waits none is =
     let false_is : eqb (length (b ∷ piece)) 0 ≡ false = ne_eqb (length (b ∷ piece)) 0 (λ e. omega (arith, e)) in
-    subst (λ (x : Result (Unit {0}) TalkFault). Hears (hears (end_at ended rest set) (b ∷ piece)) x (end_at ended rest set) out) (sym (is ∙ ap over_at false_is))
+    subst (λ (x : Result (Unit {0}) TalkFault). ComesTo (λ _. out) (hears (end_at ended rest set) (b ∷ piece)) x (end_at ended rest set)) (sym (is ∙ ap over_at false_is))
     (ap (λ (t : Heard). t.0) (told_ended rest set b piece))

@@ -7,7 +7,7 @@ use Rattle.mt_frames.proofs.Fronts.{short-beginning, whole_decided}
 use Rattle.std.specs.Prelude.{IfErr}
 use Rattle.mt_sync.specs.declared.fault.TalkFault.{TalkFault}
 use Rattle.mt_sync.specs.declared.fault.TalkFault.TheVariants.{Memory, OutOfTurn}
-use Rattle.mt_sync.specs.Conversation.{Turn, awaits_have, awaits_ops, ended, stopped, End, Heard, body_in, hears}
+use Rattle.mt_sync.specs.Conversation.{Turn, ended, stopped, End, Heard, body_in, hears}
 use Rattle.mt_sync.specs.Feeding.{IsOpen, Waits, over_at, end_at}
 use Rattle.mt_sync.specs.Leaving.{IsOfFront, IsLeft, StaysOrFails}
 use Rattle.mt_sync.proofs.Cuts.{after, told-append}
@@ -89,10 +89,9 @@ left_so turn rest old piece now unread set new opens waits so_far last = elim la
 ]
 
 pub waits_for_more : (turn : Turn) (rest : List ℕ) → IsOpen turn → Waits turn rest → front_of rest ≡ cut_short
-waits_for_more (awaits_have side) rest opens waits = waits
-waits_for_more (awaits_ops owed) rest opens waits = waits
 waits_for_more ended rest opens waits = absurd opens
 waits_for_more (stopped fault) rest opens waits = absurd opens
+waits_for_more turn rest opens waits = waits
 
 -- the end of a turn asks for no memory
 pub over_asks_none : (is_last : Bool) (r : Result (Unit {0}) TalkFault) (P : Type 0) → r ≡ over_at is_last → IfErr r (λ fault. fault ≡ Memory → P)

@@ -6,28 +6,21 @@ use Rattle.std.proofs.lemmas.List.{take_at, drop_at}
 use Rattle.std.proofs.Math.Seq.{take-add}
 use Rattle.mt_latch.specs.Latch.{AppendsPrefix}
 use Rattle.mt_sync.specs.declared.fault.TalkFault.{TalkFault}
-use Rattle.mt_sync.specs.declared.fault.TalkFault.TheVariants.{Memory, Conflict, Failed, BadMessage, OutOfTurn, FrameTooLong}
+use Rattle.mt_sync.specs.declared.fault.TalkFault.TheVariants.{Memory}
 use Rattle.mt_sync.specs.declared.fault.SyncFault.TheVariants as fault
-use Rattle.mt_sync.specs.Conversation.{Turn, awaits_have, awaits_ops, ended, stopped, End, Heard, hears}
-use Rattle.mt_sync.specs.Feeding.{IsGoing, IsOpen, Fed, FeedsAt, Feeds}
+use Rattle.mt_sync.specs.Conversation.{Turn, ended, stopped, End, Heard, hears}
+use Rattle.mt_sync.specs.Feeding.{IsGoing, IsOpen, FeedStops, Fed, FeedsAt, Feeds}
 use Rattle.mt_sync.specs.Conversing.{StopsBy, Outcome, conversant, Converses}
 use Rattle.mt_sync.specs.declared.fault.SyncFault.{SyncFault}
 use Rattle.mt_sync.specs.Leaving.{IsLeft}
 use Rattle.mt_sync.proofs.Leaving.{left_after}
 use Rattle.mt_sync.proofs.Cuts.{after, told-append}
 
-pub open_goes : (turn : Turn) → IsOpen turn → IsGoing turn
-open_goes (awaits_have side) h = tt
-open_goes (awaits_ops owed) h = tt
-open_goes ended h = absurd h
-open_goes (stopped fault) h = absurd h
-
 -- what goes on and has not ended is open
 pub going_open : (turn : Turn) → IsGoing turn → (turn ≡ ended → ⊥) → IsOpen turn
-going_open (awaits_have side) h k = tt
-going_open (awaits_ops owed) h k = tt
 going_open ended h k = absurd (k refl)
 going_open (stopped fault) h k = absurd h
+going_open turn h k = tt
 
 -- so far
 pub record Goes (start : End) (read read' written written' : Option (List ℕ)) (end : End) : Type 0 where
@@ -41,10 +34,8 @@ pub starts : (start : End) (a b : Option (List ℕ)) → Goes start a a b b star
 starts start a b = record { bytes = []; reply = []; consumed = Consumes-nil a; told_so = refl; appended = Appends-nil b }
 
 fed_at : {X : Type 0} (view : X → List ℕ) (turn : Turn) (old : End) (piece : List ℕ) (r : Result X TalkFault) (new : End) → IsGoing turn → FeedsAt view turn old piece r new → Fed view (hears old piece) r new
-fed_at view (awaits_have side) old piece r new going h = h
-fed_at view (awaits_ops owed) old piece r new going h = h
-fed_at view ended old piece r new going h = h
 fed_at view (stopped fault) old piece r new going h = absurd going
+fed_at view turn old piece r new going h = h
 
 pub fed_going : {X : Type 0} (view : X → List ℕ) (old : End) (piece : List ℕ) (r : Result X TalkFault) (new : End) → IsGoing old.turn → Feeds view old piece r new → Fed view (hears old piece) r new
 fed_going view old piece r new going h = fed_at view old.turn old piece r new going h
@@ -133,37 +124,22 @@ is_unwritten start a b b' c d d' end new piece more g took fed put going =
       left = λ e. absurd (no_write e);
     }
 
-stops_by : (f : TalkFault) (t : Heard) (end : End) (new : End) → Fed {X = List ℕ} (λ l. l) t (Err f) new → StopsBy t.0 new.set f
-stops_by Memory t end new h = tt
-stops_by (Conflict dot) t end new h = (ap (λ (e : End). e.turn) h.0 ∙ h.1, ap (λ (e : End). e.set) h.0)
-stops_by Failed t end new h = (ap (λ (e : End). e.turn) h.0 ∙ h.1, ap (λ (e : End). e.set) h.0)
-stops_by BadMessage t end new h = (ap (λ (e : End). e.turn) h.0 ∙ h.1, ap (λ (e : End). e.set) h.0)
-stops_by OutOfTurn t end new h = (ap (λ (e : End). e.turn) h.0 ∙ h.1, ap (λ (e : End). e.set) h.0)
-stops_by FrameTooLong t end new h = (ap (λ (e : End). e.turn) h.0 ∙ h.1, ap (λ (e : End). e.set) h.0)
+stops_by : (f : TalkFault) (t : Heard) (new : End) → FeedStops t new f → StopsBy t.0 new.set f
+stops_by Memory t new h = tt
+stops_by f t new h = (ap (λ (e : End). e.turn) h.0 ∙ h.1, ap (λ (e : End). e.set) h.0)
 
 -- the talk stopped at a piece
-pub is_stopped : (start : End) (a b b' c d : Option (List ℕ)) (end new : End) (piece : List ℕ) (f : TalkFault) → Goes start a b c d end → Consumes b b' piece → Fed {X = List ℕ} (λ l. l) (hears end piece) (Err f) new → (f ≡ Memory → IsLeft end piece new.set) → Converses start (conversant start.set a c) (conversant new.set b' d) (Err (fault.Talk f))
+pub is_stopped : (start : End) (a b b' c d : Option (List ℕ)) (end new : End) (piece : List ℕ) (f : TalkFault) → Goes start a b c d end → Consumes b b' piece → FeedStops (hears end piece) new f → (f ≡ Memory → IsLeft end piece new.set) → Converses start (conversant start.set a c) (conversant new.set b' d) (Err (fault.Talk f))
 is_stopped start a b b' c d end new piece f g took fed left =
     let all = told_more start g.bytes piece end g.reply g.told_so in
     record {
       bytes = g.bytes ++ piece;
       consumed = Consumes-trans a b b' g.bytes piece g.consumed took;
       prefix = subst (AppendsPrefix c d) (sym (ap (λ (t : Heard). t.1) all)) (longer_prefix c d d g.reply (hears end piece).1 g.appended (0, Appends-nil d));
-      outcome = subst (λ (t : Heard). StopsBy t.0 new.set f) (sym all) (stops_by f (hears end piece) end new fed);
+      outcome = subst (λ (t : Heard). StopsBy t.0 new.set f) (sym all) (stops_by f (hears end piece) new fed);
       left = λ e. left_after start g.bytes piece end g.reply new.set g.told_so (left (of_talk f e));
     }
 
 -- one piece more
 pub read_of : (a b : Option (List ℕ)) (count : ℕ) (buf piece : List ℕ) → Consumes a b (take count buf) → piece ≡ take count buf → Consumes a b piece
 read_of a b count buf piece h is = subst (Consumes a b) (sym is) h
-
-pub stopped_fed : {X : Type 0} (view : X → List ℕ) (f : TalkFault) (t : Heard) (new : End) → Fed view t (Err f) new → Fed {X = List ℕ} (λ l. l) t (Err f) new
-stopped_fed view Memory t new h = h
-stopped_fed view (Conflict dot) t new h = h
-stopped_fed view Failed t new h = h
-stopped_fed view BadMessage t new h = h
-stopped_fed view OutOfTurn t new h = h
-stopped_fed view FrameTooLong t new h = h
-
-pub feed_stopped : {X : Type 0} (view : X → List ℕ) (old : End) (piece : List ℕ) (f : TalkFault) (new : End) → IsGoing old.turn → Feeds view old piece (Err f) new → Fed {X = List ℕ} (λ l. l) (hears old piece) (Err f) new
-feed_stopped view old piece f new going h = stopped_fed view f (hears old piece) new (fed_going view old piece (Err f) new going h)

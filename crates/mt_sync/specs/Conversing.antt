@@ -4,7 +4,7 @@ use Rattle.std.specs.Io.KnownBytes.{Appends, Consumes, IsAtEnd}
 use Rattle.mt_opcodec.specs.LogValue.{LogMap}
 use Rattle.mt_latch.specs.Latch.{AppendsPrefix, Latched}
 use Rattle.mt_sync.specs.declared.fault.TalkFault.{TalkFault}
-use Rattle.mt_sync.specs.declared.fault.TalkFault.TheVariants.{Memory, Conflict, Failed, BadMessage, OutOfTurn, FrameTooLong}
+use Rattle.mt_sync.specs.declared.fault.TalkFault.TheVariants.{Memory, Failed, FrameTooLong}
 use Rattle.mt_sync.specs.declared.fault.SyncFault.{SyncFault}
 use Rattle.mt_sync.specs.declared.fault.SyncFault.TheVariants as fault
 use Rattle.mt_frames.specs.Frames.{frame_text, front_of}
@@ -22,11 +22,7 @@ use Rattle.mt_sync.specs.Conversation.{can_say, answer, awaits_have, ended, stop
 -- an end stopped by this fault, or memory ran out
 abbrev pub StopsBy : End → Option LogMap → TalkFault → Type 0
 StopsBy end set Memory = Unit {0}
-StopsBy end set (Conflict dot) = (end.turn ≡ stopped (Conflict dot)) × (end.set ≡ set)
-StopsBy end set Failed = (end.turn ≡ stopped Failed) × (end.set ≡ set)
-StopsBy end set BadMessage = (end.turn ≡ stopped BadMessage) × (end.set ≡ set)
-StopsBy end set OutOfTurn = (end.turn ≡ stopped OutOfTurn) × (end.set ≡ set)
-StopsBy end set FrameTooLong = (end.turn ≡ stopped FrameTooLong) × (end.set ≡ set)
+StopsBy end set fault = (end.turn ≡ stopped fault) × (end.set ≡ set)
 
 -- what an answer says of what was heard
 abbrev pub Outcome : Heard → Option (List ℕ) → Option (List ℕ) → Option LogMap → Result (Unit {0}) SyncFault → Type 0

@@ -1,17 +1,18 @@
 -- What a talk is seen as, and what feeding it answers.
-use Rattle.std.specs.Prelude.{◌≡◌, ℕ, Bool, true, false, List, [], ◌++◌, Option, Some, None, Result, Ok, Err}
+use Rattle.std.specs.Prelude.{◌≡◌, ℕ, Bool, true, false, List, [], ◌++◌, Option, Some, None, Result, Ok, Err, IfErr}
 use Rattle.mt_opcodec.specs.LogValue.{LogMap}
 use Rattle.mt_frames.specs.declared.FrameFault.{FrameFault}
 use Rattle.mt_frames.specs.declared.FrameFault.TheVariants as frame
 use Rattle.mt_frames.specs.Frames.{frame_text, cut_short, front_of}
 use Rattle.mt_sync.specs.declared.fault.TalkFault.{TalkFault}
-use Rattle.mt_sync.specs.declared.fault.TalkFault.TheVariants.{Memory, Conflict, Failed, BadMessage, OutOfTurn, FrameTooLong}
+use Rattle.mt_sync.specs.declared.fault.TalkFault.TheVariants.{Memory, Failed, OutOfTurn, FrameTooLong}
 use Rattle.mt_sync.specs.declared.turn.Turn.{Turn as Kept}
 use Rattle.mt_sync.specs.declared.turn.Turn.TheVariants as kept
 use Rattle.mt_summary.specs.Summary.{summary_of}
 use Rattle.mt_summary.specs.Messages.{have_text}
 use Rattle.mt_sync.specs.declared.fault.Side.TheVariants.{Caller}
 use Rattle.mt_sync.specs.Conversation.{can_say, Turn, awaits_have, awaits_ops, ended, stopped, End, Heard, stop, hears}
+use Rattle.mt_sync.specs.Leaving.{IsLeft}
 
 abbrev pub turn_of : {A : Type 0} → Kept A → Turn
 turn_of (kept.AwaitsHave side) = awaits_have side
@@ -60,42 +61,42 @@ end_at turn rest set = record { turn = turn; rest = rest; set = set }
 abbrev pub end_of : Talking → Option LogMap → End
 end_of talk set = end_at talk.turn talk.rest set
 
+-- memory ran out, or what is heard stops by this fault
+abbrev pub Stops : Heard → Option LogMap → TalkFault → Type 0
+Stops t set Memory = Unit {0}
+Stops t set fault = t.0 ≡ (stop fault set).0
+
 -- what reading a body answers and leaves: the end that it comes to, and what was appended to its replies
 abbrev pub ReadsBody : Heard → Result (Unit {0}) TalkFault → End → List ℕ → List ℕ → Type 0
 ReadsBody t (Ok _) end old new = IsGoing end.turn × ((reply : List ℕ) × (t ≡ (end, reply)) × (new ≡ old ++ reply))
-ReadsBody t (Err Memory) end old new = Unit {0}
-ReadsBody t (Err (Conflict dot)) end old new = t.0 ≡ (stop (Conflict dot) end.set).0
-ReadsBody t (Err Failed) end old new = t.0 ≡ (stop Failed end.set).0
-ReadsBody t (Err BadMessage) end old new = t.0 ≡ (stop BadMessage end.set).0
-ReadsBody t (Err OutOfTurn) end old new = t.0 ≡ (stop OutOfTurn end.set).0
-ReadsBody t (Err FrameTooLong) end old new = t.0 ≡ (stop FrameTooLong end.set).0
+ReadsBody t (Err fault) end old new = Stops t end.set fault
 
--- what hearing a piece answers and leaves: all of it was heard, or it stopped by this fault
-abbrev pub Hears : Heard → Result (Unit {0}) TalkFault → End → List ℕ → Type 0
-Hears t (Ok _) end out = IsGoing end.turn × Waits end.turn end.rest × (t ≡ (end, out))
-Hears t (Err Memory) end out = Unit {0}
-Hears t (Err (Conflict dot)) end out = t.0 ≡ (stop (Conflict dot) end.set).0
-Hears t (Err Failed) end out = t.0 ≡ (stop Failed end.set).0
-Hears t (Err BadMessage) end out = t.0 ≡ (stop BadMessage end.set).0
-Hears t (Err OutOfTurn) end out = t.0 ≡ (stop OutOfTurn end.set).0
-Hears t (Err FrameTooLong) end out = t.0 ≡ (stop FrameTooLong end.set).0
+-- what hearing a piece comes to: all of it was heard, or it stopped by this fault
+abbrev pub ComesTo : {X : Type 0} → (X → List ℕ) → Heard → Result X TalkFault → End → Type 0
+ComesTo view t (Ok out) end = IsGoing end.turn × Waits end.turn end.rest × (t ≡ (end, view out))
+ComesTo view t (Err fault) end = Stops t end.set fault
+
+-- An end has heard a piece.
+pub record Hears {X : Type 0} (view : X → List ℕ) (old : End) (piece : List ℕ) (result : Result X TalkFault) (new : End) : Type 0 where
+  -- All of it was heard, or it stopped by this fault.
+  pub heard : ComesTo view (hears old piece) result new
+  -- Where memory ran out, the holder has failed, or has what a front of the piece brought.
+  pub left : IfErr result (λ fault. fault ≡ Memory → IsLeft old piece new.set)
+
+-- what a refusal of a piece leaves: an end that has stopped by this fault; unless memory ran out, as what is heard does
+abbrev pub FeedStops : Heard → End → TalkFault → Type 0
+FeedStops t new Memory = new.turn ≡ stopped Memory
+FeedStops t new fault = (t.0 ≡ new) × (new.turn ≡ stopped fault)
 
 -- what feeding a piece answers and leaves, where the talk had met no fault
 abbrev pub Fed : {X : Type 0} → (X → List ℕ) → Heard → Result X TalkFault → End → Type 0
 Fed view t (Ok reply) new = IsGoing new.turn × (t ≡ (new, view reply))
-Fed view t (Err Memory) new = new.turn ≡ stopped Memory
-Fed view t (Err (Conflict dot)) new = (t.0 ≡ new) × (new.turn ≡ stopped (Conflict dot))
-Fed view t (Err Failed) new = (t.0 ≡ new) × (new.turn ≡ stopped Failed)
-Fed view t (Err BadMessage) new = (t.0 ≡ new) × (new.turn ≡ stopped BadMessage)
-Fed view t (Err OutOfTurn) new = (t.0 ≡ new) × (new.turn ≡ stopped OutOfTurn)
-Fed view t (Err FrameTooLong) new = (t.0 ≡ new) × (new.turn ≡ stopped FrameTooLong)
+Fed view t (Err fault) new = FeedStops t new fault
 
 -- after a fault every piece is out of turn, and nothing changes
 abbrev pub FeedsAt : {X : Type 0} → (X → List ℕ) → Turn → End → List ℕ → Result X TalkFault → End → Type 0
 FeedsAt view (stopped fault) old piece result new = (result ≡ Err OutOfTurn) × (new ≡ old)
-FeedsAt view (awaits_have side) old piece result new = Fed view (hears old piece) result new
-FeedsAt view (awaits_ops owed) old piece result new = Fed view (hears old piece) result new
-FeedsAt view ended old piece result new = Fed view (hears old piece) result new
+FeedsAt view turn old piece result new = Fed view (hears old piece) result new
 
 abbrev pub Feeds : {X : Type 0} → (X → List ℕ) → End → List ℕ → Result X TalkFault → End → Type 0
 Feeds view old piece result new = FeedsAt view old.turn old piece result new
@@ -103,12 +104,7 @@ Feeds view old piece result new = FeedsAt view old.turn old piece result new
 -- what a reply answers and appends
 abbrev pub Replies : Heard → Result (Unit {0}) TalkFault → Option LogMap → List ℕ → List ℕ → Type 0
 Replies t (Ok _) set old new = IsGoing t.0.turn × (t.0.rest ≡ []) × (t.0.set ≡ set) × (new ≡ old ++ t.1)
-Replies t (Err Memory) set old new = Unit {0}
-Replies t (Err (Conflict dot)) set old new = t.0 ≡ (stop (Conflict dot) set).0
-Replies t (Err Failed) set old new = t.0 ≡ (stop Failed set).0
-Replies t (Err BadMessage) set old new = t.0 ≡ (stop BadMessage set).0
-Replies t (Err OutOfTurn) set old new = t.0 ≡ (stop OutOfTurn set).0
-Replies t (Err FrameTooLong) set old new = t.0 ≡ (stop FrameTooLong set).0
+Replies t (Err fault) set old new = Stops t set fault
 
 -- what saying the own Have answers and appends
 abbrev pub Says : Bool → Result (Unit {0}) TalkFault → List ℕ → List ℕ → List ℕ → Type 0
@@ -116,16 +112,6 @@ Says says (Ok _) text old new = (says ≡ true) × (new ≡ old ++ text)
 Says says (Err Memory) text old new = Unit {0}
 Says says (Err FrameTooLong) text old new = says ≡ false
 Says says (Err _) text old new = ⊥
-
--- the same as `Hears`, of replies that are given
-abbrev pub HearsAll : {X : Type 0} → (X → List ℕ) → Heard → Result X TalkFault → End → Type 0
-HearsAll view t (Ok out) end = IsGoing end.turn × Waits end.turn end.rest × (t ≡ (end, view out))
-HearsAll view t (Err Memory) end = Unit {0}
-HearsAll view t (Err (Conflict dot)) end = t.0 ≡ (stop (Conflict dot) end.set).0
-HearsAll view t (Err Failed) end = t.0 ≡ (stop Failed end.set).0
-HearsAll view t (Err BadMessage) end = t.0 ≡ (stop BadMessage end.set).0
-HearsAll view t (Err OutOfTurn) end = t.0 ≡ (stop OutOfTurn end.set).0
-HearsAll view t (Err FrameTooLong) end = t.0 ≡ (stop FrameTooLong end.set).0
 
 -- why a call of an editor that has not failed is refused
 abbrev pub CallRefused : LogMap → TalkFault → Type 0

@@ -5,8 +5,8 @@ ghost use Rattle.mt_frames.specs.Frames.{frame_text};
 ghost use Rattle.mt_summary.specs.Summary.{summary_of};
 ghost use Rattle.mt_summary.specs.Messages.{have_text, IsMessage};
 ghost use Rattle.mt_summary.specs.Reading.{message_of};
-ghost use Rattle.mt_sync.specs.Conversation.{ended, awaits_have, awaits_ops, hears_message, body_in, hears};
-ghost use Rattle.mt_sync.specs.Feeding.{turn_of, IsOpen, IsGoing, Waits, end_at, end_of, ReadsBody, Hears, Feeds, IsFaultOf, over_at, HearsAll, Calls};
+ghost use Rattle.mt_sync.specs.Conversation.{ended, awaits_have, awaits_ops, hears_message, body_in};
+ghost use Rattle.mt_sync.specs.Feeding.{turn_of, IsOpen, IsGoing, Waits, end_at, end_of, ReadsBody, Hears, Feeds, IsFaultOf, over_at, Calls};
 ghost use Rattle.mt_sync.specs.Leaving.{IsLeft, StaysOrFails};
 
 use crate::fault::{Side, TalkFault};
@@ -135,11 +135,8 @@ fn hear_all<A: Allocator + Clone, H: Holder<A>>(
 ) -> Result<Vec<u8, A>, TalkFault>
     requires going { IsGoing (turn_of turn.old) }
     requires waits { Waits (turn_of turn.old) unread.old }
-    ensures hears { HearsAll (λ out. out.items)
-        (hears (end_at (turn_of turn.old) unread.old (H.held holder.old)) piece.now) result
+    ensures hears { Hears (λ out. out.items) (end_at (turn_of turn.old) unread.old (H.held holder.old)) piece.now result
         (end_at (turn_of turn.new) unread.new (H.held holder.new)) }
-    ensures left { IfErr result (λ fault. fault ≡ TalkFault.Memory
-        → IsLeft (end_at (turn_of turn.old) unread.old (H.held holder.old)) piece.now (H.held holder.new)) }
     ensures name { H.named holder.new ≡ H.named holder.old }
 {
     let mut out = Vec::new(alloc.clone()?);
@@ -161,10 +158,8 @@ fn hear<A: Allocator + Clone, H: Holder<A>>(
     requires going { IsGoing (turn_of turn.old) }
     requires waits { Waits (turn_of turn.old) unread.old }
     requires empty { out.old.items ≡ [] }
-    ensures hears { Hears (hears (end_at (turn_of turn.old) unread.old (H.held holder.old)) piece.now) result
-        (end_at (turn_of turn.new) unread.new (H.held holder.new)) out.new.items }
-    ensures left { IfErr result (λ fault. fault ≡ TalkFault.Memory
-        → IsLeft (end_at (turn_of turn.old) unread.old (H.held holder.old)) piece.now (H.held holder.new)) }
+    ensures hears { Hears (λ _. out.new.items) (end_at (turn_of turn.old) unread.old (H.held holder.old)) piece.now result
+        (end_at (turn_of turn.new) unread.new (H.held holder.new)) }
     ensures name { H.named holder.new ≡ H.named holder.old }
 {
     if turn.is_open() {
@@ -186,10 +181,8 @@ fn hear_frames<A: Allocator + Clone, H: Holder<A>>(
     requires reads { IsOpen (turn_of turn.old) }
     requires waits { Waits (turn_of turn.old) unread.old }
     requires empty { out.old.items ≡ [] }
-    ensures hears { Hears (hears (end_at (turn_of turn.old) unread.old (H.held holder.old)) piece.now) result
-        (end_at (turn_of turn.new) unread.new (H.held holder.new)) out.new.items }
-    ensures left { IfErr result (λ fault. fault ≡ TalkFault.Memory
-        → IsLeft (end_at (turn_of turn.old) unread.old (H.held holder.old)) piece.now (H.held holder.new)) }
+    ensures hears { Hears (λ _. out.new.items) (end_at (turn_of turn.old) unread.old (H.held holder.old)) piece.now result
+        (end_at (turn_of turn.new) unread.new (H.held holder.new)) }
     ensures name { H.named holder.new ≡ H.named holder.old }
 {
     unread.push(piece)?;

@@ -9,9 +9,9 @@ use crate::label::append_label;
 use crate::length::{Lengths, append_length};
 use crate::mark::{append_marker_marks, append_track_marks};
 use crate::tops::tops_of;
+use base_text::append_decimal;
 use mt_op::Gain;
 use mt_sessionview::{MarkerView, TrackView};
-use mt_times::append_decimal;
 use std::alloc::{AllocError, Allocator};
 
 // Writes ` gain NUM/DEN`, where it is not 1/1.

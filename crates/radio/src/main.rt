@@ -3,11 +3,16 @@
 
 use mt_cli::command;
 use mt_opcodec::Latch;
+use std::fs::File;
 use std::io::ErrorKind;
+use std::marker::PhantomData;
+use std::net::{TcpListener, TcpStream};
 use std::process::ExitCode;
 use std::{env, io};
 
 fn main(rt: HostRuntime) -> ExitCode {
+    // for the proof: the types of a runtime that `command` names
+    let _types: PhantomData<(File, TcpListener, TcpStream)> = PhantomData;
     let mut input = Latch::new(rt.stdin());
     let mut output = Latch::new(rt.stdout());
     let mut errors = Latch::new(rt.stderr());

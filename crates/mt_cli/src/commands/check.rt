@@ -1,16 +1,15 @@
 //! `radio check`.
 
+use super::log_and_others;
 use super::render::{
     BITS, CHANNELS, DATE, DESCRIPTION, ORIGINATOR, RATE, REFERENCE, TIME, TIME_REFERENCE,
     format_of, head_of,
 };
-use crate::check::check_log;
-use crate::fault::CliFault;
-use crate::files::{open, open_all};
-use crate::form::LineForm;
-use crate::words::{Word, Words};
+use crate::files::open_all;
 use clap::ArgMatches;
-use mt_opcodec::Latch;
+use cli_calls::{CliFault, LineForm, check_log};
+use cli_words::{Word, Words};
+use mt_latch::Latch;
 use std::io::Write;
 use std::rt::Files;
 
@@ -41,6 +40,7 @@ pub(crate) const WORDS: Words = Words {
             help: "Print positions and lengths as H:MM:SS.mmm, at --rate frames a second",
         },
     ],
+    below: &[],
 };
 
 pub(crate) fn run<F: Files + AllocGlobal, W: Write>(
@@ -58,15 +58,8 @@ pub(crate) fn run<F: Files + AllocGlobal, W: Write>(
     };
     let head = head_of(words)?;
     let format = format_of(words)?;
-    let mut log = open(rt, 0, words.get_str("LOG").unwrap_or(""))?;
-    let mut sources = open_all(rt, 1, words.get_strs("SOURCE").unwrap_or(&[]))?;
-    check_log(
-        rt.alloc(),
-        form,
-        &mut log,
-        &mut sources,
-        &head,
-        format,
-        output,
-    )
+    let log = words.get_str("LOG").unwrap_or("");
+    let sources = words.get_strs("SOURCE").unwrap_or(&[]);
+    let mut inputs = open_all(rt, 0, &log_and_others(rt.alloc(), log, sources)?)?;
+    check_log(rt.alloc(), form, &head, format, &mut inputs, output)
 }

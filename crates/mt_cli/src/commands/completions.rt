@@ -1,10 +1,9 @@
 //! `radio completions`.
 
-use crate::completions::{Shell, put_script};
-use crate::fault::CliFault;
-use crate::words::{Lists, Word, Words};
 use clap::ArgMatches;
-use mt_opcodec::Latch;
+use cli_calls::CliFault;
+use cli_words::{Lists, Shell, Word, Words, put_script};
+use mt_latch::Latch;
 use std::io::Write;
 
 pub(crate) const WORDS: Words = Words {
@@ -16,6 +15,7 @@ pub(crate) const WORDS: Words = Words {
         names: &["bash", "zsh", "fish"],
         help: "The shell",
     }],
+    below: &[],
 };
 
 pub(crate) fn run<W: Write>(
@@ -28,5 +28,5 @@ pub(crate) fn run<W: Write>(
         Some("zsh") => Shell::Zsh,
         _ => Shell::Fish,
     };
-    put_script(shell, lists, output)
+    put_script(shell, lists, output).map_err(|_| CliFault::Write)
 }

@@ -1,12 +1,11 @@
 //! `radio diff`.
 
 use super::form_of;
-use crate::diff::{DiffForm, diff_logs};
-use crate::fault::CliFault;
-use crate::files::open;
-use crate::words::{AS_JSON, AS_TIMES, TIMES_RATE, Word, Words};
+use crate::files::open_all;
 use clap::ArgMatches;
-use mt_opcodec::Latch;
+use cli_calls::{CliFault, DiffForm, diff_logs};
+use cli_words::{AS_JSON, AS_TIMES, TIMES_RATE, Word, Words};
+use mt_latch::Latch;
 use std::io::Write;
 use std::rt::Files;
 
@@ -37,6 +36,7 @@ pub(crate) const WORDS: Words = Words {
         TIMES_RATE,
         AS_JSON,
     ],
+    below: &[],
 };
 
 // What these words ask for.
@@ -57,7 +57,8 @@ pub(crate) fn run<F: Files + AllocGlobal, W: Write>(
 ) -> Result<(), CliFault> {
     let alloc = rt.alloc();
     let (form, lines) = (asked_for(words), form_of(alloc, words));
-    let mut left = open(rt, 0, words.get_str("LEFT").unwrap_or(""))?;
-    let mut right = open(rt, 1, words.get_str("RIGHT").unwrap_or(""))?;
-    diff_logs(alloc, alloc, form, lines, &mut left, &mut right, output)
+    let left = words.get_str("LEFT").unwrap_or("");
+    let right = words.get_str("RIGHT").unwrap_or("");
+    let mut logs = open_all(rt, 0, &[left, right])?;
+    diff_logs(alloc, alloc, form, lines, &mut logs, output)
 }

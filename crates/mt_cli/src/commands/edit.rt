@@ -1,13 +1,12 @@
 //! `radio edit`.
 
 use super::rate_of_times;
-use crate::edit::edit_log;
-use crate::fault::CliFault;
 use crate::files::{OpenLog, open, open_log};
 use crate::part::{Naming, Part};
-use crate::words::{NEW, NO_SYNC, TIMES_RATE, Word, Words};
 use clap::ArgMatches;
-use mt_opcodec::Latch;
+use cli_calls::{CliFault, edit_log};
+use cli_words::{NEW, NO_SYNC, TIMES_RATE, Word, Words};
+use mt_latch::Latch;
 use mt_stamp::Replica;
 use std::fs::File;
 use std::io::Write;
@@ -42,6 +41,7 @@ pub(crate) const WORDS: Words = Words {
         NEW,
         NO_SYNC,
     ],
+    below: &[],
 };
 
 pub(crate) fn run<F: Files<File = File> + AllocGlobal, W: Write>(
@@ -55,15 +55,14 @@ pub(crate) fn run<F: Files<File = File> + AllocGlobal, W: Write>(
         Err(fault) => return Err(CliFault::Name(fault)),
     };
     let out = words.get_str("OUT").unwrap_or("");
-    let OpenLog { mut log, base } = open_log(rt, 0, words.get_str("LOG").unwrap_or(""), out)?;
-    let mut script = open(rt, 1, words.get_str("SCRIPT").unwrap_or(""))?;
+    let OpenLog { log, base } = open_log(rt, 0, words.get_str("LOG").unwrap_or(""), out)?;
+    let script = open(rt, 1, words.get_str("SCRIPT").unwrap_or(""))?;
     let mut part = Part::later(alloc, rt, out, Naming::of(words))?;
     let written = edit_log(
         alloc,
         name,
         rate_of_times(words),
-        &mut log,
-        &mut script,
+        &mut [log, script],
         part.output(),
         output,
     );

@@ -3,12 +3,12 @@
 ghost use Rattle.std.specs.Prelude.{◌≡◌, IfErr};
 ghost use Rattle.mt_cli.specs.Mistakes.{IsMistake};
 
-use crate::fault::CliFault;
 use crate::refusals::{Refusal, find_refusal};
 use crate::stop::{Stop, refused, stopped_by};
-use crate::words::{Word, Words};
 use clap::ArgMatches;
-use mt_opcodec::{BufferedLatch, Latch};
+use cli_calls::CliFault;
+use cli_words::{Word, Words};
+use mt_latch::{BufferedLatch, Latch};
 use std::alloc::Global;
 use std::io::Write;
 
@@ -21,6 +21,7 @@ pub(crate) const WORDS: Words = Words {
         greatest: u8::MAX as u64,
         help: "The number in `radio: fault N`; all errors if it is left out",
     }],
+    below: &[],
 };
 
 pub(crate) fn run<W: Write>(

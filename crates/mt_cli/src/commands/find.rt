@@ -3,15 +3,13 @@
 ghost use Rattle.std.specs.Prelude.{◌≡◌, IfErr};
 ghost use Rattle.mt_cli.specs.Mistakes.{IsMistake};
 
-use crate::fault::CliFault;
-use crate::files::open;
-use crate::find::{Wanted, find_items};
-use crate::read::read_digest;
+use crate::files::{open, open_all};
 use crate::stop::{Stop, refused, stopped_by};
-use crate::words::{Word, Words};
 use clap::ArgMatches;
+use cli_calls::{CliFault, Wanted, find_items, read_digest};
+use cli_words::{Word, Words};
+use mt_latch::Latch;
 use mt_op::Digest;
-use mt_opcodec::Latch;
 use std::alloc::Global;
 use std::io::Write;
 use std::rt::Files;
@@ -43,6 +41,7 @@ pub(crate) const WORDS: Words = Words {
             help: "WHAT is a file: find the clips that play it",
         },
     ],
+    below: &[],
 };
 
 // What these words look for. The file of a recording is read before the log.
@@ -56,7 +55,7 @@ fn wanted<'w, F: Files + AllocGlobal>(
         Some("marker") => Ok(Wanted::Marker(what)),
         _ if words.get_flag("wave") => {
             let mut file = open(rt, 1, what)?;
-            Ok(Wanted::Clip(read_digest(rt.alloc(), 1, &mut file)?))
+            Ok(Wanted::Clip(read_digest(&rt.alloc(), 1, &mut file)?))
         }
         _ => match Digest::read(what) {
             Ok(source) => Ok(Wanted::Clip(source)),
@@ -72,8 +71,14 @@ fn find<F: Files + AllocGlobal, W: Write>(
     output: &mut Latch<W>,
 ) -> Result<(), CliFault> {
     let wanted = wanted(rt, words)?;
-    let mut log = open(rt, 0, words.get_str("LOG").unwrap_or(""))?;
-    find_items(rt.alloc(), words.get_flag("one"), &wanted, &mut log, output)
+    let mut logs = open_all(rt, 0, &[words.get_str("LOG").unwrap_or("")])?;
+    find_items(
+        rt.alloc(),
+        words.get_flag("one"),
+        &wanted,
+        &mut logs,
+        output,
+    )
 }
 
 // What is told where a file is named, and no clips are looked for, as the parser tells of a mistake.

@@ -1,11 +1,10 @@
 //! `radio have`.
 
-use crate::fault::CliFault;
 use crate::files::open;
-use crate::have::have_log;
 use crate::part::{Naming, Part};
-use crate::words::{NEW, NO_SYNC, Word, Words};
 use clap::ArgMatches;
+use cli_calls::{CliFault, have_log};
+use cli_words::{NEW, NO_SYNC, Word, Words};
 use std::fs::File;
 use std::rt::Files;
 
@@ -25,6 +24,7 @@ pub(crate) const WORDS: Words = Words {
         NEW,
         NO_SYNC,
     ],
+    below: &[],
 };
 
 pub(crate) fn run<F: Files<File = File> + AllocGlobal>(
@@ -32,8 +32,8 @@ pub(crate) fn run<F: Files<File = File> + AllocGlobal>(
     words: &ArgMatches<'_>,
 ) -> Result<(), CliFault> {
     let out = words.get_str("OUT").unwrap_or("");
-    let mut log = open(rt, 0, words.get_str("LOG").unwrap_or(""))?;
+    let mut inputs = [open(rt, 0, words.get_str("LOG").unwrap_or(""))?];
     let mut part = Part::later(rt.alloc(), rt, out, Naming::of(words))?;
-    let written = have_log(rt.alloc(), &mut log, part.output());
+    let written = have_log(rt.alloc(), &mut inputs, part.output());
     part.finish(None, written)
 }

@@ -1,9 +1,8 @@
 //! `radio id`.
 
-use crate::fault::CliFault;
-use crate::put::put_bytes;
-use crate::words::Words;
-use mt_opcodec::Latch;
+use cli_calls::CliFault;
+use cli_words::Words;
+use mt_latch::Latch;
 use mt_stamp::Replica;
 use std::io::Write;
 use std::random::RandomSource;
@@ -14,6 +13,7 @@ pub(crate) const WORDS: Words = Words {
     about: "Prints a new name for an editor: a random UUID",
     after: "Example: radio id\n\nMake one for each editor and keep it: `radio edit` asks for it. No two editors may share one.\n\nExit status: 0 done; 1 failed (`radio: fault N`, see `radio explain N`); 2 wrong command line.",
     words: &[],
+    below: &[],
 };
 
 /// Refused as `Read` where the system gives no random bytes.
@@ -28,5 +28,5 @@ pub(crate) fn run<F: RandomSource + AllocGlobal, W: Write>(
         return Err(CliFault::Memory);
     };
     line.push_str("\n")?;
-    put_bytes(line.as_bytes(), output)
+    output.put(line.as_bytes()).map_err(|_| CliFault::Write)
 }

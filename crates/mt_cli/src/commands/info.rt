@@ -1,12 +1,11 @@
 //! `radio info`.
 
 use super::memory_of_objects;
-use crate::fault::CliFault;
-use crate::file_info::{InfoForm, InfoUnit, info_file};
-use crate::files::open;
-use crate::words::{AS_JSON, AS_TIMES, Word, Words};
+use crate::files::open_all;
 use clap::ArgMatches;
-use mt_opcodec::Latch;
+use cli_calls::{CliFault, InfoForm, InfoUnit, info_file};
+use cli_words::{AS_JSON, AS_TIMES, Word, Words};
+use mt_latch::Latch;
 use std::io::Write;
 use std::rt::Files;
 
@@ -28,6 +27,7 @@ pub(crate) const WORDS: Words = Words {
         },
         AS_JSON,
     ],
+    below: &[],
 };
 
 // The unit that these words ask for.
@@ -46,10 +46,10 @@ pub(crate) fn run<F: Files + AllocGlobal, W: Write>(
     words: &ArgMatches<'_>,
     output: &mut Latch<W>,
 ) -> Result<(), CliFault> {
-    let mut file = open(rt, 0, words.get_str("WAVE").unwrap_or(""))?;
+    let mut files = open_all(rt, 0, &[words.get_str("WAVE").unwrap_or("")])?;
     let form = InfoForm {
         unit: unit_of(words),
         json: memory_of_objects(rt.alloc(), words),
     };
-    info_file(rt.alloc(), form, &mut file, output)
+    info_file(rt.alloc(), form, &mut files, output)
 }

@@ -1,11 +1,10 @@
 //! `radio lack`.
 
-use crate::fault::CliFault;
 use crate::files::open;
-use crate::lack::lack_log;
 use crate::part::{Naming, Part};
-use crate::words::{NEW, NO_SYNC, Word, Words};
 use clap::ArgMatches;
+use cli_calls::{CliFault, lack_log};
+use cli_words::{NEW, NO_SYNC, Word, Words};
 use std::fs::File;
 use std::rt::Files;
 
@@ -29,6 +28,7 @@ pub(crate) const WORDS: Words = Words {
         NEW,
         NO_SYNC,
     ],
+    below: &[],
 };
 
 pub(crate) fn run<F: Files<File = File> + AllocGlobal>(
@@ -36,9 +36,9 @@ pub(crate) fn run<F: Files<File = File> + AllocGlobal>(
     words: &ArgMatches<'_>,
 ) -> Result<(), CliFault> {
     let out = words.get_str("OUT").unwrap_or("");
-    let mut log = open(rt, 0, words.get_str("LOG").unwrap_or(""))?;
-    let mut have = open(rt, 1, words.get_str("HAVE").unwrap_or(""))?;
+    let log = open(rt, 0, words.get_str("LOG").unwrap_or(""))?;
+    let have = open(rt, 1, words.get_str("HAVE").unwrap_or(""))?;
     let mut part = Part::later(rt.alloc(), rt, out, Naming::of(words))?;
-    let written = lack_log(rt.alloc(), &mut log, &mut have, part.output());
+    let written = lack_log(rt.alloc(), &mut [log, have], part.output());
     part.finish(None, written)
 }

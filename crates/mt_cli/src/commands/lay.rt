@@ -1,11 +1,10 @@
 //! `radio lay`.
 
-use crate::fault::CliFault;
 use crate::files::late_files;
-use crate::lay::{Laying, lay_files};
-use crate::words::{Word, Words};
 use clap::ArgMatches;
-use mt_opcodec::Latch;
+use cli_calls::{CliFault, Laying, lay_files};
+use cli_words::{Word, Words};
+use mt_latch::Latch;
 use mt_stamp::{Stamp, StampFault};
 use std::io::Write;
 use std::rt::Files;
@@ -42,6 +41,7 @@ pub(crate) const WORDS: Words = Words {
             help: "Frames a second of the programme; fails (34) for a recording of another rate",
         },
     ],
+    below: &[],
 };
 
 // Whether a text names a track in a script: the text of a stamp, or `$` and the number of a line.

@@ -1,14 +1,14 @@
 //! `radio log`.
 
 use super::form_of;
-use crate::fault::CliFault;
-use crate::files::open_all;
-use crate::list::{list_log, list_logs};
-use crate::words::{AS_JSON, AS_TIMES, TIMES_RATE, Word, Words};
+use crate::files::{in_latch, open_all};
 use clap::ArgMatches;
-use mt_opcodec::Latch;
+use cli_calls::{CliFault, list_logs};
+use cli_words::{AS_JSON, AS_TIMES, TIMES_RATE, Word, Words};
+use mt_latch::Latch;
 use std::io::{Read, Write};
 use std::rt::Files;
+use std::slice;
 
 pub(crate) const WORDS: Words = Words {
     name: "log",
@@ -23,6 +23,7 @@ pub(crate) const WORDS: Words = Words {
         TIMES_RATE,
         AS_JSON,
     ],
+    below: &[],
 };
 
 pub(crate) fn run<F: Files + AllocGlobal, R: Read, W: Write>(
@@ -37,6 +38,9 @@ pub(crate) fn run<F: Files + AllocGlobal, R: Read, W: Write>(
             let mut files = open_all(rt, 0, names)?;
             list_logs(rt.alloc(), form, &mut files, output)
         }
-        _ => list_log(rt.alloc(), form, input, output),
+        _ => {
+            let mut log = in_latch(input);
+            list_logs(rt.alloc(), form, slice::from_mut(&mut log), output)
+        }
     }
 }

@@ -1,9 +1,8 @@
 //! `radio man`.
 
-use crate::fault::CliFault;
-use crate::manual::put_page;
-use crate::words::{Lists, Words};
-use mt_opcodec::Latch;
+use cli_calls::CliFault;
+use cli_words::{Lists, Words, put_page};
+use mt_latch::Latch;
 use std::io::Write;
 
 pub(crate) const WORDS: Words = Words {
@@ -11,8 +10,9 @@ pub(crate) const WORDS: Words = Words {
     about: "Prints the manual page radio(1) in roff",
     after: "Example: radio man\n\nShow it with `radio man > radio.1` and `man ./radio.1`; saved as ~/.local/share/man/man1/radio.1, `man radio` finds it.\n\nExit status: 0 done; 1 failed (`radio: fault N`, see `radio explain N`); 2 wrong command line.",
     words: &[],
+    below: &[],
 };
 
 pub(crate) fn run<W: Write>(lists: &Lists, output: &mut Latch<W>) -> Result<(), CliFault> {
-    put_page(lists, output)
+    put_page(lists, output).map_err(|_| CliFault::Write)
 }

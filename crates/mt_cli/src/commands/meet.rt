@@ -1,10 +1,10 @@
 //! `radio meet`.
 
 use super::{limit, open_growing, swap, wait_of};
-use crate::fault::CliFault;
 use crate::part::Naming;
-use crate::words::{NEW, NO_SYNC, WAIT, Word, Words};
 use clap::ArgMatches;
+use cli_calls::CliFault;
+use cli_words::{NEW, NO_SYNC, WAIT, Word, Words};
 use mt_sync::Side;
 use std::fs::File;
 use std::net::{Net, TcpStream, ToSocketAddrs};
@@ -32,6 +32,7 @@ pub(crate) const WORDS: Words = Words {
         NEW,
         NO_SYNC,
     ],
+    below: &[],
 };
 
 // A stream to an address, which is waited for no longer than is said.

@@ -1,11 +1,10 @@
 //! `radio merge`.
 
-use crate::fault::CliFault;
 use crate::files::{OpenLogs, open_logs};
-use crate::merge::merge_logs;
 use crate::part::{Naming, Part};
-use crate::words::{NEW, NO_SYNC, Word, Words};
 use clap::ArgMatches;
+use cli_calls::{CliFault, merge_logs};
+use cli_words::{NEW, NO_SYNC, Word, Words};
 use std::fs::File;
 use std::rt::Files;
 
@@ -25,6 +24,7 @@ pub(crate) const WORDS: Words = Words {
         NEW,
         NO_SYNC,
     ],
+    below: &[],
 };
 
 pub(crate) fn run<F: Files<File = File> + AllocGlobal>(

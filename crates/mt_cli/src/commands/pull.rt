@@ -2,13 +2,13 @@
 
 ghost use Rattle.std.specs.Prelude.{◌≡◌, ◌+◌, length};
 
-use crate::fault::CliFault;
+use super::log_and_others;
 use crate::files::{OpenLogs, open_logs};
 use crate::part::{Naming, Part};
-use crate::pull::pull_logs;
-use crate::words::{NO_SYNC, Word, Words};
 use clap::ArgMatches;
-use mt_opcodec::Latch;
+use cli_calls::{CliFault, pull_logs};
+use cli_words::{NO_SYNC, Word, Words};
+use mt_latch::Latch;
 use std::fs::File;
 use std::io::{self, Write};
 use std::rt::Files;
@@ -32,6 +32,7 @@ pub(crate) const WORDS: Words = Words {
         },
         NO_SYNC,
     ],
+    below: &[],
 };
 
 // Pulls what the files of these names have into the first of them, which is not written in a dry run.
@@ -63,9 +64,7 @@ pub(crate) fn run<F: Files<File = File> + AllocGlobal, W: Write>(
 ) -> Result<(), CliFault> {
     let log = words.get_str("LOG").unwrap_or("");
     let from = words.get_strs("FROM").unwrap_or(&[]);
-    let mut names = Vec::new(rt.alloc());
-    names.push(log)?;
-    names.extend_from_slice(from)?;
+    let names = log_and_others(rt.alloc(), log, from)?;
     let opened = open_logs(rt, &names, log)?;
     pulled(rt, words, log, from, opened, output)
 }

@@ -1,11 +1,10 @@
 //! `radio render`.
 
-use crate::fault::CliFault;
 use crate::files::open_all;
 use crate::part::{Naming, Part};
-use crate::render::bounce_logs;
-use crate::words::{NEW, NO_SYNC, Word, Words};
 use clap::ArgMatches;
+use cli_calls::{CliFault, bounce_logs};
+use cli_words::{NEW, NO_SYNC, Word, Words};
 use mt_cuewrite::Head;
 use mt_render::Format;
 use std::fs::File;
@@ -40,6 +39,7 @@ pub(crate) const WORDS: Words = Words {
         NEW,
         NO_SYNC,
     ],
+    below: &[],
 };
 
 // The options of a render, which a check has too.

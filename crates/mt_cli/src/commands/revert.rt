@@ -1,11 +1,10 @@
 //! `radio revert`.
 
-use crate::fault::CliFault;
-use crate::files::open;
-use crate::revert::revert_log;
-use crate::words::{Word, Words};
+use crate::files::open_all;
 use clap::ArgMatches;
-use mt_opcodec::Latch;
+use cli_calls::{CliFault, revert_log};
+use cli_words::{Word, Words};
+use mt_latch::Latch;
 use mt_stamp::Stamp;
 use std::alloc::Global;
 use std::io::Write;
@@ -25,6 +24,7 @@ pub(crate) const WORDS: Words = Words {
             help: "Operations: their stamps as `radio log` prints them, in any order",
         },
     ],
+    below: &[],
 };
 
 // The stamps that these words name.
@@ -45,6 +45,6 @@ pub(crate) fn run<F: Files + AllocGlobal, W: Write>(
     output: &mut Latch<W>,
 ) -> Result<(), CliFault> {
     let stamps = stamps_of(rt.alloc(), words.get_strs("STAMP").unwrap_or(&[]))?;
-    let mut log = open(rt, 0, words.get_str("LOG").unwrap_or(""))?;
-    revert_log(rt.alloc(), &stamps, &mut log, output)
+    let mut logs = open_all(rt, 0, &[words.get_str("LOG").unwrap_or("")])?;
+    revert_log(rt.alloc(), &stamps, &mut logs, output)
 }

@@ -3,13 +3,13 @@
 ghost use Rattle.mt_cli.specs.Telling.{TellsCauses};
 
 use super::{limit, open_growing, swap, wait_of};
-use crate::fault::{CliFault, PartFault};
 use crate::part::Naming;
 use crate::refusal_lines::put_cause;
 use crate::why::cause;
-use crate::words::{NEW, NO_SYNC, WAIT, Word, Words};
 use clap::ArgMatches;
-use mt_opcodec::Latch;
+use cli_calls::{CliFault, PartFault};
+use cli_words::{NEW, NO_SYNC, WAIT, Word, Words};
+use mt_latch::Latch;
 use mt_sync::Side;
 use std::fs::File;
 use std::io::Write;
@@ -45,6 +45,7 @@ pub(crate) const WORDS: Words = Words {
         NEW,
         NO_SYNC,
     ],
+    below: &[],
 };
 
 // A listener at an address, where one is waited for no longer than is said.

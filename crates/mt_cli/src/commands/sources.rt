@@ -1,13 +1,11 @@
 //! `radio sources`.
 
-use super::memory_of_objects;
-use crate::fault::CliFault;
-use crate::files::{LateFile, late_files};
-use crate::form::LineForm;
-use crate::source_list::list_sources;
-use crate::words::{Word, Words};
+use super::{log_and_others, memory_of_objects};
+use crate::files::late_files;
 use clap::ArgMatches;
-use mt_opcodec::Latch;
+use cli_calls::{CliFault, LineForm, list_sources};
+use cli_words::{Word, Words};
+use mt_latch::Latch;
 use mt_preflight::Listing;
 use std::io::Write;
 use std::rt::Files;
@@ -41,6 +39,7 @@ pub(crate) const WORDS: Words = Words {
             help: "Print each line as a JSON object",
         },
     ],
+    below: &[],
 };
 
 // Which of the texts these words ask for.
@@ -64,15 +63,14 @@ pub(crate) fn run<F: Files + AllocGlobal, W: Write>(
         json: memory_of_objects(rt.alloc(), words),
     };
     let names = words.get_strs("WAVE").unwrap_or(&[]);
-    let mut log = Latch::new(LateFile::new(rt, words.get_str("LOG").unwrap_or("")));
-    let mut files = late_files(rt, names)?;
+    let log = words.get_str("LOG").unwrap_or("");
+    let mut inputs = late_files(rt, &log_and_others(rt.alloc(), log, names)?)?;
     list_sources(
         rt.alloc(),
         form,
         asked_for(words),
-        &mut log,
         names,
-        &mut files,
+        &mut inputs,
         output,
     )
 }

@@ -1,11 +1,10 @@
 //! `radio take`.
 
-use crate::fault::CliFault;
 use crate::files::{OpenLog, open, open_log};
 use crate::part::{Naming, Part};
-use crate::take::take_log;
-use crate::words::{NEW, NO_SYNC, Word, Words};
 use clap::ArgMatches;
+use cli_calls::{CliFault, take_log};
+use cli_words::{NEW, NO_SYNC, Word, Words};
 use std::fs::File;
 use std::rt::Files;
 
@@ -29,6 +28,7 @@ pub(crate) const WORDS: Words = Words {
         NEW,
         NO_SYNC,
     ],
+    below: &[],
 };
 
 pub(crate) fn run<F: Files<File = File> + AllocGlobal>(
@@ -37,9 +37,9 @@ pub(crate) fn run<F: Files<File = File> + AllocGlobal>(
 ) -> Result<(), CliFault> {
     let alloc = rt.alloc();
     let out = words.get_str("OUT").unwrap_or("");
-    let OpenLog { mut log, base } = open_log(rt, 0, words.get_str("LOG").unwrap_or(""), out)?;
-    let mut ops = open(rt, 1, words.get_str("OPS").unwrap_or(""))?;
+    let OpenLog { log, base } = open_log(rt, 0, words.get_str("LOG").unwrap_or(""), out)?;
+    let ops = open(rt, 1, words.get_str("OPS").unwrap_or(""))?;
     let mut part = Part::later(alloc, rt, out, Naming::of(words))?;
-    let written = take_log(alloc, alloc, &mut log, &mut ops, part.output());
+    let written = take_log(alloc, alloc, &mut [log, ops], part.output());
     part.finish(base, written)
 }

@@ -1,19 +1,18 @@
 //! `radio timeline`.
 
 ghost use Rattle.std.specs.Prelude.{◌≤◌};
-ghost use Rattle.mt_cli.specs.Drawing.{columns_of};
+ghost use Rattle.cli_calls.specs.Drawing.{columns_of};
 
-use crate::draw::{Drawing, SessionDrawing, draw_log, draw_logs};
-use crate::fault::CliFault;
-use crate::files::open_all;
-use crate::sources::{catalogue_of, read_all_sources};
-use crate::words::{Word, Words};
+use crate::files::{in_latch, open_all};
 use clap::ArgMatches;
-use mt_opcodec::Latch;
+use cli_calls::{CliFault, Drawing, SessionDrawing, catalogue_of, draw_logs, read_all_sources};
+use cli_words::{Word, Words};
+use mt_latch::Latch;
 use mt_render::HashedFile;
 use mt_timeline::Lengths;
 use std::io::{Read, Write};
 use std::rt::Files;
+use std::slice;
 
 pub(crate) const WORDS: Words = Words {
     name: "timeline",
@@ -50,6 +49,7 @@ pub(crate) const WORDS: Words = Words {
             help: "A recording whose peaks are drawn; may be repeated",
         },
     ],
+    below: &[],
 };
 
 // How many columns there are.
@@ -118,7 +118,8 @@ fn draw_input<F: Files + AllocGlobal, R: Read, W: Write>(
         rate,
         recordings: &recordings,
     };
-    draw_log(rt.alloc(), &how, input, output)
+    let mut log = in_latch(input);
+    draw_logs(rt.alloc(), &how, slice::from_mut(&mut log), output)
 }
 
 pub(crate) fn run<F: Files + AllocGlobal, R: Read, W: Write>(

@@ -8,7 +8,10 @@ pub(crate) mod waves;
 use mt_cli::command;
 use mt_opcodec::Latch;
 use std::alloc::Global;
+use std::fs::File;
 use std::io::Result;
+use std::marker::PhantomData;
+use std::net::{TcpListener, TcpStream};
 use std::path::PathBuf;
 use std::{env, fs, process};
 
@@ -49,6 +52,8 @@ fn is_answered(
     status: u8,
     (printed, told): (&str, &str),
 ) -> Result<bool> {
+    // for the proof: the types of a runtime that `command` names
+    let _types: PhantomData<(File, TcpListener, TcpStream)> = PhantomData;
     let words = list_of(rt.alloc(), words)?;
     let mut input = Latch::new(input);
     let mut output = Latch::new(Vec::new(rt.alloc()));

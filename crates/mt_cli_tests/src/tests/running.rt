@@ -5,9 +5,9 @@ use super::calls::Call;
 use super::texts::{BOTH, EDITED, HAS_NEWS, LABELLED, LOUD, NEWS, PULLED, SENT};
 use mt_cli::{
     CliFault, DiffForm, Drawing, Laying, LineForm, SessionDrawing, Wanted, bounce_logs, check_log,
-    diff_logs, draw_log, draw_logs, edit_log, find_items, have_log, lack_log, lay_files, list_log,
-    list_logs, list_sources, merge_logs, pull_logs, read_growing, revert_log, swap_log, take_log,
-    view_log_in, view_logs, write_info,
+    diff_logs, draw_logs, edit_log, find_items, have_log, lack_log, lay_files, list_logs,
+    list_sources, merge_logs, pull_logs, read_growing, revert_log, swap_log, take_log, view_logs,
+    view_logs_in, write_info,
 };
 use mt_cuewrite::Head;
 use mt_op::Digest;
@@ -61,7 +61,7 @@ fn draw_all<M: Allocator + Clone, R: Read, W: Write>(
 // A text of three columns.
 fn draw_one<M: Allocator + Clone, R: Read, W: Write>(
     memory: M,
-    input: &mut Latch<R>,
+    inputs: &mut [Latch<R>],
     output: &mut Latch<W>,
 ) -> Result<(), CliFault> {
     let recordings = Catalogue::new(memory.clone()?);
@@ -73,7 +73,7 @@ fn draw_one<M: Allocator + Clone, R: Read, W: Write>(
         rate: 48_000,
         recordings: &recordings,
     };
-    draw_log(memory, &text, input, output)
+    draw_logs(memory, &text, inputs, output)
 }
 
 // Commands that write one text of some logs.
@@ -109,26 +109,28 @@ fn run_on_log<M: Allocator + Clone, R: Read + Drop, W: Write>(
     (input, _other): (R, R),
     output: &mut Latch<W>,
 ) -> Result<(), CliFault> {
-    let mut input = Latch::new(input);
+    let Some(mut inputs) = one(alloc, input) else {
+        return Err(CliFault::Net);
+    };
     match call {
-        Call::ViewLog => view_log_in(memory, LineForm::PLAIN, &mut input, output),
-        Call::ViewObjects => view_log_in(memory, objects(alloc), &mut input, output),
-        Call::ListLog => list_log(memory, LineForm::PLAIN, &mut input, output),
-        Call::DrawLog => draw_one(memory, &mut input, output),
+        Call::ViewLog => view_logs_in(memory, LineForm::PLAIN, &mut inputs, output),
+        Call::ViewObjects => view_logs_in(memory, objects(alloc), &mut inputs, output),
+        Call::ListLog => list_logs(memory, LineForm::PLAIN, &mut inputs, output),
+        Call::DrawLog => draw_one(memory, &mut inputs, output),
         Call::FindMarker => {
-            find_items(memory, true, &Wanted::Marker("Late"), &mut input, output)
+            find_items(memory, true, &Wanted::Marker("Late"), &mut inputs, output)
         }
         Call::FindClip => {
             let source = Digest::of(RECORDING);
-            find_items(memory, true, &Wanted::Clip(source), &mut input, output)
+            find_items(memory, true, &Wanted::Clip(source), &mut inputs, output)
         }
         Call::Revert => {
             let Ok(renamed) = Stamp::new(2, B, 1) else {
                 return Err(CliFault::Net);
             };
-            revert_log(memory, &[renamed], &mut input, output)
+            revert_log(memory, &[renamed], &mut inputs, output)
         }
-        _ => have_log(memory, &mut input, output),
+        _ => have_log(memory, &mut inputs, output),
     }
 }
 
@@ -140,16 +142,17 @@ fn run_by_hand<M: Allocator + Clone, R: Read + Drop, W: Write>(
     (log, other): (R, R),
     output: &mut Latch<W>,
 ) -> Result<(), CliFault> {
-    let (mut log, mut other) = (Latch::new(log), Latch::new(other));
+    let Some(mut inputs) = two(alloc, (log, other)) else {
+        return Err(CliFault::Net);
+    };
     match call {
-        Call::Lack => lack_log(memory, &mut log, &mut other, output),
+        Call::Lack => lack_log(memory, &mut inputs, output),
         Call::Diff => diff_logs(
             memory,
             alloc,
             DiffForm::Operations,
             LineForm::PLAIN,
-            &mut log,
-            &mut other,
+            &mut inputs,
             output,
         ),
         Call::DiffFields => diff_logs(
@@ -157,8 +160,7 @@ fn run_by_hand<M: Allocator + Clone, R: Read + Drop, W: Write>(
             alloc,
             DiffForm::Fields,
             LineForm::PLAIN,
-            &mut log,
-            &mut other,
+            &mut inputs,
             output,
         ),
         Call::DiffView => diff_logs(
@@ -166,11 +168,10 @@ fn run_by_hand<M: Allocator + Clone, R: Read + Drop, W: Write>(
             alloc,
             DiffForm::View,
             LineForm::PLAIN,
-            &mut log,
-            &mut other,
+            &mut inputs,
             output,
         ),
-        _ => take_log(memory, alloc, &mut log, &mut other, output),
+        _ => take_log(memory, alloc, &mut inputs, output),
     }
 }
 
@@ -195,21 +196,13 @@ fn edit<M: Allocator + Clone, R: Read + Drop, W: Write>(
     (log, script): (R, R),
     output: &mut Latch<W>,
 ) -> Option<Result<(), CliFault>> {
-    let (mut log, mut script) = (Latch::new(log), Latch::new(script));
+    let mut inputs = two(alloc, (log, script))?;
     let mut other = Latch::new(Vec::new(alloc));
     if told {
-        let answer = edit_log(
-            memory,
-            A,
-            Some(48_000),
-            &mut log,
-            &mut script,
-            &mut other,
-            output,
-        );
+        let answer = edit_log(memory, A, Some(48_000), &mut inputs, &mut other, output);
         return beside(answer, other, NEWS);
     }
-    let answer = edit_log(memory, A, None, &mut log, &mut script, output, &mut other);
+    let answer = edit_log(memory, A, None, &mut inputs, output, &mut other);
     beside(answer, other, EDITED)
 }
 
@@ -278,14 +271,13 @@ fn list<M: Allocator + Clone, R: Read + Drop, W: Write>(
     (log, source): (R, R),
     output: &mut Latch<W>,
 ) -> Option<Result<(), CliFault>> {
-    let mut files = one(alloc, source)?;
+    let mut inputs = two(alloc, (log, source))?;
     Some(list_sources(
         memory,
         LineForm::PLAIN,
         Listing::All,
-        &mut Latch::new(log),
         &["voice.wav"],
-        &mut files,
+        &mut inputs,
         output,
     ))
 }
@@ -316,19 +308,11 @@ fn render<M: Allocator + Clone, R: Read + Drop, W: Write>(
 ) -> Option<Result<(), CliFault>> {
     let head = Head::new("", "", "", "2000-01-01", "00:00:00", 0).ok()?;
     let format = Format::new(48000, 24, 1).ok()?;
-    let mut sources = one(alloc, source)?;
     if call == Call::Check {
-        let mut log = Latch::new(log);
-        return Some(check_log(
-            memory,
-            LineForm::PLAIN,
-            &mut log,
-            &mut sources,
-            &head,
-            format,
-            output,
-        ));
+        let mut inputs = two(alloc, (log, source))?;
+        return Some(check_log(memory, LineForm::PLAIN, &head, format, &mut inputs, output));
     }
+    let mut sources = one(alloc, source)?;
     let mut logs = one(alloc, log)?;
     Some(bounce_logs(memory, &mut logs, &mut sources, &head, format, output))
 }

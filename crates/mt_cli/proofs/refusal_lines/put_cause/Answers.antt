@@ -3,7 +3,7 @@ use Rattle.std.proofs.lemmas.List.{append-nil}
 use Rattle.mt_latch.specs.Buffered.{Puts}
 use Rattle.mt_latch.proofs.Putting.{then_handed, same_handed}
 use Rattle.std.specs.Prelude.{codes}
-use Rattle.mt_cli.specs.Editing.{number_line}
+use Rattle.cli_calls.specs.Editing.{number_line}
 use Rattle.mt_cli.specs.Telling.{why_line}
 use Rattle.mt_cli.proofs.Telling.{handed_told}
 use Rattle.mt_cli.proofs.refusal_lines.put_cause.Goals as goal

@@ -2,4 +2,4 @@ use Rattle.mt_holdback.proofs.Readiness.{more_is_ready}
 use Rattle.mt_holdback.proofs.laws.more_items.Goals as goal
 
 pub returns : goal.returns
-returns g c = more_is_ready g.T.Waits.key_of g.T.Waits.needs_of g.T.Waits.fits_role
+returns g c = more_is_ready g.T.Waits.rules

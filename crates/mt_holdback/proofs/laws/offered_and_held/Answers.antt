@@ -2,4 +2,4 @@ use Rattle.mt_holdback.proofs.Offers.{held_releases_nothing}
 use Rattle.mt_holdback.proofs.laws.offered_and_held.Goals as goal
 
 pub returns : goal.returns
-returns g c = held_releases_nothing g.T.Waits.key_of g.T.Waits.needs_of g.T.Waits.fits_role
+returns g c = held_releases_nothing g.T.Waits.rules

@@ -2,4 +2,4 @@ use Rattle.mt_holdback.proofs.Offers.{offer_keeps_the_rule}
 use Rattle.mt_holdback.proofs.laws.offered_item.Goals as goal
 
 pub returns : goal.returns
-returns g c = offer_keeps_the_rule g.T.Waits.key_of g.T.Waits.needs_of g.T.Waits.fits_role
+returns g c = offer_keeps_the_rule g.T.Waits.rules

@@ -2,4 +2,4 @@ use Rattle.mt_holdback.proofs.Offers.{offered_stays}
 use Rattle.mt_holdback.proofs.laws.offered_stays.Goals as goal
 
 pub returns : goal.returns
-returns g c = offered_stays g.T.Waits.key_of g.T.Waits.needs_of g.T.Waits.fits_role
+returns g c = offered_stays g.T.Waits.rules

@@ -2,4 +2,4 @@ use Rattle.mt_holdback.proofs.Readiness.{one_pass_finds_all}
 use Rattle.mt_holdback.proofs.laws.one_pass.Goals as goal
 
 pub returns : goal.returns
-returns g c = one_pass_finds_all g.T.Waits.key_of g.T.Waits.needs_of g.T.Waits.fits_role
+returns g c = one_pass_finds_all g.T.Waits.rules

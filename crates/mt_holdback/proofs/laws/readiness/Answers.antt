@@ -2,4 +2,4 @@ use Rattle.mt_holdback.proofs.Readiness.{ready_is_defined}
 use Rattle.mt_holdback.proofs.laws.readiness.Goals as goal
 
 pub returns : goal.returns
-returns g c = ready_is_defined g.T.Waits.key_of g.T.Waits.needs_of g.T.Waits.fits_role
+returns g c = ready_is_defined g.T.Waits.rules

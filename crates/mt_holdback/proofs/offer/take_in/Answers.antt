@@ -1,28 +1,24 @@
-use Rattle.std.proofs.Common.{[], refl, sym, ap, ◌∙◌}
-use Rattle.mt_holdback.specs.HoldBack.{queued}
-use Rattle.mt_holdback.specs.Value.{items_in}
-use Rattle.mt_holdback.specs.Queue.{items_of}
-use Rattle.mt_holdback.proofs.Offers.{newly_ready_rises, taken_in, rule_of, ready_of}
+use Rattle.std.proofs.Common.{◌≡◌, List, sym, subst, ◌∙◌, false}
+use Rattle.mt_holdback.specs.HoldBack.{IsHoldBack, knows, with_queued}
+use Rattle.mt_holdback.specs.Passing.{after_pass}
+use Rattle.mt_holdback.specs.Queue.{contents_of, IsQueueOf}
+use Rattle.mt_holdback.proofs.Offers.{taken_in}
 use Rattle.mt_holdback.proofs.offer.take_in.Goals as goal
 
-pub returns-clause-kept : goal.returns-clause-kept
-returns-clause-kept g c =
-    taken_in g.T.Waits.key_of g.T.Waits.needs_of g.T.Waits.fits_role (record { released = c.args.released.now.items; waiting = items_in (λ q. items_of q.items.entries) c.args.waiting }) c.args.item
-    (queued g.T.Waits.key_of g.T.Waits.needs_of g.T.Waits.fits_role c.args.item (items_of c.in_ok-queue.queue.items.entries)) [] c.settle.new.released.items (items_of c.settle.new.queue.items.entries)
-    c.requires.rule c.requires.unknown c.in_ok-admit.ensures.older
-    (ap (queued g.T.Waits.key_of g.T.Waits.needs_of g.T.Waits.fits_role c.args.item) c.in_ok-queue.ensures.same)
-    refl (c.in_ok-settle.ensures.released ∙ sym c.in_ok-admit.ensures.passes) (c.in_ok-settle.ensures.left ∙ sym c.in_ok-admit.ensures.leaves)
+pub admit-requires-clause-order : goal.admit-requires-clause-order
+admit-requires-clause-order g c = record {
+  rule = subst (λ (waiting : List g.row.T.Denot). IsHoldBack g.T.Waits.rules (record { released = c.args.released.now.items; waiting = waiting })) (sym c.in_ok-queue.ensures.same) c.requires.order.rule;
+  works = subst (λ (released : List g.row.T.Denot). IsQueueOf g.T.Waits.rules released c.in_ok-queue.queue) c.deref.ensures.value c.in_ok-queue.ensures.works;
+}
 
-pub returns-clause-rule : goal.returns-clause-rule
-returns-clause-rule g c =
-    rule_of g.T.Waits.key_of g.T.Waits.needs_of g.T.Waits.fits_role (record { released = c.args.released.now.items; waiting = items_in (λ q. items_of q.items.entries) c.args.waiting })
-    (record { released = c.settle.new.released.items; waiting = items_of c.settle.new.queue.items.entries }) c.args.item c.requires.rule c.requires.unknown c.in_ok-admit.ensures.older (returns-clause-kept g c)
+pub admit-requires-clause-offer : goal.admit-requires-clause-offer
+admit-requires-clause-offer g c = record {
+  unknown = subst (λ (waiting : List g.row.T.Denot). knows g.T.Waits.rules (record { released = c.args.released.now.items; waiting = waiting }) (g.T.Waits.rules.key c.args.item) ≡ false) (sym c.in_ok-queue.ensures.same) c.requires.offer.unknown;
+  told = c.requires.offer.told;
+}
 
-pub returns-clause-rising : goal.returns-clause-rising
-returns-clause-rising g c =
-    newly_ready_rises g.T.Waits.key_of g.T.Waits.needs_of g.T.Waits.fits_role (record { released = c.args.released.now.items; waiting = items_in (λ q. items_of q.items.entries) c.args.waiting }) c.args.item c.requires.rule c.requires.unknown
-
-pub returns-clause-ready : goal.returns-clause-ready
-returns-clause-ready g c =
-    ready_of g.T.Waits.key_of g.T.Waits.needs_of g.T.Waits.fits_role (record { released = c.args.released.now.items; waiting = items_in (λ q. items_of q.items.entries) c.args.waiting })
-    (record { released = c.settle.new.released.items; waiting = items_of c.settle.new.queue.items.entries }) c.args.item c.requires.rule c.in_ok-admit.ensures.older (returns-clause-kept g c)
+pub returns : goal.returns
+returns g c =
+    taken_in g.T.Waits.rules (contents_of c.args.released.now.items c.args.waiting) c.args.item c.settle.new.released.items c.settle.new.queue c.requires.order.rule c.requires.offer.unknown c.key.ensures.older
+    (c.in_ok-settle.ensures.passed ∙ c.in_ok-admit.ensures.passes ∙ (λ i. after_pass g.T.Waits.rules (with_queued g.T.Waits.rules (record { released = c.args.released.now.items; waiting = c.in_ok-queue.ensures.same i }) c.args.item)))
+    c.in_ok-settle.ensures.works

@@ -30,7 +30,7 @@ mend-requires-clause-stood g c = record {
     last = c.args.op.now;
     are = c.in_ok-items.ensures.ok;
     noted = subst AreNoted (sym c.in_ok-items.ensures.ok) (c.requires.follows, subst AreNoted c.items.view_is c.items.invariant.noted);
-    about = c.subject_of-item.ensures;
+    about = c.item-item.ensures;
   };
   tracks_are = ap (λ (s : Content). s.tracks) c.requires.shown.session_is;
   markers_are = ap (λ (s : Content). s.markers) c.requires.shown.session_is;

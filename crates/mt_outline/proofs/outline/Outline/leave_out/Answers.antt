@@ -1,6 +1,10 @@
-use Rattle.std.proofs.Common.{arith, refl}
+use Rattle.std.proofs.Common.{arith, refl, rules}
+use Rattle.std.proofs.KnownBytes.{Consumes-nil}
 use Rattle.mt_outline.proofs.Outlining.{ends_short, goes_past}
 use Rattle.mt_outline.proofs.outline.Outline.leave_out.Goals as goal
+
+pub returns-in_err-head_of-clause-reads : goal.returns-in_err-head_of-clause-reads
+returns-in_err-head_of-clause-reads g c = let same = Consumes-nil (g.R.Read.remaining c.args.input.now.inner) in search rules
 
 pub returns-then-len-from-clause-outline : goal.returns-then-len-from-clause-outline
 returns-then-len-from-clause-outline g c =

@@ -1,5 +1,6 @@
-use Rattle.std.proofs.KnownBytes.{Consumes-trans}
+use Rattle.std.proofs.Common.{rules}
+use Rattle.mt_outline.proofs.Passages.{prefix_on}
 use Rattle.mt_outline.proofs.outline.Outline.read.Goals as goal
 
-pub returns-in-None-clause-prefix : goal.returns-in-None-clause-prefix
-returns-in-None-clause-prefix g c = (_, Consumes-trans _ _ _ _ _ c.in_ok-digest.ensures.prefix.1 c.read_behind.ensures.prefix.1)
+pub returns-in-None-clause-reads : goal.returns-in-None-clause-reads
+returns-in-None-clause-reads g c = let rest = prefix_on _ _ _ _ _ _ c.in_ok-digest.ensures.bytes c.read_behind.ensures.reads.reads.prefix in search rules

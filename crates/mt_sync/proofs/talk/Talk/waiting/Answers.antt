@@ -1,9 +1,8 @@
 use Rattle.std.proofs.Common.{ap, ◌∙◌}
 use Rattle.mt_frames.specs.Frames.{front_of}
 use Rattle.mt_frames.proofs.Fronts.{short-nil}
-use Rattle.mt_sync.specs.Feeding.{turn_of}
 use Rattle.mt_sync.proofs.Hearing.{waits_short}
 use Rattle.mt_sync.proofs.talk.Talk.waiting.Goals as goal
 
 pub invariant_of-result : goal.invariant_of-result
-invariant_of-result g c = waits_short (turn_of c.args.turn) c.new.result c.requires.open (ap front_of c.new.ensures ∙ short-nil)
+invariant_of-result g c = waits_short _ _ c.requires.open (ap front_of c.new.ensures ∙ short-nil)

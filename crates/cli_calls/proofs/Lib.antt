@@ -1,0 +1,15 @@
+pub mod Readers
+pub mod Writing
+pub mod Running
+pub mod Outlined
+pub mod Recordings
+pub mod Headline
+mod Keeping
+pub mod Rendering
+mod Making
+mod Editing
+mod Pulling
+mod SourcesListing
+mod Finding
+mod Checking
+mod Promises

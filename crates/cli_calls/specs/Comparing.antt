@@ -1,0 +1,82 @@
+-- What `diff` answers of two inputs (profile): which log each of them is, which text is made of both, and why it is refused.
+use Rattle.std.specs.Prelude.{◌≡◌, ◌≢◌, ℕ, Bool, true, false, ◌==◌, List, [], ◌∷◌, Option, ◌⊎◌}
+use Rattle.std.specs.FinMap as map
+use Rattle.mt_latch.specs.Latch.{Latched}
+use Rattle.mt_opcodec.specs.declared.fault.LogFault.TheVariants as log
+use Rattle.mt_opcodec.specs.LogReading.{log_at, LogFails}
+use Rattle.mt_opcodec.specs.LogValue.{LogMap}
+use Rattle.mt_opcodec.specs.IsLog.{IsLog}
+use Rattle.mt_logdiff.specs.DiffText.{diff_text, diff_text_with_fields}
+use Rattle.mt_logdiff.specs.ViewDiff.{view_diff_text}
+use Rattle.cli_calls.specs.declared.diff.DiffForm.{DiffForm}
+use Rattle.cli_calls.specs.declared.diff.DiffForm.TheVariants as form
+use Rattle.cli_calls.specs.declared.diff.TwoLogs.{TwoLogs}
+use Rattle.cli_calls.specs.declared.form.LineForm.{LineForm}
+use Rattle.cli_calls.specs.declared.fault.CliFault.{CliFault}
+use Rattle.cli_calls.specs.declared.fault.CliFault.TheVariants.{Memory, Read, Log}
+use Rattle.cli_calls.specs.Form.{in_form}
+use Rattle.cli_calls.specs.Reading.{text_of, Gave, IsRead, IsRest}
+use Rattle.cli_calls.specs.Swapping.{Taken, NotTaken}
+
+-- ---- the text
+
+-- the text that is asked for, of the left and of the right log
+abbrev pub diff_by : DiffForm → LogMap → LogMap → List ℕ
+diff_by form.Operations left right = diff_text left right
+diff_by form.Fields left right = diff_text_with_fields left right
+diff_by form.View left right = view_diff_text left right
+
+-- ---- the log of an input
+
+-- Whether bytes begin as what `lack` writes does, with the length of a frame: its first byte is 0, and that of a log's text is not.
+abbrev pub begins_as_frame : List ℕ → Bool
+begins_as_frame [] = false
+begins_as_frame (b ∷ bytes) = b == 0
+
+-- the log of bytes: of what `lack` wrote all its operations, up to Bye; of others that of which they are the text
+abbrev pub IsLogAs : Bool → List ℕ → LogMap → Type 0
+IsLogAs true bytes m = Taken map.empty bytes m
+IsLogAs false bytes m = (bytes ≡ text_of m) × IsLog m
+
+abbrev pub IsLogOf : List ℕ → LogMap → Type 0
+IsLogOf bytes m = IsLogAs (begins_as_frame bytes) bytes m
+
+-- why the bytes of the input of an index are no log, where it is not that memory ran out
+abbrev pub IsNoLogAs : Bool → ℕ → List ℕ → CliFault → Type 0
+IsNoLogAs true index bytes fault = NotTaken map.empty bytes fault
+IsNoLogAs false index bytes Memory = Unit {0}
+IsNoLogAs false index bytes (Log place fault) = (place ≡ index) × ((fault ≢ log.Memory) × LogFails fault (log_at bytes))
+IsNoLogAs false index bytes _ = ⊥
+
+abbrev pub IsNoLogOf : ℕ → List ℕ → CliFault → Type 0
+IsNoLogOf index bytes fault = IsNoLogAs (begins_as_frame bytes) index bytes fault
+
+-- ---- what is read
+
+module _ {R : Type 0} (remaining : R → Option (List ℕ)) where
+  -- the input gave bytes, and this is their log
+  abbrev pub GaveLogOf : Latched R → LogMap → Type 0
+  GaveLogOf latch m = (bytes : List ℕ) × (Gave remaining latch bytes × IsLogOf bytes m)
+
+  -- why the input of an index gave no log: memory ran out, its latch has failed, or all its bytes are none
+  abbrev pub GaveNoLog : ℕ → Latched R → Latched R → CliFault → Type 0
+  GaveNoLog index old new Memory = IsRest remaining old new
+  GaveNoLog index old new (Read place) = (place ≡ index) × ((new.failed ≡ true) × IsRest remaining old new)
+  GaveNoLog index old new fault = IsRead remaining new × ((bytes : List ℕ) × (Gave remaining old bytes × IsNoLogOf index bytes fault))
+
+  -- both inputs gave logs
+  abbrev pub GaveTwoLogs : {Z : Type 0} → List (Latched R) → TwoLogs Z → Type 0
+  GaveTwoLogs (left ∷ (right ∷ [])) logs = GaveLogOf left logs.left × GaveLogOf right logs.right
+  GaveTwoLogs _ logs = ⊥
+
+  -- the left input gave none, and the right one was not asked; or it did, and the right one gave none
+  abbrev pub TwoLogsCause : List (Latched R) → List (Latched R) → CliFault → Type 0
+  TwoLogsCause (left ∷ (right ∷ [])) (left' ∷ (right' ∷ [])) fault =
+      (GaveNoLog 0 left left' fault × (right' ≡ right)) ⊎ ((m : LogMap) × (GaveLogOf left m × (IsRead remaining left' × GaveNoLog 1 right right' fault)))
+  TwoLogsCause _ _ fault = ⊥
+
+-- ---- what is made
+
+-- `diff`: the text of two logs, in lines of a form
+abbrev pub diff_in : {Z : Type 0} → LineForm → DiffForm → TwoLogs Z → List ℕ
+diff_in lines form logs = in_form lines (diff_by form logs.left logs.right)

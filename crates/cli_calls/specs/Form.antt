@@ -1,0 +1,20 @@
+-- The forms in which lines are told.
+use Rattle.std.specs.Prelude.{ℕ, max, List, Option, Some, None}
+use Rattle.std.specs.declared.alloc.Global.{Global}
+use Rattle.mt_lines.specs.Json.{json_text}
+use Rattle.mt_lines.specs.Saying.{timed_text}
+use Rattle.cli_calls.specs.declared.form.LineForm.{LineForm}
+
+-- positions and lengths as times, at so many frames a second; a rate of 0 counts as 1
+abbrev pub with_times : Option ℕ → List ℕ → List ℕ
+with_times None text = text
+with_times (Some rate) text = timed_text (max rate 1) text
+
+-- a JSON object for each line
+abbrev pub as_json : Option Global → List ℕ → List ℕ
+as_json None text = text
+as_json (Some memory) text = json_text text
+
+-- a text in a form: first its times, then its objects
+abbrev pub in_form : LineForm → List ℕ → List ℕ
+in_form form text = as_json form.json (with_times form.rate text)

@@ -1,0 +1,125 @@
+-- What a wave file says of itself, as text (profile).
+use Rattle.std.specs.Prelude.{◌≡◌, ℕ, Bool, ◌==◌, ◌&&◌, not, nat_le, if◌then◌else◌, List, [], ◌∷◌, ◌++◌, codes, Option, Some, None, Result, Ok, Err}
+use Rattle.std.specs.Fmt.{decimal}
+use Rattle.std.specs.List.{flat_map}
+use Rattle.hex.specs.Hex.{encode_lower}
+use Rattle.sha2.specs.Sha256.{sha256}
+use Rattle.mt_latch.specs.Latch.{Latched}
+use Rattle.mt_sessionview.specs.SessionText.{newline}
+use Rattle.mt_bwfread.specs.Wave.{IsWave, fault_of, rate_of, channels_of, bits_of, frames_of}
+use Rattle.mt_bwfread.specs.Extension.{Extension, bext_of}
+use Rattle.mt_bwfread.specs.Cues.{CueText, cues_of}
+use Rattle.mt_outline.specs.Outline.{IsOutline, Gives}
+use Rattle.mt_outline.specs.declared.outline.Outline.{Outline}
+use Rattle.cli_calls.specs.declared.fault.CliFault.{CliFault}
+use Rattle.cli_calls.specs.declared.fault.CliFault.TheVariants.{Source}
+use Rattle.cli_calls.specs.declared.form.LineForm.{LineForm}
+use Rattle.cli_calls.specs.declared.file_info.InfoForm.{InfoForm}
+use Rattle.cli_calls.specs.declared.file_info.InfoUnit.{InfoUnit}
+use Rattle.cli_calls.specs.declared.file_info.InfoUnit.TheVariants.{Frames, OwnRate, Rate}
+use Rattle.cli_calls.specs.Form.{in_form}
+
+-- A byte of a file's text: a printing character of ASCII stands for itself, but the backslash. Every other byte
+-- is `\x` and its two hex digits in lower case.
+abbrev pub is_plain : ℕ → Bool
+is_plain byte = nat_le 32 byte && nat_le byte 126 && not (byte == 92)
+
+unfoldable pub shown_byte : ℕ → List ℕ
+shown_byte byte = if is_plain byte then (byte ∷ []) else (92 ∷ 120 ∷ encode_lower (byte ∷ []))
+
+abbrev pub shown : List ℕ → List ℕ
+shown text = flat_map shown_byte text
+
+-- a line: a word, one space and a value, which may be empty
+abbrev pub line : List ℕ → List ℕ → List ℕ
+line word value = word ++ (32 ∷ (value ++ (newline ∷ [])))
+
+-- the lines of the broadcast extension
+abbrev pub extension_lines : Option Extension → List ℕ
+extension_lines None = line (codes "bext") (codes "none")
+extension_lines (Some e) =
+    line (codes "bext") (decimal e.version)
+    ++ (line (codes "description") (shown e.description)
+    ++ (line (codes "originator") (shown e.originator)
+    ++ (line (codes "reference") (shown e.reference)
+    ++ (line (codes "date") (shown e.date)
+    ++ (line (codes "time") (shown e.time)
+    ++ (line (codes "time-reference") (decimal e.time_reference)
+    ++ line (codes "history") (shown e.history)))))))
+
+-- the length of a cue in frames, where it has one
+abbrev pub length_text : Option ℕ → List ℕ
+length_text None = []
+length_text (Some frames) = codes " len " ++ decimal frames
+
+-- the end of a cue's line: its label, where it has one
+abbrev pub label_text : Option (List ℕ) → List ℕ
+label_text None = []
+label_text (Some text) = codes " label " ++ shown text
+
+-- a cue's line
+abbrev pub cue_line : CueText → List ℕ
+cue_line c = codes "cue " ++ (decimal c.name ++ (codes " at " ++ (decimal c.at ++ (length_text c.length ++ (label_text c.label ++ (newline ∷ []))))))
+
+-- the lines of the sound: frames a second, channels, bits of a sample, and frames
+abbrev pub sound_lines : List ℕ → ℕ → List ℕ
+sound_lines bytes frames =
+    line (codes "rate") (decimal (rate_of bytes))
+    ++ (line (codes "channels") (decimal (channels_of bytes))
+    ++ (line (codes "bits") (decimal (bits_of bytes))
+    ++ line (codes "frames") (decimal frames)))
+
+-- what is read off the bytes of a wave file, with these digits of its digest and so many frames: the sound, the broadcast extension, and the cues in order
+abbrev pub told_text : List ℕ → List ℕ → ℕ → List ℕ
+told_text digits bytes frames =
+    line (codes "digest") digits
+    ++ (sound_lines bytes frames
+    ++ (extension_lines (bext_of bytes)
+    ++ flat_map cue_line (cues_of bytes)))
+
+-- the text of a wave file: its SHA-256 first
+abbrev pub info_text : List ℕ → List ℕ
+info_text bytes = told_text (encode_lower (sha256 bytes)) bytes (frames_of bytes)
+
+-- what is made of bytes: their text, or, where they are no wave file, the first of its faults
+abbrev pub Informs : List ℕ → Result (List ℕ) CliFault → Type 0
+Informs bytes (Ok text) = IsWave bytes × (text ≡ info_text bytes)
+Informs bytes (Err (Source place fault)) = (place ≡ 0) × (fault_of bytes ≡ Some fault)
+Informs bytes (Err _) = ⊥
+
+-- ---- in a form of lines
+
+-- at how many frames a second times are printed of these bytes, if they are
+abbrev pub rate_in : InfoUnit → List ℕ → Option ℕ
+rate_in Frames bytes = None
+rate_in OwnRate bytes = Some (rate_of bytes)
+rate_in (Rate rate) bytes = Some rate
+
+-- the form of the lines of a file
+abbrev pub lines_of : InfoForm → List ℕ → LineForm
+lines_of form bytes = record { rate = rate_in form.unit bytes; json = form.json }
+
+-- the same in lines of a form
+abbrev pub InformsIn : LineForm → List ℕ → Result (List ℕ) CliFault → Type 0
+InformsIn lines bytes (Ok text) = IsWave bytes × (text ≡ in_form lines (info_text bytes))
+InformsIn lines bytes (Err fault) = Informs bytes (Err fault)
+
+-- `info`: what is made of a file
+abbrev pub InformsBy : InfoForm → List ℕ → Result (List ℕ) CliFault → Type 0
+InformsBy form bytes = InformsIn (lines_of form bytes) bytes
+
+-- ---- by an outline, of whichever file it is
+
+abbrev pub OutlineInforms : {A : Type 0} → Outline A → Result (List ℕ) CliFault → Type 0
+OutlineInforms o made = (bytes : List ℕ) → IsOutline bytes o → Informs bytes made
+
+abbrev pub OutlineInformsIn : {A : Type 0} → LineForm → Outline A → Result (List ℕ) CliFault → Type 0
+OutlineInformsIn lines o made = (bytes : List ℕ) → IsOutline bytes o → InformsIn lines bytes made
+
+abbrev pub OutlineInformsBy : {A : Type 0} → InfoForm → Outline A → Result (List ℕ) CliFault → Type 0
+OutlineInformsBy form o made = (bytes : List ℕ) → IsOutline bytes o → InformsBy form bytes made
+
+-- one reader gave the file of this outline
+abbrev pub GaveOutline : {R A : Type 0} → (R → Option (List ℕ)) → List (Latched R) → Outline A → Type 0
+GaveOutline remaining (input ∷ []) o = Gives (remaining input.inner) o
+GaveOutline remaining _ o = ⊥

@@ -1,0 +1,19 @@
+-- What a listing prints.
+use Rattle.std.specs.Prelude.{ℕ, List}
+use Rattle.mt_opcodec.specs.LogValue.{LogMap, operations}
+use Rattle.mt_opcodec.specs.Union.{union_all}
+use Rattle.mt_logtext.specs.LogText.{log_text}
+use Rattle.cli_calls.specs.Form.{in_form}
+use Rattle.cli_calls.specs.declared.form.LineForm.{LineForm}
+
+-- the text of a log's operations
+abbrev pub log_list : LogMap → List ℕ
+log_list log = log_text (operations log)
+
+-- the same in a form
+abbrev pub list_in : LineForm → LogMap → List ℕ
+list_in form log = in_form form (log_list log)
+
+-- the text of the operations of the union of the logs' sets
+abbrev pub list_text : List LogMap → List ℕ
+list_text logs = log_list (union_all logs)

@@ -1,0 +1,20 @@
+-- What a view prints.
+use Rattle.std.specs.Prelude.{ℕ, List}
+use Rattle.mt_opcodec.specs.LogValue.{LogMap, operations}
+use Rattle.mt_opcodec.specs.Union.{union_all}
+use Rattle.mt_sessionview.specs.Session.{session_of}
+use Rattle.mt_sessionview.specs.SessionText.{session_text}
+use Rattle.cli_calls.specs.Form.{in_form}
+use Rattle.cli_calls.specs.declared.form.LineForm.{LineForm}
+
+-- the text of a log's session
+abbrev pub log_view : LogMap → List ℕ
+log_view log = session_text (session_of (operations log))
+
+-- the same in a form
+abbrev pub view_in : LineForm → LogMap → List ℕ
+view_in form log = in_form form (log_view log)
+
+-- the text of the session of the union of the logs' sets
+abbrev pub view_text : List LogMap → List ℕ
+view_text logs = log_view (union_all logs)

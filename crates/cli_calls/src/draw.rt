@@ -1,0 +1,101 @@
+//! Drawing the sessions of logs.
+
+ghost use Rattle.std.specs.Prelude.{◌≡◌, ◌≤◌, IfOk};
+ghost use Rattle.cli_calls.specs.Drawing.{columns_of, drawing_text, log_drawing};
+ghost use Rattle.cli_calls.specs.Joining.{GaveUnion, UnionFails};
+ghost use Rattle.cli_calls.specs.Running.{lent, Ran};
+ghost use Rattle.cli_calls.specs.Writing.{Prints};
+
+use crate::command::{Command, run};
+use crate::fault::CliFault;
+use crate::put::put_bytes;
+use crate::union::UnionOfLogs;
+use mt_latch::Latch;
+use mt_opcodec::Log;
+use mt_render::Catalogue;
+use mt_sessionview::{Session, of_log};
+use mt_svg::svg_text;
+use mt_timeline::{Lengths, timeline_text};
+use std::alloc::{AllocError, Allocator};
+use std::io::{Read, Write};
+
+/// How a session is drawn.
+#[derive(Clone, Copy)]
+pub enum Drawing {
+    /// As text, in so many columns, 1 and more, whose last line says in which ways how long it is.
+    Text { width: u16, lengths: Lengths },
+    /// As a picture, with the peaks of the recordings that are at hand: the text of an SVG file.
+    Svg,
+}
+
+// The drawing of a session.
+fn drawing_of<A: Allocator + Clone, B: Allocator, C: Allocator>(
+    alloc: A,
+    drawing: Drawing,
+    rate: u32,
+    recordings: &Catalogue<'_, C>,
+    session: &Session<B>,
+) -> Result<Vec<u8, A>, AllocError>
+    requires columns { 1 ≤ columns_of drawing }
+    requires rate { 1 ≤ rate }
+    ensures { IfOk result (λ text. text.items ≡ drawing_text drawing rate recordings.now session.now) }
+{
+    match drawing {
+        Drawing::Text { width, lengths } => timeline_text(alloc, width, lengths, rate, session),
+        Drawing::Svg => Ok(svg_text(alloc, rate, recordings, session)?.into_bytes()),
+    }
+}
+
+/// How sessions are drawn, and with what.
+#[derive(Drop)]
+pub struct SessionDrawing<'c, 'a, C: Allocator> {
+    /// As text, or as a picture.
+    pub drawing: Drawing,
+    /// How many frames a second has, 1 and more, for the times that are printed.
+    pub rate: u32,
+    /// The recordings at hand, whose peaks a picture shows.
+    pub recordings: &'c Catalogue<'a, C>,
+}
+
+// The drawing of a log's session.
+#[derive(Drop)]
+struct Drawn<'d, 'c, 'a, C: Allocator> {
+    how: &'d SessionDrawing<'c, 'a, C>,
+    ghost columns_from: { 1 ≤ columns_of how.now.drawing },
+    ghost rate_from: { 1 ≤ how.now.rate },
+}
+
+impl<A: Allocator + Clone, C: Allocator> Command<A, Log<A>> for Drawn<'_, '_, '_, C> {
+    ghost use Rattle.cli_calls.specs.Drawing.{log_drawing};
+    ghost use Rattle.cli_calls.specs.Writing.{Prints};
+
+    ghost makes = { λ drawn. Prints (log_drawing drawn.how.now) };
+
+    fn write_value<W: Write>(
+        &self,
+        alloc: A,
+        log: Log<A>,
+        output: &mut Latch<W>,
+    ) -> Result<(), CliFault> {
+        let session = of_log(alloc.clone()?, log)?;
+        let how = self.how;
+        let text = drawing_of(alloc, how.drawing, how.rate, how.recordings, &session)?;
+        put_bytes(&text, output)
+    }
+}
+
+/// Draws the session of the union of the inputs' logs, and writes nothing else: the text of `mt_timeline`,
+/// in a number of columns, or the one of `mt_svg`. Fails as `view_logs`.
+pub fn draw_logs<A: Allocator + Clone, C: Allocator, R: Read, W: Write>(
+    alloc: A,
+    how: &SessionDrawing<'_, '_, C>,
+    inputs: &mut [Latch<R>],
+    output: &mut Latch<W>,
+) -> Result<(), CliFault>
+    requires columns { 1 ≤ columns_of how.now.drawing }
+    requires rate { 1 ≤ how.now.rate }
+    ensures { Ran R.remaining (GaveUnion R.remaining) (UnionFails R.remaining) (Prints (log_drawing how.now))
+        W.contents (lent inputs.old output.old) (lent inputs.new output.new) result }
+{
+    run(&UnionOfLogs, &Drawn { how }, alloc, inputs, output)
+}

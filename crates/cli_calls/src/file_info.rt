@@ -1,0 +1,144 @@
+//! What the wave file of an input says of itself, in a form of lines.
+
+ghost use Rattle.std.specs.Prelude.{◌≡◌, ℕ, List, length};
+ghost use Rattle.mt_bwfread.specs.Wave.{IsWave};
+ghost use Rattle.mt_outline.specs.Outline.{IsOutline};
+ghost use Rattle.cli_calls.specs.Info.{rate_in, InformsBy, OutlineInformsIn};
+ghost use Rattle.cli_calls.specs.Reading.{GaveBytes, BytesCause};
+ghost use Rattle.cli_calls.specs.Running.{lent, Ran};
+ghost use Rattle.cli_calls.specs.Writing.{Wrote};
+
+use crate::command::{Command, Input, run};
+use crate::fault::CliFault;
+use crate::form::{LineForm, put_in_form};
+use crate::info::write_outline;
+use crate::read::read_outline;
+use mt_bwfread::Wave;
+use mt_latch::Latch;
+use mt_outline::Outline;
+use std::alloc::{Allocator, Global};
+use std::io::{Read, Write};
+
+/// In what the positions and lengths of a file are printed.
+#[derive(Clone, Copy)]
+pub enum InfoUnit {
+    /// In frames.
+    Frames,
+    /// As times, at the file's own rate.
+    OwnRate,
+    /// As times, at this many frames a second, of which 0 counts as 1.
+    Rate(u32),
+}
+
+/// In which form the lines about a file are printed.
+#[derive(Clone, Copy)]
+pub struct InfoForm {
+    /// The unit of positions and lengths.
+    pub unit: InfoUnit,
+    /// A JSON object for each line, made in this memory.
+    pub json: Option<Global>,
+}
+
+// At how many frames a second times are printed of the file of this outline, if they are.
+fn rate_in<A: Allocator>(unit: InfoUnit, outline: &Outline<A>) -> Option<u32>
+    ensures { (bytes : List ℕ) → IsOutline bytes outline.now → IsWave bytes → result ≡ rate_in unit bytes }
+{
+    match unit {
+        InfoUnit::Frames => None,
+        InfoUnit::Rate(rate) => Some(rate),
+        InfoUnit::OwnRate => match Wave::read(outline.bytes()) {
+            Ok(wave) => Some(wave.rate()),
+            Err(_) => None,
+        },
+    }
+}
+
+// Writes what the file of this outline says, in lines of a form. What is as it is need not be made in memory.
+fn put_lines<A: Allocator + Clone, W: Write>(
+    alloc: A,
+    lines: LineForm,
+    outline: &Outline<A>,
+    output: &mut Latch<W>,
+) -> Result<(), CliFault>
+    ensures { Wrote W.contents (OutlineInformsIn lines outline.now) output.old output.new result }
+{
+    if lines.is_plain() {
+        return write_outline(alloc, outline, output);
+    }
+    let mut text = Latch::new(Vec::new(alloc.clone()?));
+    match write_outline(alloc.clone()?, outline, &mut text) {
+        Ok(()) => put_in_form(alloc, lines, &text.into_inner(), output),
+        Err(CliFault::Source(place, fault)) => Err(CliFault::Source(place, fault)),
+        Err(_) => Err(CliFault::Memory),
+    }
+}
+
+// One input, of which the outline is kept.
+struct OneOutline;
+
+impl<A: Allocator + Clone> Input<A> for OneOutline {
+    ghost use Rattle.std.specs.Prelude.{◌≡◌, length};
+    ghost use Rattle.cli_calls.specs.Info.{GaveOutline};
+    ghost use Rattle.cli_calls.specs.Reading.{BytesCause};
+
+    type Value = Outline<A>;
+
+    ghost fits = { λ s R inputs. length inputs ≡ 1 };
+
+    ghost given = { λ s R remaining. GaveOutline remaining };
+
+    ghost cause = { λ s R remaining. BytesCause remaining };
+
+    fn read_from<R: Read>(
+        &self,
+        alloc: &A,
+        inputs: &mut [Latch<R>],
+    ) -> Result<Outline<A>, CliFault> {
+        read_outline(alloc, 0, &mut inputs[0])
+    }
+}
+
+// What a file says of itself, in a form.
+#[derive(Drop)]
+struct Info {
+    form: InfoForm,
+}
+
+impl<A: Allocator + Clone> Command<A, Outline<A>> for Info {
+    ghost use Rattle.cli_calls.specs.Info.{OutlineInformsBy};
+
+    ghost makes = { λ info. OutlineInformsBy info.form };
+
+    fn write_value<W: Write>(
+        &self,
+        alloc: A,
+        outline: Outline<A>,
+        output: &mut Latch<W>,
+    ) -> Result<(), CliFault> {
+        let lines = LineForm {
+            rate: rate_in(self.form.unit, &outline),
+            json: self.form.json,
+        };
+        put_lines(alloc, lines, &outline, output)
+    }
+}
+
+/// Writes what the wave file of the one input says of itself: the text of `write_info`, in a form. The samples
+/// are not kept, so the memory is that of the file without them.
+///
+/// Errors, in this order: `Read` (45) with index 0 where the input's latch has failed; `Source` (26 to 32)
+/// with index 0 where the file is no wave file; `Write` (37) where the output's latch has failed, which
+/// then holds a prefix of the text; `Memory` (0) where an allocation failed. Nothing is written before the
+/// file has been read to its end.
+pub fn info_file<A: Allocator + Clone, R: Read, W: Write>(
+    alloc: A,
+    form: InfoForm,
+    inputs: &mut [Latch<R>],
+    output: &mut Latch<W>,
+) -> Result<(), CliFault>
+    requires one { length inputs.old ≡ 1 }
+    ensures { Ran R.remaining (GaveBytes R.remaining) (BytesCause R.remaining) (InformsBy form) W.contents
+        (lent inputs.old output.old) (lent inputs.new output.new) result }
+{
+    run(&OneOutline, &Info { form }, alloc, inputs, output)
+}

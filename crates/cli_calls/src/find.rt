@@ -1,0 +1,222 @@
+//! Finding the items of a log's session.
+
+ghost use Rattle.std.specs.Prelude.{◌≡◌, ◌++◌, ◌∷◌, [], length, if◌then◌else◌, IfOk, OnOk};
+ghost use Rattle.std.specs.Str.{bytes_eq};
+ghost use Rattle.std.specs.String.{string_bytes};
+ghost use Rattle.mt_preflight.specs.Files.{is_same};
+ghost use Rattle.mt_preflight.specs.Played.{all_clips};
+ghost use Rattle.mt_stamp.specs.Texts.{stamp_text};
+ghost use Rattle.mt_sessionview.specs.SessionText.{newline};
+ghost use Rattle.cli_calls.specs.Finding.{tracks_titled, markers_titled, clips_playing, found, stamp_lines, answer, Finding};
+ghost use Rattle.cli_calls.specs.Reading.{GaveOne, OneCause};
+ghost use Rattle.cli_calls.specs.Running.{lent, Ran};
+ghost use Rattle.cli_calls.specs.Writing.{Wrote};
+
+use crate::command::{Command, run};
+use crate::fault::CliFault;
+use crate::put::put_bytes;
+use crate::union::OneLog;
+use mt_latch::Latch;
+use mt_op::{Digest, Title};
+use mt_opcodec::Log;
+use mt_sessionview::{ClipView, MarkerView, Session, TrackView, from_scratch};
+use mt_stamp::Stamp;
+use std::alloc::{AllocError, Allocator};
+use std::io::{Read, Write};
+
+/// What items are looked for by.
+#[derive(Clone, Copy)]
+pub enum Wanted<'a> {
+    /// Tracks whose title is exactly this text.
+    Track(&'a str),
+    /// Markers whose title is exactly this text.
+    Marker(&'a str),
+    /// Clips that play the recording of this digest.
+    Clip(Digest),
+}
+
+// Whether a title is this text.
+fn is_titled<A: Allocator>(title: &Title<A>, text: &str) -> bool
+    ensures { result ≡ bytes_eq title.now text.now }
+{
+    title.text() == text
+}
+
+// Whether a clip plays the recording of this digest.
+fn plays(clip: &ClipView, source: Digest) -> bool
+    ensures { result ≡ is_same clip.now.source source }
+{
+    clip.source.cmp(&source).is_eq()
+}
+
+// Puts a stamp behind others, where it is one that is looked for.
+fn push_where<A: Allocator>(
+    is_found: bool,
+    stamp: Stamp,
+    stamps: &mut Vec<Stamp, A>,
+) -> Result<(), AllocError>
+    ensures { OnOk result (stamps.new.items ≡ stamps.old.items ++ (if is_found then stamp ∷ [] else [])) }
+{
+    if !is_found {
+        return Ok(());
+    }
+    stamps.push(stamp)?;
+    Ok(())
+}
+
+// The stamps of the tracks of this title.
+fn tracks_titled<A: Allocator, B: Allocator>(
+    alloc: A,
+    title: &str,
+    tracks: &[TrackView<B>],
+) -> Result<Vec<Stamp, A>, AllocError>
+    ensures { IfOk result (λ stamps. stamps.items ≡ tracks_titled title.now tracks.now) }
+{
+    let mut stamps = Vec::new(alloc);
+    for track in tracks {
+        push_where(is_titled(&track.title, title), track.track, &mut stamps)?;
+    }
+    Ok(stamps)
+}
+
+// The stamps of the markers of this title.
+fn markers_titled<A: Allocator, B: Allocator>(
+    alloc: A,
+    title: &str,
+    markers: &[MarkerView<B>],
+) -> Result<Vec<Stamp, A>, AllocError>
+    ensures { IfOk result (λ stamps. stamps.items ≡ markers_titled title.now markers.now) }
+{
+    let mut stamps = Vec::new(alloc);
+    for marker in markers {
+        push_where(is_titled(&marker.title, title), marker.marker, &mut stamps)?;
+    }
+    Ok(stamps)
+}
+
+// Puts the stamps of those of these clips behind others that play the recording of this digest.
+fn push_playing<A: Allocator>(
+    source: Digest,
+    clips: &[ClipView],
+    stamps: &mut Vec<Stamp, A>,
+) -> Result<(), AllocError>
+    ensures { OnOk result (stamps.new.items ≡ stamps.old.items ++ clips_playing source clips.now) }
+{
+    for clip in clips {
+        push_where(plays(clip, source), clip.clip, stamps)?;
+    }
+    Ok(())
+}
+
+// The stamps of the clips of all tracks that play the recording of this digest.
+fn clips_playing<A: Allocator, B: Allocator>(
+    alloc: A,
+    source: Digest,
+    tracks: &[TrackView<B>],
+) -> Result<Vec<Stamp, A>, AllocError>
+    ensures { IfOk result (λ stamps. stamps.items ≡ clips_playing source (all_clips tracks.now)) }
+{
+    let mut stamps = Vec::new(alloc);
+    for track in tracks {
+        push_playing(source, track.clips.items(), &mut stamps)?;
+    }
+    Ok(stamps)
+}
+
+// The stamps of the items of a session that have what is looked for.
+fn found<A: Allocator, B: Allocator>(
+    alloc: A,
+    wanted: &Wanted<'_>,
+    session: &Session<B>,
+) -> Result<Vec<Stamp, A>, AllocError>
+    ensures { IfOk result (λ stamps. stamps.items ≡ found wanted.now session.now) }
+{
+    match *wanted {
+        Wanted::Track(title) => tracks_titled(alloc, title, session.tracks.items()),
+        Wanted::Marker(title) => markers_titled(alloc, title, session.markers.items()),
+        Wanted::Clip(source) => clips_playing(alloc, source, session.tracks.items()),
+    }
+}
+
+// Writes a stamp and a line feed.
+fn append_line<A: Allocator>(text: &mut String<A>, stamp: Stamp) -> Result<(), AllocError>
+    ensures { OnOk result (string_bytes text.new ≡ string_bytes text.old ++ (stamp_text stamp ++ newline ∷ [])) }
+{
+    stamp.append_text(text)?;
+    text.push_str("\n")
+}
+
+// Stamps, a line each.
+fn stamp_lines<A: Allocator>(alloc: A, stamps: &[Stamp]) -> Result<String<A>, AllocError>
+    ensures { IfOk result (λ text. string_bytes text ≡ stamp_lines stamps.now) }
+{
+    let mut text = String::new(alloc);
+    for stamp in stamps {
+        append_line(&mut text, *stamp)?;
+    }
+    Ok(text)
+}
+
+// Writes the lines of what was found, where it may be told.
+fn put_answer<A: Allocator, W: Write>(
+    alloc: A,
+    one: bool,
+    stamps: &[Stamp],
+    output: &mut Latch<W>,
+) -> Result<(), CliFault>
+    ensures { Wrote W.contents (λ made. made ≡ answer one stamps.now) output.old output.new result }
+{
+    if one && stamps.len() != 1 {
+        return Err(CliFault::NoSuchItem(stamps.len()));
+    }
+    let text = stamp_lines(alloc, stamps)?;
+    put_bytes(text.as_bytes(), output)
+}
+
+// The items of a log's session that have what is looked for.
+#[derive(Drop)]
+struct Find<'w, 'a> {
+    one: bool,
+    wanted: &'w Wanted<'a>,
+}
+
+impl<A: Allocator + Clone> Command<A, Log<A>> for Find<'_, '_> {
+    ghost use Rattle.cli_calls.specs.Finding.{Finding};
+
+    ghost makes = { λ find. Finding find.one find.wanted.now };
+
+    fn write_value<W: Write>(
+        &self,
+        alloc: A,
+        log: Log<A>,
+        output: &mut Latch<W>,
+    ) -> Result<(), CliFault> {
+        let Ok(session) = from_scratch(alloc.clone()?, &log) else {
+            return Err(CliFault::Memory);
+        };
+        let stamps = found(alloc.clone()?, self.wanted, &session)?;
+        put_answer(alloc, self.one, &stamps, output)
+    }
+}
+
+/// Writes the stamps of the items of the session of the log of the one input that have what is looked for, a
+/// line each in the session's order: of tracks and markers those whose title is exactly that text, of clips
+/// those of all tracks that play that recording. Where `one` is asked, it has to be exactly one item.
+///
+/// Errors, in this order: `Read` (45) where the input's latch has failed, or `Log` (11 to 16, 52) where its
+/// bytes are no log, each with index 0; `NoSuchItem` (21) with how many items there are, where one is asked
+/// and it is another number; `Write` (37) where the output's latch has failed, which then holds a prefix of
+/// the text; `Memory` (0) where an allocation failed.
+pub fn find_items<A: Allocator + Clone, R: Read, W: Write>(
+    alloc: A,
+    one: bool,
+    wanted: &Wanted<'_>,
+    inputs: &mut [Latch<R>],
+    output: &mut Latch<W>,
+) -> Result<(), CliFault>
+    requires one_input { length inputs.old ≡ 1 }
+    ensures { Ran R.remaining (GaveOne R.remaining) (OneCause R.remaining) (Finding one wanted.now) W.contents
+        (lent inputs.old output.old) (lent inputs.new output.new) result }
+{
+    run(&OneLog, &Find { one, wanted }, alloc, inputs, output)
+}

@@ -1,0 +1,89 @@
+//! The forms in which lines are printed.
+
+ghost use Rattle.std.specs.Prelude.{◌≡◌, ◌≤◌, max, None, IsTrue, IfOk};
+ghost use Rattle.mt_lines.specs.Json.{json_text};
+ghost use Rattle.mt_lines.specs.Saying.{timed_text};
+ghost use Rattle.cli_calls.specs.Form.{in_form, with_times};
+ghost use Rattle.cli_calls.specs.Writing.{Exactly, Wrote};
+
+use crate::fault::CliFault;
+use crate::put::put_bytes;
+use mt_latch::Latch;
+use mt_lines::{json_text, timed_text};
+use std::alloc::{AllocError, Allocator, Global};
+use std::io::Write;
+
+/// The form in which the lines of a text are printed: as they are, or changed in one or both of two ways.
+#[derive(Clone, Copy)]
+pub struct LineForm {
+    /// Positions and lengths as times, at so many frames a second, of which 0 counts as 1; else in frames.
+    pub rate: Option<u32>,
+    /// A JSON object for each line, which is made in this memory.
+    pub json: Option<Global>,
+}
+
+impl LineForm {
+    /// Lines as they are.
+    pub const PLAIN: LineForm = LineForm {
+        rate: None,
+        json: None,
+    };
+
+    /// Whether lines are printed as they are.
+    pub(crate) fn is_plain(&self) -> bool
+        ensures { IsTrue result → (self.now.rate ≡ None) × (self.now.json ≡ None) }
+    {
+        self.rate.is_none() && self.json.is_none()
+    }
+}
+
+/// A rate, of which 0 counts as 1.
+pub(crate) fn at_least_one(rate: u32) -> u32
+    ensures value { result ≡ max rate 1 }
+    ensures some { 1 ≤ result }
+{
+    if rate == 0 { 1 } else { rate }
+}
+
+// A text with times at a rate, of which 0 counts as 1.
+fn timed_at<A: Allocator>(alloc: A, rate: u32, text: &[u8]) -> Result<Vec<u8, A>, AllocError>
+    ensures { IfOk result (λ timed. timed.items ≡ timed_text (max rate 1) text.now) }
+{
+    timed_text(alloc, at_least_one(rate), text)
+}
+
+// A text with a JSON object for each line, with times or without.
+fn as_objects<A: Allocator>(
+    alloc: A,
+    memory: Global,
+    rate: Option<u32>,
+    text: &[u8],
+) -> Result<Vec<u8>, AllocError>
+    ensures { IfOk result (λ json. json.items ≡ json_text (with_times rate text.now)) }
+{
+    let Some(rate) = rate else {
+        return json_text(memory, text);
+    };
+    let timed = timed_at(alloc, rate, text)?;
+    json_text(memory, &timed)
+}
+
+/// Writes a text in a form, and nothing else.
+pub(crate) fn put_in_form<A: Allocator + Clone, W: Write>(
+    alloc: A,
+    form: LineForm,
+    text: &[u8],
+    output: &mut Latch<W>,
+) -> Result<(), CliFault>
+    ensures { Wrote W.contents (Exactly (in_form form text.now)) output.old output.new result }
+{
+    if let Some(memory) = form.json {
+        let json = as_objects(alloc, memory, form.rate, text)?;
+        return put_bytes(&json, output);
+    }
+    let Some(rate) = form.rate else {
+        return put_bytes(text, output);
+    };
+    let timed = timed_at(alloc, rate, text)?;
+    put_bytes(&timed, output)
+}

@@ -1,0 +1,208 @@
+//! Reading one input, and several of one kind.
+
+ghost use Rattle.std.specs.Prelude.{◌≡◌, ◌≢◌, ◌+◌, ◌<◌, ◌^◌, ℕ, List, Option, IfOk, IfErr, OnOk};
+ghost use Rattle.mt_latch.specs.Latch.{Latched};
+ghost use Rattle.mt_opcodec.specs.declared.fault.LogFault.TheVariants as log;
+ghost use Rattle.mt_outline.specs.Outline.{Gives};
+ghost use Rattle.cli_calls.specs.declared.fault.CliFault.{CliFault as Fault};
+ghost use Rattle.cli_calls.specs.declared.fault.CliFault.TheVariants.{Memory};
+ghost use Rattle.cli_calls.specs.Reading.{Gave, GaveDigest, GaveEach, GaveLog, IsRead, IsRest, AreRead, IsReadCause, IsCause, FirstCause};
+
+use crate::fault::CliFault;
+use crate::laws::log_in_memory;
+use mt_latch::{Latch, LatchFault};
+use mt_op::Digest;
+use mt_opcodec::{Log, LogFault};
+use mt_outline::Outline;
+use std::alloc::Allocator;
+use std::io::Read;
+
+// How many bytes `read_into` asks for in one read.
+const PIECE: usize = 65_536;
+
+/// Reads the bytes of the input of this index.
+pub(crate) fn read_all<A: Allocator + Clone, R: Read>(
+    alloc: &A,
+    index: usize,
+    input: &mut Latch<R>,
+) -> Result<Vec<u8, A>, CliFault>
+    ensures read { OnOk result (IsRead R.remaining input.new) }
+    ensures ok { IfOk result (λ bytes. Gave R.remaining input.old bytes.items) }
+    ensures rest { IsRest R.remaining input.old input.new }
+    ensures err { IfErr result (IsReadCause index input.new) }
+{
+    match input.get_all(alloc.clone()?) {
+        Ok(bytes) => Ok(bytes),
+        Err(LatchFault::Memory) => Err(CliFault::Memory),
+        Err(_) => Err(CliFault::Read(index)),
+    }
+}
+
+/// Reads the bytes of the input of this index into the room of a vector, whose own bytes are gone.
+pub(crate) fn read_into<A: Allocator, R: Read>(
+    room: Vec<u8, A>,
+    index: usize,
+    input: &mut Latch<R>,
+) -> Result<Vec<u8, A>, CliFault>
+    ensures read { OnOk result (IsRead R.remaining input.new) }
+    ensures ok { IfOk result (λ bytes. Gave R.remaining input.old bytes.items) }
+    ensures rest { IsRest R.remaining input.old input.new }
+    ensures err { IfErr result (IsReadCause index input.new) }
+{
+    let mut bytes = room;
+    bytes.clear();
+    let mut piece = [0; PIECE];
+    loop {
+        let Ok(count) = input.get(&mut piece) else {
+            return Err(CliFault::Read(index));
+        };
+        if count == 0 {
+            return Ok(bytes);
+        }
+        bytes.extend_from_slice(&piece[..count])?;
+    }
+}
+
+/// Reads the outline of the file of the input of this index.
+pub(crate) fn read_outline<A: Allocator + Clone, R: Read>(
+    alloc: &A,
+    index: usize,
+    input: &mut Latch<R>,
+) -> Result<Outline<A>, CliFault>
+    ensures read { OnOk result (IsRead R.remaining input.new) }
+    ensures ok { IfOk result (λ outline. Gives (R.remaining input.old.inner) outline) }
+    ensures rest { IsRest R.remaining input.old input.new }
+    ensures err { IfErr result (IsReadCause index input.new) }
+{
+    match Outline::read(alloc.clone()?, input) {
+        Ok(outline) => Ok(outline),
+        Err(LatchFault::Memory) => Err(CliFault::Memory),
+        Err(_) => Err(CliFault::Read(index)),
+    }
+}
+
+/// Reads the file of the input of this index, and keeps its digest alone.
+///
+/// Of a wave file no sample is held meanwhile, where they begin in the first MiB.
+pub fn read_digest<A: Allocator + Clone, R: Read>(
+    alloc: &A,
+    index: usize,
+    input: &mut Latch<R>,
+) -> Result<Digest, CliFault>
+    ensures read { OnOk result (IsRead R.remaining input.new) }
+    ensures ok { IfOk result (GaveDigest R.remaining input.old) }
+    ensures rest { IsRest R.remaining input.old input.new }
+    ensures err { IfErr result (IsReadCause index input.new) }
+{
+    match read_outline(alloc, index, input) {
+        Ok(outline) => Ok(Digest(outline.digest())),
+        Err(fault) => Err(fault),
+    }
+}
+
+/// Reads the log of the input of this index.
+pub(crate) fn read_log<A: Allocator + Clone, R: Read>(
+    alloc: &A,
+    index: usize,
+    input: &mut Latch<R>,
+) -> Result<Log<A>, CliFault>
+    ensures read { OnOk result (IsRead R.remaining input.new) }
+    ensures ok { IfOk result (λ log. GaveLog R.remaining input.old log) }
+    ensures rest { IsRest R.remaining input.old input.new }
+    ensures err { IfErr result (IsCause R.remaining index input.old input.new) }
+{
+    let bytes = read_all(alloc, index, input)?;
+    match Log::read(alloc.clone()?, &bytes) {
+        Ok(log) => {
+            log_in_memory(&log);
+            Ok(log)
+        }
+        Err(fault) => Err(refused(index, fault)),
+    }
+}
+
+/// Why the bytes of the input of this index are no log's text.
+pub(crate) fn refused(index: usize, fault: LogFault) -> CliFault
+    ensures memory { fault ≡ log.Memory → result ≡ CliFault.Memory }
+    ensures other { fault ≢ log.Memory → result ≡ CliFault.Log index fault }
+{
+    match fault {
+        LogFault::Memory => CliFault::Memory,
+        _ => CliFault::Log(index, fault),
+    }
+}
+
+/// What is read of one input.
+pub(crate) trait OneInput<A: Allocator> {
+    /// What it gives.
+    type Value;
+
+    ghost gives: { Self → (R : Type 0) → (R → Option (List ℕ)) → Latched R → Self.Value → Type 0 };
+
+    ghost cause: { Self → (R : Type 0) → (R → Option (List ℕ)) → ℕ → Latched R → Latched R → Fault → Type 0 };
+
+    /// Reads the input of this index.
+    fn read_one<R: Read>(
+        &self,
+        alloc: &A,
+        index: usize,
+        input: &mut Latch<R>,
+    ) -> Result<Self::Value, CliFault>
+        requires few { index + 1 < 2 ^ 64 }
+        ensures read { OnOk result (IsRead R.remaining input.new) }
+        ensures ok { IfOk result (gives self.now R R.remaining input.old) }
+        ensures rest { IsRest R.remaining input.old input.new }
+        ensures err { IfErr result (cause self.now R R.remaining index input.old input.new) };
+
+    /// For the proof: that memory which runs out is a cause, whatever was read.
+    fn starves<R: Read>(&self)
+        ensures { (index : ℕ) (old new : Latched R) → IsRest R.remaining old new
+            → cause self.now R R.remaining index old new Memory };
+}
+
+/// Reads each input, from left to right.
+pub(crate) fn read_each<A: Allocator + Clone, I: OneInput<A>, R: Read>(
+    one: &I,
+    alloc: &A,
+    inputs: &mut [Latch<R>],
+) -> Result<Vec<I::Value, A>, CliFault>
+where
+    I::Value: Drop,
+    ensures read { OnOk result (AreRead R.remaining inputs.new) }
+    ensures ok { IfOk result (λ values. GaveEach (I.gives one.now R R.remaining) inputs.old values.items) }
+    ensures err { IfErr result (FirstCause (IsRead R.remaining) (I.gives one.now R R.remaining)
+        (I.cause one.now R R.remaining) 0 inputs.old inputs.new) }
+{
+    one.starves::<R>();
+    let mut values = Vec::new(alloc.clone()?);
+    for place in 0..inputs.len() {
+        let input = &mut inputs[place];
+        let value = one.read_one(alloc, place, input)?;
+        values.push(value)?;
+    }
+    Ok(values)
+}
+
+/// An input that is a log.
+pub(crate) struct LogInput;
+
+impl<A: Allocator + Clone> OneInput<A> for LogInput {
+    ghost use Rattle.cli_calls.specs.Reading.{GaveLog, IsCause};
+
+    type Value = Log<A>;
+
+    ghost gives = { λ s R remaining. GaveLog remaining };
+
+    ghost cause = { λ s R remaining. IsCause remaining };
+
+    fn read_one<R: Read>(
+        &self,
+        alloc: &A,
+        index: usize,
+        input: &mut Latch<R>,
+    ) -> Result<Log<A>, CliFault> {
+        read_log(alloc, index, input)
+    }
+
+    fn starves<R: Read>(&self) {}
+}

@@ -1,0 +1,235 @@
+//! Reading recordings.
+
+ghost use Rattle.std.specs.Prelude.{◌≡◌, ◌+◌, ◌++◌, ◌∷◌, [], ◌<◌, ◌≤◌, ◌^◌, length, map, if◌then◌else◌, IfOk, IfErr, OnOk};
+ghost use Rattle.std.specs.List.{AllByRecursion};
+ghost use Rattle.std.specs.Vec.{vec_capacity};
+ghost use Rattle.sha2.specs.Sha256.{sha256};
+ghost use Rattle.mt_bwfread.specs.Wave.{IsWave};
+ghost use Rattle.mt_op.specs.declared.digest.Digest.{Digest as DigestOf};
+ghost use Rattle.mt_preflight.specs.Using.{plays};
+ghost use Rattle.mt_render.specs.Sources.{found, sources_of};
+ghost use Rattle.cli_calls.specs.Reading.{Gave, IsRead, IsRest, AreRead};
+ghost use Rattle.cli_calls.specs.Sources.{IsSourceCause, HasSourceCause, HoldWanted, GaveKept, GaveWaves, bytes_in};
+
+use crate::fault::CliFault;
+use crate::read::read_into;
+use mt_bwfread::Wave;
+use mt_digests::digests_of;
+use mt_latch::Latch;
+use mt_op::Digest;
+use mt_preflight::Audible;
+use mt_render::{Catalogue, HashedFile};
+use std::alloc::{AllocError, Allocator};
+use std::io::Read;
+use std::mem;
+
+// How many recordings are held until they are hashed together and those that are not audible are let go.
+const GROUP: usize = 8;
+
+// The greatest room of a recording that is let go, in bytes, into which another one is read: so the memory of a group of short ones is taken once, and
+// that of a long one is given back.
+const ROOM: usize = 33_554_432;
+
+/// Reads the wave file of the recording of this index, which stands behind so many other inputs, into the room of a vector.
+pub(crate) fn read_source<A: Allocator, R: Read>(
+    room: Vec<u8, A>,
+    others: usize,
+    index: usize,
+    input: &mut Latch<R>,
+) -> Result<Vec<u8, A>, CliFault>
+    requires few { others + index < 2 ^ 64 }
+    ensures read { OnOk result (IsRead R.remaining input.new) }
+    ensures ok { IfOk result (λ bytes. Gave R.remaining input.old bytes.items × IsWave bytes.items) }
+    ensures rest { IsRest R.remaining input.old input.new }
+    ensures err { IfErr result (IsSourceCause R.remaining others index input.old input.new) }
+{
+    let bytes = match read_into(room, others + index, input) {
+        Ok(bytes) => bytes,
+        Err(fault) => return Err(fault),
+    };
+    match Wave::read(&bytes) {
+        Ok(_) => Ok(bytes),
+        Err(fault) => Err(CliFault::Source(index, fault)),
+    }
+}
+
+// The digests of recordings.
+fn digests_in<A: Allocator + Clone>(
+    alloc: A,
+    texts: &[Vec<u8, A>],
+) -> Result<Vec<[u8; 32], A>, AllocError>
+    ensures { IfOk result (λ digests. digests.items ≡ map sha256 (bytes_in texts.now)) }
+{
+    let mut files = Vec::new(alloc.clone()?);
+    for text in texts {
+        files.push(text.as_slice())?;
+    }
+    let digests = digests_of(alloc, &files)?;
+    Ok(digests)
+}
+
+// Moves a recording behind what is kept, if it is audible, and in no more room than it needs.
+fn keep_one<A: Allocator + Clone>(
+    alloc: &A,
+    audible: &Audible<A>,
+    digest: Digest,
+    text: &mut Vec<u8, A>,
+    kept: &mut Vec<HashedFile<A>, A>,
+) -> Result<(), AllocError>
+    requires hashed { digest.0 ≡ sha256 text.old.items }
+    ensures { OnOk result (kept.new.items ≡ (if plays audible.now.uses digest then kept.old.items ++ text.old.items ∷
+        [] else kept.old.items)) }
+{
+    if !audible.plays(&digest) {
+        return Ok(());
+    }
+    let mut bytes = mem::replace(text, Vec::new(alloc.clone()?));
+    bytes.shrink_to_fit();
+    kept.push(HashedFile::new(digest, bytes))?;
+    Ok(())
+}
+
+// Moves those recordings of these digests that are audible behind what is kept.
+fn keep_each<A: Allocator + Clone>(
+    alloc: &A,
+    audible: &Audible<A>,
+    digests: &[[u8; 32]],
+    group: &mut [Vec<u8, A>],
+    kept: &mut Vec<HashedFile<A>, A>,
+) -> Result<(), AllocError>
+    requires digests { digests.now ≡ map sha256 (bytes_in group.old) }
+    ensures { OnOk result (HoldWanted (plays audible.now.uses) kept.new.items (kept.old.items ++ bytes_in group.old)) }
+{
+    for index in 0..group.len() {
+        let digest = Digest(digests[index]);
+        let text = &mut group[index];
+        keep_one(alloc, audible, digest, text, kept)?;
+    }
+    Ok(())
+}
+
+// Leaves a group with nothing, and the room of its recordings for others, where that is not large.
+fn make_room<A: Allocator>(
+    group: &mut Vec<Vec<u8, A>, A>,
+    rooms: &mut Vec<Vec<u8, A>, A>,
+) -> Result<(), AllocError>
+    ensures empty { OnOk result (group.new.items ≡ []) }
+    ensures small { OnOk result (AllByRecursion (λ room. vec_capacity room ≤ 33554432) rooms.new.items) }
+{
+    rooms.clear();
+    while let Some(text) = group.pop() {
+        if text.capacity() <= ROOM {
+            rooms.push(text)?;
+        }
+    }
+    Ok(())
+}
+
+// Moves those recordings of a group that are audible behind what is kept, and lets the others go, but for their room.
+fn keep_group<A: Allocator + Clone>(
+    alloc: &A,
+    audible: &Audible<A>,
+    group: &mut Vec<Vec<u8, A>, A>,
+    rooms: &mut Vec<Vec<u8, A>, A>,
+    kept: &mut Vec<HashedFile<A>, A>,
+) -> Result<(), AllocError>
+    ensures holds { OnOk result (HoldWanted (plays audible.now.uses) kept.new.items
+        (kept.old.items ++ bytes_in group.old.items)) }
+    ensures empty { OnOk result (group.new.items ≡ []) }
+{
+    let digests = digests_in(alloc.clone()?, group)?;
+    keep_each(alloc, audible, &digests, group, kept)?;
+    make_room(group, rooms)?;
+    Ok(())
+}
+
+// The same of a group that is whole; of another nothing.
+fn keep_whole<A: Allocator + Clone>(
+    alloc: &A,
+    audible: &Audible<A>,
+    group: &mut Vec<Vec<u8, A>, A>,
+    rooms: &mut Vec<Vec<u8, A>, A>,
+    kept: &mut Vec<HashedFile<A>, A>,
+) -> Result<(), AllocError>
+    ensures { OnOk result (HoldWanted (plays audible.now.uses) (kept.new.items ++ bytes_in group.new.items)
+        (kept.old.items ++ bytes_in group.old.items)) }
+{
+    if group.len() < GROUP {
+        return Ok(());
+    }
+    keep_group(alloc, audible, group, rooms, kept)?;
+    Ok(())
+}
+
+// Room that is there, or none yet.
+fn next_room<A: Allocator>(alloc: A, rooms: &mut Vec<Vec<u8, A>, A>) -> Vec<u8, A> {
+    match rooms.pop() {
+        Some(room) => room,
+        None => Vec::new(alloc),
+    }
+}
+
+/// Reads the wave file of each recording, from left to right, and keeps those that are audible, each with its digest. They stand behind so many other
+/// inputs. In memory are at most eight at a time beside those that are kept, or room for eight of at most 32 MiB.
+pub(crate) fn read_audible<A: Allocator + Clone, R: Read>(
+    alloc: A,
+    others: usize,
+    audible: &Audible<A>,
+    inputs: &mut [Latch<R>],
+) -> Result<Vec<HashedFile<A>, A>, CliFault>
+    requires few { others + length inputs.old < 2 ^ 64 }
+    ensures read { OnOk result (AreRead R.remaining inputs.new) }
+    ensures ok { IfOk result (λ kept. GaveKept R.remaining (plays audible.now.uses) inputs.old kept.items) }
+    ensures err { IfErr result (HasSourceCause R.remaining others 0 inputs.old inputs.new) }
+{
+    let mut kept = Vec::new(alloc.clone()?);
+    let mut group = Vec::new(alloc.clone()?);
+    let mut rooms = Vec::new(alloc.clone()?);
+    for place in 0..inputs.len() {
+        let input = &mut inputs[place];
+        let room = next_room(alloc.clone()?, &mut rooms);
+        let text = read_source(room, others, place, input)?;
+        group.push(text)?;
+        keep_whole(&alloc, audible, &mut group, &mut rooms, &mut kept)?;
+    }
+    keep_group(&alloc, audible, &mut group, &mut rooms, &mut kept)?;
+    Ok(kept)
+}
+
+/// Reads the wave file of each recording, from left to right, and keeps all of them, each with its digest. They stand behind so many other inputs.
+pub fn read_all_sources<A: Allocator + Clone, R: Read>(
+    alloc: A,
+    others: usize,
+    inputs: &mut [Latch<R>],
+) -> Result<Vec<HashedFile<A>, A>, CliFault>
+    requires few { others + length inputs.old < 2 ^ 64 }
+    ensures read { OnOk result (AreRead R.remaining inputs.new) }
+    ensures ok { IfOk result (λ kept. GaveWaves R.remaining inputs.old kept.items) }
+    ensures err { IfErr result (HasSourceCause R.remaining others 0 inputs.old inputs.new) }
+{
+    let mut kept = Vec::new(alloc.clone()?);
+    for place in 0..inputs.len() {
+        let input = &mut inputs[place];
+        let room = Vec::new(alloc.clone()?);
+        let text = read_source(room, others, place, input)?;
+        kept.push(HashedFile::new(Digest::of(&text), text))?;
+    }
+    Ok(kept)
+}
+
+/// The recordings under their digests. Each was read as a wave file before, so that only memory refuses it.
+pub fn catalogue_of<'a, A: Allocator + Clone>(
+    alloc: A,
+    kept: &'a [HashedFile<A>],
+) -> Result<Catalogue<'a, A>, AllocError>
+    ensures { IfOk result (λ c. (d : DigestOf) → found c d ≡ found (sources_of kept.now) d) }
+{
+    let mut catalogue = Catalogue::new(alloc);
+    for file in kept {
+        match catalogue.add_hashed(file) {
+            Ok(()) => {}
+            Err(_) => return Err(AllocError),
+        }
+    }
+    Ok(catalogue)
+}

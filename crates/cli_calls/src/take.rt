@@ -1,0 +1,92 @@
+//! Taking the operations that another editor sent.
+
+ghost use Rattle.std.specs.Prelude.{◌≡◌, length, IfOk, IfErr};
+ghost use Rattle.cli_calls.specs.Faults.{sync_fault};
+ghost use Rattle.cli_calls.specs.Reading.{GaveBoth, BothCause};
+ghost use Rattle.cli_calls.specs.Running.{lent, Ran};
+ghost use Rattle.cli_calls.specs.Swapping.{TakeMakes, Taken, NotTaken};
+
+use crate::both::{Both, LogThenBytes};
+use crate::command::{Command, run};
+use crate::fault::CliFault;
+use crate::put::put_log;
+use mt_latch::Latch;
+use mt_opcodec::Log;
+use mt_sync::{GrowingLog, SyncFault, TalkFault, take_ops};
+use std::alloc::{Allocator, Global};
+use std::io::{Read, Write};
+
+/// Why a conversation stopped, or operations were not taken.
+pub(crate) fn refused_sync(fault: SyncFault) -> CliFault
+    ensures { result ≡ sync_fault fault }
+{
+    match fault {
+        SyncFault::Talk(TalkFault::Memory) => CliFault::Memory,
+        _ => CliFault::Sync(fault),
+    }
+}
+
+/// A log with the operations that another editor sent.
+pub(crate) fn with_sent<A: Allocator + Clone>(
+    alloc: A,
+    frames: Global,
+    log: Log<A>,
+    sent: &[u8],
+) -> Result<Log<A>, CliFault>
+    ensures ok { IfOk result (Taken log sent.now) }
+    ensures err { IfErr result (NotTaken log sent.now) }
+{
+    let mut growing = GrowingLog::new(alloc.clone()?, log)?;
+    match take_ops(alloc, frames, &mut growing, sent) {
+        Ok(()) => match growing.into_log() {
+            Ok(log) => Ok(log),
+            Err(_) => Err(CliFault::Memory),
+        },
+        Err(fault) => Err(refused_sync(fault)),
+    }
+}
+
+// A log with the operations that another editor sent.
+#[derive(Drop)]
+struct Take {
+    frames: Global,
+}
+
+impl<A: Allocator + Clone> Command<A, Both<A>> for Take {
+    ghost use Rattle.cli_calls.specs.Swapping.{TakeMakes};
+
+    ghost makes = { λ _. TakeMakes };
+
+    fn write_value<W: Write>(
+        &self,
+        alloc: A,
+        both: Both<A>,
+        output: &mut Latch<W>,
+    ) -> Result<(), CliFault> {
+        let Both { log, bytes } = both;
+        match with_sent(alloc, self.frames, log, &bytes) {
+            Ok(log) => put_log(&log, output),
+            Err(fault) => Err(fault),
+        }
+    }
+}
+
+/// Writes the first input's log with the operations that the second input gives, frames of Ops up to Bye,
+/// and nothing else. What is there already is not taken again. `frames` is where the bytes of a frame that
+/// is not whole are kept.
+///
+/// Errors, in this order: as `lack_log` while reading; `Sync` where the second input's bytes are not taken,
+/// as `take_ops` refuses them (40, 38, 39, 17 or 49); `Write` (37) where the output's latch has failed, which
+/// then holds a prefix of the log's text; `Memory` (0) where an allocation failed.
+pub fn take_log<A: Allocator + Clone, R: Read, W: Write>(
+    alloc: A,
+    frames: Global,
+    inputs: &mut [Latch<R>],
+    output: &mut Latch<W>,
+) -> Result<(), CliFault>
+    requires two { length inputs.old ≡ 2 }
+    ensures { Ran R.remaining (GaveBoth R.remaining {Z = A}) (BothCause R.remaining) TakeMakes W.contents
+        (lent inputs.old output.old) (lent inputs.new output.new) result }
+{
+    run(&LogThenBytes, &Take { frames }, alloc, inputs, output)
+}

@@ -1,0 +1,482 @@
+//! The words of commands, as data, and what the parser takes of them.
+
+use clap::builder::ValueParser;
+use clap::{Arg, ArgAction, Command};
+use mt_latch::BufferedLatch;
+use std::alloc::{AllocError, Global};
+use std::io::Write;
+
+/// All commands, in the lists in which help has them one after another.
+pub type Lists = [&'static [Words]; 4];
+
+/// What the program is, and its version's number.
+pub const ABOUT: &str = "A nondestructive multitrack audio editor whose sessions are replicated";
+
+pub const NUMBER: &str = "0.1.0";
+
+/// What a command is called with, and what its help says.
+pub struct Words {
+    pub name: &'static str,
+    /// What it does.
+    pub about: &'static str,
+    /// What stands behind the list of its words: an example, and the exit statuses.
+    pub after: &'static str,
+    pub words: &'static [Word],
+    /// The commands below it, one of which has to follow its name; none of most.
+    pub below: &'static [Words],
+}
+
+/// A word of a command, or any number of them, and what its help says.
+pub enum Word {
+    /// One that has to be there.
+    Needed {
+        name: &'static str,
+        help: &'static str,
+    },
+    /// One of these names, which has to be there.
+    OneOf {
+        name: &'static str,
+        names: &'static [&'static str],
+        help: &'static str,
+    },
+    /// As many as are named, or none.
+    Any {
+        name: &'static str,
+        help: &'static str,
+    },
+    /// As many as are named, of which there has to be one.
+    Many {
+        name: &'static str,
+        help: &'static str,
+    },
+    /// A number that may be left out.
+    Number {
+        name: &'static str,
+        greatest: u64,
+        help: &'static str,
+    },
+    /// An option with a text.
+    Text {
+        name: &'static str,
+        default: &'static str,
+        help: &'static str,
+    },
+    /// An option with a number.
+    Count {
+        name: &'static str,
+        default: &'static str,
+        greatest: u64,
+        help: &'static str,
+    },
+    /// An option with a number, which may be left out and then has none.
+    Limit {
+        name: &'static str,
+        least: u64,
+        greatest: u64,
+        help: &'static str,
+    },
+    /// An option with the name of a file, as often as one likes, beside another option that has to be there then.
+    Files {
+        name: &'static str,
+        needs: &'static str,
+        help: &'static str,
+    },
+    /// An option that is there or not.
+    Flag {
+        name: &'static str,
+        help: &'static str,
+    },
+    /// An option that is there or not, and not beside some others.
+    Choice {
+        name: &'static str,
+        others: &'static [&'static str],
+        help: &'static str,
+    },
+}
+
+impl Words {
+    /// Puts the name, behind those of the commands above it.
+    pub(crate) fn put_name<W: Write>(&self, output: &mut BufferedLatch<'_, W>, above: &str) {
+        output.put(above.as_bytes());
+        if !above.is_empty() {
+            output.put(b" ");
+        }
+        output.put(self.name.as_bytes());
+    }
+}
+
+/// Whether one of these commands has others below it.
+pub(crate) fn has_below(lists: &Lists) -> bool {
+    lists
+        .iter()
+        .any(|list| list.iter().any(|words| !words.below.is_empty()))
+}
+
+/// How a word is written.
+#[derive(Clone, Copy, PartialEq, Eq)]
+pub enum Shape {
+    /// One that has to be there, at its place among those that are no options.
+    One,
+    /// One that may be left out.
+    Optional,
+    /// Any number of them, or none.
+    Any,
+    /// One or more.
+    Many,
+    /// An option.
+    Flag,
+    /// An option with a value.
+    Valued,
+}
+
+impl Word {
+    /// What it is called; of an option this stands behind two dashes.
+    pub fn name(&self) -> &'static str {
+        match self {
+            Word::Needed { name, .. } => name,
+            Word::OneOf { name, .. } => name,
+            Word::Any { name, .. } => name,
+            Word::Many { name, .. } => name,
+            Word::Number { name, .. } => name,
+            Word::Text { name, .. } => name,
+            Word::Count { name, .. } => name,
+            Word::Limit { name, .. } => name,
+            Word::Files { name, .. } => name,
+            Word::Flag { name, .. } => name,
+            Word::Choice { name, .. } => name,
+        }
+    }
+
+    /// What its help says.
+    pub fn help(&self) -> &'static str {
+        match self {
+            Word::Needed { help, .. } => help,
+            Word::OneOf { help, .. } => help,
+            Word::Any { help, .. } => help,
+            Word::Many { help, .. } => help,
+            Word::Number { help, .. } => help,
+            Word::Text { help, .. } => help,
+            Word::Count { help, .. } => help,
+            Word::Limit { help, .. } => help,
+            Word::Files { help, .. } => help,
+            Word::Flag { help, .. } => help,
+            Word::Choice { help, .. } => help,
+        }
+    }
+
+    /// How it is written.
+    pub fn shape(&self) -> Shape {
+        match self {
+            Word::Needed { .. } => Shape::One,
+            Word::OneOf { .. } => Shape::One,
+            Word::Number { .. } => Shape::Optional,
+            Word::Any { .. } => Shape::Any,
+            Word::Many { .. } => Shape::Many,
+            Word::Text { .. } => Shape::Valued,
+            Word::Count { .. } => Shape::Valued,
+            Word::Limit { .. } => Shape::Valued,
+            Word::Files { .. } => Shape::Valued,
+            Word::Flag { .. } => Shape::Flag,
+            Word::Choice { .. } => Shape::Flag,
+        }
+    }
+
+    /// Whether it is an option.
+    pub fn is_option(&self) -> bool {
+        matches!(self.shape(), Shape::Flag | Shape::Valued)
+    }
+
+    /// What stands for its value; nothing of one that has none.
+    pub fn value(&self) -> &'static str {
+        match self {
+            Word::Text { .. } => "TEXT",
+            Word::Count { .. } => "N",
+            Word::Limit { .. } => "N",
+            Word::Files { .. } => "WAVE",
+            _ => "",
+        }
+    }
+
+    /// The value that it has where it is not said; nothing of one that has none.
+    pub fn default(&self) -> &'static str {
+        match self {
+            Word::Text { default, .. } => default,
+            Word::Count { default, .. } => default,
+            _ => "",
+        }
+    }
+
+    /// The names of which it is one; none where it is any text.
+    pub fn names(&self) -> &'static [&'static str] {
+        match self {
+            Word::OneOf { names, .. } => names,
+            _ => &[],
+        }
+    }
+}
+
+/// OUT may not be there yet.
+pub const NEW: Word = Word::Flag {
+    name: "new",
+    help: "Fail (37) if OUT exists",
+};
+
+/// OUT need not be on the disk when the command is done.
+pub const NO_SYNC: Word = Word::Flag {
+    name: "no-sync",
+    help: "Do not wait until OUT is on the disk: faster, but lost if the machine stops",
+};
+
+/// The option of all commands, before or behind their names.
+pub const WHY: Word = Word::Flag {
+    name: "why",
+    help: "After an error, print its cause on one more line",
+};
+
+/// The options that the parser adds: to all commands, and to the program alone.
+pub const HELP: Word = Word::Flag {
+    name: "help",
+    help: "Print help",
+};
+
+pub const VERSION: Word = Word::Flag {
+    name: "version",
+    help: "Print version",
+};
+
+/// The command that the parser adds.
+pub const HELP_COMMAND: Words = Words {
+    name: "help",
+    about: "Print this message or the help of the given subcommand(s)",
+    after: "Example: radio help edit",
+    words: &[Word::Any {
+        name: "COMMAND",
+        help: "The command",
+    }],
+    below: &[],
+};
+
+/// Positions and lengths are told as times.
+pub const AS_TIMES: Word = Word::Flag {
+    name: "time",
+    help: "Print positions and lengths as H:MM:SS.mmm, at --rate frames a second",
+};
+
+/// At how many frames a second times are told or read.
+pub const TIMES_RATE: Word = Word::Limit {
+    name: "rate",
+    least: 1,
+    greatest: 384_000,
+    help: "Frames a second for --time, 1 to 384000 (default: 48000)",
+};
+
+/// Lines are told as JSON.
+pub const AS_JSON: Word = Word::Flag {
+    name: "json",
+    help: "Print each line as a JSON object",
+};
+
+/// How long is waited for the other end.
+pub const WAIT: Word = Word::Limit {
+    name: "wait",
+    least: 1,
+    greatest: u32::MAX as u64,
+    help: "Wait at most N seconds for the other end: to connect (46), and then for each read (45) and write (37)",
+};
+
+fn command_of<'a>(alloc: Global, words: &Words) -> Result<Command<'a>, AllocError> {
+    let command = plain_command_of(alloc, words)?;
+    if words.below.is_empty() {
+        return Ok(command);
+    }
+    with_plain(alloc, command.subcommand_required(true), words.below)
+}
+
+// A command without those below it.
+fn plain_command_of<'a>(alloc: Global, words: &Words) -> Result<Command<'a>, AllocError> {
+    let command = bare(alloc, words.name, words.about, words.after);
+    with_words(alloc, command, words.words)?.arg(why_flag(alloc))
+}
+
+// A command with these below it, which have none.
+fn with_plain<'a>(
+    alloc: Global,
+    command: Command<'a>,
+    all: &[Words],
+) -> Result<Command<'a>, AllocError> {
+    let mut command = command;
+    for words in all {
+        command = command.subcommand(plain_command_of(alloc, words)?)?;
+    }
+    Ok(command)
+}
+
+/// A command with no words.
+pub fn bare<'a>(alloc: Global, name: &'a str, about: &'a str, after: &'a str) -> Command<'a> {
+    Command::new(alloc, name).about(about).after_help(after)
+}
+
+fn with_words<'a>(
+    alloc: Global,
+    command: Command<'a>,
+    words: &[Word],
+) -> Result<Command<'a>, AllocError> {
+    let mut command = command;
+    for word in words {
+        command = command.arg(word_of(alloc, word)?)?;
+    }
+    Ok(command)
+}
+
+/// A command with all of these below it.
+pub fn with_all<'a>(
+    alloc: Global,
+    command: Command<'a>,
+    all: &[Words],
+) -> Result<Command<'a>, AllocError> {
+    let mut command = command;
+    for words in all {
+        command = with_one(alloc, command, words)?;
+    }
+    Ok(command)
+}
+
+fn with_one<'a>(
+    alloc: Global,
+    command: Command<'a>,
+    words: &Words,
+) -> Result<Command<'a>, AllocError> {
+    match command_of(alloc, words) {
+        Ok(one) => command.subcommand(one),
+        Err(error) => Err(error),
+    }
+}
+
+fn word_of<'a>(alloc: Global, word: &Word) -> Result<Arg<'a>, AllocError> {
+    match word {
+        Word::Choice { name, others, help } => flag(alloc, name, help).conflicts_with_all(others),
+        Word::Files { name, needs, help } => files(alloc, name, help).requires_arg(needs),
+        other => Ok(free_word_of(alloc, other)),
+    }
+}
+
+// A word that may stand beside all others.
+fn free_word_of<'a>(alloc: Global, word: &Word) -> Arg<'a> {
+    match word {
+        Word::Needed { name, help } => needed(alloc, name, help),
+        Word::OneOf { name, names, help } => one_of(alloc, name, names, help),
+        Word::Any { name, help } => any(alloc, name, help),
+        Word::Many { name, help } => many(alloc, name, help),
+        Word::Number {
+            name,
+            greatest,
+            help,
+        } => number(alloc, name, *greatest, help),
+        Word::Text {
+            name,
+            default,
+            help,
+        } => text(alloc, name, default, help),
+        Word::Count {
+            name,
+            default,
+            greatest,
+            help,
+        } => count(alloc, name, default, *greatest, help),
+        Word::Limit {
+            name,
+            least,
+            greatest,
+            help,
+        } => limit(alloc, name, *least, *greatest, help),
+        Word::Files { name, help, .. } => files(alloc, name, help),
+        Word::Flag { name, help } => flag(alloc, name, help),
+        Word::Choice { name, help, .. } => flag(alloc, name, help),
+    }
+}
+
+fn needed<'a>(alloc: Global, name: &'a str, help: &'a str) -> Arg<'a> {
+    Arg::new(alloc, name).required(true).help(help)
+}
+
+fn one_of<'a>(
+    alloc: Global,
+    name: &'a str,
+    names: &'static [&'static str],
+    help: &'a str,
+) -> Arg<'a> {
+    needed(alloc, name, help).value_parser(ValueParser::Names(names))
+}
+
+fn any<'a>(alloc: Global, name: &'a str, help: &'a str) -> Arg<'a> {
+    Arg::new(alloc, name)
+        .action(ArgAction::Append)
+        .num_args(0..)
+        .help(help)
+}
+
+fn many<'a>(alloc: Global, name: &'a str, help: &'a str) -> Arg<'a> {
+    Arg::new(alloc, name)
+        .action(ArgAction::Append)
+        .num_args(1..)
+        .required(true)
+        .help(help)
+}
+
+fn number<'a>(alloc: Global, name: &'a str, greatest: u64, help: &'a str) -> Arg<'a> {
+    Arg::new(alloc, name)
+        .value_parser(ValueParser::Unsigned(0, greatest))
+        .help(help)
+}
+
+fn text<'a>(alloc: Global, name: &'a str, default: &'a str, help: &'a str) -> Arg<'a> {
+    option(alloc, name, default, help).value_name("TEXT")
+}
+
+fn count<'a>(
+    alloc: Global,
+    name: &'a str,
+    default: &'a str,
+    greatest: u64,
+    help: &'a str,
+) -> Arg<'a> {
+    option(alloc, name, default, help)
+        .value_name("N")
+        .value_parser(ValueParser::Unsigned(0, greatest))
+}
+
+// An option with a value.
+fn option<'a>(alloc: Global, name: &'a str, default: &'a str, help: &'a str) -> Arg<'a> {
+    Arg::new(alloc, name)
+        .long(name)
+        .default_value(default)
+        .help(help)
+}
+
+fn limit<'a>(alloc: Global, name: &'a str, least: u64, greatest: u64, help: &'a str) -> Arg<'a> {
+    Arg::new(alloc, name)
+        .long(name)
+        .help(help)
+        .value_name("N")
+        .value_parser(ValueParser::Unsigned(least, greatest))
+}
+
+fn files<'a>(alloc: Global, name: &'a str, help: &'a str) -> Arg<'a> {
+    Arg::new(alloc, name)
+        .long(name)
+        .action(ArgAction::Append)
+        .value_name("WAVE")
+        .help(help)
+}
+
+/// The option of all commands.
+pub fn why_flag<'a>(alloc: Global) -> Arg<'a> {
+    free_word_of(alloc, &WHY)
+}
+
+fn flag<'a>(alloc: Global, name: &'a str, help: &'a str) -> Arg<'a> {
+    Arg::new(alloc, name)
+        .long(name)
+        .action(ArgAction::SetTrue)
+        .help(help)
+}

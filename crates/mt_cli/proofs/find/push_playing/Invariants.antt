@@ -1,7 +1,0 @@
--- The stamps of those of the clips below the index that play the recording are there.
-use Rattle.std.proofs.Common.{◌≡◌, ◌++◌, take}
-use Rattle.mt_cli.specs.Finding.{clips_playing}
-use Rattle.mt_cli.proofs.find.push_playing.Given as goal
-
-abbrev pub invariant-loop-clip : goal.invariant-loop-clip
-invariant-loop-clip g l = l.stamps.items ≡ l.initial.stamps.items ++ clips_playing l.source (take l.clip-index l.clips)

@@ -1,8 +1,0 @@
-use Rattle.mt_latch.specs.Buffered.{Puts}
-use Rattle.mt_latch.proofs.Putting.{then_handed}
-use Rattle.mt_cli.proofs.info.put_text_line.Goals as goal
-
-pub returns : goal.returns
-unfolding Puts
-returns g c =
-    rw (← c.as_bytes.ensures.value) (then_handed _ c.put.ensures (then_handed _ c.put-2.ensures (then_handed _ c.put_shown.ensures c.put-3.ensures)))
