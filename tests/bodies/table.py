@@ -1,5 +1,4 @@
-"""A table of new names: what `tests/rename.py` writes into the tree, and `wrong_bodies.py --renamed`
-maps back.
+"""A table of new names, which `wrong_bodies.py --renamed` maps back.
 
 Its lines are `old new`, each name one whole word: of the code, of definitions and proofs, of a
 file, a folder or a crate. With `contract` behind it a line is of what contracts, definitions and
