@@ -13,6 +13,7 @@ use crate::both::{Both, LogThenBytes};
 use crate::command::{Made, Printing, run_and_print};
 use crate::fault::CliFault;
 use crate::form::at_least_one;
+use base_text::append_number;
 use mt_latch::Latch;
 use mt_lines::with_frames;
 use mt_opcodec::Log;
@@ -40,9 +41,7 @@ pub(crate) fn append_number_line<A: Allocator>(
 ) -> Result<(), AllocError>
     ensures { OnOk result (string_bytes text.new ≡ string_bytes text.old ++ number_line front.now number) }
 {
-    let mut digits = itoa::Buffer::new();
-    text.push_str(front)?;
-    text.push_str(digits.format(number))?;
+    append_number(text, front, number)?;
     text.push_str("\n")
 }
 

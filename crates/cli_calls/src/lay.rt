@@ -2,8 +2,6 @@
 
 ghost use Rattle.std.specs.Prelude.{◌≡◌, ◌++◌, ◌<◌, ◌^◌, None, Ok, IfOk, IfErr, OnOk};
 ghost use Rattle.std.specs.String.{string_bytes};
-ghost use Rattle.mt_op.specs.Digest.{digest_text};
-ghost use Rattle.mt_logtext.specs.LogText.{word, number_word};
 ghost use Rattle.cli_calls.specs.Laying.{clip_words, clip_line, lay_fault, laid, NotLaid, Lays, GaveSounds, HasWaveCause};
 ghost use Rattle.cli_calls.specs.Running.{lent, Ran};
 
@@ -11,9 +9,10 @@ use crate::command::{Command, Input, run};
 use crate::fault::{CliFault, LayFault};
 use crate::put::put_bytes;
 use crate::read::{OneInput, read_each, read_outline};
+use base_text::{append_number, append_word};
 use mt_bwfread::Wave;
 use mt_latch::Latch;
-use mt_op::Digest;
+use mt_op::{Digest, append_digest};
 use std::alloc::{AllocError, Allocator};
 use std::io::{Read, Write};
 
@@ -112,36 +111,6 @@ fn fault_of(laying: &Laying<'_>, at: u64, sound: &Sound) -> Option<LayFault>
     None
 }
 
-// Writes a space and a word behind a text.
-fn append_word<A: Allocator>(text: &mut String<A>, other: &str) -> Result<(), AllocError>
-    ensures { OnOk result (string_bytes text.new ≡ string_bytes text.old ++ word other.now) }
-{
-    text.push_str(" ")?;
-    text.push_str(other)
-}
-
-// The same of a number.
-fn append_number<A: Allocator>(text: &mut String<A>, number: u64) -> Result<(), AllocError>
-    ensures { OnOk result (string_bytes text.new ≡ string_bytes text.old ++ number_word number) }
-{
-    let mut digits = itoa::Buffer::new();
-    append_word(text, digits.format(number))
-}
-
-// The same of a digest.
-fn append_digest<A: Allocator + Clone>(
-    alloc: A,
-    text: &mut String<A>,
-    source: Digest,
-) -> Result<(), AllocError>
-    ensures { OnOk result (string_bytes text.new ≡ string_bytes text.old ++ word (digest_text source)) }
-{
-    match source.text(alloc) {
-        Ok(digest) => append_word(text, &digest),
-        Err(_) => Err(AllocError),
-    }
-}
-
 // Writes the words of a recording that is laid at a position.
 fn append_words<A: Allocator + Clone>(
     alloc: A,
@@ -153,11 +122,11 @@ fn append_words<A: Allocator + Clone>(
     ensures { OnOk result (string_bytes text.new ≡ string_bytes text.old ++ clip_words track.now at sound.now) }
 {
     text.push_str("add-clip")?;
-    append_digest(alloc, text, sound.digest)?;
-    append_word(text, track)?;
-    append_number(text, at)?;
-    append_number(text, 0)?;
-    append_number(text, u64::from(sound.frames))
+    append_digest(&alloc, text, " ", sound.digest)?;
+    append_word(text, " ", track)?;
+    append_number(text, " ", at)?;
+    append_number(text, " ", 0)?;
+    append_number(text, " ", u64::from(sound.frames))
 }
 
 // Writes its line.

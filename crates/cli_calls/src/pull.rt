@@ -76,11 +76,8 @@ fn append_share<A: Allocator>(
 ) -> Result<(), AllocError>
     ensures { OnOk result (string_bytes text.new ≡ string_bytes text.old ++ share_line (name.now, share)) }
 {
-    let mut digits = itoa::Buffer::new();
-    text.push_str("from ")?;
-    text.push_str(name)?;
-    text.push_str(" new ")?;
-    text.push_str(digits.format(share.new as u64))?;
+    append_word(text, "from ", name)?;
+    append_number(text, " new ", share.new as u64)?;
     append_number_line(text, " shared ", share.shared as u64)
 }
 

@@ -5,7 +5,7 @@ use Rattle.std.specs.Str.{is_utf8, chars}
 use Rattle.serde_json.proofs.OnLiterals.{serde_json_on_literals}
 use Rattle.mt_times.specs.Times.{seconds, clock, form}
 use Rattle.mt_lines.specs.declared.slot.Kind.TheVariants.{Plain, Number, Frames}
-use Rattle.mt_lines.specs.Cutting.{newline}
+use Rattle.base_text.specs.Cutting.{newline}
 use Rattle.mt_lines.specs.Table.{key_form, act_slots}
 use Rattle.mt_lines.specs.Line.{alone, one, pair, rest, parts, script_parts}
 use Rattle.mt_lines.specs.Json.{number_of, json_line, json_text}

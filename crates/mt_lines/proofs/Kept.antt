@@ -10,7 +10,8 @@ use Rattle.mt_lines.specs.declared.slot.Form.{Form}
 use Rattle.mt_lines.specs.declared.slot.Form.TheVariants.{One, Two, Rest, All}
 use Rattle.mt_lines.specs.declared.slot.Name.TheVariants as name
 use Rattle.mt_lines.specs.declared.slot.Slot.{Slot}
-use Rattle.mt_lines.specs.Cutting.{space, newline, words, spaced, pieces, ended}
+use Rattle.base_text.specs.Cutting.{newline}
+use Rattle.mt_lines.specs.Cutting.{space, words, spaced, pieces, ended}
 use Rattle.mt_lines.specs.Table.{is_one_of, name_text, plain, key_form, act_slots, signs, states, sides}
 use Rattle.mt_lines.specs.Line.{Value, alone, one, pair, rest, all, Part, Pending, begin, signed, stamped, acting, due, Reading, value_at, more_at, slot_reading, key_reading, formed_reading, act_reading, first_reading, reading, slots_or_none, parts_from, parts_of, parts, script_pending, script_parts, value_words, part_words, line_of}
 use Rattle.mt_lines.specs.Saying.{said_value, said_part, said_line, said_text}

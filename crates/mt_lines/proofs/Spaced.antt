@@ -8,7 +8,8 @@ use Rattle.mt_lines.specs.declared.slot.Form.TheVariants.{One, Two, Rest, All}
 use Rattle.mt_lines.specs.declared.slot.Name.TheVariants as name
 use Rattle.mt_lines.specs.declared.slot.Slot.{Slot}
 use Rattle.mt_lines.specs.declared.say.Telling.{Telling}
-use Rattle.mt_lines.specs.Cutting.{newline, space, spaced, ended, pieces}
+use Rattle.base_text.specs.Cutting.{newline}
+use Rattle.mt_lines.specs.Cutting.{space, spaced, ended, pieces}
 use Rattle.mt_lines.specs.Left.{pieces_left}
 use Rattle.mt_lines.specs.Table.{is_one_of, name_text, plain, key_form, act_slots, signs, states, sides}
 use Rattle.mt_lines.specs.Line.{Part, Pending, begin, signed, stamped, acting, due, Reading, slot_reading, key_reading, formed_reading, act_reading, first_reading, reading, slots_or_none, part_words}

@@ -8,7 +8,7 @@ use Rattle.serde_json.specs.Data.{unsigned, Data, null, boolean, number, string,
 use Rattle.serde_json.specs.Written.{compact_text}
 use Rattle.mt_lines.specs.declared.slot.Kind.{Kind}
 use Rattle.mt_lines.specs.declared.slot.Kind.TheVariants.{Plain, Number, Frames, Flag, Gain}
-use Rattle.mt_lines.specs.Cutting.{newline, lines}
+use Rattle.base_text.specs.Cutting.{newline, lines}
 use Rattle.mt_lines.specs.Line.{Value, alone, one, pair, rest, all, Part, parts}
 
 -- the number below 2^64 that the word is the decimal spelling of: digits alone, and no leading zero

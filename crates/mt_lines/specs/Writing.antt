@@ -6,7 +6,8 @@ use Rattle.serde_json.specs.Written.{comma_if, compact_text}
 use Rattle.mt_lines.specs.declared.slot.Kind.{Kind}
 use Rattle.mt_lines.specs.declared.say.Telling.{Telling}
 use Rattle.mt_lines.specs.declared.say.Telling.TheVariants.{InTimes, InFrames}
-use Rattle.mt_lines.specs.Cutting.{space, newline, words}
+use Rattle.base_text.specs.Cutting.{newline}
+use Rattle.mt_lines.specs.Cutting.{space, words}
 use Rattle.mt_lines.specs.Line.{Part, Pending, begin, parts_of, script_pending, part_words}
 use Rattle.mt_lines.specs.Json.{called, value_data}
 use Rattle.mt_lines.specs.Saying.{said_part, said_text, timed_word, plain_word}

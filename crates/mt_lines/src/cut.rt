@@ -1,7 +1,8 @@
 //! Where texts and lines are cut.
 
 ghost use Rattle.std.specs.Prelude.{◌≡◌, ◌∷◌, ◌<◌, ◌≤◌, length};
-ghost use Rattle.mt_lines.specs.Cutting.{words, lines, pieces};
+ghost use Rattle.base_text.specs.Cutting.{lines};
+ghost use Rattle.mt_lines.specs.Cutting.{words, pieces};
 ghost use Rattle.mt_lines.specs.Left.{words_left, pieces_left, length_left};
 
 use memchr::memchr;
@@ -31,18 +32,6 @@ pub(crate) fn cut_word(text: &[u8]) -> Cut<'_>
         text,
         word: &text[..at],
         left: Some(&text[at + 1..]),
-    }
-}
-
-/// The first line of a text that is not empty, and what follows it.
-pub(crate) fn cut_line(text: &[u8]) -> (&[u8], &[u8])
-    requires { 0 < length text.now }
-    ensures lines { lines text.now ≡ result.0.now ∷ lines result.1.now }
-    ensures shorter { length result.1.now < length text.now }
-{
-    match memchr(b'\n', text) {
-        Some(at) => (&text[..at], &text[at + 1..]),
-        None => (text, &[]),
     }
 }
 

@@ -8,10 +8,11 @@ ghost use Rattle.mt_lines.specs.Json.{text_data, word_data, items_data, value_da
 ghost use Rattle.mt_lines.specs.Seen.{value_of, part_of};
 ghost use Rattle.mt_lines.specs.Writing.{item_text, member_text};
 
-use crate::cut::{cut_line, cut_word};
+use crate::cut::cut_word;
 use crate::number::number_of;
 use crate::part::{Part, Pending, Value, read_word};
 use crate::slot::Kind;
+use base_text::cut_line;
 use std::alloc::{AllocError, Global};
 
 // Writes a text in quotes.

@@ -12,7 +12,8 @@ use crate::number::number_of;
 use crate::part::Pending;
 use crate::slot::{Form, Kind, Name, Slot};
 use crate::table::act_slots;
-use mt_times::{Fraction, append_decimal, append_time, fraction_of, frames_of};
+use base_text::append_decimal;
+use mt_times::{Fraction, append_time, fraction_of, frames_of};
 use std::alloc::{AllocError, Allocator};
 
 /// How the words of lines are said.

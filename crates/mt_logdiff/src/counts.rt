@@ -3,26 +3,13 @@
 ghost use Rattle.std.specs.Prelude.{◌≡◌, ◌++◌, length, OnOk};
 ghost use Rattle.std.specs.String.{string_bytes};
 ghost use Rattle.mt_logdiff.specs.Beside.{shared};
-ghost use Rattle.mt_logdiff.specs.Counts.{counted, counts_line, last_line};
+ghost use Rattle.mt_logdiff.specs.Counts.{counts_line, last_line};
 ghost use Rattle.mt_logdiff.specs.Parts.{parts_beside};
 
 use crate::parts::Parts;
-use itoa::Buffer;
+use base_text::append_number;
 use mt_opcodec::Log;
 use std::alloc::{AllocError, Allocator};
-
-// Writes a word and a number.
-fn append_counted<A: Allocator>(
-    text: &mut String<A>,
-    name: &str,
-    number: usize,
-) -> Result<(), AllocError>
-    ensures { OnOk result (string_bytes text.new ≡ string_bytes text.old ++ counted name.now number) }
-{
-    let mut digits = Buffer::new();
-    text.push_str(name)?;
-    text.push_str(digits.format(number))
-}
 
 // Writes how many operations there are.
 fn append_counts<A: Allocator>(
@@ -34,10 +21,10 @@ fn append_counts<A: Allocator>(
 ) -> Result<(), AllocError>
     ensures { OnOk result (string_bytes text.new ≡ string_bytes text.old ++ counts_line left right both clashes) }
 {
-    append_counted(text, "left ", left)?;
-    append_counted(text, " right ", right)?;
-    append_counted(text, " both ", both)?;
-    append_counted(text, " clashes ", clashes)?;
+    append_number(text, "left ", left as u64)?;
+    append_number(text, " right ", right as u64)?;
+    append_number(text, " both ", both as u64)?;
+    append_number(text, " clashes ", clashes as u64)?;
     text.push_str("\n")
 }
 

@@ -3,16 +3,13 @@
 ghost use Rattle.std.specs.Prelude.{◌≡◌, ◌++◌, OnOk};
 ghost use Rattle.std.specs.List.{flat_map};
 ghost use Rattle.std.specs.String.{string_bytes};
-ghost use Rattle.mt_stamp.specs.Texts.{stamp_text};
-ghost use Rattle.mt_logtext.specs.LogText.{word};
-ghost use Rattle.mt_logdiff.specs.Fields.{field_word};
 ghost use Rattle.mt_logdiff.specs.DiffText.{mark, told_line, both_line};
 
 use crate::both::BothWrote;
-use crate::field::Field;
 use crate::told::Told;
+use base_text::append_word;
 use mt_logtext::append_act;
-use mt_stamp::Stamp;
+use mt_op::append_stamp;
 use std::alloc::{AllocError, Allocator};
 
 // What stands before an operation.
@@ -60,31 +57,15 @@ pub(crate) fn append_lines<A: Allocator, B: Allocator, C: Allocator>(
     Ok(())
 }
 
-// Writes a space and a stamp.
-fn append_stamp<A: Allocator>(text: &mut String<A>, stamp: Stamp) -> Result<(), AllocError>
-    ensures { OnOk result (string_bytes text.new ≡ string_bytes text.old ++ word (stamp_text stamp)) }
-{
-    text.push_str(" ")?;
-    stamp.append_text(text)
-}
-
-// Writes a space and the name of a field.
-fn append_field<A: Allocator>(text: &mut String<A>, field: Field) -> Result<(), AllocError>
-    ensures { OnOk result (string_bytes text.new ≡ string_bytes text.old ++ word (field_word field)) }
-{
-    text.push_str(" ")?;
-    text.push_str(field.word())
-}
-
 // Writes the line of a field that both logs write.
 fn append_both<A: Allocator>(text: &mut String<A>, both: &BothWrote) -> Result<(), AllocError>
     ensures { OnOk result (string_bytes text.new ≡ string_bytes text.old ++ both_line both.now) }
 {
     text.push_str("both")?;
-    append_stamp(text, both.item)?;
-    append_field(text, both.field)?;
-    append_stamp(text, both.left)?;
-    append_stamp(text, both.right)?;
+    append_stamp(text, " ", both.item)?;
+    append_word(text, " ", both.field.word())?;
+    append_stamp(text, " ", both.left)?;
+    append_stamp(text, " ", both.right)?;
     text.push_str("\n")
 }
 

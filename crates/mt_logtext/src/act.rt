@@ -1,56 +1,31 @@
 //! What an operation does, in the words of a script.
 
 ghost use Rattle.std.specs.Prelude.{◌≡◌, ◌++◌, OnOk, codes};
-ghost use Rattle.std.specs.Fmt.{decimal};
 ghost use Rattle.std.specs.List.{flat_map};
 ghost use Rattle.std.specs.String.{string_bytes};
 ghost use Rattle.mt_op.specs.Bodies.{act_of};
-ghost use Rattle.mt_op.specs.Digest.{digest_text};
 ghost use Rattle.mt_op.specs.Operation.{AddTrack, MoveTrack, AddClip, MoveClip, TrimClip, SetGain, SetMute, Remove, AddMarker, MoveMarker, Retitle, SetFade, SetMarkerLength};
-ghost use Rattle.mt_logtext.specs.LogText.{word, stamp_word, number_word, after_word, gain_word, switch_word, act_text};
+ghost use Rattle.mt_logtext.specs.LogText.{stamp_word, after_word, gain_word, switch_word, act_text};
 
-use itoa::Buffer;
-use mt_op::{Body, Digest, Gain};
+use base_text::{append_number, append_word};
+use mt_op::{Body, Digest, Gain, append_digest, append_stamp};
 use mt_stamp::Stamp;
 use std::alloc::{AllocError, Allocator};
-
-fn append_word<A: Allocator>(text: &mut String<A>, added: &str) -> Result<(), AllocError>
-    ensures { OnOk result (string_bytes text.new ≡ string_bytes text.old ++ word added.now) }
-{
-    text.push_str(" ")?;
-    text.push_str(added)
-}
-
-fn append_stamp<A: Allocator>(text: &mut String<A>, stamp: Stamp) -> Result<(), AllocError>
-    ensures { OnOk result (string_bytes text.new ≡ string_bytes text.old ++ stamp_word stamp) }
-{
-    text.push_str(" ")?;
-    stamp.append_text(text)
-}
-
-fn append_number<A: Allocator>(text: &mut String<A>, number: u32) -> Result<(), AllocError>
-    ensures { OnOk result (string_bytes text.new ≡ string_bytes text.old ++ number_word number) }
-{
-    let mut digits = Buffer::new();
-    append_word(text, digits.format(number))
-}
 
 fn append_after<A: Allocator>(text: &mut String<A>, after: Option<Stamp>) -> Result<(), AllocError>
     ensures { OnOk result (string_bytes text.new ≡ string_bytes text.old ++ after_word after) }
 {
     match after {
         None => text.push_str(" head"),
-        Some(place) => append_stamp(text, place),
+        Some(place) => append_stamp(text, " ", place),
     }
 }
 
 fn append_gain<A: Allocator>(text: &mut String<A>, gain: Gain) -> Result<(), AllocError>
     ensures { OnOk result (string_bytes text.new ≡ string_bytes text.old ++ gain_word gain) }
 {
-    let mut digits = Buffer::new();
-    append_number(text, u32::from(gain.num()))?;
-    text.push_str("/")?;
-    text.push_str(digits.format(u32::from(gain.den())))
+    append_number(text, " ", u64::from(gain.num()))?;
+    append_number(text, "/", u64::from(gain.den()))
 }
 
 fn append_switch<A: Allocator>(text: &mut String<A>, on: bool) -> Result<(), AllocError>
@@ -63,24 +38,11 @@ fn append_switch<A: Allocator>(text: &mut String<A>, on: bool) -> Result<(), All
     }
 }
 
-fn append_digest<A: Allocator, B: Allocator>(
-    alloc: &A,
-    text: &mut String<B>,
-    digest: Digest,
-) -> Result<(), AllocError>
-    ensures { OnOk result (string_bytes text.new ≡ string_bytes text.old ++ word (digest_text digest)) }
-{
-    let Ok(digits) = digest.text(alloc) else {
-        return Err(AllocError);
-    };
-    append_word(text, digits.as_str())
-}
-
 fn append_stamps<A: Allocator>(text: &mut String<A>, stamps: &[Stamp]) -> Result<(), AllocError>
     ensures { OnOk result (string_bytes text.new ≡ string_bytes text.old ++ flat_map stamp_word stamps.now) }
 {
     for stamp in stamps {
-        append_stamp(text, *stamp)?;
+        append_stamp(text, " ", *stamp)?;
     }
     Ok(())
 }
@@ -94,7 +56,7 @@ fn append_add_track<A: Allocator>(
 {
     text.push_str("add-track")?;
     append_after(text, after)?;
-    append_word(text, title)
+    append_word(text, " ", title)
 }
 
 fn append_move_track<A: Allocator>(
@@ -105,7 +67,7 @@ fn append_move_track<A: Allocator>(
     ensures { OnOk result (string_bytes text.new ≡ string_bytes text.old ++ act_text (MoveTrack track after)) }
 {
     text.push_str("move-track")?;
-    append_stamp(text, track)?;
+    append_stamp(text, " ", track)?;
     append_after(text, after)
 }
 
@@ -121,11 +83,11 @@ fn append_add_clip<A: Allocator, B: Allocator>(
     ensures { OnOk result (string_bytes text.new ≡ string_bytes text.old ++ act_text (AddClip source track at offset len)) }
 {
     text.push_str("add-clip")?;
-    append_digest(alloc, text, source)?;
-    append_stamp(text, track)?;
-    append_number(text, at)?;
-    append_number(text, offset)?;
-    append_number(text, len)
+    append_digest(alloc, text, " ", source)?;
+    append_stamp(text, " ", track)?;
+    append_number(text, " ", u64::from(at))?;
+    append_number(text, " ", u64::from(offset))?;
+    append_number(text, " ", u64::from(len))
 }
 
 fn append_move_clip<A: Allocator>(
@@ -137,9 +99,9 @@ fn append_move_clip<A: Allocator>(
     ensures { OnOk result (string_bytes text.new ≡ string_bytes text.old ++ act_text (MoveClip clip track at)) }
 {
     text.push_str("move-clip")?;
-    append_stamp(text, clip)?;
-    append_stamp(text, track)?;
-    append_number(text, at)
+    append_stamp(text, " ", clip)?;
+    append_stamp(text, " ", track)?;
+    append_number(text, " ", u64::from(at))
 }
 
 fn append_trim_clip<A: Allocator>(
@@ -151,9 +113,9 @@ fn append_trim_clip<A: Allocator>(
     ensures { OnOk result (string_bytes text.new ≡ string_bytes text.old ++ act_text (TrimClip clip offset len)) }
 {
     text.push_str("trim-clip")?;
-    append_stamp(text, clip)?;
-    append_number(text, offset)?;
-    append_number(text, len)
+    append_stamp(text, " ", clip)?;
+    append_number(text, " ", u64::from(offset))?;
+    append_number(text, " ", u64::from(len))
 }
 
 fn append_set_gain<A: Allocator>(
@@ -164,7 +126,7 @@ fn append_set_gain<A: Allocator>(
     ensures { OnOk result (string_bytes text.new ≡ string_bytes text.old ++ act_text (SetGain item gain)) }
 {
     text.push_str("gain")?;
-    append_stamp(text, item)?;
+    append_stamp(text, " ", item)?;
     append_gain(text, gain)
 }
 
@@ -176,7 +138,7 @@ fn append_set_mute<A: Allocator>(
     ensures { OnOk result (string_bytes text.new ≡ string_bytes text.old ++ act_text (SetMute item on)) }
 {
     text.push_str("mute")?;
-    append_stamp(text, item)?;
+    append_stamp(text, " ", item)?;
     append_switch(text, on)
 }
 
@@ -188,7 +150,7 @@ fn append_remove<A: Allocator>(
     ensures { OnOk result (string_bytes text.new ≡ string_bytes text.old ++ act_text (Remove item tags.now)) }
 {
     text.push_str("remove")?;
-    append_stamp(text, item)?;
+    append_stamp(text, " ", item)?;
     text.push_str(" tags")?;
     append_stamps(text, tags)
 }
@@ -197,7 +159,7 @@ fn append_restore<A: Allocator>(text: &mut String<A>, item: Stamp) -> Result<(),
     ensures { OnOk result (string_bytes text.new ≡ string_bytes text.old ++ (codes "restore" ++ stamp_word item)) }
 {
     text.push_str("restore")?;
-    append_stamp(text, item)
+    append_stamp(text, " ", item)
 }
 
 fn append_add_marker<A: Allocator>(
@@ -208,8 +170,8 @@ fn append_add_marker<A: Allocator>(
     ensures { OnOk result (string_bytes text.new ≡ string_bytes text.old ++ act_text (AddMarker at title.now)) }
 {
     text.push_str("add-marker")?;
-    append_number(text, at)?;
-    append_word(text, title)
+    append_number(text, " ", u64::from(at))?;
+    append_word(text, " ", title)
 }
 
 fn append_move_marker<A: Allocator>(
@@ -220,8 +182,8 @@ fn append_move_marker<A: Allocator>(
     ensures { OnOk result (string_bytes text.new ≡ string_bytes text.old ++ act_text (MoveMarker marker at)) }
 {
     text.push_str("move-marker")?;
-    append_stamp(text, marker)?;
-    append_number(text, at)
+    append_stamp(text, " ", marker)?;
+    append_number(text, " ", u64::from(at))
 }
 
 fn append_retitle<A: Allocator>(
@@ -232,8 +194,8 @@ fn append_retitle<A: Allocator>(
     ensures { OnOk result (string_bytes text.new ≡ string_bytes text.old ++ act_text (Retitle item title.now)) }
 {
     text.push_str("retitle")?;
-    append_stamp(text, item)?;
-    append_word(text, title)
+    append_stamp(text, " ", item)?;
+    append_word(text, " ", title)
 }
 
 fn append_set_fade<A: Allocator>(
@@ -245,9 +207,9 @@ fn append_set_fade<A: Allocator>(
     ensures { OnOk result (string_bytes text.new ≡ string_bytes text.old ++ act_text (SetFade clip fade_in fade_out)) }
 {
     text.push_str("fade")?;
-    append_stamp(text, clip)?;
-    append_number(text, fade_in)?;
-    append_number(text, fade_out)
+    append_stamp(text, " ", clip)?;
+    append_number(text, " ", u64::from(fade_in))?;
+    append_number(text, " ", u64::from(fade_out))
 }
 
 fn append_set_marker_length<A: Allocator>(
@@ -258,8 +220,8 @@ fn append_set_marker_length<A: Allocator>(
     ensures { OnOk result (string_bytes text.new ≡ string_bytes text.old ++ act_text (SetMarkerLength marker len)) }
 {
     text.push_str("marker-length")?;
-    append_stamp(text, marker)?;
-    append_number(text, len)
+    append_stamp(text, " ", marker)?;
+    append_number(text, " ", u64::from(len))
 }
 
 /// Writes what an operation does after what `text` holds, in the words of a log's text. Refused only where an allocation failed; `text` then holds a part of

@@ -9,7 +9,7 @@ ghost use Rattle.mt_op.specs.Presence.{is_listed};
 ghost use Rattle.mt_logtext.specs.LogText.{status_text, line_of, count_line};
 
 use crate::act::append_act;
-use itoa::Buffer;
+use base_text::append_number;
 use mt_op::Op;
 use mt_stamp::Stamp;
 use std::alloc::{AllocError, Allocator};
@@ -72,9 +72,6 @@ pub(crate) fn append_count<A: Allocator>(
 ) -> Result<(), AllocError>
     ensures { OnOk result (string_bytes text.new ≡ string_bytes text.old ++ count_line count) }
 {
-    let mut digits = Buffer::new();
-    text.push_str("operations ")?;
-    text.push_str(digits.format(count))?;
-    text.push_str("\n")?;
-    Ok(())
+    append_number(text, "operations ", count as u64)?;
+    text.push_str("\n")
 }

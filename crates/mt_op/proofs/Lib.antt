@@ -11,3 +11,4 @@ pub mod TagLists
 pub mod WriteOf
 pub mod SameWrites
 pub mod Presence
+pub mod Valid

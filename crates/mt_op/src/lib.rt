@@ -25,6 +25,7 @@
 //! ```
 #![tactic(auto)]
 
+mod append;
 mod body;
 mod digest;
 mod fault;
@@ -37,6 +38,7 @@ mod tags;
 mod title;
 mod value;
 
+pub use append::{append_digest, append_stamp};
 pub use body::{Body, LONGEST_FADE};
 pub use digest::Digest;
 pub use fault::OpFault;

@@ -1,10 +1,10 @@
 //! Operations.
 
-ghost use Rattle.std.specs.Prelude.{◌≡◌, ◌↔◌, ◌⊎◌, true, false, IfOk, IsErrOf, IfErr, IsOk, IsTrue, List, [], ◌∷◌, slice_get, length};
+ghost use Rattle.std.specs.Prelude.{◌≡◌, ◌↔◌, ◌⊎◌, true, false, IfOk, IfErr, IsOk, IsTrue, List, [], ◌∷◌, slice_get, length};
 ghost use Rattle.mt_op.specs.Bodies.{act_of, is_fixed_size};
 ghost use Rattle.mt_op.specs.Operation.{MoveTrack, Remove};
-ghost use Rattle.mt_op.specs.Needs.{need_of, place_needs, needs_of, needs, fits, names_are_older};
-ghost use Rattle.mt_op.specs.Valid.{IsOperation, length_is_good, fades_are_good, tags_are_good};
+ghost use Rattle.mt_op.specs.Needs.{need_of, place_needs, needs_of, needs, fits};
+ghost use Rattle.mt_op.specs.Valid.{IsOperation, op_or_fault};
 ghost use Rattle.mt_op.specs.Dots.{op_dot};
 ghost use Rattle.mt_op.specs.Writes.{subject};
 
@@ -98,17 +98,16 @@ fn remove_need(item: Stamp, tags: &[Stamp], i: usize) -> Option<Need>
 impl<A: Allocator> Op<A> {
     ghost use Rattle.mt_op.specs.Operation.{Operation};
 
-    /// An operation of a stamp and a body. Refused, in this order: `NameNotOlder` (5) where a stamp that the body
-    /// names has a clock that is not smaller than this stamp's; `ZeroLength` (6) where an AddClip or a TrimClip gives
-    /// a clip no frame; `FadeTooLong` (51) where a SetFade gives a clip a fade of over 1,048,576 frames; `BadTags` (7) where a Remove lists
-    /// no tag, over 65,535, or one that is not greater than the one before. The body is then dropped. Takes no memory.
+    /// An operation of a stamp and a body. Takes no memory. Refused, in this order:
+    ///
+    /// - `NameNotOlder` (5): a stamp that the body names has a clock that is not smaller than this
+    ///   stamp's
+    /// - `ZeroLength` (6): an AddClip or a TrimClip gives a clip no frame
+    /// - `FadeTooLong` (51): a SetFade gives a clip a fade of over 1,048,576 frames
+    /// - `BadTags` (7): a Remove lists no tag, over 65,535, or one that is not greater than the one
+    ///   before
     pub fn new(stamp: Stamp, body: Body<A>) -> Result<Self, OpFault>
-        ensures ok { IfOk result (λ op. op ≡ record { stamp = stamp; act = act_of body }) }
-        ensures not_older { IsErrOf result OpFault.NameNotOlder ↔ (names_are_older (record { stamp = stamp; act = act_of body }) ≡ false) }
-        ensures zero_length { IsErrOf result OpFault.ZeroLength ↔ ((names_are_older (record { stamp = stamp; act = act_of body }) ≡ true) × (length_is_good (act_of body) ≡ false)) }
-        ensures fade_too_long { IsErrOf result OpFault.FadeTooLong ↔ ((names_are_older (record { stamp = stamp; act = act_of body }) ≡ true) × (length_is_good (act_of body) ≡ true) × (fades_are_good (act_of body) ≡ false)) }
-        ensures bad_tags { IsErrOf result OpFault.BadTags ↔ ((names_are_older (record { stamp = stamp; act = act_of body }) ≡ true) × (length_is_good (act_of body) ≡ true) × (fades_are_good (act_of body) ≡ true) × (tags_are_good (act_of body) ≡ false)) }
-        ensures err { IfErr result (λ fault. (fault ≡ OpFault.NameNotOlder) ⊎ ((fault ≡ OpFault.ZeroLength) ⊎ ((fault ≡ OpFault.FadeTooLong) ⊎ (fault ≡ OpFault.BadTags)))) }
+        ensures { result ≡ op_or_fault (record { stamp = stamp; act = act_of body }) }
     {
         if !body.names_are_older_than(stamp) {
             return Err(OpFault::NameNotOlder);

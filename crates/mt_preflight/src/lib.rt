@@ -67,7 +67,6 @@ pub mod laws;
 mod lines;
 mod listing;
 mod past_ends;
-mod piece;
 mod source_line;
 mod sources;
 mod tops;

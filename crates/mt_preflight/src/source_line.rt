@@ -9,9 +9,9 @@ ghost use Rattle.mt_sessionview.specs.SessionText.{newline};
 ghost use Rattle.mt_preflight.specs.SourcesText.{found_text, source_line, unused_line, missing_line, name_line};
 
 use crate::given::Found;
-use crate::piece::{append_digest, append_name, append_newline, append_number};
 use crate::uses::Use;
-use mt_op::Digest;
+use base_text::{append_number, append_word};
+use mt_op::{Digest, append_digest};
 use std::alloc::{AllocError, Allocator};
 
 // Writes what was found of a recording that is there.
@@ -21,7 +21,7 @@ fn append_recording<A: Allocator>(text: &mut String<A>, found: &Found) -> Result
     append_number(text, " rate ", u64::from(found.recording.rate))?;
     append_number(text, " channels ", u64::from(found.recording.channels))?;
     append_number(text, " frames ", found.recording.frames)?;
-    append_name(text, " file ", found.name)?;
+    append_word(text, " file ", found.name)?;
     Ok(())
 }
 
@@ -50,7 +50,7 @@ pub(crate) fn append_source_line<A: Allocator, B: Allocator>(
     append_number(text, " audible ", made.audible)?;
     append_number(text, " end ", made.end)?;
     append_found(text, found)?;
-    append_newline(text)?;
+    text.push_str("\n")?;
     Ok(())
 }
 
@@ -68,8 +68,8 @@ pub(crate) fn append_unused_line<A: Allocator, B: Allocator>(
         return Ok(());
     }
     append_digest(alloc, text, "unused ", digest)?;
-    append_name(text, " file ", name)?;
-    append_newline(text)
+    append_word(text, " file ", name)?;
+    text.push_str("\n")
 }
 
 /// Writes `refused N file NAME` and a line feed.
@@ -81,8 +81,8 @@ pub(crate) fn append_refused_line<A: Allocator>(
     ensures { OnOk result (string_bytes text.new ≡ string_bytes text.old ++ (codes "refused " ++ (decimal number ++ (codes " file " ++ (name.now ++ newline ∷ []))))) }
 {
     append_number(text, "refused ", u64::from(number))?;
-    append_name(text, " file ", name)?;
-    append_newline(text)
+    append_word(text, " file ", name)?;
+    text.push_str("\n")
 }
 
 /// Writes `missing N` and a line feed.
@@ -93,7 +93,7 @@ pub(crate) fn append_missing_line<A: Allocator>(
     ensures { OnOk result (string_bytes text.new ≡ string_bytes text.old ++ missing_line count) }
 {
     append_number(text, "missing ", count)?;
-    append_newline(text)
+    text.push_str("\n")
 }
 
 /// Writes a digest and a line feed.
@@ -105,7 +105,7 @@ pub(crate) fn append_digest_line<A: Allocator, B: Allocator>(
     ensures { OnOk result (string_bytes text.new ≡ string_bytes text.old ++ (digest_text digest ++ newline ∷ [])) }
 {
     append_digest(alloc, text, "", digest)?;
-    append_newline(text)
+    text.push_str("\n")
 }
 
 /// Writes the name of a file that was found, and a line feed; nothing where none was.
@@ -119,7 +119,7 @@ pub(crate) fn append_name_line<A: Allocator>(
         None => Ok(()),
         Some(found) => {
             text.push_str(found.name)?;
-            append_newline(text)
+            text.push_str("\n")
         }
     }
 }

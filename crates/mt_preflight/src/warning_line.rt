@@ -4,8 +4,8 @@ ghost use Rattle.std.specs.Prelude.{◌≡◌, ◌++◌, OnOk};
 ghost use Rattle.std.specs.String.{string_bytes};
 ghost use Rattle.mt_preflight.specs.WarningsText.{past_end_line, covered_line, one_channel_line, behind_line, needs_line, warnings_line};
 
-use crate::piece::{append_digest, append_newline, append_number, append_stamp};
-use mt_op::Digest;
+use base_text::append_number;
+use mt_op::{Digest, append_digest, append_stamp};
 use mt_stamp::Stamp;
 use std::alloc::{AllocError, Allocator};
 
@@ -21,7 +21,7 @@ pub(crate) fn append_past_end_line<A: Allocator>(
     append_stamp(text, "past-end ", clip)?;
     append_number(text, " end ", end)?;
     append_number(text, " frames ", frames)?;
-    append_newline(text)
+    text.push_str("\n")
 }
 
 /// Writes `covered CLIP` and a line feed.
@@ -32,7 +32,7 @@ pub(crate) fn append_covered_line<A: Allocator>(
     ensures { OnOk result (string_bytes text.new ≡ string_bytes text.old ++ covered_line clip) }
 {
     append_stamp(text, "covered ", clip)?;
-    append_newline(text)
+    text.push_str("\n")
 }
 
 /// Writes `one-channel DIGEST channels N` and a line feed.
@@ -46,7 +46,7 @@ pub(crate) fn append_one_channel_line<A: Allocator, B: Allocator>(
 {
     append_digest(alloc, text, "one-channel ", digest)?;
     append_number(text, " channels ", channels)?;
-    append_newline(text)?;
+    text.push_str("\n")?;
     Ok(())
 }
 
@@ -60,7 +60,7 @@ pub(crate) fn append_behind_line<A: Allocator>(
 {
     append_stamp(text, "behind ", marker)?;
     append_number(text, " at ", u64::from(at))?;
-    append_newline(text)
+    text.push_str("\n")
 }
 
 /// Writes `held STAMP needs STAMP` and a line feed.
@@ -73,7 +73,7 @@ pub(crate) fn append_needs_line<A: Allocator>(
 {
     append_stamp(text, "held ", stamp)?;
     append_stamp(text, " needs ", need)?;
-    append_newline(text)
+    text.push_str("\n")
 }
 
 /// Writes `warnings N` and a line feed.
@@ -84,5 +84,5 @@ pub(crate) fn append_warnings_line<A: Allocator>(
     ensures { OnOk result (string_bytes text.new ≡ string_bytes text.old ++ warnings_line count) }
 {
     append_number(text, "warnings ", count)?;
-    append_newline(text)
+    text.push_str("\n")
 }

@@ -1,6 +1,6 @@
 -- What an editor keeps after an edit.
-use Rattle.std.proofs.Common.{◌≡◌, ◌≢◌, ℕ, suc, ◌+◌, ◌≤◌, Bool, true, false, cond, List, [], ◌∷◌, ◌++◌, length, map, refl, sym, ap, ◌∙◌, subst, inl, inr, arith}
-use Rattle.std.specs.Prelude.{Option, Some, None, Result, Ok, Err, IsTrue, IsOk, IsErrOf, IfErr, ◌⊎◌}
+use Rattle.std.proofs.Common.{◌≡◌, ◌≢◌, ℕ, suc, ◌+◌, ◌≤◌, Bool, true, false, cond, List, [], ◌∷◌, ◌++◌, length, map, refl, sym, ap, ◌∙◌, subst, arith}
+use Rattle.std.specs.Prelude.{Option, Some, None, Result, Ok, Err, IsTrue}
 use Rattle.std.specs.List.{AllByRecursion, filter, list_all, sum_by}
 use Rattle.std.specs.FinMap as fin
 use Rattle.std.specs.FinMap.Entries.{find}
@@ -39,10 +39,8 @@ use Rattle.mt_replica.specs.Made.{is_by, greatest_of, greatest_clock, greatest_s
 use Rattle.mt_replica.specs.State.{Named, IsState, IsMade, body_refused}
 use Rattle.mt_replica.specs.declared.fault.EditorFault.{EditorFault}
 use Rattle.mt_replica.specs.declared.fault.EditorFault.TheVariants.{TooManyTags}
-use Rattle.mt_op.specs.declared.fault.OpFault.{OpFault}
-use Rattle.mt_op.specs.declared.fault.OpFault.TheVariants.{NameNotOlder, BadTags}
-use Rattle.mt_op.specs.declared.fault.OpFault.TheVariants as op
-use Rattle.mt_op.specs.Valid.{length_is_good, fades_are_good, tags_are_good}
+use Rattle.mt_op.specs.Valid.{op_or_fault}
+use Rattle.mt_op.proofs.Valid.{is_op}
 use Rattle.mt_op.specs.Dots.{dots_rise}
 use Rattle.mt_replica.proofs.Bridging.{refused_in_parts}
 use Rattle.mt_stamp.proofs.Listed.{any_member}
@@ -170,17 +168,11 @@ unstamped ops name edit fault body stamped =
     told (Some fault) = refl
 
 -- nothing else refuses what was made
-pub it_is_made : {X : Type 0} (ops : List Operation) (name : Replica) (edit : Edit) (o : Operation) (r : Result X OpFault) → dots_rise ops ≡ true → refused ops name edit ≡ None → made_op ops name edit ≡ o
-    → (IsErrOf r NameNotOlder → names_are_older o ≡ false) → (IsErrOf r op.ZeroLength → length_is_good o.act ≡ false) → (IsErrOf r op.FadeTooLong → fades_are_good o.act ≡ false) → (IsErrOf r BadTags → tags_are_good o.act ≡ false)
-    → IfErr r (λ fault. (fault ≡ NameNotOlder) ⊎ ((fault ≡ op.ZeroLength) ⊎ ((fault ≡ op.FadeTooLong) ⊎ (fault ≡ BadTags)))) → IsOk r
-it_is_made ops name edit o (Ok x) rise none is not_older zero_length fade_too_long bad_tags err = refl
-it_is_made {X} ops name edit o (Err fault) rise none is not_older zero_length fade_too_long bad_tags err = absurd (by err)
-  where
-    by : (fault ≡ NameNotOlder) ⊎ ((fault ≡ op.ZeroLength) ⊎ ((fault ≡ op.FadeTooLong) ⊎ (fault ≡ BadTags))) → ⊥
-    by (inl one) = true≢false (sym (older ops name edit none) ∙ ap names_are_older is ∙ not_older (ap Err one))
-    by (inr (inl one)) = true≢false (sym (it_plays ops name edit none) ∙ sym (same_length ops edit) ∙ ap (λ (p : Operation). length_is_good p.act) is ∙ zero_length (ap Err one))
-    by (inr (inr (inl one))) = true≢false (sym (it_fades ops name edit none) ∙ sym (same_fades ops edit) ∙ ap (λ (p : Operation). fades_are_good p.act) is ∙ fade_too_long (ap Err one))
-    by (inr (inr (inr one))) = true≢false (sym (tags_good ops rise name edit none) ∙ ap (λ (p : Operation). tags_are_good p.act) is ∙ bad_tags (ap Err one))
+pub it_is_made : (ops : List Operation) (name : Replica) (edit : Edit) (o : Operation) → dots_rise ops ≡ true → refused ops name edit ≡ None
+    → made_op ops name edit ≡ o → op_or_fault o ≡ Ok o
+it_is_made ops name edit o rise none is = subst (λ (p : Operation). op_or_fault p ≡ Ok p) is
+    (is_op (made_op ops name edit) (older ops name edit none) (same_length ops edit ∙ it_plays ops name edit none)
+    (same_fades ops edit ∙ it_fades ops name edit none) (tags_good ops rise name edit none))
 
 -- ---- the state with an operation that a change made
 

@@ -1,5 +1,5 @@
 -- What an edit makes of a set of operations.
-use Rattle.std.specs.Prelude.{ℕ, suc, Bool, true, false, not, ◌==◌, ◌||◌, ◌&&◌, List, [], ◌∷◌, map, filter, length, Option, Some, None, option_map, unwrap_or, Result, Ok, Err, nat_le, max}
+use Rattle.std.specs.Prelude.{ℕ, suc, Bool, true, false, not, ◌==◌, ◌||◌, List, [], ◌∷◌, map, filter, length, Option, Some, None, option_map, unwrap_or, Result, Ok, Err, nat_le, max}
 use Rattle.std.specs.List.{list_any}
 use Rattle.mt_stamp.specs.declared.name.Replica.{Replica}
 use Rattle.mt_stamp.specs.Moment.{Moment, greatest, stamp_cmp}
@@ -12,7 +12,7 @@ use Rattle.mt_op.specs.Operation.{Act, Operation}
 use Rattle.mt_op.specs.Presence.{is_present, live_tags}
 use Rattle.mt_op.specs.Writes.{track_place_written, last_write}
 use Rattle.mt_op.specs.Tags.{greatest_tag_count}
-use Rattle.mt_op.specs.Valid.{longest_fade}
+use Rattle.mt_op.specs.Valid.{length_is_good, fades_are_good}
 use Rattle.mt_sessionview.specs.Session.{ready_ops}
 use Rattle.mt_stamp.specs.Sorting.{sort_by}
 use Rattle.mt_replica.specs.Edit.{Edit, AddTrack, MoveTrack, AddClip, MoveClip, TrimClip, SetGain, SetMute, Remove, Restore, AddMarker, MoveMarker, Retitle, SetFade, SetMarkerLength}
@@ -79,16 +79,13 @@ module _ (ready : List Operation) where
 
 -- ---- its refusals
 
--- whether a clip would play at least one frame
+-- whether a clip would play at least one frame, whatever is ready
 abbrev pub plays : Edit → Bool
-plays (AddClip source track at offset len) = nat_le 1 len
-plays (TrimClip clip offset len) = nat_le 1 len
-plays _ = true
+plays edit = length_is_good (made_act [] edit)
 
 -- whether no fade would last too long
 abbrev pub fades_fit : Edit → Bool
-fades_fit (SetFade clip fade_in fade_out) = nat_le fade_in longest_fade && nat_le fade_out longest_fade
-fades_fit _ = true
+fades_fit edit = fades_are_good (made_act [] edit)
 
 -- a track that an edit may name
 abbrev pub named_track : Option Moment → List Need

@@ -15,7 +15,7 @@ ghost use Rattle.mt_replica.specs.Viewed.{AreShown};
 
 use mt_items::Items;
 use mt_op::Op;
-use mt_sessionview::{Session, placed_by, session_of_ready};
+use mt_sessionview::{Session, placed_by, session_of_ready, sorted_by_stamp};
 use mt_tracklist::{Placed, TrackList};
 use std::alloc::{AllocError, Allocator};
 
@@ -27,19 +27,18 @@ pub(crate) struct Shown<A: Allocator> {
 }
 
 // References to operations, by rising stamp.
-fn by_stamp<'a, A: Allocator, B: Allocator>(
+fn refs_by_stamp<'a, A: Allocator, B: Allocator>(
     alloc: B,
     ops: &'a [Op<A>],
 ) -> Result<Vec<&'a Op<A>, B>, AllocError>
     requires own { HaveOwnStamps ops.now }
     ensures { IfOk result (λ sorted. map (λ o. o.now) sorted.items ≡ sort_by op_cmp ops.now) }
 {
-    let mut sorted = Vec::with_capacity(alloc, ops.len())?;
+    let mut refs = Vec::with_capacity(alloc, ops.len())?;
     for op in ops {
-        sorted.push(op)?;
+        refs.push(op)?;
     }
-    sorted.sort_by_key(|op| op.stamp())?;
-    Ok(sorted)
+    sorted_by_stamp(refs)
 }
 
 // The places that operations give, in their order.
@@ -70,7 +69,7 @@ pub(crate) fn shown_of<A: Allocator + Clone>(
     ensures shown { IfOk result (λ shown. AreShown items.now shown.places shown.session) }
     ensures held { IfOk result (λ shown. shown.session.held ≡ held) }
 {
-    let refs = by_stamp(alloc.clone()?, ready)?;
+    let refs = refs_by_stamp(alloc.clone()?, ready)?;
     let (session, placed) = session_of_ready(alloc.clone()?, &refs, items, held)?;
     let places = places_of(alloc.clone()?, &placed)?;
     Ok(Shown {

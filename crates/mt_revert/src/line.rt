@@ -4,14 +4,14 @@ ghost use Rattle.std.specs.Prelude.{◌≡◌, ◌++◌, OnOk, codes};
 ghost use Rattle.std.specs.String.{string_bytes};
 ghost use Rattle.mt_stamp.specs.Texts.{stamp_text};
 ghost use Rattle.mt_op.specs.Bodies.{act_of};
-ghost use Rattle.mt_logtext.specs.LogText.{stamp_word, act_text};
+ghost use Rattle.mt_logtext.specs.LogText.{act_text};
 ghost use Rattle.mt_revert.specs.Revert.{waits, presence_line, field_line, ready_line, last_writer, revert_words, revert_line, revert_lines};
 
 use crate::left::{first_absent, is_there, last_writer, writer_left};
 use crate::taken::TakenBack;
 use mt_items::Items;
 use mt_logtext::append_act;
-use mt_op::Body;
+use mt_op::{Body, append_stamp};
 use mt_opcodec::Log;
 use mt_stamp::Stamp;
 use std::alloc::{AllocError, Allocator};
@@ -20,22 +20,8 @@ use std::alloc::{AllocError, Allocator};
 fn append_waits<A: Allocator>(text: &mut String<A>, own: Stamp) -> Result<(), AllocError>
     ensures { OnOk result (string_bytes text.new ≡ string_bytes text.old ++ waits own) }
 {
-    text.push_str("# ")?;
-    own.append_text(text)?;
+    append_stamp(text, "# ", own)?;
     text.push_str(" waits: it changes nothing")
-}
-
-// Writes a word, a space and a stamp.
-fn append_named<A: Allocator>(
-    text: &mut String<A>,
-    name: &str,
-    item: Stamp,
-) -> Result<(), AllocError>
-    ensures { OnOk result (string_bytes text.new ≡ string_bytes text.old ++ (name.now ++ stamp_word item)) }
-{
-    text.push_str(name)?;
-    text.push_str(" ")?;
-    item.append_text(text)
 }
 
 // Writes the line of what added, removed or restored an item.
@@ -49,13 +35,13 @@ fn append_presence<A: Allocator>(
 {
     match (was, is) {
         (false, false) => {
-            append_named(text, "# remove", item)?;
+            append_stamp(text, "# remove ", item)?;
             text.push_str(": it is absent already")
         }
-        (false, true) => append_named(text, "remove", item),
-        (true, false) => append_named(text, "restore", item),
+        (false, true) => append_stamp(text, "remove ", item),
+        (true, false) => append_stamp(text, "restore ", item),
         (true, true) => {
-            append_named(text, "# restore", item)?;
+            append_stamp(text, "# restore ", item)?;
             text.push_str(": it is present already")
         }
     }
@@ -74,8 +60,7 @@ fn append_remark<A: Allocator, B: Allocator, C: Allocator>(
 {
     text.push_str("# ")?;
     append_act(alloc, text, body)?;
-    text.push_str(": ")?;
-    stamp.append_text(text)?;
+    append_stamp(text, ": ", stamp)?;
     text.push_str(why)?;
     Ok(())
 }

@@ -19,7 +19,7 @@ use Rattle.mt_op.specs.declared.digest.Digest.{Digest}
 use Rattle.mt_op.specs.Digest.{IsDigest, digest_text, is_digest_text}
 use Rattle.mt_op.specs.Title.{is_plain, is_title}
 use Rattle.mt_op.proofs.Digests.{text-decoded}
-use Rattle.mt_script.specs.Lines.{newline}
+use Rattle.base_text.specs.Cutting.{newline}
 use Rattle.mt_script.specs.Laws.{IsOneLine}
 
 abbrev pub IsInk : ℕ → Type 0

@@ -24,7 +24,7 @@ use Rattle.mt_script.specs.Forms.{Items, field, said, add_track, move_track, add
 use Rattle.mt_script.specs.Lines.{is_silent}
 use Rattle.mt_script.specs.ReadBack.{edit_of_act, ActsAreReadBack}
 use Rattle.mt_script.proofs.Asked.{asks_what_it_says}
-use Rattle.mt_script.proofs.Cuts.{cut_there}
+use Rattle.base_text.proofs.Cuts.{cut_there}
 use Rattle.mt_script.proofs.Numbers.{spelled}
 use Rattle.mt_script.proofs.Options.{failed, nothing}
 use Rattle.mt_script.proofs.Stamps.{stamp_spelled, stamp_read}

@@ -13,7 +13,8 @@ use Rattle.mt_replica.specs.Made.{made}
 use Rattle.mt_replica.specs.Kept.{Kept, with_op, kept_with, edited_in, edited}
 use Rattle.mt_script.specs.declared.fault.ScriptFault.{ScriptFault}
 use Rattle.mt_script.specs.declared.fault.ScriptFault.TheVariants.{Memory, Failed, BadLine, Refused}
-use Rattle.mt_script.specs.Lines.{lines, is_silent}
+use Rattle.base_text.specs.Cutting.{lines}
+use Rattle.mt_script.specs.Lines.{is_silent}
 use Rattle.mt_script.specs.Forms.{Items, asked}
 use Rattle.mt_script.specs.Script.{made_at, asked_at, made_by_line, made_by_lines, item_made, with_ops, scripted_from, scripted_in, kept_with_ops, ◌>>=◌}
 use Rattle.mt_script.specs.Running.{line_from, line_in, lines_from, lines_in, onto, Reached, LineGives, LinesGive}

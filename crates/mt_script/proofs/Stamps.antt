@@ -10,9 +10,10 @@ use Rattle.mt_stamp.specs.Texts.{point, replica_text, stamp_text}
 use Rattle.mt_stamp.proofs.Texts.{replica_text_parses, decimal_has_no_point}
 use Rattle.mt_stamp.proofs.Words.{from_be_bytes-to_be_bytes_16}
 use Rattle.mt_opcodec.specs.OpReading.{is_in_range, is_stamp}
-use Rattle.mt_script.specs.Words.{cut, parts_of_stamp, is_moment, spelled_so, stamp}
+use Rattle.base_text.specs.Cutting.{cut}
+use Rattle.mt_script.specs.Words.{parts_of_stamp, is_moment, spelled_so, stamp}
 use Rattle.mt_script.specs.Laws.{StampsAreSpelled}
-use Rattle.mt_script.proofs.Cuts.{cut_there}
+use Rattle.base_text.proofs.Cuts.{cut_there}
 use Rattle.mt_script.proofs.Options.{passed, nothing}
 
 -- the parts of a stamp's text are those of the stamp

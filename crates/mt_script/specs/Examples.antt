@@ -3,7 +3,7 @@ use Rattle.std.specs.Prelude.{◌≡◌, [], ◌∷◌, ◌++◌, Some, None, re
 use Rattle.std.specs.Fmt.{digits}
 use Rattle.mt_stamp.specs.Moment.{Moment}
 use Rattle.mt_replica.specs.Edit.{TrimClip, SetGain, SetFade, SetMarkerLength}
-use Rattle.mt_script.specs.Lines.{newline, lines}
+use Rattle.base_text.specs.Cutting.{newline, lines}
 use Rattle.mt_script.specs.Words.{number_below, gain, stamp, item}
 use Rattle.mt_script.specs.Forms.{Items, said, trim_clip, set_gain, set_mute, remove, set_fade, set_marker_length}
 

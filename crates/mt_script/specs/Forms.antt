@@ -5,7 +5,8 @@ use Rattle.std.specs.Prelude.{ℕ, List, [], ◌∷◌, Option, Some, None, if�
 use Rattle.std.specs.Str.{bytes_eq, is_utf8}
 use Rattle.mt_stamp.specs.Moment.{Moment}
 use Rattle.mt_replica.specs.Edit.{Edit, AddTrack, MoveTrack, AddClip, MoveClip, TrimClip, SetGain, SetMute, Remove, Restore, AddMarker, MoveMarker, Retitle, SetFade, SetMarkerLength}
-use Rattle.mt_script.specs.Words.{◌>>=◌, space, cut, number, fade_length, gain, item, after, digest, switch, title}
+use Rattle.base_text.specs.Cutting.{◌>>=◌, cut}
+use Rattle.mt_script.specs.Words.{space, number, fade_length, gain, item, after, digest, switch, title}
 
 -- a word that a space ends, read, and what follows the space
 abbrev pub field : {X : Type 0} → (List ℕ → Option X) → List ℕ → Option (X × List ℕ)

@@ -4,7 +4,7 @@ use Rattle.std.specs.List.{AllByRecursion, flat_map}
 use Rattle.std.specs.Fmt.{decimal}
 use Rattle.mt_stamp.specs.Moment.{Moment, IsMoment}
 use Rattle.mt_stamp.specs.Texts.{stamp_text}
-use Rattle.mt_script.specs.Lines.{newline, lines}
+use Rattle.base_text.specs.Cutting.{newline, lines}
 use Rattle.mt_script.specs.Words.{number_below, stamp}
 
 -- A number is read from its decimal spelling and from no other text.

@@ -6,7 +6,7 @@ use Rattle.mt_opcodec.specs.LogValue.{LogMap, operations}
 use Rattle.mt_replica.specs.Kept.{Kept}
 use Rattle.mt_script.specs.declared.fault.ScriptFault.{ScriptFault}
 use Rattle.mt_script.specs.declared.fault.ScriptFault.TheVariants.{Memory, Failed, BadLine, Refused}
-use Rattle.mt_script.specs.Lines.{lines}
+use Rattle.base_text.specs.Cutting.{lines}
 use Rattle.mt_script.specs.Forms.{Items}
 use Rattle.mt_script.specs.Script.{made_by_line, made_by_lines, item_made, scripted_in, kept_with_ops}
 

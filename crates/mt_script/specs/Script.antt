@@ -11,7 +11,8 @@ use Rattle.mt_replica.specs.Made.{made}
 use Rattle.mt_replica.specs.Kept.{Kept, with_op, kept_with, copied}
 use Rattle.mt_script.specs.declared.fault.ScriptFault.{ScriptFault}
 use Rattle.mt_script.specs.declared.fault.ScriptFault.TheVariants.{Memory, Failed, BadLine, Refused}
-use Rattle.mt_script.specs.Lines.{lines, is_silent}
+use Rattle.base_text.specs.Cutting.{lines}
+use Rattle.mt_script.specs.Lines.{is_silent}
 use Rattle.mt_script.specs.Forms.{Items, asked}
 
 -- the second step, where the first is not refused

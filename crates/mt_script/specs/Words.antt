@@ -1,5 +1,5 @@
 -- The words of a script's lines, and what each says (profile): none where it says nothing of its kind.
-use Rattle.std.specs.Prelude.{ℕ, ◌+◌, ◌-◌, ◌^◌, Bool, true, false, ◌==◌, ◌&&◌, nat_lt, List, [], ◌∷◌, drop, slice_get, slice_index, Option, Some, None, if◌then◌else◌, codes}
+use Rattle.std.specs.Prelude.{ℕ, ◌+◌, ◌-◌, ◌^◌, Bool, true, false, ◌==◌, ◌&&◌, nat_lt, List, drop, slice_get, slice_index, Option, Some, None, if◌then◌else◌, codes}
 use Rattle.std.specs.Option.{option_map, option_flatten}
 use Rattle.std.specs.Result.{result_ok}
 use Rattle.std.specs.Fmt.{decimal}
@@ -8,6 +8,7 @@ use Rattle.std.specs.Str.{bytes_eq}
 use Rattle.std.specs.Str.Parse.{digits_value}
 use Rattle.uuid.specs.Text.{parsed}
 use Rattle.hex.specs.Hex.{decode_of}
+use Rattle.base_text.specs.Cutting.{◌>>=◌, cut}
 use Rattle.mt_stamp.specs.Moment.{Moment}
 use Rattle.mt_stamp.specs.Texts.{point, stamp_text}
 use Rattle.mt_op.specs.declared.digest.Digest.{Digest}
@@ -16,12 +17,6 @@ use Rattle.mt_op.specs.Gain.{Ratio}
 use Rattle.mt_op.specs.Title.{is_title}
 use Rattle.mt_op.specs.Valid.{longest_fade}
 use Rattle.mt_opcodec.specs.OpReading.{is_stamp}
-
--- the second step, where the first says something
-infixl 10 ◌>>=◌
-abbrev pub ◌>>=◌ : {X Y : Type 0} → Option X → (X → Option Y) → Option Y
-(Some x) >>= f = f x
-None >>= f = None
 
 -- ---- cutting
 
@@ -34,16 +29,6 @@ dollar = 36
 
 abbrev pub stroke : ℕ
 stroke = 47
-
--- what is cut there, with one byte more before it
-abbrev pub byte_before : ℕ → Option (List ℕ × List ℕ) → Option (List ℕ × List ℕ)
-byte_before b None = None
-byte_before b (Some parts) = Some (b ∷ parts.0, parts.1)
-
--- what stands before the first such byte, and what after it
-abbrev pub cut : ℕ → List ℕ → Option (List ℕ × List ℕ)
-cut byte [] = None
-cut byte (b ∷ bs) = if b == byte then Some ([], bs) else byte_before b (cut byte bs)
 
 -- ---- numbers
 

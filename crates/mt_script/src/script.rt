@@ -6,7 +6,7 @@ ghost use Rattle.mt_script.specs.Running.{LineGives, LinesGive};
 
 use crate::fault::ScriptFault;
 use crate::forms::change_of;
-use crate::lines::{cut_line, is_silent};
+use crate::lines::is_silent;
 use mt_op::{Op, Role};
 use mt_replica::{Draft, Editor, EditorFault};
 use mt_stamp::Stamp;

@@ -1,7 +1,7 @@
 //! Operations by their stamps.
 
 ghost use Rattle.std.specs.Prelude.{◌≡◌, IfOk, map};
-ghost use Rattle.mt_stamp.specs.Sorting.{sort_by};
+ghost use Rattle.mt_stamp.specs.Sorting.{sort_by, DifferBy};
 ghost use Rattle.mt_op.specs.ByStamp.{stamp_of, op_cmp};
 ghost use Rattle.mt_opcodec.specs.LogValue.{operations};
 
@@ -10,7 +10,22 @@ use mt_opcodec::Log;
 use mt_stamp::Stamp;
 use std::alloc::{AllocError, Allocator};
 
-/// References to a log's operations, by rising stamp. n operations cost n log n, and take memory for the references alone.
+/// References to operations of different stamps, by rising stamp. n operations cost n log n.
+/// `AllocError` where an allocation failed.
+pub fn sorted_by_stamp<'a, A: Allocator, B: Allocator>(
+    ops: Vec<&'a Op<A>, B>,
+) -> Result<Vec<&'a Op<A>, B>, AllocError>
+    requires { DifferBy stamp_of (map (λ o. o.now) ops.items) }
+    ensures { IfOk result (λ sorted. map (λ o. o.now) sorted.items
+        ≡ sort_by op_cmp (map (λ o. o.now) ops.entry.items)) }
+{
+    let mut sorted = ops;
+    sorted.sort_by_key(|op| op.stamp())?;
+    Ok(sorted)
+}
+
+/// References to a log's operations, by rising stamp. n operations cost n log n, and take memory for
+/// the references alone. `AllocError` where an allocation failed.
 pub fn sorted_ops<'a, A: Allocator, B: Allocator>(
     alloc: B,
     log: &'a Log<A>,
@@ -19,9 +34,8 @@ pub fn sorted_ops<'a, A: Allocator, B: Allocator>(
 {
     // for the proof: that the dots of a log's operations differ
     let _ = log.runs();
-    let mut sorted = log.refs(alloc)?;
-    sorted.sort_by_key(|op| op.stamp())?;
-    Ok(sorted)
+    let refs = log.refs(alloc)?;
+    sorted_by_stamp(refs)
 }
 
 // The stamps of operations, in their order.

@@ -82,7 +82,7 @@ mod text;
 mod track;
 
 pub use build::session_of_ready;
-pub use by_stamp::sorted_ops;
+pub use by_stamp::{sorted_by_stamp, sorted_ops};
 pub use fault::SessionFault;
 pub use places::placed_by;
 pub use readiness::ready_stamps;

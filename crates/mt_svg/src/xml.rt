@@ -4,7 +4,7 @@ ghost use Rattle.std.specs.Prelude.{OnOk};
 ghost use Rattle.mt_svg.specs.Adding.{Adds};
 ghost use Rattle.mt_svg.specs.XmlText.{escaped_char, escaped, numbered, title_text};
 
-use itoa::Buffer;
+use base_text::append_number;
 use std::alloc::{AllocError, Allocator};
 
 // Writes a character of a title.
@@ -54,9 +54,7 @@ pub(crate) fn append_numbered<A: Allocator>(
 ) -> Result<(), AllocError>
     ensures { OnOk result (Adds text.old text.new (numbered before.now number)) }
 {
-    let mut digits = Buffer::new();
-    text.push_str(before)?;
-    text.push_str(digits.format(number))
+    append_number(text, before, number)
 }
 
 /// Writes the element `title`.

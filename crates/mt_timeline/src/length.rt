@@ -3,7 +3,8 @@
 ghost use Rattle.std.specs.Prelude.{◌≡◌, ◌≤◌, ◌^◌, ◌++◌, OnOk};
 ghost use Rattle.mt_timeline.specs.Timeline.{length_text};
 
-use mt_times::{append_decimal, append_time};
+use base_text::append_decimal;
+use mt_times::append_time;
 use std::alloc::{AllocError, Allocator};
 
 /// In which ways the last line says how long a session and a column are.

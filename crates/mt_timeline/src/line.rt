@@ -11,7 +11,7 @@ use crate::mark::{append_marker_marks, append_track_marks};
 use crate::tops::tops_of;
 use mt_op::Gain;
 use mt_sessionview::{MarkerView, TrackView};
-use mt_times::append_decimal;
+use base_text::append_decimal;
 use std::alloc::{AllocError, Allocator};
 
 // Writes ` gain NUM/DEN`, where it is not 1/1.

@@ -3,7 +3,8 @@ use Rattle.std.proofs.Common.{◌≡◌, ℕ, ◌+◌, ◌*◌, ◌/◌, ◌≤�
 use Rattle.std.proofs.Math.Nat.{mul-le-mul_left, mul-le-mul_right, one-le-pow}
 use Rattle.std.proofs.lemmas.Nat.{le-div}
 use Rattle.mt_times.specs.declared.time.Time.{Time}
-use Rattle.mt_times.specs.Words.{◌>>=◌, cut, colon, point, number, passing}
+use Rattle.base_text.specs.Cutting.{◌>>=◌, cut}
+use Rattle.mt_times.specs.Words.{colon, point, number, passing}
 use Rattle.mt_times.specs.Times.{whole_time, later, sixty, parts_of_second, seconds, seconds_at, clock, form, form_at, before_s, frame, read_time}
 use Rattle.mt_times.specs.Steps.{small_number}
 

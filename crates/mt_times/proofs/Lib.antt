@@ -1,6 +1,5 @@
 mod Amplitudes
 mod Capping
-mod Cuts
 mod NearestRows
 mod Numbers
 mod Ranges

@@ -8,7 +8,9 @@ use Rattle.std.specs.Str.Parse.{digits_value, ParsesUnsigned}
 use Rattle.std.proofs.lemmas.Fmt.{IsAscii-from_digits}
 use Rattle.std.proofs.lemmas.Str.{IsUtf8-from_ascii}
 use Rattle.std.proofs.lemmas.Str.Parse.{IsNumeralModel, numerals_by_value, parse_digits, digits_value_short}
-use Rattle.mt_times.specs.Words.{◌>>=◌, are_digits, number, passing}
+use Rattle.base_text.specs.Cutting.{◌>>=◌}
+use Rattle.base_text.specs.Digits.{are_digits}
+use Rattle.mt_times.specs.Words.{number, passing}
 use Rattle.mt_times.specs.Steps.{small_number}
 
 pub own : IsNumeralModel (λ ds. list_all is_ascii_digit ds ≡ true) (digits_value 10)

@@ -10,10 +10,11 @@ use Rattle.std.proofs.lemmas.Fmt.{decimal_is_IsNumeral}
 use Rattle.std.proofs.lemmas.Str.{digit_value_digit}
 use Rattle.std.proofs.lemmas.Str.Parse.{digit_at}
 use Rattle.mt_times.specs.Printing.{two_digits, three_digits, clock_text, milliseconds}
-use Rattle.mt_times.specs.Words.{cut, number}
+use Rattle.base_text.specs.Cutting.{cut}
+use Rattle.mt_times.specs.Words.{number}
 use Rattle.mt_times.specs.Times.{sixty, parts_of_second, seconds, clock, form, time, nearest_frame}
 use Rattle.mt_times.specs.Laws.{millis, PrintedIsRead, PrintedFrameIsRead, WholeMillisecondsStay}
-use Rattle.mt_times.proofs.Cuts.{cut_there}
+use Rattle.base_text.proofs.Cuts.{cut_there}
 use Rattle.mt_times.proofs.Numbers.{own, digits_so}
 
 -- ---- numbers

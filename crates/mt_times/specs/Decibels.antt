@@ -1,6 +1,7 @@
 -- How levels are read (profile): `[+-]D[D[D]][.D]dB`, in decibels of an amplitude, that is of a field quantity (ISO 80000-3): x decibels are an amplitude of 10^(x/20).
 use Rattle.std.specs.Prelude.{ℕ, ◌+◌, ◌-◌, ◌*◌, ◌/◌, ◌%◌, ◌^◌, ◌==◌, ◌&&◌, nat_le, Bool, true, false, List, [], ◌∷◌, drop, length, slice_index, Option, Some, None, if◌then◌else◌}
-use Rattle.mt_times.specs.Words.{◌>>=◌, cut, point, number, passing}
+use Rattle.base_text.specs.Cutting.{◌>>=◌, cut}
+use Rattle.mt_times.specs.Words.{point, number, passing}
 use Rattle.mt_times.specs.declared.level.Level.{Level}
 
 -- ---- words

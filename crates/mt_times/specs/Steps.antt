@@ -1,7 +1,8 @@
 -- What the steps of the readers give: no statement of the subject.
 use Rattle.std.specs.Prelude.{ℕ, ◌*◌, ◌<◌, ◌≤◌, ◌^◌, nat_lt, List, Option}
 use Rattle.mt_times.specs.declared.time.Time.{Time}
-use Rattle.mt_times.specs.Words.{◌>>=◌, number, passing}
+use Rattle.base_text.specs.Cutting.{◌>>=◌}
+use Rattle.mt_times.specs.Words.{number, passing}
 
 -- a number under 2^32
 abbrev pub small_number : List ℕ → Option ℕ

@@ -1,6 +1,7 @@
 -- How times are read (profile): `H:MM:SS`, `H:MM:SS.f`, `Ss` and `S.fs`, to the nearest frame.
 use Rattle.std.specs.Prelude.{ℕ, ◌+◌, ◌*◌, ◌/◌, ◌^◌, ◌==◌, nat_le, nat_lt, List, length, Option, Some, None, if◌then◌else◌}
-use Rattle.mt_times.specs.Words.{◌>>=◌, cut, colon, point, letter_s, number, passing}
+use Rattle.base_text.specs.Cutting.{◌>>=◌, cut}
+use Rattle.mt_times.specs.Words.{colon, point, letter_s, number, passing}
 use Rattle.mt_times.specs.declared.time.Time.{Time}
 
 -- ---- times

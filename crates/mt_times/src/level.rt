@@ -4,7 +4,8 @@ ghost use Rattle.std.specs.Prelude.{◌≡◌, ◌<◌, ◌≤◌, ◌^◌, leng
 ghost use Rattle.std.specs.Option.{option_map};
 ghost use Rattle.mt_times.specs.Decibels.{few_digits, tenths, level_by, signed_level, before_db, level};
 
-use crate::word::{cut, short_number_of};
+use crate::word::short_number_of;
+use base_text::cut;
 
 // So many tenths of a decibel, above or below.
 #[derive(Clone, Copy)]

@@ -38,5 +38,5 @@ mod time;
 mod word;
 
 pub use fraction::{Fraction, fraction_of};
-pub use print::{append_decimal, append_time};
+pub use print::append_time;
 pub use time::frames_of;

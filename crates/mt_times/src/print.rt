@@ -4,17 +4,8 @@ ghost use Rattle.std.specs.Prelude.{◌≡◌, ◌<◌, ◌≤◌, ◌+◌, ◌^
 ghost use Rattle.std.specs.Fmt.{decimal};
 ghost use Rattle.mt_times.specs.Printing.{below_hours, clock_text, time_text};
 
-use itoa::Buffer;
+use base_text::append_decimal;
 use std::alloc::{AllocError, Allocator};
-
-/// Writes a number, in decimal. Where memory is refused, `text` is as it was.
-pub fn append_decimal<A: Allocator>(text: &mut Vec<u8, A>, number: u64) -> Result<(), AllocError>
-    ensures ok { OnOk result (text.new.items ≡ text.old.items ++ decimal number) }
-    ensures err { OnErr result (text.new.items ≡ text.old.items) }
-{
-    let mut digits = Buffer::new();
-    text.extend_from_slice(digits.format(number).as_bytes())
-}
 
 // The digit of a number under ten.
 fn digit(number: u64) -> u8

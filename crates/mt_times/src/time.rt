@@ -5,7 +5,8 @@ ghost use Rattle.std.specs.Option.{option_map};
 ghost use Rattle.mt_times.specs.Times.{later, sixty, parts_of_second, seconds, clock, before_s, form, frame, read_time};
 ghost use Rattle.mt_times.specs.Steps.{small_number, IsUnder};
 
-use crate::word::{cut, short_number_of, small_number_of};
+use crate::word::{short_number_of, small_number_of};
+use base_text::cut;
 
 // So many of the parts of which so many make a second.
 #[derive(Clone, Copy)]

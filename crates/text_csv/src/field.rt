@@ -11,7 +11,7 @@ ghost use Rattle.text_csv.specs.Writing.{AddsField, EndsRow};
 use csv::Writer;
 use mt_op::{Digest, Gain};
 use mt_stamp::Stamp;
-use mt_times::append_decimal;
+use base_text::append_decimal;
 use std::alloc::{AllocError, Allocator};
 use text_labels::append_seconds;
 

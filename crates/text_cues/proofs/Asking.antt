@@ -15,7 +15,8 @@ use Rattle.mt_op.specs.Title.{is_plain, is_title}
 use Rattle.mt_logtext.specs.LogText.{act_text, number_word, word}
 use Rattle.mt_replica.specs.Edit as edit
 use Rattle.mt_script.specs.Laws.{NumbersAreSpelled}
-use Rattle.mt_script.specs.Words.{space, cut, number, item_of_line, item}
+use Rattle.base_text.specs.Cutting.{cut}
+use Rattle.mt_script.specs.Words.{space, number, item_of_line, item}
 use Rattle.mt_script.specs.Forms.{Items, said, add_marker, set_marker_length}
 use Rattle.text_cues.specs.Marker.{length_words}
 use Rattle.text_cues.specs.Laws.{LinesAsk}

@@ -1,18 +1,10 @@
 //! Markers as lines of a script.
 
 ghost use Rattle.std.specs.Prelude.{◌≡◌, ◌++◌, OnOk};
-ghost use Rattle.std.specs.Fmt.{decimal};
 ghost use Rattle.text_cues.specs.Marker.{marker_line, length_line, marker_lines, line_count};
 
-use mt_times::append_decimal;
+use base_text::append_decimal;
 use std::alloc::{AllocError, Allocator};
-
-// Writes a number, in decimal.
-fn append_number<A: Allocator>(text: &mut Vec<u8, A>, number: u32) -> Result<(), AllocError>
-    ensures { OnOk result (text.new.items ≡ text.old.items ++ decimal number) }
-{
-    append_decimal(text, u64::from(number))
-}
 
 // Writes `add-marker AT TITLE` and a line feed.
 fn append_marker_line<A: Allocator>(
@@ -23,7 +15,7 @@ fn append_marker_line<A: Allocator>(
     ensures { OnOk result (text.new.items ≡ text.old.items ++ marker_line at title.now) }
 {
     text.extend_from_slice(b"add-marker ")?;
-    append_number(text, at)?;
+    append_decimal(text, u64::from(at))?;
     text.extend_from_slice(b" ")?;
     text.extend_from_slice(title)?;
     text.extend_from_slice(b"\n")
@@ -40,7 +32,7 @@ fn append_length_line<A: Allocator>(
     text.extend_from_slice(b"marker-length $")?;
     append_decimal(text, line)?;
     text.extend_from_slice(b" ")?;
-    append_number(text, len)?;
+    append_decimal(text, u64::from(len))?;
     text.extend_from_slice(b"\n")
 }
 

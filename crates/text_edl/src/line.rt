@@ -13,7 +13,7 @@ use crate::frame_rate::{FrameRate, is_exact, video_frame};
 use crate::named::{Named, name_of};
 use crate::timecode::{append_three, append_timecode};
 use mt_op::Digest;
-use mt_times::append_decimal;
+use base_text::append_decimal;
 use std::alloc::{AllocError, Allocator};
 use text_cues::append_shown;
 

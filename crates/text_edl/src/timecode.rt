@@ -5,7 +5,7 @@ ghost use Rattle.mt_times.specs.Printing.{two_digits, three_digits};
 ghost use Rattle.text_edl.specs.Timecode.{hours_text, sign, number_text, timecode};
 
 use crate::frame_rate::{FrameRate, counted, is_drop, shown_number};
-use mt_times::append_decimal;
+use base_text::append_decimal;
 use std::alloc::{AllocError, Allocator};
 
 // The digit of a number under ten.

@@ -11,13 +11,13 @@ use Rattle.std.proofs.lemmas.Fmt.{decimal_is_IsNumeral}
 use Rattle.std.proofs.lemmas.Str.Parse.{digit_at}
 use Rattle.mt_op.specs.Title.{is_plain, is_title}
 use Rattle.mt_sessionview.specs.Content.{Marker}
-use Rattle.mt_script.specs.Lines.{newline, lines}
+use Rattle.base_text.specs.Cutting.{newline, lines}
 use Rattle.text_cues.specs.Marker.{marker_lines, line_count}
 use Rattle.text_labels.specs.Seconds.{micros, six_digits, seconds_text}
 use Rattle.text_labels.specs.Labels.{tab, label_line, label_track}
 use Rattle.text_labels.specs.Reading.{unreturned, is_passed_over, label_between, label_from, label_of, labelled, label_lines, script_from}
 use Rattle.text_labels.specs.Laws.{IsMarked, markers_script, MarkersSurvive}
-use Rattle.text_labels.proofs.Cuts.{cut_there, first_line}
+use Rattle.base_text.proofs.Cuts.{cut_there, first_line}
 use Rattle.text_labels.proofs.ReadBack.{frames_survive, few}
 
 -- ---- bytes

@@ -4,8 +4,7 @@ use Rattle.std.specs.Prelude.{List, [], ◌∷◌, ◌++◌, length, take, slice
 use Rattle.std.specs.Prelude.{Option, Some, None, Result, Ok, Err, if◌then◌else◌}
 use Rattle.std.specs.List.{list_all}
 use Rattle.mt_op.specs.Title.{is_title}
-use Rattle.mt_times.specs.Words.{◌>>=◌, cut}
-use Rattle.mt_script.specs.Lines.{lines}
+use Rattle.base_text.specs.Cutting.{◌>>=◌, cut, lines}
 use Rattle.text_cues.specs.Marker.{marker_lines, line_count}
 use Rattle.text_cues.specs.CueLines.{LinesText}
 use Rattle.text_labels.specs.declared.fault.LabelsFault.{LabelsFault}

@@ -4,7 +4,8 @@ use Rattle.std.specs.Prelude.{ℕ, ◌+◌, ◌*◌, ◌/◌, ◌%◌, ◌^◌, 
 use Rattle.std.specs.Prelude.{Option, Some, None}
 use Rattle.std.specs.Fmt.{decimal}
 use Rattle.mt_times.specs.Printing.{three_digits}
-use Rattle.mt_times.specs.Words.{◌>>=◌, cut, point, number, passing}
+use Rattle.base_text.specs.Cutting.{◌>>=◌, cut}
+use Rattle.mt_times.specs.Words.{point, number, passing}
 
 -- ---- printed
 

@@ -5,14 +5,14 @@ ghost use Rattle.std.specs.List.{list_all};
 ghost use Rattle.std.specs.Option.{option_map};
 ghost use Rattle.std.specs.Str.{is_utf8};
 ghost use Rattle.mt_op.specs.Title.{is_plain, is_title};
-ghost use Rattle.mt_times.specs.Words.{cut};
+ghost use Rattle.base_text.specs.Cutting.{cut};
 ghost use Rattle.text_labels.specs.Labels.{tab};
 ghost use Rattle.text_labels.specs.Reading.{unreturned, is_blank, is_passed_over, end_and_title};
 ghost use Rattle.text_labels.specs.Reading.{label_between, label_from, label_of};
 ghost use Rattle.text_labels.specs.Steps.{label_text};
 
 use crate::seconds::frame_of_seconds;
-use crate::word::cut;
+use base_text::cut;
 use std::str;
 
 /// What a label says.

@@ -6,7 +6,7 @@ ghost use Rattle.text_labels.specs.Steps.{IsWritten};
 
 use crate::fault::LabelsFault;
 use crate::label::{is_passed_over, label_of, unreturned};
-use crate::word::cut_line;
+use base_text::cut_line;
 use std::alloc::Allocator;
 use text_cues::{append_marker, marker_line_count};
 

@@ -4,8 +4,8 @@ ghost use Rattle.std.specs.Prelude.{◌≡◌, ◌≤◌, ◌<◌, ◌+◌, ◌*
 ghost use Rattle.text_labels.specs.Seconds.{micros, six_digits, seconds_text, frame_of};
 ghost use Rattle.text_labels.specs.Steps.{frame_by, by_whole, by_parts};
 
-use crate::word::{capped_number_of, cut, part_of};
-use mt_times::append_decimal;
+use crate::word::{capped_number_of, part_of};
+use base_text::{append_decimal, cut};
 use std::alloc::{AllocError, Allocator};
 
 // How long frames last at a rate, in microseconds.

@@ -21,8 +21,8 @@ use Rattle.mt_replica.proofs.OwnStamps.{differ_own, own_as}
 use Rattle.mt_replica.proofs.ShownPlaces.{tree_of_same, are_ordered, are_places}
 use Rattle.mt_replica.proofs.shown.shown_of.Goals as goal
 
-pub by_stamp-requires : goal.by_stamp-requires
-by_stamp-requires g c = record { own = own_as c.args.items.now c.args.ready.now c.requires.same (noted_differ c.args.items.now c.requires.noted) }
+pub refs_by_stamp-requires : goal.refs_by_stamp-requires
+refs_by_stamp-requires g c = record { own = own_as c.args.items.now c.args.ready.now c.requires.same (noted_differ c.args.items.now c.requires.noted) }
 
 pub session_of_ready-requires-clause-same : goal.session_of_ready-requires-clause-same
 session_of_ready-requires-clause-same g c = λ f.

@@ -1,13 +1,15 @@
-use Rattle.std.proofs.Common.{Bor, rules}
-use Rattle.std.proofs.lemmas.List.Sorted.{answers_always}
+use Rattle.std.proofs.Common.{Bor, ◌≡◌, List, IfOk, map, sym, subst}
+use Rattle.mt_stamp.specs.Sorting.{sort_by, DifferBy}
 use Rattle.mt_op.specs.declared.op.Op.{Op}
+use Rattle.mt_op.specs.ByStamp.{stamp_of, op_cmp}
+use Rattle.mt_op.specs.Operation.{Operation}
 use Rattle.mt_opcodec.specs.LogValue.{operations}
-use Rattle.mt_sessionview.proofs.Refs.{refs_sorted}
 use Rattle.mt_sessionview.proofs.TrackSorting.{every_stamp}
 use Rattle.mt_sessionview.proofs.by_stamp.sorted_ops.Goals as goal
 
+pub sorted_by_stamp-requires : goal.sorted_by_stamp-requires
+sorted_by_stamp-requires g c = subst (DifferBy stamp_of) (sym c.in_ok-refs.ensures) (every_stamp (operations c.args.log.now) c.runs.ensures.logged.rise)
+
 pub returns : goal.returns
 returns g c =
-    refs_sorted (λ (o : Bor (Op g.row.A.Denot)). o.now) c.in_ok-sorted.sorted.items c.sort_by_key.new.self.items (operations c.args.log.now) (every_stamp (operations c.args.log.now) c.runs.ensures.logged.rise)
-    c.in_ok-sorted.ensures c.in_ok-sort_by_key.ensures.permutation
-    (c.in_ok-sort_by_key.ensures.sorted (λ (r : Bor (Op g.row.A.Denot)). r.now.stamp) (answers_always _ _ _ (λ h a r w k. search rules)))
+    subst (λ (l : List Operation). IfOk c.sorted_by_stamp.result (λ sorted. map (λ (o : Bor (Op g.row.A.Denot)). o.now) sorted.items ≡ sort_by op_cmp l)) c.in_ok-refs.ensures c.sorted_by_stamp.ensures

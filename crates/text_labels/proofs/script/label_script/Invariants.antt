@@ -1,6 +1,6 @@
 -- The lines of the labels so far are there, and those of the rest follow.
 use Rattle.std.proofs.Common.{◌≡◌, ◌+◌, ◌≤◌, length}
-use Rattle.mt_script.specs.Lines.{lines}
+use Rattle.base_text.specs.Cutting.{lines}
 use Rattle.text_labels.specs.Reading.{before, script_from, label_script}
 use Rattle.text_labels.proofs.script.label_script.Given as goal
 

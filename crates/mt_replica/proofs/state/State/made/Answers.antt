@@ -1,8 +1,9 @@
-use Rattle.std.proofs.Common.{ap, ◌≡◌, ◌∙◌, sym, subst, true, rules, inr}
+use Rattle.std.proofs.Common.{ap, ◌≡◌, ◌∙◌, refl, sym, subst, true, inr}
 use Rattle.std.proofs.lemmas.Result.{err_from_is_err_and}
 use Rattle.mt_op.specs.Bodies.{act_of}
 use Rattle.mt_op.specs.Dots.{dots_rise}
 use Rattle.mt_op.specs.Operation.{Operation}
+use Rattle.mt_op.proofs.Valid.{is_given}
 use Rattle.mt_opcodec.specs.LogValue.{operations}
 use Rattle.mt_replica.specs.Changes.{edit_of}
 use Rattle.mt_replica.specs.State.{StateValue, Named}
@@ -16,15 +17,15 @@ unwrap-requires g c =
     let o : Operation = record { stamp = c.in_ok-stamp.stamp; act = act_of c.in_ok-body.body } in
     let rise : dots_rise ops ≡ true = subst (λ (n : Named). dots_rise (operations n.log) ≡ true) (ap (λ (s : StateValue). s.named) c.self.view_is) c.runs.ensures.logged.rise in
     let parts = made_is ops c.args.self.now.named.name edit c.in_ok-stamp.stamp (act_of c.in_ok-body.body) c.in_ok-body.ensures.passes (sym c.in_ok-stamp.ensures) c.in_ok-body.ensures.ok in
-    it_is_made ops c.args.self.now.named.name edit o c.new.result rise parts.0 parts.1 c.new.ensures.not_older.0 (λ e. (c.new.ensures.zero_length.0 e).1) (λ e. (c.new.ensures.fade_too_long.0 e).2) (λ e. (c.new.ensures.bad_tags.0 e).3) c.new.ensures.err
+    rw (c.new.ensures ∙ it_is_made ops c.args.self.now.named.name edit o rise parts.0 parts.1) refl
 
 pub returns-clause-ok : goal.returns-clause-ok
 returns-clause-ok g c =
     let ops = operations c.args.self.now.named.log in
     let edit = edit_of c.args.change.now in
+    let o : Operation = record { stamp = c.in_ok-stamp.stamp; act = act_of c.in_ok-body.body } in
     let parts = made_is ops c.args.self.now.named.name edit c.in_ok-stamp.stamp (act_of c.in_ok-body.body) c.in_ok-body.ensures.passes (sym c.in_ok-stamp.ensures) c.in_ok-body.ensures.ok in
-    let is : c.unwrap.result ≡ record { stamp = c.in_ok-stamp.stamp; act = act_of c.in_ok-body.body } = search (rules, c.new.ensures.ok, c.unwrap.ensures) in
-    made_as ops c.args.self.now.named.name edit c.unwrap.result parts.0 (parts.1 ∙ sym is)
+    made_as ops c.args.self.now.named.name edit c.unwrap.result parts.0 (parts.1 ∙ sym (is_given o c.unwrap.result (sym c.unwrap.ensures ∙ c.new.ensures)))
 
 pub returns-in_err-stamp-clause-err : goal.returns-in_err-stamp-clause-err
 returns-in_err-stamp-clause-err g c =

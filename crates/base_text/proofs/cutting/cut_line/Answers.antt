@@ -1,5 +1,5 @@
-use Rattle.text_labels.proofs.Cuts.{line_and_more, last_line}
-use Rattle.text_labels.proofs.word.cut_line.Goals as goal
+use Rattle.base_text.proofs.Cuts.{line_and_more, last_line}
+use Rattle.base_text.proofs.cutting.cut_line.Goals as goal
 
 pub returns-in-Some-clause-lines : goal.returns-in-Some-clause-lines
 returns-in-Some-clause-lines c = line_and_more c.args.text.now c.in-Some.at c.in-Some.ensures

@@ -1,5 +1,5 @@
-use Rattle.text_labels.proofs.Cuts.{found, unfound}
-use Rattle.text_labels.proofs.word.cut.Goals as goal
+use Rattle.base_text.proofs.Cuts.{found, unfound}
+use Rattle.base_text.proofs.cutting.cut.Goals as goal
 
 pub returns-in-Some : goal.returns-in-Some
 returns-in-Some c = found c.args.byte c.args.text.now c.in-Some.at c.in-Some.ensures

@@ -1,0 +1,32 @@
+//! Texts: where they are cut, and words and numbers behind them.
+//!
+//! ```rust
+//! use base_text::{append_number, append_word, are_digits, cut, cut_line};
+//! use std::test::Fail;
+//!
+//! fn cuts_and_appends(rt: HostRuntime) -> Result<(), Fail> {
+//!     let text = b"gain 3/4\nmute on";
+//!     let (line, others) = cut_line(text);
+//!     assert!(rt; line == b"gain 3/4");
+//!     assert!(rt; others == b"mute on");
+//!     assert!(rt; cut(b'/', line).is_some());
+//!     assert!(rt; cut(b'/', others).is_none());
+//!     assert!(rt; are_digits(b"48000"));
+//!     let mut told = String::new(rt.alloc());
+//!     append_word(&mut told, "track ", "Music")?;
+//!     append_number(&mut told, " at ", 48000)?;
+//!     assert!(rt; told.as_str() == "track Music at 48000");
+//!     Ok(())
+//! }
+//! ```
+//!
+//! `specs/Cutting.antt` says where texts are cut, `specs/Digits.antt` what digits are.
+#![tactic(auto)]
+
+mod append;
+mod cutting;
+mod digits;
+
+pub use append::{append_decimal, append_number, append_word};
+pub use cutting::{cut, cut_line};
+pub use digits::are_digits;
