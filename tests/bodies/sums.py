@@ -34,6 +34,9 @@ IMPORT = r"(?m)^(ghost )?use [^;]*;\n"
 # A line that gives names of a file to those who use its crate.
 EXPORT = r"(?m)^pub use [^;]*;\n"
 
+# A line on how the crate's own functions are proved, on which no other crate rests.
+OF_CRATE = r"(?m)^#!\[tactic\(.*\)\]\n"
+
 # A struct, and its fields that only its own crate can name.
 STRUCT = r"(?m)^(?:pub(?:\(\w+\))? )?struct [^;]*?\{\n(?:[ #].*\n|\n)*\}\n"
 PRIVATE = r"(?m)^    (?:pub\(crate\) )?(?!pub |ghost )\w+: [^\n]*,\n"
@@ -108,6 +111,7 @@ def for_callers(path, text, words, whole=None):
         return kept
     kept = re.sub(EXPORT, lambda line: of_names(line.group(), words), kept)
     kept = re.sub(STRUCT, lambda one: re.sub(PRIVATE, "", one.group()), kept)
+    kept = re.sub(OF_CRATE, "", kept)
     return kept if kept.strip() else ""
 
 

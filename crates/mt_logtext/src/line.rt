@@ -73,5 +73,6 @@ pub(crate) fn append_count<A: Allocator>(
     ensures { OnOk result (string_bytes text.new ≡ string_bytes text.old ++ count_line count) }
 {
     append_number(text, "operations ", count as u64)?;
-    text.push_str("\n")
+    text.push_str("\n")?;
+    Ok(())
 }

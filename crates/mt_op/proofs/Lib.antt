@@ -11,4 +11,4 @@ pub mod TagLists
 pub mod WriteOf
 pub mod SameWrites
 pub mod Presence
-pub mod Valid
+pub mod Refused

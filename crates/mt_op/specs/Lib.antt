@@ -15,3 +15,4 @@ pub mod Faults
 pub mod Codes
 pub mod Digest
 pub mod ByStamp
+pub mod Refused

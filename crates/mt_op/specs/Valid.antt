@@ -1,13 +1,11 @@
 -- Which operations there are: their parts are in range and they name older stamps.
-use Rattle.std.specs.Prelude.{◌<◌, ◌≤◌, ◌^◌, ℕ, Bool, true, not, IsTrue, IfSome, nat_le, ◌&&◌, Result, Ok, Err, if◌then◌else◌}
+use Rattle.std.specs.Prelude.{◌<◌, ◌≤◌, ◌^◌, ℕ, Bool, true, IsTrue, IfSome, nat_le, ◌&&◌}
 use Rattle.std.specs.List.{AllByRecursion}
 use Rattle.mt_stamp.specs.Moment.{IsMoment}
 use Rattle.mt_op.specs.Title.{is_title}
 use Rattle.mt_op.specs.Gain.{IsRatio}
 use Rattle.mt_op.specs.Digest.{IsDigest}
 use Rattle.mt_op.specs.Tags.{are_tags}
-use Rattle.mt_op.specs.declared.fault.OpFault.{OpFault}
-use Rattle.mt_op.specs.declared.fault.OpFault.TheVariants.{NameNotOlder, ZeroLength, FadeTooLong, BadTags}
 use Rattle.mt_op.specs.declared.value.FadeLengths.{FadeLengths}
 use Rattle.mt_op.specs.Operation.{Act, AddTrack, MoveTrack, AddClip, MoveClip, TrimClip, SetGain, SetMute, Remove, Restore, AddMarker, MoveMarker, Retitle, SetFade, SetMarkerLength, Operation}
 use Rattle.mt_op.specs.Needs.{names_are_older}
@@ -35,15 +33,6 @@ pub record AreShort (fades : FadeLengths) : Type 0 where
 abbrev pub tags_are_good : Act → Bool
 tags_are_good (Remove item tags) = are_tags tags
 tags_are_good _ = true
-
--- the operation, or why it is none: the first of these that holds
-abbrev pub op_or_fault : Operation → Result Operation OpFault
-op_or_fault o =
-    if not (names_are_older o) then Err NameNotOlder
-    else if not (length_is_good o.act) then Err ZeroLength
-    else if not (fades_are_good o.act) then Err FadeTooLong
-    else if not (tags_are_good o.act) then Err BadTags
-    else Ok o
 
 -- a frame of the session or of a recording, or a number of frames
 abbrev pub IsFrame : ℕ → Type 0

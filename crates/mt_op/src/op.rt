@@ -4,7 +4,8 @@ ghost use Rattle.std.specs.Prelude.{◌≡◌, ◌↔◌, ◌⊎◌, true, false
 ghost use Rattle.mt_op.specs.Bodies.{act_of, is_fixed_size};
 ghost use Rattle.mt_op.specs.Operation.{MoveTrack, Remove};
 ghost use Rattle.mt_op.specs.Needs.{need_of, place_needs, needs_of, needs, fits};
-ghost use Rattle.mt_op.specs.Valid.{IsOperation, op_or_fault};
+ghost use Rattle.mt_op.specs.Valid.{IsOperation};
+ghost use Rattle.mt_op.specs.Refused.{op_or_fault};
 ghost use Rattle.mt_op.specs.Dots.{op_dot};
 ghost use Rattle.mt_op.specs.Writes.{subject};
 

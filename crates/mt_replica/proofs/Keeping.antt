@@ -39,8 +39,8 @@ use Rattle.mt_replica.specs.Made.{is_by, greatest_of, greatest_clock, greatest_s
 use Rattle.mt_replica.specs.State.{Named, IsState, IsMade, body_refused}
 use Rattle.mt_replica.specs.declared.fault.EditorFault.{EditorFault}
 use Rattle.mt_replica.specs.declared.fault.EditorFault.TheVariants.{TooManyTags}
-use Rattle.mt_op.specs.Valid.{op_or_fault}
-use Rattle.mt_op.proofs.Valid.{is_op}
+use Rattle.mt_op.specs.Refused.{op_or_fault}
+use Rattle.mt_op.proofs.Refused.{is_op}
 use Rattle.mt_op.specs.Dots.{dots_rise}
 use Rattle.mt_replica.proofs.Bridging.{refused_in_parts}
 use Rattle.mt_stamp.proofs.Listed.{any_member}

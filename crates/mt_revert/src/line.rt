@@ -60,7 +60,8 @@ fn append_remark<A: Allocator, B: Allocator, C: Allocator>(
 {
     text.push_str("# ")?;
     append_act(alloc, text, body)?;
-    append_stamp(text, ": ", stamp)?;
+    text.push_str(": ")?;
+    stamp.append_text(text)?;
     text.push_str(why)?;
     Ok(())
 }

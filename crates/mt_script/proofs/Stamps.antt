@@ -61,7 +61,7 @@ stamp_spelled m text fits is =
     let same : bytes_eq text (stamp_text m) ≡ true = (bytes_eq-Decides text (stamp_text m)).1 is in
     rw (parts, is_moment_true m fits, same)
 
-bound : {X Y : Type 0} (o : Option X) (f : X → Option Y) (y : Y) → Rattle.mt_script.specs.Words.◌>>=◌ o f ≡ Some y → (x : X) × (f x ≡ Some y)
+bound : {X Y : Type 0} (o : Option X) (f : X → Option Y) (y : Y) → Rattle.base_text.specs.Cutting.◌>>=◌ o f ≡ Some y → (x : X) × (f x ≡ Some y)
 bound None f y is = absurd cc
 bound (Some x) f y is = (x, is)
 

@@ -7,6 +7,7 @@ ghost use Rattle.mt_script.specs.Running.{LineGives, LinesGive};
 use crate::fault::ScriptFault;
 use crate::forms::change_of;
 use crate::lines::is_silent;
+use base_text::cut_line;
 use mt_op::{Op, Role};
 use mt_replica::{Draft, Editor, EditorFault};
 use mt_stamp::Stamp;

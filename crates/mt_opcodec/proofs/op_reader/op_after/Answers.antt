@@ -2,7 +2,7 @@ use Rattle.std.proofs.Common.{◌≡◌, true, ℕ, sym, ◌∙◌, ap, arith, r
 use Rattle.mt_op.specs.Bodies.{act_of}
 use Rattle.mt_op.specs.Operation.{Operation}
 use Rattle.mt_op.specs.Valid.{length_is_good, fades_are_good, tags_are_good}
-use Rattle.mt_op.proofs.Valid.{is_op, is_given}
+use Rattle.mt_op.proofs.Refused.{is_op, is_given}
 use Rattle.mt_opcodec.specs.OpReading.{act_in}
 use Rattle.mt_opcodec.proofs.Acts.{act_is_older}
 use Rattle.mt_opcodec.proofs.Readers.{act_at-older, act_at-length, act_at-fades, act_at-tags, act_in-at}

@@ -9,6 +9,6 @@ use Rattle.mt_preflight.proofs.warning_line.append_one_channel_line.Goals as goa
 
 pub returns : goal.returns
 returns g c =
-    channels_pieces (string_bytes c.args.text.now) (string_bytes c.append_digest.new.text) (string_bytes c.append_number.new.text) (string_bytes c.append_newline.new.text)
+    channels_pieces (string_bytes c.args.text.now) (string_bytes c.append_digest.new.text) (string_bytes c.append_number.new.text) (string_bytes c.push_str.new.self)
     (codes "one-channel ") (digest_text c.args.digest) (codes " channels ") (decimal c.args.channels) (newline ∷ [])
-    c.in_ok-append_digest.ensures c.in_ok-append_number.ensures c.in_ok-append_newline.ensures
+    c.in_ok-append_digest.ensures c.in_ok-append_number.ensures c.in_ok-push_str.ensures.bytes

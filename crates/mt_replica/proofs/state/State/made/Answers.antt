@@ -3,7 +3,7 @@ use Rattle.std.proofs.lemmas.Result.{err_from_is_err_and}
 use Rattle.mt_op.specs.Bodies.{act_of}
 use Rattle.mt_op.specs.Dots.{dots_rise}
 use Rattle.mt_op.specs.Operation.{Operation}
-use Rattle.mt_op.proofs.Valid.{is_given}
+use Rattle.mt_op.proofs.Refused.{is_given}
 use Rattle.mt_opcodec.specs.LogValue.{operations}
 use Rattle.mt_replica.specs.Changes.{edit_of}
 use Rattle.mt_replica.specs.State.{StateValue, Named}

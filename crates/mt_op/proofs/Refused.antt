@@ -4,7 +4,8 @@ use Rattle.mt_op.specs.declared.fault.OpFault.{OpFault}
 use Rattle.mt_op.specs.declared.fault.OpFault.TheVariants.{NameNotOlder, ZeroLength, FadeTooLong, BadTags}
 use Rattle.mt_op.specs.Needs.{names_are_older}
 use Rattle.mt_op.specs.Operation.{Operation}
-use Rattle.mt_op.specs.Valid.{length_is_good, fades_are_good, tags_are_good, op_or_fault}
+use Rattle.mt_op.specs.Valid.{length_is_good, fades_are_good, tags_are_good}
+use Rattle.mt_op.specs.Refused.{op_or_fault}
 
 -- what passes all tests is an operation
 pub is_op : (o : Operation) → names_are_older o ≡ true → length_is_good o.act ≡ true → fades_are_good o.act ≡ true
