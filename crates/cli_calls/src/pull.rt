@@ -14,6 +14,7 @@ use crate::command::{Made, Printing, run_and_print};
 use crate::edit::append_number_line;
 use crate::fault::CliFault;
 use crate::union::EachLog;
+use base_text::{append_number, append_word};
 use mt_latch::Latch;
 use mt_opcodec::{Log, LogFault};
 use std::alloc::{AllocError, Allocator};
