@@ -9,6 +9,7 @@ from pages.text import files_of, fill, table, text_of
 ROOMS = {
     "base": {
         "mt_digests": "SHA-256: of one message, of a stream, of eight messages at a time",
+        "base_text": "where texts are cut, and words and numbers behind them",
         "mt_times": "times and decibels as people write them",
         "mt_stamp": "replicas, dots, stamps, and the order of places in a tree",
         "mt_latch": "readers and writers that stay failed, and a buffer in front of a writer",
