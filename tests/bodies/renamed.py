@@ -2,7 +2,8 @@
 work of `tests/wrong_bodies.py --renamed MAP OLD`.
 
 MAP is a file of lines `old new`, each name one whole word: of the code, of definitions and proofs,
-of a file, a folder or a crate. OLD is a commit. A crate gets its new line only where its line held
+of a file, a folder or a crate; with a third word, `contract`, of what contracts, definitions and
+proofs name without a path, where `new` may be the name of a type. OLD is a commit. A crate gets its new line only where its line held
 in OLD, by that commit's own script. All that its sum covers has to be the same tokens as then, once
 the new names are mapped back. Where something differs, each wrong body is looked at for itself: if
 all that it rests on is the same tokens, it was refused in OLD. The others, and those that OLD has
@@ -10,7 +11,8 @@ not, are tried, and have to be refused; else what differs first is told, and the
 is.
 
 A map has to lead back without a doubt: no two names may become one, no new name may be a word of
-OLD, and where a crate's files have a new name they may not have the old one too."""
+OLD, and where a crate's files have a new name they may not have the old one too. A new name of
+contracts alone may be a word of OLD, but not of its contracts, unless it gets another name there."""
 import os
 import subprocess
 import sys
@@ -18,7 +20,7 @@ import tempfile
 
 from bodies.edits import edits_of, texts_of
 from bodies.sums import TOP, RULES, covered, crate_lines, note_tried, path_of, sum_of, text_of, tried
-from bodies.tokens import names_in, tokens_of, words_of_path
+from bodies.tokens import Names, contract_names_in, names_in, tokens_of, words_of_path
 
 # Run in the tests of OLD: what counts as refused, and the crates of its record whose line holds.
 HOLDS = """
@@ -41,49 +43,55 @@ class BadMap(Exception):
 
 def read_map(text):
     """The old names by the new ones."""
-    names = {}
+    names = Names()
     for number, line in enumerate(text.split("\n"), 1):
         words = line.split("#")[0].split()
         if not words:
             continue
+        scope = names.contracts if words[2:] == ["contract"] else names.everywhere
+        words = words[:2] if scope is names.contracts else words
         if len(words) != 2 or not all(word.replace("_", "a").isalnum() for word in words):
             raise BadMap("line %d is not of the form `old new`, each one word" % number)
         old, new = words
-        if new in names or old in names.values():
+        if new in scope or old in scope.values():
             raise BadMap("line %d: %s or %s stands in another line too" % (number, old, new))
-        names[new] = old
+        scope[new] = old
     return names
 
 
-def words_of_tree(top):
+def words_of_tree(top, words_of=names_in):
     """All words of the crates of a tree, each with a file that has it."""
     found = dict.fromkeys(("crates.txt",), "crates.txt")
     for line in crate_lines(top).values():
-        found.update(dict.fromkeys(names_in("crates.txt", line), "crates.txt"))
+        found.update(dict.fromkeys(words_of("crates.txt", line), "crates.txt"))
     for at, folders, files in os.walk(os.path.join(top, "crates")):
         folders[:] = [one for one in folders if one != "out"]
         for file in files:
             if file.endswith((".rt", ".antt", ".edit")):
                 path = os.path.join(at, file)
                 short = os.path.relpath(path, top)
-                found.update(dict.fromkeys(names_in(short, text_of(path)), short))
+                found.update(dict.fromkeys(words_of(short, text_of(path)), short))
     for name in crate_lines(top):
         for body, text in texts_of(os.path.join(top, "crates", name)).items():
             path = path_of(name, body)
-            found.update(dict.fromkeys(names_in(path, text), path))
+            found.update(dict.fromkeys(words_of(path, text), path))
     return found
 
 
 def check_map(names, old_top):
     """A new name that OLD has would lead back to another one."""
     there = words_of_tree(old_top)
-    for new in names:
+    for new in names.everywhere:
         if new in there:
             raise BadMap("%s is a word of OLD already, in %s" % (new, there[new]))
+    there = words_of_tree(old_top, contract_names_in)
+    for new in names.contracts.keys() - names.contracts.values():
+        if new in there:
+            raise BadMap("%s is a word of OLD's contracts already, in %s" % (new, there[new]))
 
 
 def old_path(path, names):
-    return "".join(names.get(word, word) for word in words_of_path(path))
+    return "".join(names.everywhere.get(word, word) for word in words_of_path(path))
 
 
 def both_names(texts, names):
@@ -91,7 +99,7 @@ def both_names(texts, names):
     words = {}
     for path, text in texts.items():
         words.update(dict.fromkeys(names_in(path, text), path))
-    for new, old in names.items():
+    for new, old in names.everywhere.items():
         if new in words and old in words:
             return "%s has %s, and %s has %s still" % (words[new], new, words[old], old)
     return None
@@ -106,7 +114,7 @@ def token_difference(path, new, old):
 
 def new_bodies(name, names, old_top, new_top=TOP):
     """The wrong bodies of a crate that it has not in OLD."""
-    old = bodies_of(names.get(name, name), old_top)
+    old = bodies_of(old_path(name, names), old_top)
     return [body for body in bodies_of(name, new_top) if old_path(body, names) not in old]
 
 
@@ -127,7 +135,7 @@ def changed_bodies(name, names, old_top, new_top=TOP):
 def difference(name, names, old_top, new_top=TOP, body=None):
     """What differs first between what a crate's sum covers and what it covered in OLD, if
     anything; new wrong bodies are passed over, and all but one where one is given."""
-    old_name = names.get(name, name)
+    old_name = old_path(name, names)
     if body is None:
         others, old_others = new_bodies(name, names, old_top, new_top), ()
     else:
@@ -143,7 +151,7 @@ def difference(name, names, old_top, new_top=TOP, body=None):
         return "%s: %s" % (path, "it is new" if path in paths else "it is gone")
     for path, was in sorted(old_texts.items()):
         new = tokens_of(path, texts[paths[path]], names)
-        old = tokens_of(path, was, {})
+        old = tokens_of(path, was, Names())
         if new != old:
             return token_difference(paths[path], new, old)
     return None
@@ -197,7 +205,7 @@ def write_lines(names, folder, try_part):
     """Writes the lines of lapsed crates that are as in OLD; how many are not."""
     held, left = held_in(folder), 0
     for name, made in sorted(lapsed().items()):
-        if names.get(name, name) not in held:
+        if old_path(name, names) not in held:
             print("%s: left lapsed: its line did not hold in OLD" % name, flush=True)
             left += 1
             continue

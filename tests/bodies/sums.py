@@ -166,8 +166,8 @@ def edited_names(names, crate):
 
 
 def own_texts(name, top, without):
-    """What the wrong bodies of a crate rest on in its own files: themselves, its sources, and the
-    proofs of the functions that they edit or that have to be refused."""
+    """What the wrong bodies of a crate rest on in its own files: themselves and the proofs of the
+    functions that they edit or that have to be refused, and its sources."""
     crate = os.path.join(top, "crates", name)
     bodies = {one: text for one, text in texts_of(crate).items() if one not in without}
     texts = {os.path.join(top, path_of(name, one)): text for one, text in bodies.items()}
@@ -192,7 +192,8 @@ def own_texts(name, top, without):
         one = re.sub(r"\bcrate::(proofs|specs)::", name + r"::\1::", one)
         if one:
             kept[path] = one
-    return texts, reached(kept, words, lambda text: modules(text, top))
+    own = reached(kept, words, lambda text: modules(text, top))
+    return texts, {path: text for path, text in own.items() if path in kept}
 
 
 def parts_of_use(line):

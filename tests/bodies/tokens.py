@@ -25,6 +25,8 @@ SORTED = {
     ".antt": r"^(?:(?:pub|unfoldable)\s+)*(?:use\s[^\n]*(?:\n[ \t}][^\n]*)*|mod [^\n]*)\n",
 }
 WORD = re.compile(r"\w+\Z")
+# what a clause, or another part of a contract in a source, begins with
+CLAUSES = {"requires", "ensures", "decreases", "ghost"}
 
 
 def kind_of(path):
@@ -42,9 +44,54 @@ def plain_tokens(kind, text):
     return ["a-b" if one.lastgroup == "hyphen" else one.group() for one in found]
 
 
-def renamed(tokens, names):
-    """The tokens with other names in the place of some."""
-    return [names.get(token, token) for token in tokens]
+class Names:
+    """Old names by new ones: of everything, and of what contracts, definitions and proofs name
+    without a path. There a type's name may be that of the record that it is seen as."""
+
+    def __init__(self, everywhere=None, contracts=None):
+        self.everywhere = everywhere or {}
+        self.contracts = contracts or {}
+
+    def old(self, token, before, in_contract):
+        """The old name for a token behind another one."""
+        if in_contract and before != "." and token in self.contracts:
+            return self.contracts[token]
+        return self.everywhere.get(token, token)
+
+
+def in_contracts(kind, tokens):
+    """Of each token, whether it is of a contract: of all but in sources, and there in the braces
+    behind one of these words."""
+    if kind != ".rt":
+        return [kind == ".antt"] * len(tokens)
+    told, depth, begins = [], 0, False
+    for token in tokens:
+        begins = begins or depth == 0 and token in CLAUSES
+        told.append(depth > 0)
+        if token == "{" and (begins or depth):
+            depth, begins = depth + 1, False
+        elif token == "}" and depth:
+            depth -= 1
+    return told
+
+
+def renamed(kind, tokens, names):
+    """The tokens with old names in the place of new ones."""
+    before = [""] + tokens[:-1]
+    return [names.old(*one) for one in zip(tokens, before, in_contracts(kind, tokens))]
+
+
+def renamed_import(tokens, names):
+    """An import with old names in the place of new ones. What a type declares has its own name; if
+    it was brought in under that, and now has another, this is left out."""
+    of_type = "declared" in tokens
+    in_contract = tokens[0] == "ghost" or ";" not in tokens
+    before = [""] + tokens[:-1]
+    told = [names.old(one, last, in_contract and not of_type) for one, last in zip(tokens, before)]
+    for at in range(len(tokens) - 2):
+        if tokens[at + 1] == "as" and names.contracts.get(tokens[at + 2]) == told[at]:
+            told[at + 1 : at + 3] = [None, None]
+    return [one for one in told if one is not None]
 
 
 def import_of(tokens):
@@ -73,18 +120,19 @@ def tokens_of(path, text, names):
     another in one order."""
     kind = kind_of(path)
     if kind == ".edit":
-        return renamed(plain_tokens(kind, text), names)
+        return renamed(kind, plain_tokens(kind, text), names)
     text = REMARK[kind].sub(lambda found: found.group(1) or "", text)
     text = LAST_COMMA.sub("", text) + "\n"
     made, block, at = [], [], 0
     for found in re.finditer(SORTED[kind], text, re.M):
-        between = renamed(plain_tokens(kind, text[at : found.start()]), names)
+        between = renamed(kind, plain_tokens(kind, text[at : found.start()]), names)
         if between:
             made += sorted(block, key=repr) + between
             block = []
-        block.append(import_of(renamed(plain_tokens(kind, found.group()), names)))
+        block.append(import_of(renamed_import(plain_tokens(kind, found.group()), names)))
         at = found.end()
-    return made + sorted(block, key=repr) + renamed(plain_tokens(kind, text[at:]), names)
+    rest = renamed(kind, plain_tokens(kind, text[at:]), names)
+    return made + sorted(block, key=repr) + rest
 
 
 def names_in(path, text):
@@ -94,3 +142,21 @@ def names_in(path, text):
         text = REMARK[kind].sub(lambda found: found.group(1) or "", text)
     words = plain_tokens(kind, text) + words_of_path(path)
     return {word for word in words if WORD.match(word)}
+
+
+def contract_names_in(path, text):
+    """The words of a text that contracts, definitions and proofs name without a path."""
+    kind = kind_of(path)
+    if kind == ".edit":
+        return set()
+    text = REMARK[kind].sub(lambda found: found.group(1) or "", text)
+    imports = [plain_tokens(kind, one.group()) for one in re.finditer(SORTED[kind], text, re.M)]
+    found = set()
+    for tokens in imports:
+        if "declared" not in tokens and (tokens[0] == "ghost" or ";" not in tokens):
+            found.update(one for one, last in zip(tokens, [""] + tokens) if last != ".")
+    tokens = plain_tokens(kind, re.sub(SORTED[kind], "", text, flags=re.M))
+    for one, last, here in zip(tokens, [""] + tokens, in_contracts(kind, tokens)):
+        if here and last != ".":
+            found.add(one)
+    return {word for word in found if WORD.match(word)}

@@ -43,18 +43,27 @@ HAND = (
     "    pub fn left(&self) -> u32\n        ensures result ≡ 1\n    {\n        1\n    }\n\n"
     "    pub fn right(&self) -> u32\n        ensures result ≡ 2\n    {\n        2\n    }\n}\n"
 )
+# a type, and the record that it is seen as
+LEG = (
+    "ghost use Rattle.low.specs.Sums.{Limb};\n\npub struct Leg {\n    pub long: u32,\n}\n\nimpl Model for Leg {\n"
+    "    ghost use Rattle.low.specs.Sums.{Limb};\n\n    ghost Value = { Limb };\n}\n\n"
+    "impl Leg {\n    pub fn grown(self) -> Leg\n        ensures { (l : Limb) → l.long ≡ result.long }\n"
+    "    {\n        Leg { long: self.long }\n    }\n}\n"
+)
 SUMS = (
     "-- Sums.\nuse Rattle.std.specs.Prelude.{ℕ, ◌+◌}\n\n"
+    "pub record Limb : Type 0 where\n  pub long : ℕ\n\n"
     "abbrev pub total : ℕ → ℕ → ℕ\ntotal a b = a + b\n"
 )
 ANSWERS = (
-    "use Rattle.low.specs.Sums.{total}\n\n"
+    "use Rattle.low.specs.declared.leg.Leg.{Leg}\nuse Rattle.low.specs.Sums.{Limb, total}\n\n"
+    "seen : Leg → Limb\nseen leg = record { long = leg.long }\n\n"
     "pub returns-then-one : Goal\nreturns-then-one = rw total\n"
 )
 HIGH = (
-    "use low::{Hand, added};\n\npub fn both(one: Hand) -> u32\n"
+    "use low::{Hand, Leg, added};\n\npub fn both(one: Hand, leg: Leg) -> u32\n"
     "    ensures Rattle.low.specs.Sums.total one.left one.right ≡ result\n{\n"
-    "    one.right();\n    added(one.left, one.right)\n}\n"
+    "    one.right();\n    leg.grown();\n    added(one.left, one.right)\n}\n"
 )
 EDIT = "edit: takes_away\nfile: src/lib.rt\nold:     one + other //\nnew:     one - other //\n"
 OLD = {
@@ -62,6 +71,7 @@ OLD = {
     "HANDLES": "Handles allowed: none.\n",
     "crates/low/src/lib.rt": LOW,
     "crates/low/src/hand.rt": HAND,
+    "crates/low/src/leg.rt": LEG,
     "crates/low/specs/Lib.antt": "pub mod Sums\npub mod Alone\n",
     "crates/low/specs/Alone.antt": "abbrev pub alone : ℕ\nalone = 0\n",
     "crates/low/specs/Sums.antt": SUMS,
@@ -75,10 +85,14 @@ OLD = {
 NAMES = {
     "low": "base", "added": "summed", "total": "entire", "Hand": "Arm", "hand": "arm",
     "Sums": "Whole", "one": "first", "takes_away": "subtracts"}
+# the record gets the type's name, and where a proof names both, the type's fields another one
 MAP = "".join("%s %s\n" % pair for pair in NAMES.items())
+MAP += "Limb Leg contract\nLeg Fields contract\n"
 
 
 def new_names(text):
+    text = text.replace("Leg.{Leg}", "Leg.{Leg as Fields}").replace("seen : Leg", "seen : Fields")
+    text = text.replace("Limb", "Leg")
     return re.sub(r"\w+", lambda word: NAMES.get(word.group(), word.group()), text)
 
 
@@ -94,7 +108,7 @@ def renamed_tree():
     tree["crates/base/src/lib.rt"] = lib
     tree["crates/base/specs/Lib.antt"] = "pub mod Alone\npub mod Whole\n"
     high = tree["crates/high/src/lib.rt"]
-    tree["crates/high/src/lib.rt"] = high.replace("{Arm, summed}", "{summed, Arm}")
+    tree["crates/high/src/lib.rt"] = high.replace("{Arm, Leg, summed}", "{summed, Arm, Leg}")
     return tree
 
 
@@ -118,12 +132,18 @@ CHANGES = {
                                             "ensures result ≡ 3"),
     "a clause of a method that nothing calls, of a field's name": (
         "", "crates/base/src/arm.rt", "ensures result ≡ 1", "ensures result ≡ 3"),
+    "a record in the place of a type's fields": (
+        "base", "crates/base/proofs/summed/Answers.antt", "seen : Fields → Leg", "seen : Leg → Leg"),
+    "another record in a clause": (
+        "high", "crates/base/src/leg.rt", "(l : Leg)", "(l : Fields)"),
+    "a record that a clause of a method names": (
+        "base high", "crates/base/specs/Whole.antt", "pub long : ℕ", "pub short : ℕ"),
     "a private field": ("", "crates/base/src/arm.rt", "    pub right: u32,\n",
                         "    pub right: u32,\n    own: u32,\n"),
     "a definition that nothing names": ("", "crates/base/specs/Whole.antt", "abbrev pub entire",
                                         "abbrev pub more : ℕ\nmore = 0\n\nabbrev pub entire"),
     "a type that nothing names": ("", "crates/base/src/arm.rt", "pub struct Arm {",
-                                  "pub struct Leg {\n    pub long: u32,\n}\n\npub struct Arm {"),
+                                  "pub struct Toe {\n    pub long: u32,\n}\n\npub struct Arm {"),
 }
 BAD_MAPS = {
     "two to one": "low base\nhigh base\n",
@@ -133,6 +153,8 @@ BAD_MAPS = {
     "a word of OLD in a path": "low proofs\n",
     "no word": "low ba.se\n",
     "one word": "low\n",
+    "a word of OLD's contracts": "Limb total contract\n",
+    "two to one in contracts": "Limb Leg contract\ntotal Leg contract\n",
 }
 
 
