@@ -2,8 +2,8 @@
 work of `tests/wrong_bodies.py --renamed MAP OLD`.
 
 MAP is a file of lines `old new`, each name one whole word: of the code, of definitions and proofs,
-of a file, a folder or a crate; with a third word, `contract`, of what contracts, definitions and
-proofs name without a path, where `new` may be the name of a type. OLD is a commit. A crate gets its new line only where its line held
+of a file, a folder or a crate. With a third word it is one of what contracts, definitions and
+proofs name without a path (`contract`), or of all else (`code`). OLD is a commit. A crate gets its new line only where its line held
 in OLD, by that commit's own script. All that its sum covers has to be the same tokens as then, once
 the new names are mapped back. Where something differs, each wrong body is looked at for itself: if
 all that it rests on is the same tokens, it was refused in OLD. The others, and those that OLD has
@@ -12,7 +12,7 @@ is.
 
 A map has to lead back without a doubt: no two names may become one, no new name may be a word of
 OLD, and where a crate's files have a new name they may not have the old one too. A new name of
-contracts alone may be a word of OLD, but not of its contracts, unless it gets another name there."""
+contracts may be a word of OLD's code, or of what gets another name there; one of code likewise."""
 import os
 import subprocess
 import sys
@@ -20,7 +20,8 @@ import tempfile
 
 from bodies.edits import edits_of, texts_of
 from bodies.sums import TOP, RULES, covered, crate_lines, note_tried, path_of, sum_of, text_of, tried
-from bodies.tokens import Names, contract_names_in, names_in, tokens_of, words_of_path
+from bodies.tokens import Names, code_names_in, contract_names_in, names_in
+from bodies.tokens import tokens_of, words_of_path
 
 # Run in the tests of OLD: what counts as refused, and the crates of its record whose line holds.
 HOLDS = """
@@ -48,8 +49,9 @@ def read_map(text):
         words = line.split("#")[0].split()
         if not words:
             continue
-        scope = names.contracts if words[2:] == ["contract"] else names.everywhere
-        words = words[:2] if scope is names.contracts else words
+        places = {"contract": names.contracts, "code": names.code}
+        scope = places.get(words[-1], names.everywhere) if len(words) == 3 else names.everywhere
+        words = words[:2] if scope is not names.everywhere else words
         if len(words) != 2 or not all(word.replace("_", "a").isalnum() for word in words):
             raise BadMap("line %d is not of the form `old new`, each one word" % number)
         old, new = words
@@ -84,14 +86,15 @@ def check_map(names, old_top):
     for new in names.everywhere:
         if new in there:
             raise BadMap("%s is a word of OLD already, in %s" % (new, there[new]))
-    there = words_of_tree(old_top, contract_names_in)
-    for new in names.contracts.keys() - names.contracts.values():
-        if new in there:
-            raise BadMap("%s is a word of OLD's contracts already, in %s" % (new, there[new]))
+    for scope, words_of in ((names.contracts, contract_names_in), (names.code, code_names_in)):
+        there = words_of_tree(old_top, words_of) if scope else {}
+        for new in scope.keys() - scope.values():
+            if new in there:
+                raise BadMap("%s is such a word of OLD already, in %s" % (new, there[new]))
 
 
 def old_path(path, names):
-    return "".join(names.everywhere.get(word, word) for word in words_of_path(path))
+    return "".join(names.old(word, "", False) for word in words_of_path(path))
 
 
 def both_names(texts, names):

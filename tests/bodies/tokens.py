@@ -45,18 +45,17 @@ def plain_tokens(kind, text):
 
 
 class Names:
-    """Old names by new ones: of everything, and of what contracts, definitions and proofs name
-    without a path. There a type's name may be that of the record that it is seen as."""
+    """Old names by new ones: of everything; of what contracts, definitions and proofs name without
+    a path, where a record may have the name of the type that is seen as it; and of the code and of
+    paths alone."""
 
-    def __init__(self, everywhere=None, contracts=None):
-        self.everywhere = everywhere or {}
-        self.contracts = contracts or {}
+    def __init__(self):
+        self.everywhere, self.contracts, self.code = {}, {}, {}
 
     def old(self, token, before, in_contract):
         """The old name for a token behind another one."""
-        if in_contract and before != "." and token in self.contracts:
-            return self.contracts[token]
-        return self.everywhere.get(token, token)
+        own = self.contracts if in_contract and before != "." else self.code
+        return own.get(token) or self.everywhere.get(token, token)
 
 
 def in_contracts(kind, tokens):
@@ -81,13 +80,17 @@ def renamed(kind, tokens, names):
     return [names.old(*one) for one in zip(tokens, before, in_contracts(kind, tokens))]
 
 
+def is_of_contract(tokens):
+    """Whether an import brings in names of contracts, and not those that types of the code have."""
+    is_logic = tokens[0] == "ghost" or ";" not in tokens
+    return is_logic and "declared" not in tokens and "mod" not in tokens
+
+
 def renamed_import(tokens, names):
     """An import with old names in the place of new ones. What a type declares has its own name; if
     it was brought in under that, and now has another, this is left out."""
-    of_type = "declared" in tokens
-    in_contract = tokens[0] == "ghost" or ";" not in tokens
-    before = [""] + tokens[:-1]
-    told = [names.old(one, last, in_contract and not of_type) for one, last in zip(tokens, before)]
+    before, here = [""] + tokens[:-1], is_of_contract(tokens)
+    told = [names.old(one, last, here) for one, last in zip(tokens, before)]
     for at in range(len(tokens) - 2):
         if tokens[at + 1] == "as" and names.contracts.get(tokens[at + 2]) == told[at]:
             told[at + 1 : at + 3] = [None, None]
@@ -144,19 +147,29 @@ def names_in(path, text):
     return {word for word in words if WORD.match(word)}
 
 
-def contract_names_in(path, text):
-    """The words of a text that contracts, definitions and proofs name without a path."""
+def names_by_place(path, text):
+    """The words of a text that contracts, definitions and proofs name without a path, and all
+    others of it and of the path of its file."""
     kind = kind_of(path)
-    if kind == ".edit":
-        return set()
-    text = REMARK[kind].sub(lambda found: found.group(1) or "", text)
-    imports = [plain_tokens(kind, one.group()) for one in re.finditer(SORTED[kind], text, re.M)]
-    found = set()
-    for tokens in imports:
-        if "declared" not in tokens and (tokens[0] == "ghost" or ";" not in tokens):
-            found.update(one for one, last in zip(tokens, [""] + tokens) if last != ".")
-    tokens = plain_tokens(kind, re.sub(SORTED[kind], "", text, flags=re.M))
-    for one, last, here in zip(tokens, [""] + tokens, in_contracts(kind, tokens)):
-        if here and last != ".":
-            found.add(one)
-    return {word for word in found if WORD.match(word)}
+    if kind in REMARK:
+        text = REMARK[kind].sub(lambda found: found.group(1) or "", text)
+    of_contracts, others = set(), set(words_of_path(path))
+
+    def sort(tokens, of_contract):
+        for one, last, here in zip(tokens, [""] + tokens, of_contract):
+            (of_contracts if here and last != "." else others).add(one)
+
+    for found in re.finditer(SORTED[kind], text, re.M) if kind in REMARK else ():
+        tokens = plain_tokens(kind, found.group())
+        sort(tokens, [is_of_contract(tokens)] * len(tokens))
+    tokens = plain_tokens(kind, re.sub(SORTED.get(kind, "(?!)"), "", text, flags=re.M))
+    sort(tokens, in_contracts(kind, tokens))
+    return [{word for word in words if WORD.match(word)} for words in (of_contracts, others)]
+
+
+def contract_names_in(path, text):
+    return names_by_place(path, text)[0]
+
+
+def code_names_in(path, text):
+    return names_by_place(path, text)[1]

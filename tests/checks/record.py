@@ -155,6 +155,7 @@ BAD_MAPS = {
     "one word": "low\n",
     "a word of OLD's contracts": "Limb total contract\n",
     "two to one in contracts": "Limb Leg contract\ntotal Leg contract\n",
+    "a word of OLD's code": "Hand added code\n",
 }
 
 
