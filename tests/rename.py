@@ -1,11 +1,9 @@
 #!/usr/bin/env python3
 """Renames words of the repository: tests/rename.py TABLE
 
-TABLE is a file of lines `old new [contract|code] [@crate,..]`, as `wrong_bodies.py --renamed` reads
-them (tests/bodies/renamed.py): each name is one whole word of the code, of definitions and proofs,
-of a file, a folder or a crate. `contract` and `code` say where it stands, `@` in which crates.
-Remarks and documents get new names for words that are none of English: with an underscore, a
-capital letter after the first or in code signs. It changes files in place, and renames them."""
+TABLE is a table of new names (tests/bodies/table.py). It changes files in place, and moves them.
+Remarks and documents get new names for words that are none of English: with an underscore, or with
+a capital letter after the first."""
 import os
 import re
 import subprocess
@@ -13,48 +11,19 @@ import sys
 
 sys.dont_write_bytecode = True
 from bodies.sums import TOP, text_of
-from bodies.tokens import REMARK, SORTED, TOKEN, in_contracts, is_of_contract, kind_of, plain_tokens
-
-WORD = re.compile(r"\w+\Z")
-
-
-class Row:
-    """A row of the table."""
-
-    def __init__(self, line):
-        words = line.split()
-        crates = [word for word in words if word.startswith("@")]
-        places = [word for word in words[2:] if word in ("contract", "code")]
-        self.old, self.new = words[:2]
-        self.place = places[0] if places else None
-        self.crates = crates[0][1:].split(",") if crates else None
-
-    def holds(self, crate):
-        return self.crates is None or crate in self.crates
+from bodies.table import Names
+from bodies.tokens import SORTED, TOKEN, WORD, in_contracts, is_of_contract, kind_of, plain_tokens
 
 
-def rows_of(path):
-    lines = [line.split("#")[0].strip() for line in text_of(path).split("\n")]
-    return [Row(line) for line in lines if line]
+def in_prose(word, scope):
+    """The new word for one in a remark or a document, where it is none of English."""
+    if "_" in word or re.search(r".[A-Z]", word):
+        return scope.code.get(word) or scope.everywhere.get(word, word)
+    return word
 
 
-class Words:
-    """New words by old ones in the files of a crate, or in those of none."""
-
-    def __init__(self, rows, crate):
-        rows = [row for row in rows if row.holds(crate)]
-        self.everywhere = {row.old: row.new for row in rows if row.place is None}
-        self.contract = {row.old: row.new for row in rows if row.place == "contract"}
-        self.code = {row.old: row.new for row in rows if row.place == "code"}
-
-    def new(self, token, before, in_contract):
-        own = self.contract if in_contract and before != "." else self.code
-        return own.get(token) or self.everywhere.get(token, token)
-
-    def in_prose(self, word):
-        """The new word for one in a remark or a document, where it is none of English."""
-        new = {**self.everywhere, **self.code}.get(word, word)
-        return new if "_" in word or re.search(r".[A-Z]", word) else word
+# what is no text of this tree's names
+LEFT = ("tests/cases", "bench/results", "tests/wrong_bodies.tried")
 
 
 def crate_of(path):
@@ -62,7 +31,7 @@ def crate_of(path):
     return parts[1] if parts[0] == "crates" and len(parts) > 1 else None
 
 
-def new_code(kind, text, words):
+def new_code(kind, text, scope):
     """A piece of a source, a definition or a proof that has no import."""
     pieces, at, before = [], 0, ""
     found = list(pattern_of(kind).finditer(text))
@@ -72,10 +41,10 @@ def new_code(kind, text, words):
         pieces.append(text[at : one.start()])
         token, at = one.group(), one.end()
         if is_remark(token):
-            pieces.append(re.sub(r"\w+", lambda word: words.in_prose(word.group()), token))
+            pieces.append(re.sub(r"\w+", lambda word: in_prose(word.group(), scope), token))
             continue
         is_word = WORD.match(token)
-        pieces.append(words.new(token, before, where[one.start()]) if is_word else token)
+        pieces.append(scope.name(token, before, where[one.start()]) if is_word else token)
         before = token
     return "".join(pieces) + text[at:]
 
@@ -89,7 +58,7 @@ def pattern_of(kind):
     return re.compile(remark + TOKEN[kind].pattern)
 
 
-def new_import(kind, line, words):
+def new_import(kind, line, scope):
     """An import. What a type of the code declares keeps its name there, and has another one where
     a record has it."""
     tokens = plain_tokens(kind, line)
@@ -99,56 +68,52 @@ def new_import(kind, line, words):
     for one in TOKEN[kind].finditer(line):
         token = one.group()
         depth += (token == "{") - (token == "}")
-        new = words.new(token, before, here) if WORD.match(token) else token
-        if declared and depth and before in ("{", ",") and token in words.contract:
-            new = "%s as %s" % (new, words.contract[token])
+        new = scope.name(token, before, here) if WORD.match(token) else token
+        if declared and depth and before in ("{", ",") and token in scope.contract:
+            new = "%s as %s" % (new, scope.contract[token])
         pieces += [line[at : one.start()], new]
         at, before = one.end(), token
     return "".join(pieces) + line[at:]
 
 
-def new_source(path, text, words):
+def new_source(path, text, scope):
     """A source, a definition or a proof."""
     kind, pieces, at = kind_of(path), [], 0
     for found in re.finditer(SORTED[kind], text, re.M):
-        pieces.append(new_code(kind, text[at : found.start()], words))
-        pieces.append(new_import(kind, found.group(), words))
+        pieces.append(new_code(kind, text[at : found.start()], scope))
+        pieces.append(new_import(kind, found.group(), scope))
         at = found.end()
-    return "".join(pieces) + new_code(kind, text[at:], words)
+    return "".join(pieces) + new_code(kind, text[at:], scope)
 
 
-def new_edits(text, words):
+def new_edits(text, scope):
     """The wrong bodies of a crate: their files, and the code in them; a wrong body has its name as a
     word of the code."""
     def line_of(line):
-        return re.sub(r"\w+", lambda word: words.new(word.group(), "", False), line)
+        return re.sub(r"\w+", lambda word: scope.name(word.group(), "", False), line)
 
     return "\n".join(line_of(line) for line in text.split("\n"))
 
 
-def new_text(path, text, rows):
-    words = Words(rows, crate_of(path))
+def new_text(path, text, names):
+    scope = names.new(crate_of(path))
     if path.endswith((".rt", ".antt")):
-        return new_source(path, text, words)
-    if path.endswith(("wrong-bodies.txt", ".edit")):
-        return new_edits(text, words)
-    if path in ("crates.txt", "tests/wrong_bodies.tried"):
-        return new_edits(text, words)
-    if path.endswith((".md", ".py", ".sh", ".txt")) and not path.startswith(("tests/cases", "bench/results")):
-        return re.sub(r"\w+", lambda word: words.in_prose(word.group()), text)
+        return new_source(path, text, scope)
+    if path.endswith(("wrong-bodies.txt", ".edit")) or path == "crates.txt":
+        return new_edits(text, scope)
+    if path.endswith((".md", ".py", ".sh", ".txt")) and not path.startswith(LEFT):
+        return re.sub(r"\w+", lambda word: in_prose(word.group(), scope), text)
     return text
 
 
-def new_path(path, rows):
-    words = Words(rows, crate_of(path))
-    if not path.startswith("crates/"):
-        return path
-    parts = re.findall(r"\w+|[^\w]", path)
-    return "".join(words.new(one, "", False) for one in parts)
+def new_path(path, names):
+    scope = names.new(crate_of(path))
+    words = re.findall(r"\w+|[^\w]", path) if path.startswith("crates/") else [path]
+    return "".join(scope.name(one, "", False) for one in words)
 
 
 def main():
-    rows = rows_of(sys.argv[1])
+    names = Names(text_of(sys.argv[1]))
     told = subprocess.run(["git", "ls-files", "-z"], cwd=TOP, capture_output=True, text=True, check=True)
     own = os.path.relpath(os.path.abspath(sys.argv[1]), TOP)
     for path in filter(None, told.stdout.split("\0")):
@@ -159,7 +124,7 @@ def main():
             text = text_of(place)
         except UnicodeDecodeError:
             continue
-        new, to = new_text(path, text, rows), new_path(path, rows)
+        new, to = new_text(path, text, names), new_path(path, names)
         if new != text:
             with open(place, "w") as file:
                 file.write(new)

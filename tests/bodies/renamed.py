@@ -1,9 +1,7 @@
 """Lines of tests/wrong_bodies.tried for crates in which names have changed, and some functions: the
 work of `tests/wrong_bodies.py --renamed MAP OLD`.
 
-MAP is a file of lines `old new`, each name one whole word: of the code, of definitions and proofs,
-of a file, a folder or a crate. With a third word it is one of what contracts, definitions and
-proofs name without a path (`contract`), or of all else (`code`). OLD is a commit. A crate gets its new line only where its line held
+MAP is a table of new names (tests/bodies/table.py). OLD is a commit. A crate gets its new line only where its line held
 in OLD, by that commit's own script. All that its sum covers has to be the same tokens as then, once
 the new names are mapped back. Where something differs, each wrong body is looked at for itself: if
 all that it rests on is the same tokens, it was refused in OLD. The others, and those that OLD has
@@ -20,8 +18,8 @@ import tempfile
 
 from bodies.edits import edits_of, texts_of
 from bodies.sums import TOP, RULES, covered, crate_lines, note_tried, path_of, sum_of, text_of, tried
-from bodies.tokens import Names, code_names_in, contract_names_in, names_in
-from bodies.tokens import tokens_of, words_of_path
+from bodies.table import BadMap, Names
+from bodies.tokens import names_by_place, tokens_of, words_of_path
 
 # Run in the tests of OLD: what counts as refused, and the crates of its record whose line holds.
 HOLDS = """
@@ -38,73 +36,59 @@ for name, line in wrong_bodies.tried().items():
 """
 
 
-class BadMap(Exception):
-    """A map that does not lead back without a doubt."""
-
-
-def read_map(text):
-    """The old names by the new ones."""
-    names = Names()
-    for number, line in enumerate(text.split("\n"), 1):
-        words = line.split("#")[0].split()
-        if not words:
-            continue
-        places = {"contract": names.contracts, "code": names.code}
-        scope = places.get(words[-1], names.everywhere) if len(words) == 3 else names.everywhere
-        words = words[:2] if scope is not names.everywhere else words
-        if len(words) != 2 or not all(word.replace("_", "a").isalnum() for word in words):
-            raise BadMap("line %d is not of the form `old new`, each one word" % number)
-        old, new = words
-        if new in scope or old in scope.values():
-            raise BadMap("line %d: %s or %s stands in another line too" % (number, old, new))
-        scope[new] = old
-    return names
-
-
-def words_of_tree(top, words_of=names_in):
-    """All words of the crates of a tree, each with a file that has it."""
-    found = dict.fromkeys(("crates.txt",), "crates.txt")
-    for line in crate_lines(top).values():
-        found.update(dict.fromkeys(words_of("crates.txt", line), "crates.txt"))
-    for at, folders, files in os.walk(os.path.join(top, "crates")):
+def words_of_crate(name, line, top):
+    """The words of a crate: those that its contracts, definitions and proofs name without a path,
+    all others, and all, each with a file that has it."""
+    told, crate = ({}, {}, {}), os.path.join(top, "crates", name)
+    texts = {path_of(name, body): text for body, text in texts_of(crate).items()}
+    for at, folders, files in os.walk(crate):
         folders[:] = [one for one in folders if one != "out"]
-        for file in files:
-            if file.endswith((".rt", ".antt", ".edit")):
-                path = os.path.join(at, file)
-                short = os.path.relpath(path, top)
-                found.update(dict.fromkeys(words_of(short, text_of(path)), short))
-    for name in crate_lines(top):
-        for body, text in texts_of(os.path.join(top, "crates", name)).items():
-            path = path_of(name, body)
-            found.update(dict.fromkeys(words_of(path, text), path))
-    return found
+        paths = [os.path.join(at, file) for file in files]
+        found = [path for path in paths if path.endswith((".rt", ".antt", ".edit"))]
+        texts.update({os.path.relpath(path, top): text_of(path) for path in found})
+    for path, text in {"crates.txt": line, **texts}.items():
+        for words, some in zip(told, names_by_place(path, text)):
+            words.update(dict.fromkeys(some, path))
+    return told
 
 
 def check_map(names, old_top):
     """A new name that OLD has would lead back to another one."""
-    there = words_of_tree(old_top)
-    for new in names.everywhere:
-        if new in there:
-            raise BadMap("%s is a word of OLD already, in %s" % (new, there[new]))
-    for scope, words_of in ((names.contracts, contract_names_in), (names.code, code_names_in)):
-        there = words_of_tree(old_top, words_of) if scope else {}
-        for new in scope.keys() - scope.values():
-            if new in there:
-                raise BadMap("%s is such a word of OLD already, in %s" % (new, there[new]))
+    for crate, line in crate_lines(old_top).items():
+        words = words_of_crate(crate, line, old_top)
+        places = {"contract": words[0], "code": words[1], None: words[2]}
+        kept = {(row.place, row.old) for row in names.rows if row.place and row.holds(crate)}
+        for row in names.rows:
+            there = places[row.place]
+            if row.holds(crate) and row.new in there and (row.place, row.new) not in kept:
+                raise BadMap("%s is a word of OLD already, in %s" % (row.new, there[row.new]))
 
 
 def old_path(path, names):
-    return "".join(names.old(word, "", False) for word in words_of_path(path))
+    scope = names.old(names.old_crate(path))
+    return "".join(scope.name(word, "", False) for word in words_of_path(path))
+
+
+def old_name(name, names):
+    """The old name of a crate."""
+    return names.old_crate(os.path.join("crates", name))
+
+
+def old_body(name, body, names):
+    """The old name of a wrong body of a crate."""
+    return names.old(old_name(name, names)).name(body, "", False)
 
 
 def both_names(texts, names):
-    """A name that stands in these texts beside the one that it got, if any."""
+    """A name that stands in a crate's texts beside the one that it got, if any."""
     words = {}
     for path, text in texts.items():
-        words.update(dict.fromkeys(names_in(path, text), path))
-    for new, old in names.everywhere.items():
-        if new in words and old in words:
-            return "%s has %s, and %s has %s still" % (words[new], new, words[old], old)
+        crate = names.old_crate(path)
+        words.setdefault(crate, {}).update(dict.fromkeys(names_by_place(path, text)[2], path))
+    for crate, found in words.items():
+        for new, old in names.old(crate).everywhere.items():
+            if new in found and old in found:
+                return "%s has %s, and %s has %s still" % (found[new], new, found[old], old)
     return None
 
 
@@ -117,8 +101,8 @@ def token_difference(path, new, old):
 
 def new_bodies(name, names, old_top, new_top=TOP):
     """The wrong bodies of a crate that it has not in OLD."""
-    old = bodies_of(old_path(name, names), old_top)
-    return [body for body in bodies_of(name, new_top) if old_path(body, names) not in old]
+    old = bodies_of(old_name(name, names), old_top)
+    return [body for body in bodies_of(name, new_top) if old_body(name, body, names) not in old]
 
 
 def bodies_of(name, top):
@@ -138,14 +122,14 @@ def changed_bodies(name, names, old_top, new_top=TOP):
 def difference(name, names, old_top, new_top=TOP, body=None):
     """What differs first between what a crate's sum covers and what it covered in OLD, if
     anything; new wrong bodies are passed over, and all but one where one is given."""
-    old_name = old_path(name, names)
+    was_name = old_name(name, names)
     if body is None:
         others, old_others = new_bodies(name, names, old_top, new_top), ()
     else:
         others = [one for one in bodies_of(name, new_top) if one != body]
-        old_others = [one for one in bodies_of(old_name, old_top) if one != old_path(body, names)]
+        old_others = [one for one in bodies_of(was_name, old_top) if one != old_body(name, body, names)]
     texts = covered(name, new_top, others)
-    old_texts = covered(old_name, old_top, old_others)
+    old_texts = covered(was_name, old_top, old_others)
     both = both_names(texts, names)
     if both:
         return both
@@ -208,7 +192,7 @@ def write_lines(names, folder, try_part):
     """Writes the lines of lapsed crates that are as in OLD; how many are not."""
     held, left = held_in(folder), 0
     for name, made in sorted(lapsed().items()):
-        if old_path(name, names) not in held:
+        if old_name(name, names) not in held:
             print("%s: left lapsed: its line did not hold in OLD" % name, flush=True)
             left += 1
             continue
@@ -236,7 +220,7 @@ def write_renamed(path, commit, try_part):
     """The work of --renamed: 0 where no crate is left lapsed, 1 where some are, 2 where the map or
     the commit cannot be used."""
     try:
-        names = read_map(text_of(path))
+        names = Names(text_of(path))
         with tempfile.TemporaryDirectory() as folder:
             check_out(commit, folder)
             check_map(names, folder)

@@ -44,20 +44,6 @@ def plain_tokens(kind, text):
     return ["a-b" if one.lastgroup == "hyphen" else one.group() for one in found]
 
 
-class Names:
-    """Old names by new ones: of everything; of what contracts, definitions and proofs name without
-    a path, where a record may have the name of the type that is seen as it; and of the code and of
-    paths alone."""
-
-    def __init__(self):
-        self.everywhere, self.contracts, self.code = {}, {}, {}
-
-    def old(self, token, before, in_contract):
-        """The old name for a token behind another one."""
-        own = self.contracts if in_contract and before != "." else self.code
-        return own.get(token) or self.everywhere.get(token, token)
-
-
 def in_contracts(kind, tokens):
     """Of each token, whether it is of a contract: of all but in sources, and there in the braces
     behind one of these words."""
@@ -74,10 +60,10 @@ def in_contracts(kind, tokens):
     return told
 
 
-def renamed(kind, tokens, names):
+def renamed(kind, tokens, scope):
     """The tokens with old names in the place of new ones."""
     before = [""] + tokens[:-1]
-    return [names.old(*one) for one in zip(tokens, before, in_contracts(kind, tokens))]
+    return [scope.name(*one) for one in zip(tokens, before, in_contracts(kind, tokens))]
 
 
 def is_of_contract(tokens):
@@ -86,13 +72,13 @@ def is_of_contract(tokens):
     return is_logic and "declared" not in tokens and "mod" not in tokens
 
 
-def renamed_import(tokens, names):
+def renamed_import(tokens, scope):
     """An import with old names in the place of new ones. What a type declares has its own name; if
     it was brought in under that, and now has another, this is left out."""
     before, here = [""] + tokens[:-1], is_of_contract(tokens)
-    told = [names.old(one, last, here) for one, last in zip(tokens, before)]
+    told = [scope.name(one, last, here) for one, last in zip(tokens, before)]
     for at in range(len(tokens) - 2):
-        if tokens[at + 1] == "as" and names.contracts.get(tokens[at + 2]) == told[at]:
+        if tokens[at + 1] == "as" and scope.contract.get(tokens[at + 2]) == told[at]:
             told[at + 1 : at + 3] = [None, None]
     return [one for one in told if one is not None]
 
@@ -119,37 +105,28 @@ def import_of(tokens):
 
 
 def tokens_of(path, text, names):
-    """The tokens of a text, with other names in the place of some, and imports that stand one after
+    """The tokens of a text, with old names in the place of new ones, and imports that stand one after
     another in one order."""
-    kind = kind_of(path)
+    kind, scope = kind_of(path), names.old(names.old_crate(path))
     if kind == ".edit":
-        return renamed(kind, plain_tokens(kind, text), names)
+        return renamed(kind, plain_tokens(kind, text), scope)
     text = REMARK[kind].sub(lambda found: found.group(1) or "", text)
     text = LAST_COMMA.sub("", text) + "\n"
     made, block, at = [], [], 0
     for found in re.finditer(SORTED[kind], text, re.M):
-        between = renamed(kind, plain_tokens(kind, text[at : found.start()]), names)
+        between = renamed(kind, plain_tokens(kind, text[at : found.start()]), scope)
         if between:
             made += sorted(block, key=repr) + between
             block = []
-        block.append(import_of(renamed_import(plain_tokens(kind, found.group()), names)))
+        block.append(import_of(renamed_import(plain_tokens(kind, found.group()), scope)))
         at = found.end()
-    rest = renamed(kind, plain_tokens(kind, text[at:]), names)
+    rest = renamed(kind, plain_tokens(kind, text[at:]), scope)
     return made + sorted(block, key=repr) + rest
 
 
-def names_in(path, text):
-    """All words of a text, and of the path of its file."""
-    kind = kind_of(path)
-    if kind in REMARK:
-        text = REMARK[kind].sub(lambda found: found.group(1) or "", text)
-    words = plain_tokens(kind, text) + words_of_path(path)
-    return {word for word in words if WORD.match(word)}
-
-
 def names_by_place(path, text):
-    """The words of a text that contracts, definitions and proofs name without a path, and all
-    others of it and of the path of its file."""
+    """The words of a text that contracts, definitions and proofs name without a path, all others of
+    it and of the path of its file, and all."""
     kind = kind_of(path)
     if kind in REMARK:
         text = REMARK[kind].sub(lambda found: found.group(1) or "", text)
@@ -164,12 +141,5 @@ def names_by_place(path, text):
         sort(tokens, [is_of_contract(tokens)] * len(tokens))
     tokens = plain_tokens(kind, re.sub(SORTED.get(kind, "(?!)"), "", text, flags=re.M))
     sort(tokens, in_contracts(kind, tokens))
-    return [{word for word in words if WORD.match(word)} for words in (of_contracts, others)]
-
-
-def contract_names_in(path, text):
-    return names_by_place(path, text)[0]
-
-
-def code_names_in(path, text):
-    return names_by_place(path, text)[1]
+    every = (of_contracts, others, of_contracts | others)
+    return [{word for word in words if WORD.match(word)} for words in every]

@@ -22,6 +22,7 @@ TESTS = os.path.dirname(os.path.dirname(os.path.abspath(__file__)))
 sys.path.insert(0, TESTS)
 from bodies import draw, renamed
 from bodies.sums import sum_of
+from bodies.table import Names
 
 LOW = """//! A crate.
 #![tactic(auto)]
@@ -179,7 +180,7 @@ def differing(tree, old_top, folder, names):
 
 def check_changes(old_top, folder):
     """What is wrong with how changes beside the names are told."""
-    names, wrong = renamed.read_map(MAP), []
+    names, wrong = Names(MAP), []
     renamed.check_map(names, old_top)
     told = differing(renamed_tree(), old_top, folder, names)
     if told:
@@ -206,7 +207,7 @@ def check_maps(old_top):
     wrong = []
     for what, text in BAD_MAPS.items():
         try:
-            renamed.check_map(renamed.read_map(text), old_top)
+            renamed.check_map(Names(text), old_top)
             wrong.append("the map with %s is taken" % what)
         except renamed.BadMap:
             pass
