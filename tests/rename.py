@@ -79,7 +79,11 @@ def new_import(kind, line, scope):
 def new_source(path, text, scope):
     """A source, a definition or a proof."""
     kind, pieces, at = kind_of(path), [], 0
+    tokens = [one.span() for one in pattern_of(kind).finditer(text)]
+    inside = [span for span in tokens if "\n" in text[slice(*span)]]
     for found in re.finditer(SORTED[kind], text, re.M):
+        if any(start < found.start() < end for start, end in inside):
+            continue
         pieces.append(new_code(kind, text[at : found.start()], scope))
         pieces.append(new_import(kind, found.group(), scope))
         at = found.end()
