@@ -3,7 +3,7 @@ line breaks and the order of imports, which `rt fmt` may change where names chan
 import os
 import re
 
-STRING = r'"(?:\\.|[^"\\])*"'
+STRING = r'"(?:\\[\s\S]|[^"\\])*"'
 LETTER = r"b?'(?:\\[^'\n]+|[^'\\\n])'"
 # a proof's goals are named by words that hyphens join
 HYPHEN = r"(?P<hyphen>(?<=\w)-(?=\w))"
