@@ -15,11 +15,17 @@ from bodies.table import Names
 from bodies.tokens import SORTED, TOKEN, WORD, in_contracts, is_of_contract, kind_of, plain_tokens
 
 
-def in_prose(word, scope):
+# a word in a remark or a document, with what shows that it is none of English: a path before it, or
+# the end of a file's name behind it
+PROSE = re.compile(r"(::)?\b(\w+)\b(?=(\.(?:antt|rt)\b|::)?)")
+
+
+def in_prose(found, scope):
     """The new word for one in a remark or a document, where it is none of English."""
-    if "_" in word or re.search(r".[A-Z]", word):
-        return scope.code.get(word) or scope.everywhere.get(word, word)
-    return word
+    path, word, ending = found.groups()
+    if path or ending or "_" in word or re.search(r".[A-Z]", word):
+        word = scope.code.get(word) or scope.everywhere.get(word, word)
+    return (path or "") + word
 
 
 # what is no text of this tree's names
@@ -41,7 +47,7 @@ def new_code(kind, text, scope):
         pieces.append(text[at : one.start()])
         token, at = one.group(), one.end()
         if is_remark(token):
-            pieces.append(re.sub(r"\w+", lambda word: in_prose(word.group(), scope), token))
+            pieces.append(PROSE.sub(lambda word: in_prose(word, scope), token))
             continue
         is_word = WORD.match(token)
         pieces.append(scope.name(token, before, where[one.start()]) if is_word else token)
@@ -106,7 +112,7 @@ def new_text(path, text, names):
     if path.endswith(("wrong-bodies.txt", ".edit")) or path == "crates.txt":
         return new_edits(text, scope)
     if path.endswith((".md", ".py", ".sh", ".txt")) and not path.startswith(LEFT):
-        return re.sub(r"\w+", lambda word: in_prose(word.group(), scope), text)
+        return PROSE.sub(lambda word: in_prose(word, scope), text)
     return text
 
 
