@@ -46,7 +46,7 @@ from lib import build
 from checks import model
 from formats.logs import add_clip, add_marker, add_track, log, move_clip, remove, restore, retitle, set_gain
 
-USES = ["mt_testalloc", "mt_stamp", "mt_op", "mt_opcodec", "mt_sessionview", "mt_replica"]
+USES = ["test_alloc", "mt_stamp", "mt_op", "mt_opcodec", "mt_sessionview", "mt_replica"]
 
 PROGRAM = """//! Takes or makes operations: for `bench/take.py` alone.
 #![tactic(auto)]
@@ -56,7 +56,7 @@ use mt_opcodec::Log;
 use mt_replica::{Change, Editor};
 use mt_sessionview::from_scratch;
 use mt_stamp::{Replica, Stamp};
-use mt_testalloc::Refusing;
+use test_alloc::Refusing;
 use std::alloc::{Allocator, Global};
 use std::process::ExitCode;
 use std::{env, fs};

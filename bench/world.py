@@ -1,7 +1,7 @@
 #!/usr/bin/env python3
 """Times worlds of editors: bench/world.py [--events N,N,..] [--runs N] [--program PROGRAM]
 
-Runs crates/world_histories/out/world_histories (make it by `rt run` in its folder) over lists of events, from a few to many, and tells the processor time of a run, the best of
+Runs crates/test_world/out/test_world (make it by `rt run` in its folder) over lists of events, from a few to many, and tells the processor time of a run, the best of
 three (--runs), and how many times the time of a list of half as many events it is: n log n is a little over 2. Reading the list and printing the world are in it, and grow as the list. Times are those of the
 machine at hand: compare ratios of one run only. The lists:
 
@@ -21,7 +21,7 @@ import uuid
 from lib import TOP
 from formats.logs import add_marker
 
-PROGRAM = os.path.join(TOP, "crates", "world_histories", "out", "world_histories")
+PROGRAM = os.path.join(TOP, "crates", "test_world", "out", "test_world")
 EDITORS = ",".join("editor %s" % uuid.UUID(int=name) for name in (10, 11))
 
 

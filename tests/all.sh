@@ -20,7 +20,7 @@ python3 tests/suite.py "$radio"
 sh tests/checks/refusals.sh "$radio"
 python3 tests/checks/model.py "$radio" --sets 300
 python3 tests/checks/reverted.py "$radio" --logs 10000
-python3 tests/checks/world.py "$PWD/crates/world_histories/out/world_histories"
+python3 tests/checks/world.py "$PWD/crates/test_world/out/test_world"
 python3 tests/checks/outlines.py "$radio"
 python3 tests/checks/real_waves.py "$radio"
 python3 tests/checks/rendered_waves.py "$radio"

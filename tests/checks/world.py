@@ -1,7 +1,7 @@
 #!/usr/bin/env python3
 """Compares worlds of editors with a second reading: tests/checks/world.py PROGRAM [--lists N] [--events N] [--seed N]
 
-PROGRAM is crates/world_histories/out/world_histories, which runs lists of events and prints what was sent and what each editor has and shows. The reading is written
+PROGRAM is crates/test_world/out/test_world, which runs lists of events and prints what was sent and what each editor has and shows. The reading is written
 from docs/build/model.md alone, in the plainest way: a dictionary from dot to operation for what an editor has taken and one for what it has saved, one list of what was sent, and
 for an edit the operation that it makes of the editor's set. Sessions are told by tests/checks/model.py. The lists are drawn at random: five editors add, change, remove and
 bring back tracks, clips and markers, save, take what was sent in any order and often twice, and restart; now and then an edit names what is not there, and an event no editor

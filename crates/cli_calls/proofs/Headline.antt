@@ -5,8 +5,8 @@ use Rattle.std.specs.List.{AllByRecursion}
 use Rattle.std.specs.FinMap as fin
 use Rattle.std.proofs.lemmas.Option.{none-some, same_Some}
 use Rattle.mt_stamp.specs.declared.name.Dot.{Dot}
-use Rattle.mt_stamp.specs.Moment.{dot_cmp}
-use Rattle.mt_op.specs.Operation.{Operation}
+use Rattle.mt_stamp.specs.StampOrder.{dot_cmp}
+use Rattle.mt_op.specs.OpValue.{Op}
 use Rattle.mt_op.specs.Dots.{op_dot}
 use Rattle.mt_opcodec.specs.LogValue.{LogMap, operations}
 use Rattle.mt_opcodec.specs.Sets.{Has, IsSet}
@@ -14,10 +14,10 @@ use Rattle.mt_opcodec.specs.Union.{Agree, union, union_from, union_all, AgreeFro
 use Rattle.mt_opcodec.proofs.Union.{get-union, same_log}
 use Rattle.mt_opcodec.proofs.Sets.{get_either, union_set, empty_set, none_there}
 use Rattle.mt_opcodec.proofs.JoiningAll.{none_first}
-use Rattle.mt_sessionview.specs.Content.{Content}
+use Rattle.mt_sessionview.specs.SessionValue.{Session}
 use Rattle.mt_sessionview.specs.Session.{session_of}
 use Rattle.mt_render.specs.declared.fault.MixFault.{MixFault}
-use Rattle.mt_render.specs.Layout.{Layout}
+use Rattle.mt_render.specs.FormatValue.{Layout}
 use Rattle.mt_render.specs.Sources.{sources_of}
 use Rattle.mt_render.specs.Alike.{HasOneAnswer, MixAlike}
 use Rattle.mt_render.proofs.Alike.{turned, only_audible_count}
@@ -33,18 +33,18 @@ use Rattle.cli_calls.specs.Headline.{IsIn, HaveSame, HearAlike, RenderAlike, Sam
 
 -- ---- what a union has
 
-joined_first : (a b : LogMap) (o : Operation) → Has a o → Has (union a b) o
-joined_first a b o has = get-union a b (op_dot o) ∙ ap (λ (x : Option Operation). cond (is_some x) x (fin.get b (op_dot o))) has
+joined_first : (a b : LogMap) (o : Op) → Has a o → Has (union a b) o
+joined_first a b o has = get-union a b (op_dot o) ∙ ap (λ (x : Option Op). cond (is_some x) x (fin.get b (op_dot o))) has
 
-joined_second : (a b : LogMap) → Agree a b → (o : Operation) → Has b o → Has (union a b) o
+joined_second : (a b : LogMap) → Agree a b → (o : Op) → Has b o → Has (union a b) o
 joined_second a b agree o has = get-union a b (op_dot o) ∙ by (fin.get a (op_dot o)) refl
   where
-    by : (x : Option Operation) → fin.get a (op_dot o) ≡ x → cond (is_some x) x (fin.get b (op_dot o)) ≡ Some o
+    by : (x : Option Op) → fin.get a (op_dot o) ≡ x → cond (is_some x) x (fin.get b (op_dot o)) ≡ Some o
     by (Some p) is = ap Some (agree (op_dot o) p o is has)
     by None is = has
 
 -- an operation of a union and of what follows is one of both logs and of what follows
-either_of : (a b : LogMap) (logs : List LogMap) (o : Operation) → IsIn (union a b ∷ logs) o → IsIn (a ∷ b ∷ logs) o
+either_of : (a b : LogMap) (logs : List LogMap) (o : Op) → IsIn (union a b ∷ logs) o → IsIn (a ∷ b ∷ logs) o
 either_of a b logs o (inl has) = by (get_either a b (op_dot o) o has)
   where
     by : Has a o ⊎ Has b o → IsIn (a ∷ b ∷ logs) o
@@ -52,25 +52,25 @@ either_of a b logs o (inl has) = by (get_either a b (op_dot o) o has)
     by (inr second) = inr (inl second)
 either_of a b logs o (inr later) = inr (inr later)
 
-to_union : (a : LogMap) (logs : List LogMap) → AgreeFrom a logs → (o : Operation) → IsIn (a ∷ logs) o → Has (union_from a logs) o
+to_union : (a : LogMap) (logs : List LogMap) → AgreeFrom a logs → (o : Op) → IsIn (a ∷ logs) o → Has (union_from a logs) o
 to_union a [] agree o (inl has) = has
 to_union a [] agree o (inr none) = absurd none
 to_union a (b ∷ logs) agree o (inl has) = to_union (union a b) logs agree.1 o (inl (joined_first a b o has))
 to_union a (b ∷ logs) agree o (inr (inl has)) = to_union (union a b) logs agree.1 o (inl (joined_second a b agree.0 o has))
 to_union a (b ∷ logs) agree o (inr (inr later)) = to_union (union a b) logs agree.1 o (inr later)
 
-from_union : (a : LogMap) (logs : List LogMap) (o : Operation) → Has (union_from a logs) o → IsIn (a ∷ logs) o
+from_union : (a : LogMap) (logs : List LogMap) (o : Op) → Has (union_from a logs) o → IsIn (a ∷ logs) o
 from_union a [] o has = inl has
 from_union a (b ∷ logs) o has = either_of a b logs o (from_union (union a b) logs o has)
 
-not_empty : (logs : List LogMap) (o : Operation) → IsIn (fin.empty ∷ logs) o → IsIn logs o
+not_empty : (logs : List LogMap) (o : Op) → IsIn (fin.empty ∷ logs) o → IsIn logs o
 not_empty logs o (inl none) = absurd (none_there o none)
 not_empty logs o (inr there) = there
 
-to_all : (logs : List LogMap) → AllAgree logs → (o : Operation) → IsIn logs o → Has (union_all logs) o
+to_all : (logs : List LogMap) → AllAgree logs → (o : Op) → IsIn logs o → Has (union_all logs) o
 to_all logs agree o there = to_union fin.empty logs agree o (inr there)
 
-from_all : (logs : List LogMap) (o : Operation) → Has (union_all logs) o → IsIn logs o
+from_all : (logs : List LogMap) (o : Op) → Has (union_all logs) o → IsIn logs o
 from_all logs o has = not_empty logs o (from_union fin.empty logs o has)
 
 set_from : (a : LogMap) (logs : List LogMap) → IsSet a → AllByRecursion IsSet logs → IsSet (union_from a logs)
@@ -79,15 +79,15 @@ set_from a (b ∷ logs) is all = set_from (union a b) logs (union_set a b is all
 
 -- ---- sets with the same operations are one log
 
-moved : (m n : LogMap) → IsSet m → ((o : Operation) → Has m o → Has n o) → (dot : Dot) (o : Operation) → fin.get m dot ≡ Some o → fin.get n dot ≡ Some o
+moved : (m n : LogMap) → IsSet m → ((o : Op) → Has m o → Has n o) → (dot : Dot) (o : Op) → fin.get m dot ≡ Some o → fin.get n dot ≡ Some o
 moved m n is there dot o at =
     let own : dot ≡ op_dot o = is.own_dot dot o at in
     ap (fin.get n) own ∙ there o (ap (fin.get m) (sym own) ∙ at)
 
-same_sets : (m n : LogMap) → IsSet m → IsSet n → ((o : Operation) → Has m o → Has n o) → ((o : Operation) → Has n o → Has m o) → m ≡ n
+same_sets : (m n : LogMap) → IsSet m → IsSet n → ((o : Op) → Has m o → Has n o) → ((o : Op) → Has n o → Has m o) → m ≡ n
 same_sets m n is also there back = same_log m n (λ dot. by dot (fin.get m dot) (fin.get n dot) refl refl)
   where
-    by : (dot : Dot) (x y : Option Operation) → fin.get m dot ≡ x → fin.get n dot ≡ y → fin.get m dot ≡ fin.get n dot
+    by : (dot : Dot) (x y : Option Op) → fin.get m dot ≡ x → fin.get n dot ≡ y → fin.get m dot ≡ fin.get n dot
     by dot (Some o) y at other = at ∙ sym (moved m n is there dot o at)
     by dot None (Some p) at other = moved n m also back dot p other ∙ sym other
     by dot None None at other = at ∙ sym other
@@ -96,12 +96,12 @@ same_sets m n is also there back = same_log m n (λ dot. by dot (fin.get m dot) 
 
 -- no two operations of the logs have one dot
 abbrev pub AreApart : List LogMap → Type 0
-AreApart logs = (o p : Operation) → IsIn logs o → IsIn logs p → op_dot o ≡ op_dot p → o ≡ p
+AreApart logs = (o p : Op) → IsIn logs o → IsIn logs p → op_dot o ≡ op_dot p → o ≡ p
 
 to_apart : (logs : List LogMap) → AllAgree logs → AreApart logs
 to_apart logs agree o p first second same = same_Some o p (sym (to_all logs agree o first) ∙ ap (fin.get (union_all logs)) same ∙ to_all logs agree p second)
 
-own : (m : LogMap) → IsSet m → (dot : Dot) (o : Operation) → fin.get m dot ≡ Some o → Has m o
+own : (m : LogMap) → IsSet m → (dot : Dot) (o : Op) → fin.get m dot ≡ Some o → Has m o
 own m is dot o at = ap (fin.get m) (sym (is.own_dot dot o at)) ∙ at
 
 from_apart : (a : LogMap) (logs : List LogMap) → IsSet a → AllByRecursion IsSet logs → AreApart (a ∷ logs) → AgreeFrom a logs
@@ -145,7 +145,7 @@ same_is_told logs others h agree =
 not_both : (n m : ℕ) → n < m → m ≤ n → ⊥
 not_both n m below above = omega (arith, below, above)
 
-module _ (session : Content) (layout : Layout) (head : HeadText) where
+module _ (session : Session) (layout : Layout) (head : HeadText) where
   module _ (texts others : List (List ℕ)) (same : HearAlike session texts others) where
     abbrev mixes : MixAlike (programme session texts layout) (programme session others layout)
     mixes = only_audible_count session.tracks layout (sources_of texts) (sources_of others) same
@@ -187,11 +187,11 @@ module _ (session : Content) (layout : Layout) (head : HeadText) where
 
 pub same_is_rendered : SameIsRendered
 same_is_rendered logs others texts other_texts layout head h agree same =
-    subst (λ (s : Content). RenderAlike (session_of_logs logs) s texts other_texts layout head) (ap (λ (m : LogMap). session_of (operations m)) (one_union logs others h agree)) (render_alike (session_of_logs logs) layout head texts other_texts same)
+    subst (λ (s : Session). RenderAlike (session_of_logs logs) s texts other_texts layout head) (ap (λ (m : LogMap). session_of (operations m)) (one_union logs others h agree)) (render_alike (session_of_logs logs) layout head texts other_texts same)
 
 -- ---- one log
 
-alone : (log : LogMap) (o : Operation) → IsIn (log ∷ []) o → Has log o
+alone : (log : LogMap) (o : Op) → IsIn (log ∷ []) o → Has log o
 alone log o (inl has) = has
 alone log o (inr none) = absurd none
 

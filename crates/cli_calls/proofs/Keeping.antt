@@ -6,14 +6,14 @@ use Rattle.std.specs.Ordering.{is_eq}
 use Rattle.std.proofs.lemmas.Bool.{cases_Bool, false≢true}
 use Rattle.std.proofs.lemmas.List.{drop_more, get_or-map, map-append, take_more}
 use Rattle.sha2.specs.Sha256.{sha256}
-use Rattle.mt_latch.specs.Latch.{Latched}
+use Rattle.base_io.specs.Latch.{Latch}
 use Rattle.mt_op.specs.declared.digest.Digest.{Digest}
-use Rattle.mt_sessionview.specs.Content.{Content}
+use Rattle.mt_sessionview.specs.SessionValue.{Session}
 use Rattle.std.specs.BTreeMap.{BTreeMap}
-use Rattle.mt_preflight.specs.declared.uses.Use.{Use}
-use Rattle.mt_preflight.specs.Played.{is_audible}
-use Rattle.mt_preflight.specs.Using.{plays}
-use Rattle.mt_preflight.proofs.Sounding.{audible_is}
+use Rattle.text_check.specs.declared.uses.Use.{Use}
+use Rattle.text_check.specs.Played.{is_audible}
+use Rattle.text_check.specs.Using.{plays}
+use Rattle.text_check.proofs.Sounding.{audible_is}
 use Rattle.mt_render.specs.Refusals.{audible}
 use Rattle.mt_render.specs.Sources.{Sources, found, digest_cmp, under_digest, sources_of, HasAdded}
 use Rattle.mt_render.proofs.Digests.{same_digest, digests_apart}
@@ -90,11 +90,11 @@ group_more {Z} wanted kept after group pushed left text texts is moved holds =
     (subst (λ (l : List (List ℕ)). HoldWanted wanted l (texts ++ text.items ∷ [])) (sym same) (hold_more wanted (kept ++ bytes_in group) texts text.items holds))
 
 -- what holds the recordings that audible clips play lets a session be heard alike
-pub heard_alike : (session : Content) (kept texts : List (List ℕ)) → HoldWanted (is_audible session.tracks) kept texts → HearAlike session kept texts
-heard_alike session kept texts holds c among = holds c.source (audible_is (audible session.tracks) c among)
+pub received_alike : (session : Session) (kept texts : List (List ℕ)) → HoldWanted (is_audible session.tracks) kept texts → HearAlike session kept texts
+received_alike session kept texts holds c among = holds c.source (audible_is (audible session.tracks) c among)
 
 -- what readers gave, of which the recordings that audible clips play are kept
-pub gave_audible : {R : Type 0} (remaining : R → Option (List ℕ)) (session : Content) (latches : List (Latched R)) (uses : BTreeMap Digest Use) (items kept : List (List ℕ)) → ((d : Digest) → plays uses d ≡ is_audible session.tracks d)
+pub gave_audible : {R : Type 0} (remaining : R → Option (List ℕ)) (session : Session) (latches : List (Latch R)) (uses : BTreeMap Digest Use) (items kept : List (List ℕ)) → ((d : Digest) → plays uses d ≡ is_audible session.tracks d)
     → kept ≡ items → GaveKept remaining (plays uses) latches items → GaveKept remaining (is_audible session.tracks) latches kept
 gave_audible remaining session latches uses items kept same is gave =
     (gave.0, (gave.1.0, subst (λ (l : List (List ℕ)). HoldWanted (is_audible session.tracks) l gave.0) (sym is) (λ d wants. gave.1.1 d (same d ∙ wants))))

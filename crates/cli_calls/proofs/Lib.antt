@@ -1,7 +1,7 @@
 pub mod Readers
 pub mod Writing
 pub mod Running
-pub mod Outlined
+pub mod WaveHeaders
 pub mod Recordings
 pub mod Headline
 mod Keeping

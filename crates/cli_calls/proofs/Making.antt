@@ -1,16 +1,16 @@
 -- Files that are made of a log, and of what is read after it.
 use Rattle.std.proofs.Common.{◌≡◌, ℕ, true, List, [], Option, Some, None, Result, Ok, Err, inl, inr, refl, sym, subst, ◌∙◌}
 use Rattle.std.specs.Prelude.{OnOk, IfErr}
-use Rattle.mt_latch.specs.Latch.{Latched}
+use Rattle.base_io.specs.Latch.{Latch}
 use Rattle.mt_opcodec.specs.LogValue.{LogMap}
-use Rattle.mt_summary.specs.declared.fault.MessageFault.{MessageFault}
-use Rattle.mt_summary.specs.declared.fault.MessageFault.TheVariants as message
+use Rattle.sync_messages.specs.declared.fault.MessageFault.{MessageFault}
+use Rattle.sync_messages.specs.declared.fault.MessageFault.TheVariants as message
 use Rattle.mt_sync.specs.declared.fault.Side.{Side}
 use Rattle.mt_sync.specs.declared.fault.TalkFault.{TalkFault}
 use Rattle.mt_sync.specs.declared.fault.TalkFault.TheVariants as talk
 use Rattle.mt_sync.specs.declared.fault.SyncFault.{SyncFault}
 use Rattle.mt_sync.specs.declared.fault.SyncFault.TheVariants as sync
-use Rattle.mt_sync.specs.Conversation.{awaits_ops, hears}
+use Rattle.mt_sync.specs.Conversation.{awaits_ops, receives}
 use Rattle.mt_sync.specs.Feeding.{end_at}
 use Rattle.mt_sync.specs.Conversing.{HasBytes, Lacks, TakesAll, AreSound, Blames}
 use Rattle.cli_calls.specs.declared.fault.CliFault.{CliFault}
@@ -21,7 +21,7 @@ use Rattle.cli_calls.specs.Writing.{HasWritten, HasFailed, MadeWritten, MadeFail
 use Rattle.cli_calls.specs.Swapping.{Having, Lacking, Taken, NotTaken, Taking, TalkLent, HasConversedTo, HasConversed, SwapWritten, SwapFails, Swapped, HeldMakes, LendLeaves}
 use Rattle.cli_calls.proofs.Writing.{refused_here}
 
-module _ {W : Type 0} (contents : W → Option (List ℕ)) (output : Latched W) where
+module _ {W : Type 0} (contents : W → Option (List ℕ)) (output : Latch W) where
   pub having_refused : {X : Type 0} (view : X → List ℕ) (log : LogMap) (fault : MessageFault) → HasBytes view log (Err fault) → Wrote contents (Having log) output output (Err (message_fault fault))
   having_refused view log message.Memory has = refused_here contents (Having log) output (message_fault message.Memory) refl
   having_refused view log message.BadMessage has = absurd has
@@ -41,17 +41,17 @@ module _ {W : Type 0} (contents : W → Option (List ℕ)) (output : Latched W) 
   taking_refused log sent fault fails = refused_here contents (Taking log sent) output fault (taking_fails log sent fault fails)
 
 -- what was sent was taken, or was not, by a log's editor
-pub not_taken : (kept set : Option LogMap) (log : LogMap) (sent : List ℕ) (fault : SyncFault) → kept ≡ Some log → TakesAll (hears (end_at (awaits_ops None) [] kept) sent) (Err fault) set → NotTaken log sent (sync_fault fault)
+pub not_taken : (kept set : Option LogMap) (log : LogMap) (sent : List ℕ) (fault : SyncFault) → kept ≡ Some log → TakesAll (receives (end_at (awaits_ops None) [] kept) sent) (Err fault) set → NotTaken log sent (sync_fault fault)
 not_taken kept set log sent (sync.Talk talk.Memory) is takes_all = tt
 not_taken kept set log sent (sync.Talk fault) is takes_all = by fault takes_all
   where
-    by : (f : TalkFault) → TakesAll (hears (end_at (awaits_ops None) [] kept) sent) (Err (sync.Talk f)) set → NotTaken log sent (sync_fault (sync.Talk f))
+    by : (f : TalkFault) → TakesAll (receives (end_at (awaits_ops None) [] kept) sent) (Err (sync.Talk f)) set → NotTaken log sent (sync_fault (sync.Talk f))
     by talk.Memory takes = tt
-    by f takes = ((λ same. cc same), (set, subst (λ (o : Option LogMap). TakesAll (hears (end_at (awaits_ops None) [] o) sent) (Err (sync.Talk f)) set) is takes))
+    by f takes = ((λ same. cc same), (set, subst (λ (o : Option LogMap). TakesAll (receives (end_at (awaits_ops None) [] o) sent) (Err (sync.Talk f)) set) is takes))
 not_taken kept set log sent sync.Write is takes_all = absurd takes_all
 not_taken kept set log sent sync.Read is takes_all = absurd takes_all
 not_taken kept set log sent sync.Ended is takes_all =
-    ((λ same. cc same), (set, subst (λ (o : Option LogMap). TakesAll (hears (end_at (awaits_ops None) [] o) sent) (Err sync.Ended) set) is takes_all))
+    ((λ same. cc same), (set, subst (λ (o : Option LogMap). TakesAll (receives (end_at (awaits_ops None) [] o) sent) (Err sync.Ended) set) is takes_all))
 
 -- a log that was lent is still there
 pub lend_leaves : (old new : Option LogMap) (result : Result (Unit {0}) CliFault) → new ≡ old → IfErr result (LendLeaves old new)

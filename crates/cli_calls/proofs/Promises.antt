@@ -2,14 +2,14 @@
 use Rattle.std.proofs.Common.{◌≡◌, ◌≢◌, ℕ, ◌+◌, true, List, [], ◌∷◌, length, Option, Result, Ok, Err, inl, inr, refl, sym, ap, subst, ◌∙◌}
 use Rattle.std.specs.Io.KnownBytes.{Appends}
 use Rattle.std.specs.Prelude.{Some}
-use Rattle.mt_latch.specs.Latch.{Latched, AppendsPrefix}
+use Rattle.base_io.specs.Latch.{Latch, AppendsPrefix}
 use Rattle.mt_stamp.specs.declared.name.Dot.{Dot}
 use Rattle.mt_opcodec.specs.LogValue.{LogMap}
-use Rattle.mt_opcodec.specs.Union.{union_all, AllAgree, FirstClash}
+use Rattle.mt_opcodec.specs.Union.{union_all, AllAgree, FirstConflict}
 use Rattle.mt_bwfread.specs.Wave.{IsWave, fault_of}
 use Rattle.mt_bwfread.specs.declared.fault.WaveFault.{WaveFault}
 use Rattle.mt_render.specs.declared.fault.MixFault.{MixFault}
-use Rattle.mt_render.specs.Layout.{Layout}
+use Rattle.mt_render.specs.FormatValue.{Layout}
 use Rattle.mt_cuewrite.specs.Head.{HeadText}
 use Rattle.cli_calls.specs.declared.fault.CliFault.{CliFault}
 use Rattle.cli_calls.specs.declared.fault.CliFault.TheVariants as cli
@@ -23,15 +23,15 @@ use Rattle.cli_calls.specs.Sources.{GaveWaves, GaveWave, IsSourceCause}
 use Rattle.cli_calls.specs.Writing.{Prints, Wrote, MadeWritten, MadeFails}
 
 -- what no reader's cause is
-never_first : {R X : Type 0} (remaining : R → Option (List ℕ)) (Gives : Latched R → X → Type 0) (Cause : ℕ → Latched R → Latched R → CliFault → Type 0) (fault : CliFault)
-    → ((index : ℕ) (old new : Latched R) → Cause index old new fault → ⊥) → fault ≢ cli.Memory → (start : ℕ) (olds news : List (Latched R)) → FirstCause (IsRead remaining) Gives Cause start olds news fault → ⊥
+never_first : {R X : Type 0} (remaining : R → Option (List ℕ)) (Gives : Latch R → X → Type 0) (Cause : ℕ → Latch R → Latch R → CliFault → Type 0) (fault : CliFault)
+    → ((index : ℕ) (old new : Latch R) → Cause index old new fault → ⊥) → fault ≢ cli.Memory → (start : ℕ) (olds news : List (Latch R)) → FirstCause (IsRead remaining) Gives Cause start olds news fault → ⊥
 never_first remaining Gives Cause fault never not start [] news cause = not cause
 never_first remaining Gives Cause fault never not start (old ∷ olds) [] cause = cause
 never_first remaining Gives Cause fault never not start (old ∷ olds) (new ∷ news) (inl cause) = never start old new cause.0
 never_first remaining Gives Cause fault never not start (old ∷ olds) (new ∷ news) (inr (x, (gave, (read, later)))) = never_first remaining Gives Cause fault never not (start + 1) olds news later
 
 -- what was made of something and not written, where the output has not failed
-untouched_by : {W : Type 0} (contents : W → Option (List ℕ)) (Makes : Result (List ℕ) CliFault → Type 0) (old new : Latched W) (fault : CliFault) → fault ≢ cli.Write → MadeFails contents Makes old new fault → new ≡ old
+untouched_by : {W : Type 0} (contents : W → Option (List ℕ)) (Makes : Result (List ℕ) CliFault → Type 0) (old new : Latch W) (fault : CliFault) → fault ≢ cli.Write → MadeFails contents Makes old new fault → new ≡ old
 untouched_by contents Makes old new cli.Memory not fails = fails
 untouched_by contents Makes old new cli.Write not fails = absurd (not refl)
 untouched_by contents Makes old new (cli.Read index) not fails = fails.1
@@ -54,7 +54,7 @@ untouched_by contents Makes old new cli.Net not fails = fails.1
 
 module _ {R W : Type 0} (remaining : R → Option (List ℕ)) (contents : W → Option (List ℕ)) where
   -- a text of the union of logs
-  module _ (text : LogMap → List ℕ) (before after : Lent (List (Latched R)) (Latched W)) where
+  module _ (text : LogMap → List ℕ) (before after : Lent (List (Latch R)) (Latch W)) where
     abbrev HasRun : Result (Unit {0}) CliFault → Type 0
     HasRun = Ran remaining (GaveUnion remaining) (UnionFails remaining) (Prints text) contents before after
 
@@ -71,15 +71,15 @@ module _ {R W : Type 0} (remaining : R → Option (List ℕ)) (contents : W → 
         from (all, (union, (bytes, (made, put)))) =
             (union.0, (union.1.0, (union.1.1, subst (λ (l : List ℕ). Appends (contents before.output.inner) (contents after.output.inner) l) (cc made ∙ ap text union.1.2) put.1)))
 
-    union_clashes : (dot : Dot) (result : Result (Unit {0}) CliFault) → HasRun result → result ≡ Err (cli.Merge dot) → (logs : List LogMap) × (GaveLogs remaining before.inputs logs × (AreRead remaining after.inputs × FirstClash logs dot))
-    union_clashes dot (Ok unit) ran is = cc is
-    union_clashes dot (Err (cli.Merge other)) ran is = by ran.refused (cc is)
+    union_conflicts : (dot : Dot) (result : Result (Unit {0}) CliFault) → HasRun result → result ≡ Err (cli.Merge dot) → (logs : List LogMap) × (GaveLogs remaining before.inputs logs × (AreRead remaining after.inputs × FirstConflict logs dot))
+    union_conflicts dot (Ok unit) ran is = cc is
+    union_conflicts dot (Err (cli.Merge other)) ran is = by ran.refused (cc is)
       where
-        by : Fails (cli.Merge other) → other ≡ dot → (logs : List LogMap) × (GaveLogs remaining before.inputs logs × (AreRead remaining after.inputs × FirstClash logs dot))
+        by : Fails (cli.Merge other) → other ≡ dot → (logs : List LogMap) × (GaveLogs remaining before.inputs logs × (AreRead remaining after.inputs × FirstConflict logs dot))
         by (inl (inl cause, same)) e = absurd (never_first remaining (GaveLog remaining) (IsCause remaining) (cli.Merge other) (λ _ _ _ c. c) (λ m. cc m) 0 before.inputs after.inputs cause)
-        by (inl (inr (logs, (gave, (read, clash))), same)) e = (logs, (gave, (read, subst (FirstClash logs) e clash)))
+        by (inl (inr (logs, (gave, (read, conflict))), same)) e = (logs, (gave, (read, subst (FirstConflict logs) e conflict)))
         by (inr (all, (union, (read, fails)))) e = cc fails.0
-    union_clashes dot (Err _) ran is = cc is
+    union_conflicts dot (Err _) ran is = cc is
 
     union_fails : (result : Result (Unit {0}) CliFault) → HasRun result → result ≡ Err cli.Write → after.output.failed ≡ true
     union_fails (Ok unit) ran is = cc is
@@ -102,13 +102,13 @@ module _ {R W : Type 0} (remaining : R → Option (List ℕ)) (contents : W → 
     pub writes_union : (result : Result (Unit {0}) CliFault) → HasRun result → WritesUnion remaining contents text before after result
     writes_union result ran = record {
       written = union_written result ran;
-      clashes = λ dot. union_clashes dot result ran;
+      conflicts = λ dot. union_conflicts dot result ran;
       fails = union_fails result ran;
       untouched = λ fault. union_untouched fault result ran;
     }
 
   -- the file of logs and recordings
-  module _ (layout : Layout) (head : HeadText) (before after : Lent (RenderInputs R) (Latched W)) where
+  module _ (layout : Layout) (head : HeadText) (before after : Lent (RenderInputs R) (Latch W)) where
     abbrev HasRendered : Result (Unit {0}) CliFault → Type 0
     HasRendered = RanOn (GaveLogsAndWaves remaining) (RenderCause remaining) (AreInputsRead remaining) (RendersLogs layout head) contents before after
 
@@ -168,7 +168,7 @@ module _ {R W : Type 0} (remaining : R → Option (List ℕ)) (contents : W → 
     }
 
 -- the text of a wave file
-module _ {W : Type 0} (contents : W → Option (List ℕ)) (bytes : List ℕ) (before after : Latched W) where
+module _ {W : Type 0} (contents : W → Option (List ℕ)) (bytes : List ℕ) (before after : Latch W) where
   info_written : (result : Result (Unit {0}) CliFault) → Wrote contents (Informs bytes) before after result → result ≡ Ok tt → IsWave bytes × Appends (contents before.inner) (contents after.inner) (info_text bytes)
   info_written (Err fault) wrote is = cc is
   info_written (Ok unit) wrote is =

@@ -7,16 +7,16 @@ use Rattle.std.proofs.lemmas.Option.{none-some, same_Some, slice_get_within, get
 use Rattle.mt_opcodec.specs.LogValue.{LogMap}
 use Rattle.mt_opcodec.specs.Union.{union}
 use Rattle.mt_opcodec.proofs.JoiningAll.{HasJoined}
-use Rattle.cli_calls.specs.declared.pull.Share.{Share}
+use Rattle.cli_calls.specs.declared.pull.PullCounts.{PullCounts}
 use Rattle.cli_calls.specs.Pulling.{share, shares, shares_from}
 
 -- what is joined so far, the logs that are left, and the shares of those that were joined
-pub record HasShared (all : LogMap) (rest : List LogMap) (parts : List Share) (logs : List LogMap) : Type 0 where
+pub record HasShared (all : LogMap) (rest : List LogMap) (parts : List PullCounts) (logs : List LogMap) : Type 0 where
   pub joined : HasJoined all rest logs
   pub told : parts ++ shares_from all rest ≡ shares logs
 
 -- one more
-pub one_shared : (all log after : LogMap) (rest logs : List LogMap) (parts : List Share) (part : Share) → after ≡ union all log → part ≡ share all log → parts ++ shares_from all (log ∷ rest) ≡ shares logs
+pub one_shared : (all log after : LogMap) (rest logs : List LogMap) (parts : List PullCounts) (part : PullCounts) → after ≡ union all log → part ≡ share all log → parts ++ shares_from all (log ∷ rest) ≡ shares logs
     → (parts ++ part ∷ []) ++ shares_from after rest ≡ shares logs
 one_shared all log after rest logs parts part is same before = rw (is, same) (append_assoc parts (share all log ∷ []) (shares_from (union all log) rest) ∙ before)
 

@@ -4,7 +4,7 @@ use Rattle.std.specs.Prelude.{IfErr, IsErrAnd}
 use Rattle.std.proofs.lemmas.List.{drop-drop, drop-set-lt, get_or-drop, length-set, get_or-set_same, take-set}
 use Rattle.std.proofs.KnownBytes.{Consumes-nil}
 use Rattle.std.proofs.Math.ListN.{set}
-use Rattle.mt_latch.specs.Latch.{Latched}
+use Rattle.base_io.specs.Latch.{Latch}
 use Rattle.mt_opcodec.specs.LogValue.{LogMap}
 use Rattle.cli_calls.specs.declared.fault.CliFault.{CliFault}
 use Rattle.cli_calls.specs.declared.fault.CliFault.TheVariants.{Memory}
@@ -21,26 +21,26 @@ module _ {L X : Type 0} (Gives : L → X → Type 0) where
   gave_one_more (l ∷ latches) [] (suc i) latch x lt at h gave = absurd h
   gave_one_more (l ∷ latches) (y ∷ xs) (suc i) latch x lt at h gave = (h.0, gave_one_more latches xs i latch x (omega arith) at h.1 gave)
 
-module _ {R X : Type 0} (remaining : R → Option (List ℕ)) (Gives : Latched R → X → Type 0) (Cause : ℕ → Latched R → Latched R → CliFault → Type 0) where
-  cause_is_first : (old new : List (Latched R)) (xs : List X) (i start : ℕ) (before after : Latched R) (fault : CliFault) → length new ≡ length old → i < length old → before ≡ get_or old i before → after ≡ get_or new i after
+module _ {R X : Type 0} (remaining : R → Option (List ℕ)) (Gives : Latch R → X → Type 0) (Cause : ℕ → Latch R → Latch R → CliFault → Type 0) where
+  cause_is_first : (old new : List (Latch R)) (xs : List X) (i start : ℕ) (before after : Latch R) (fault : CliFault) → length new ≡ length old → i < length old → before ≡ get_or old i before → after ≡ get_or new i after
       → GaveEach Gives (take i old) xs → AreRead remaining (take i new) → drop (suc i) new ≡ drop (suc i) old → Cause (start + i) before after fault → FirstCause (IsRead remaining) Gives Cause start old new fault
   cause_is_first [] new xs i start before after fault same lt at_old at_new gave read later cause = absurd (omega arith)
   cause_is_first (l ∷ old) [] xs i start before after fault same lt at_old at_new gave read later cause = absurd (omega arith)
   cause_is_first (l ∷ old) (m ∷ new) xs zero start before after fault same lt at_old at_new gave read later cause =
       let here : start + 0 ≡ start = omega arith in
-      inl (subst (λ (n : ℕ). Cause n l m fault) here (subst (λ (k : Latched R). Cause (start + 0) l k fault) at_new (subst (λ (k : Latched R). Cause (start + 0) k after fault) at_old cause)), later)
+      inl (subst (λ (n : ℕ). Cause n l m fault) here (subst (λ (k : Latch R). Cause (start + 0) l k fault) at_new (subst (λ (k : Latch R). Cause (start + 0) k after fault) at_old cause)), later)
   cause_is_first (l ∷ old) (m ∷ new) [] (suc i) start before after fault same lt at_old at_new gave read later cause = absurd gave
   cause_is_first (l ∷ old) (m ∷ new) (x ∷ xs) (suc i) start before after fault same lt at_old at_new gave read later cause =
       let next : start + suc i ≡ (start + 1) + i = omega arith in
       inr (x, (gave.0, (read.0, cause_is_first old new xs i (start + 1) before after fault (omega arith) (omega arith) at_old at_new gave.1 read.1 later (subst (λ (n : ℕ). Cause n before after fault) next cause))))
 
 -- a reader that was not asked
-pub rest_same : {R : Type 0} (remaining : R → Option (List ℕ)) (latch : Latched R) → IsRest remaining latch latch
+pub rest_same : {R : Type 0} (remaining : R → Option (List ℕ)) (latch : Latch R) → IsRest remaining latch latch
 rest_same remaining latch = (([], Consumes-nil (remaining latch.inner)), λ _. refl)
 
 -- memory that runs out before any reader is asked
-pub first_starves : {R X : Type 0} (remaining : R → Option (List ℕ)) (Gives : Latched R → X → Type 0) (Cause : ℕ → Latched R → Latched R → CliFault → Type 0)
-    → ((index : ℕ) (old new : Latched R) → IsRest remaining old new → Cause index old new Memory) → (start : ℕ) (latches : List (Latched R)) → FirstCause (IsRead remaining) Gives Cause start latches latches Memory
+pub first_starves : {R X : Type 0} (remaining : R → Option (List ℕ)) (Gives : Latch R → X → Type 0) (Cause : ℕ → Latch R → Latch R → CliFault → Type 0)
+    → ((index : ℕ) (old new : Latch R) → IsRest remaining old new → Cause index old new Memory) → (start : ℕ) (latches : List (Latch R)) → FirstCause (IsRead remaining) Gives Cause start latches latches Memory
 first_starves remaining Gives Cause starves start [] = refl
 first_starves remaining Gives Cause starves start (l ∷ latches) = inl (starves start l l (rest_same remaining l), refl)
 
@@ -72,24 +72,24 @@ told_as (Err e) P fault is p = subst P (sym is) p
 
 -- ---- of the slice of readers after the one at a place was read
 
-module _ {R : Type 0} (remaining : R → Option (List ℕ)) (entry inputs : List (Latched R)) (i : ℕ) (latch after : Latched R) (same : length inputs ≡ length entry) (lt : i < length entry) where
+module _ {R : Type 0} (remaining : R → Option (List ℕ)) (entry inputs : List (Latch R)) (i : ℕ) (latch after : Latch R) (same : length inputs ≡ length entry) (lt : i < length entry) where
   within : i < length inputs
   within = omega (arith, same, lt)
 
-  module _ {X : Type 0} (Gives : Latched R → X → Type 0) where
-    pub cause_at : (Cause : ℕ → Latched R → Latched R → CliFault → Type 0) (xs : List X) (fault : CliFault) → drop i inputs ≡ drop i entry → latch ≡ get_or inputs i latch → GaveEach Gives (take i entry) xs → AreRead remaining (take i inputs)
+  module _ {X : Type 0} (Gives : Latch R → X → Type 0) where
+    pub cause_at : (Cause : ℕ → Latch R → Latch R → CliFault → Type 0) (xs : List X) (fault : CliFault) → drop i inputs ≡ drop i entry → latch ≡ get_or inputs i latch → GaveEach Gives (take i entry) xs → AreRead remaining (take i inputs)
         → Cause i (get_or inputs i latch) after fault → FirstCause (IsRead remaining) Gives Cause 0 entry (set inputs i after) fault
     cause_at Cause xs fault left at gave read cause =
         let next : i + 1 ≡ suc i = omega arith in
         let here : i ≡ 0 + i = omega arith in
         cause_is_first remaining Gives Cause entry (set inputs i after) xs i 0 latch after fault (length-set inputs i after ∙ same) lt (left_at i inputs entry latch within same left at) (sym (get_or-set_same inputs i after after within)) gave
         (subst (AreRead remaining) (sym (take-set inputs i after)) read) (subst (λ (n : ℕ). drop n (set inputs i after) ≡ drop n entry) next (left_more i inputs entry after left))
-        (subst (λ (n : ℕ). Cause n latch after fault) here (subst (λ (l : Latched R). Cause i l after fault) (sym at) cause))
+        (subst (λ (n : ℕ). Cause n latch after fault) here (subst (λ (l : Latch R). Cause i l after fault) (sym at) cause))
 
     pub gave_more : (xs : List X) (x : X) → drop i inputs ≡ drop i entry → latch ≡ get_or inputs i latch → GaveEach Gives (take i entry) xs → Gives (get_or inputs i latch) x → GaveEach Gives (take (i + 1) entry) (xs ++ x ∷ [])
     gave_more xs x left at gave more =
         let next : suc i ≡ i + 1 = omega arith in
-        subst (λ (n : ℕ). GaveEach Gives (take n entry) (xs ++ x ∷ [])) next (gave_one_more Gives entry xs i latch x lt (left_at i inputs entry latch within same left at) gave (subst (λ (l : Latched R). Gives l x) (sym at) more))
+        subst (λ (n : ℕ). GaveEach Gives (take n entry) (xs ++ x ∷ [])) next (gave_one_more Gives entry xs i latch x lt (left_at i inputs entry latch within same left at) gave (subst (λ (l : Latch R). Gives l x) (sym at) more))
 
   pub read_more : AreRead remaining (take i inputs) → IsRead remaining after → AreRead remaining (take (i + 1) (set inputs i after))
   read_more read is =
@@ -98,14 +98,14 @@ module _ {R : Type 0} (remaining : R → Option (List ℕ)) (entry inputs : List
 
 -- two inputs, of which the second gave nothing
 module _ {R : Type 0} (remaining : R → Option (List ℕ)) where
-  pub other_cause : (inputs : List (Latched R)) (a b a' b' : Latched R) (fault : CliFault) (m : LogMap) → length inputs ≡ 2 → GaveLog remaining (get_or inputs 0 a) m → IsRead remaining a' → IsReadCause 1 b' fault
+  pub other_cause : (inputs : List (Latch R)) (a b a' b' : Latch R) (fault : CliFault) (m : LogMap) → length inputs ≡ 2 → GaveLog remaining (get_or inputs 0 a) m → IsRead remaining a' → IsReadCause 1 b' fault
       → IsRest remaining (get_or (set inputs 0 a') 1 b) b' → BothCause remaining inputs (set (set inputs 0 a') 1 b') fault
   other_cause [] a b a' b' fault m two gave read cause rest = cc two
   other_cause (x ∷ []) a b a' b' fault m two gave read cause rest = cc two
   other_cause (x ∷ (y ∷ [])) a b a' b' fault m two gave read cause rest = inr (m, (gave, (read, (cause, rest))))
   other_cause (x ∷ (y ∷ (z ∷ more))) a b a' b' fault m two gave read cause rest = cc two
 
-  pub right_cause : (inputs : List (Latched R)) (a b a' b' : Latched R) (fault : CliFault) (m : LogMap) → length inputs ≡ 2 → GaveLogOf remaining (get_or inputs 0 a) m → IsRead remaining a'
+  pub right_cause : (inputs : List (Latch R)) (a b a' b' : Latch R) (fault : CliFault) (m : LogMap) → length inputs ≡ 2 → GaveLogOf remaining (get_or inputs 0 a) m → IsRead remaining a'
       → GaveNoLog remaining 1 (get_or (set inputs 0 a') 1 b) b' fault → TwoLogsCause remaining inputs (set (set inputs 0 a') 1 b') fault
   right_cause [] a b a' b' fault m two gave read cause = cc two
   right_cause (x ∷ []) a b a' b' fault m two gave read cause = cc two

@@ -2,19 +2,19 @@
 use Rattle.std.proofs.Common.{◌≡◌, ℕ, ◌+◌, List, [], ◌∷◌, ◌++◌, length, Option, refl, inl, inr, arith}
 use Rattle.std.specs.Prelude.{Vec}
 use Rattle.std.proofs.lemmas.List.{map-append}
-use Rattle.mt_latch.specs.Latch.{Latched}
+use Rattle.base_io.specs.Latch.{Latch}
 use Rattle.cli_calls.specs.declared.fault.CliFault.TheVariants.{Memory}
 use Rattle.cli_calls.specs.Reading.{AreRead}
 use Rattle.cli_calls.specs.Sources.{bytes_in, GaveWaves, HasSourceCause}
 use Rattle.cli_calls.proofs.Readers.{rest_same}
 
 -- memory that runs out before the reader of any recording is asked
-pub HasSourceCause-memory : {R : Type 0} (remaining : R → Option (List ℕ)) (others start : ℕ) (latches : List (Latched R)) → HasSourceCause remaining others start latches latches Memory
+pub HasSourceCause-memory : {R : Type 0} (remaining : R → Option (List ℕ)) (others start : ℕ) (latches : List (Latch R)) → HasSourceCause remaining others start latches latches Memory
 HasSourceCause-memory remaining others start [] = refl
 HasSourceCause-memory remaining others start (l ∷ latches) = inl (rest_same remaining l, refl)
 
 -- memory that runs out once all are read
-pub HasSourceCause-end : {R : Type 0} (remaining : R → Option (List ℕ)) (others start : ℕ) (old new : List (Latched R)) (texts : List (List ℕ)) → length new ≡ length old → GaveWaves remaining old texts → AreRead remaining new
+pub HasSourceCause-end : {R : Type 0} (remaining : R → Option (List ℕ)) (others start : ℕ) (old new : List (Latch R)) (texts : List (List ℕ)) → length new ≡ length old → GaveWaves remaining old texts → AreRead remaining new
     → HasSourceCause remaining others start old new Memory
 HasSourceCause-end remaining others start [] [] texts same gave read = refl
 HasSourceCause-end remaining others start [] (n ∷ new) texts same gave read = refl

@@ -1,19 +1,19 @@
 -- Files that are rendered, or refused.
 use Rattle.std.proofs.Common.{◌≡◌, ◌≢◌, ℕ, true, false, List, Option, Result, Ok, Err, inr, refl, subst, ap, ◌∙◌, ◌<◌, ◌≤◌, ◌^◌, length}
 use Rattle.std.specs.Io.KnownBytes.{Appends}
-use Rattle.mt_latch.specs.Latch.{Latched, AppendsPrefix}
+use Rattle.base_io.specs.Latch.{Latch, AppendsPrefix}
 use Rattle.mt_opcodec.specs.LogValue.{LogMap, operations}
 use Rattle.mt_sessionview.specs.Session.{session_of}
-use Rattle.mt_sessionview.specs.Content.{Content, Marker}
+use Rattle.mt_sessionview.specs.SessionValue.{Session, Marker}
 use Rattle.mt_op.specs.declared.digest.Digest.{Digest}
 use Rattle.mt_render.specs.declared.fault.MixFault.TheVariants as mix_faults
-use Rattle.mt_render.specs.Layout.{Layout}
+use Rattle.mt_render.specs.FormatValue.{Layout}
 use Rattle.mt_render.specs.Sources.{Sources, found, sources_of}
 use Rattle.mt_render.specs.Mix.{Programme}
 use Rattle.mt_render.specs.Refusals.{IsMixable}
 use Rattle.mt_render.proofs.Alike.{only_audible_count}
 use Rattle.mt_cuewrite.proofs.Alike.{only_audible_are_written}
-use Rattle.mt_preflight.specs.Played.{is_audible}
+use Rattle.text_check.specs.Played.{is_audible}
 use Rattle.mt_cuewrite.specs.File.{riff, file}
 use Rattle.mt_cuewrite.specs.Faults.{Fits}
 use Rattle.mt_cuewrite.specs.Faults.{BounceFails as FileFails}
@@ -31,14 +31,14 @@ use Rattle.cli_calls.specs.Writing.{MadeFails, Wrote}
 use Rattle.cli_calls.specs.declared.render.Material.{Material}
 use Rattle.cli_calls.specs.Bouncing.{CanBounce, IsMixRefusal, programme, session_of_logs, session_file, Renders, RenderInputs, render_inputs, LogsAndWaves, RendersLogs, GaveLogsAndWaves, GaveMaterial, RenderCause}
 use Rattle.cli_calls.proofs.Headline.{render_alike}
-use Rattle.cli_calls.proofs.Keeping.{heard_alike}
+use Rattle.cli_calls.proofs.Keeping.{received_alike}
 use Rattle.cli_calls.proofs.Recordings.{HasSourceCause-memory}
 
 -- ---- of the recordings that are kept, and of all
 
-module _ (layout : Layout) (head : HeadText) (session : Content) (kept texts : List (List ℕ)) (holds : HoldWanted (is_audible session.tracks) kept texts) where
+module _ (layout : Layout) (head : HeadText) (session : Session) (kept texts : List (List ℕ)) (holds : HoldWanted (is_audible session.tracks) kept texts) where
   abbrev alike : RenderAlike session session kept texts layout head
-  alike = render_alike session layout head kept texts (heard_alike session kept texts holds)
+  alike = render_alike session layout head kept texts (received_alike session kept texts holds)
 
   pub renders_alike : (made : Result (List ℕ) CliFault) → Renders layout head session kept made → Renders layout head session texts made
   renders_alike (Ok bytes) renders = (alike.written.0 renders.0, renders.1 ∙ alike.file)
@@ -53,17 +53,17 @@ turned remaining layout head inputs m (all, (union, (is, (texts, (waves, holds))
       record { logs = union.0; texts = texts },
       (
         (union.1.0, (union.1.1, waves)),
-        λ made renders. subst (λ (s : Content). Renders layout head s texts made) session_is (renders_alike layout head m.session m.kept.items texts holds made renders),
+        λ made renders. subst (λ (s : Session). Renders layout head s texts made) session_is (renders_alike layout head m.session m.kept.items texts holds made renders),
       ),
     )
 
 -- memory that runs out once the logs are read
-pub no_memory : {R : Type 0} (remaining : R → Option (List ℕ)) (logs_old logs_new sources : List (Latched R)) (all : LogMap) → GaveUnion remaining logs_old all → AreRead remaining logs_new
+pub no_memory : {R : Type 0} (remaining : R → Option (List ℕ)) (logs_old logs_new sources : List (Latch R)) (all : LogMap) → GaveUnion remaining logs_old all → AreRead remaining logs_new
     → RenderCause remaining (render_inputs logs_old sources) (render_inputs logs_new sources) cli.Memory
 no_memory remaining logs_old logs_new sources all union read = inr (union.0, (union.1.0, (read, (union.1.1, HasSourceCause-memory remaining (length logs_old) 0 sources))))
 
 -- what a mix over a catalogue of these recordings gives
-module _ (mix : Programme) (session : Content) (markers : List Marker) (catalogue : Sources) (texts : List (List ℕ)) (layout : Layout) (head : HeadText) (mix_is : mix ≡ record { tracks = session.tracks; sources = catalogue; layout = layout })
+module _ (mix : Programme) (session : Session) (markers : List Marker) (catalogue : Sources) (texts : List (List ℕ)) (layout : Layout) (head : HeadText) (mix_is : mix ≡ record { tracks = session.tracks; sources = catalogue; layout = layout })
     (markers_are : markers ≡ session.markers) (same : (d : Digest) → found catalogue d ≡ found (sources_of texts) d) where
   abbrev over : Programme
   over = record { tracks = session.tracks; sources = catalogue; layout = layout }
@@ -86,7 +86,7 @@ module _ (mix : Programme) (session : Content) (markers : List Marker) (catalogu
       not_memory : mix_faults.TooLong ≢ mix_faults.Memory
       not_memory same = cc same
 
-  module _ {W : Type 0} (contents : W → Option (List ℕ)) (old new : Latched W) where
+  module _ {W : Type 0} (contents : W → Option (List ℕ)) (old new : Latch W) where
     file_refused : (fault : BounceFault) → IsMixable mix → FileFails contents mix markers head old new fault → MadeFails contents (Renders layout head session texts) old new (file_fault fault)
     file_refused bounce.Memory mixable fails = fails.1
     file_refused bounce.TooLong mixable fails = (too_long mixable fails.0, fails.1)

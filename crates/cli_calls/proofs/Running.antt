@@ -1,13 +1,13 @@
 -- Commands that have run.
 use Rattle.std.proofs.Common.{◌≡◌, ℕ, List, Option, Result, Ok, Err, inl, inr}
 use Rattle.std.specs.Prelude.{OnOk, IfErr}
-use Rattle.mt_latch.specs.Latch.{Latched}
+use Rattle.base_io.specs.Latch.{Latch}
 use Rattle.cli_calls.specs.declared.fault.CliFault.{CliFault}
 use Rattle.cli_calls.specs.declared.fault.CliFault.TheVariants as cli
 use Rattle.cli_calls.specs.Running.{Lent, Done, NotDone, RanOn}
 use Rattle.cli_calls.specs.Writing.{MadeWritten, MadeFails, Wrote}
 
-module _ {I W X : Type 0} (Given : I → X → Type 0) (Cause : I → I → CliFault → Type 0) (AtEnd : I → Type 0) (Makes : X → Result (List ℕ) CliFault → Type 0) (contents : W → Option (List ℕ)) (before after : Lent I (Latched W)) where
+module _ {I W X : Type 0} (Given : I → X → Type 0) (Cause : I → I → CliFault → Type 0) (AtEnd : I → Type 0) (Makes : X → Result (List ℕ) CliFault → Type 0) (contents : W → Option (List ℕ)) (before after : Lent I (Latch W)) where
   -- the inputs gave a value, and what is made of it was written, or was not
   module _ (x : X) (given : Given before.inputs x) (read : AtEnd after.inputs) where
     done : (result : Result (Unit {0}) CliFault) → OnOk result (MadeWritten contents (Makes x) before.output after.output) → OnOk result (Done Given (λ y. MadeWritten contents (Makes y)) before after)
@@ -30,14 +30,14 @@ module _ {I W X : Type 0} (Given : I → X → Type 0) (Cause : I → I → CliF
   ran_without fault cause same = record { written = tt; read = tt; refused = inl (cause, same); stays = λ _. same }
 
 module _ {I W X Y : Type 0} (Given : I → X → Type 0) (Other : I → Y → Type 0) (Cause : I → I → CliFault → Type 0) (AtEnd : I → Type 0) (Makes : X → Result (List ℕ) CliFault → Type 0) (OtherMakes : Y → Result (List ℕ) CliFault → Type 0)
-    (contents : W → Option (List ℕ)) (before after : Lent I (Latched W)) (turn : (x : X) → Given before.inputs x → (y : Y) × (Other before.inputs y × ((made : Result (List ℕ) CliFault) → Makes x made → OtherMakes y made))) where
+    (contents : W → Option (List ℕ)) (before after : Lent I (Latch W)) (turn : (x : X) → Given before.inputs x → (y : Y) × (Other before.inputs y × ((made : Result (List ℕ) CliFault) → Makes x made → OtherMakes y made))) where
   done_as : (result : Result (Unit {0}) CliFault) → OnOk result (Done Given (λ x. MadeWritten contents (Makes x)) before after) → OnOk result (Done Other (λ y. MadeWritten contents (OtherMakes y)) before after)
   done_as (Ok unit) (x, (given, (bytes, (makes, put)))) =
       let other = turn x given in
       (other.0, (other.1.0, (bytes, (other.1.1 (Ok bytes) makes, put))))
   done_as (Err fault) done = done
 
-  fails_as : (x : X) (y : Y) → ((made : Result (List ℕ) CliFault) → Makes x made → OtherMakes y made) → (old new : Latched W) (fault : CliFault) → MadeFails contents (Makes x) old new fault → MadeFails contents (OtherMakes y) old new fault
+  fails_as : (x : X) (y : Y) → ((made : Result (List ℕ) CliFault) → Makes x made → OtherMakes y made) → (old new : Latch W) (fault : CliFault) → MadeFails contents (Makes x) old new fault → MadeFails contents (OtherMakes y) old new fault
   fails_as x y also old new cli.Memory fails = fails
   fails_as x y also old new cli.Write (bytes, (makes, failed)) = (bytes, (also (Ok bytes) makes, failed))
   fails_as x y also old new (cli.Read index) fails = (also (Err (cli.Read index)) fails.0, fails.1)

@@ -1,19 +1,19 @@
 -- The file of logs and recordings, and why it is not written.
 use Rattle.std.specs.Prelude.{◌≡◌, ◌≢◌, ℕ, ◌^◌, ◌≤◌, List, length, Option, Result, Ok, Err, ◌⊎◌}
-use Rattle.mt_latch.specs.Latch.{Latched}
+use Rattle.base_io.specs.Latch.{Latch}
 use Rattle.mt_opcodec.specs.LogValue.{LogMap, operations}
 use Rattle.mt_opcodec.specs.Union.{union_all, AllAgree}
-use Rattle.mt_sessionview.specs.Content.{Content}
+use Rattle.mt_sessionview.specs.SessionValue.{Session}
 use Rattle.mt_sessionview.specs.Session.{session_of}
 use Rattle.mt_render.specs.declared.fault.MixFault.{MixFault}
 use Rattle.mt_render.specs.declared.fault.MixFault.TheVariants as mix
-use Rattle.mt_render.specs.Layout.{Layout}
+use Rattle.mt_render.specs.FormatValue.{Layout}
 use Rattle.mt_render.specs.Mix.{Programme}
 use Rattle.mt_render.specs.Refusals.{IsMixable, IsMixFault}
 use Rattle.mt_cuewrite.specs.Head.{HeadText}
 use Rattle.mt_cuewrite.specs.File.{riff, file}
 use Rattle.mt_cuewrite.specs.Faults.{Fits}
-use Rattle.mt_preflight.specs.Played.{is_audible}
+use Rattle.text_check.specs.Played.{is_audible}
 use Rattle.cli_calls.specs.declared.render.Material.{Material}
 use Rattle.cli_calls.specs.declared.fault.CliFault.{CliFault}
 use Rattle.cli_calls.specs.declared.fault.CliFault.TheVariants.{Mix}
@@ -23,31 +23,31 @@ use Rattle.mt_render.specs.Sources.{sources_of}
 use Rattle.cli_calls.specs.Sources.{GaveWaves, GaveKept, HasSourceCause}
 
 -- the programme of a session over recordings
-abbrev pub programme : Content → List (List ℕ) → Layout → Programme
+abbrev pub programme : Session → List (List ℕ) → Layout → Programme
 programme session texts layout = record { tracks = session.tracks; sources = sources_of texts; layout = layout }
 
 -- the session of the union of the logs' sets
-abbrev pub session_of_logs : List LogMap → Content
+abbrev pub session_of_logs : List LogMap → Session
 session_of_logs logs = session_of (operations (union_all logs))
 
 -- A file is written where the programme can be mixed and the file is not too long.
-pub record CanBounce (session : Content) (texts : List (List ℕ)) (layout : Layout) (head : HeadText) : Type 0 where
+pub record CanBounce (session : Session) (texts : List (List ℕ)) (layout : Layout) (head : HeadText) : Type 0 where
   pub mixable : IsMixable (programme session texts layout)
   pub fits : Fits (programme session texts layout) session.markers head
 
 -- the file of a session, its recordings, a format and a head
-abbrev pub session_file : Content → List (List ℕ) → Layout → HeadText → List ℕ
+abbrev pub session_file : Session → List (List ℕ) → Layout → HeadText → List ℕ
 session_file session texts layout head = file (programme session texts layout) session.markers head
 
 -- Why there is no such file: the programme cannot be mixed, or it can, and the file is too long.
-abbrev pub IsMixRefusal : Content → List (List ℕ) → Layout → HeadText → MixFault → Type 0
+abbrev pub IsMixRefusal : Session → List (List ℕ) → Layout → HeadText → MixFault → Type 0
 IsMixRefusal session texts layout head fault =
     (fault ≢ mix.Memory)
     × (IsMixFault (programme session texts layout) fault
     ⊎ (IsMixable (programme session texts layout) × (fault ≡ mix.TooLong) × (2 ^ 32 ≤ length (riff (programme session texts layout) session.markers head))))
 
 -- `render`: what is made of a session and recordings, the file or why there is none
-abbrev pub Renders : Layout → HeadText → Content → List (List ℕ) → Result (List ℕ) CliFault → Type 0
+abbrev pub Renders : Layout → HeadText → Session → List (List ℕ) → Result (List ℕ) CliFault → Type 0
 Renders layout head session texts (Ok bytes) = CanBounce session texts layout head × (bytes ≡ session_file session texts layout head)
 Renders layout head session texts (Err (Mix fault)) = IsMixRefusal session texts layout head fault
 Renders layout head session texts (Err _) = ⊥
@@ -56,10 +56,10 @@ Renders layout head session texts (Err _) = ⊥
 
 -- what is lent to be read, before or after
 pub record RenderInputs (R : Type 0) : Type 0 where
-  pub logs : List (Latched R)
-  pub sources : List (Latched R)
+  pub logs : List (Latch R)
+  pub sources : List (Latch R)
 
-abbrev pub render_inputs : {R : Type 0} → List (Latched R) → List (Latched R) → RenderInputs R
+abbrev pub render_inputs : {R : Type 0} → List (Latch R) → List (Latch R) → RenderInputs R
 render_inputs logs sources = record { logs = logs; sources = sources }
 
 -- what they gave: logs that agree, and wave files

@@ -1,17 +1,17 @@
 -- What `diff` answers of two inputs (profile): which log each of them is, which text is made of both, and why it is refused.
 use Rattle.std.specs.Prelude.{◌≡◌, ◌≢◌, ℕ, Bool, true, false, ◌==◌, List, [], ◌∷◌, Option, ◌⊎◌}
 use Rattle.std.specs.FinMap as map
-use Rattle.mt_latch.specs.Latch.{Latched}
+use Rattle.base_io.specs.Latch.{Latch}
 use Rattle.mt_opcodec.specs.declared.fault.LogFault.TheVariants as log
 use Rattle.mt_opcodec.specs.LogReading.{log_at, LogFails}
 use Rattle.mt_opcodec.specs.LogValue.{LogMap}
 use Rattle.mt_opcodec.specs.IsLog.{IsLog}
-use Rattle.mt_logdiff.specs.DiffText.{diff_text, diff_text_with_fields}
-use Rattle.mt_logdiff.specs.ViewDiff.{view_diff_text}
-use Rattle.cli_calls.specs.declared.diff.DiffForm.{DiffForm}
-use Rattle.cli_calls.specs.declared.diff.DiffForm.TheVariants as form
+use Rattle.text_diff.specs.DiffText.{diff_text, diff_text_with_fields}
+use Rattle.text_diff.specs.ViewDiff.{view_diff_text}
+use Rattle.cli_calls.specs.declared.diff.DiffKind.{DiffKind}
+use Rattle.cli_calls.specs.declared.diff.DiffKind.TheVariants as form
 use Rattle.cli_calls.specs.declared.diff.TwoLogs.{TwoLogs}
-use Rattle.cli_calls.specs.declared.form.LineForm.{LineForm}
+use Rattle.cli_calls.specs.declared.form.TextOptions.{TextOptions}
 use Rattle.cli_calls.specs.declared.fault.CliFault.{CliFault}
 use Rattle.cli_calls.specs.declared.fault.CliFault.TheVariants.{Memory, Read, Log}
 use Rattle.cli_calls.specs.Form.{in_form}
@@ -21,7 +21,7 @@ use Rattle.cli_calls.specs.Swapping.{Taken, NotTaken}
 -- ---- the text
 
 -- the text that is asked for, of the left and of the right log
-abbrev pub diff_by : DiffForm → LogMap → LogMap → List ℕ
+abbrev pub diff_by : DiffKind → LogMap → LogMap → List ℕ
 diff_by form.Operations left right = diff_text left right
 diff_by form.Fields left right = diff_text_with_fields left right
 diff_by form.View left right = view_diff_text left right
@@ -55,22 +55,22 @@ IsNoLogOf index bytes fault = IsNoLogAs (begins_as_frame bytes) index bytes faul
 
 module _ {R : Type 0} (remaining : R → Option (List ℕ)) where
   -- the input gave bytes, and this is their log
-  abbrev pub GaveLogOf : Latched R → LogMap → Type 0
+  abbrev pub GaveLogOf : Latch R → LogMap → Type 0
   GaveLogOf latch m = (bytes : List ℕ) × (Gave remaining latch bytes × IsLogOf bytes m)
 
   -- why the input of an index gave no log: memory ran out, its latch has failed, or all its bytes are none
-  abbrev pub GaveNoLog : ℕ → Latched R → Latched R → CliFault → Type 0
+  abbrev pub GaveNoLog : ℕ → Latch R → Latch R → CliFault → Type 0
   GaveNoLog index old new Memory = IsRest remaining old new
   GaveNoLog index old new (Read place) = (place ≡ index) × ((new.failed ≡ true) × IsRest remaining old new)
   GaveNoLog index old new fault = IsRead remaining new × ((bytes : List ℕ) × (Gave remaining old bytes × IsNoLogOf index bytes fault))
 
   -- both inputs gave logs
-  abbrev pub GaveTwoLogs : {Z : Type 0} → List (Latched R) → TwoLogs Z → Type 0
+  abbrev pub GaveTwoLogs : {Z : Type 0} → List (Latch R) → TwoLogs Z → Type 0
   GaveTwoLogs (left ∷ (right ∷ [])) logs = GaveLogOf left logs.left × GaveLogOf right logs.right
   GaveTwoLogs _ logs = ⊥
 
   -- the left input gave none, and the right one was not asked; or it did, and the right one gave none
-  abbrev pub TwoLogsCause : List (Latched R) → List (Latched R) → CliFault → Type 0
+  abbrev pub TwoLogsCause : List (Latch R) → List (Latch R) → CliFault → Type 0
   TwoLogsCause (left ∷ (right ∷ [])) (left' ∷ (right' ∷ [])) fault =
       (GaveNoLog 0 left left' fault × (right' ≡ right)) ⊎ ((m : LogMap) × (GaveLogOf left m × (IsRead remaining left' × GaveNoLog 1 right right' fault)))
   TwoLogsCause _ _ fault = ⊥
@@ -78,5 +78,5 @@ module _ {R : Type 0} (remaining : R → Option (List ℕ)) where
 -- ---- what is made
 
 -- `diff`: the text of two logs, in lines of a form
-abbrev pub diff_in : {Z : Type 0} → LineForm → DiffForm → TwoLogs Z → List ℕ
+abbrev pub diff_in : {Z : Type 0} → TextOptions → DiffKind → TwoLogs Z → List ℕ
 diff_in lines form logs = in_form lines (diff_by form logs.left logs.right)

@@ -3,10 +3,10 @@ use Rattle.std.specs.Prelude.{ℕ, List}
 use Rattle.mt_opcodec.specs.LogValue.{LogMap, operations}
 use Rattle.mt_opcodec.specs.Union.{union_all}
 use Rattle.mt_render.specs.Sources.{Sources}
-use Rattle.mt_sessionview.specs.Content.{Content}
+use Rattle.mt_sessionview.specs.SessionValue.{Session}
 use Rattle.mt_sessionview.specs.Session.{session_of}
-use Rattle.mt_svg.specs.Svg.{svg_text}
-use Rattle.mt_timeline.specs.Timeline.{timeline_text}
+use Rattle.text_svg.specs.Svg.{svg_text}
+use Rattle.text_timeline.specs.Timeline.{timeline_text}
 use Rattle.cli_calls.specs.declared.draw.Drawing.{Drawing}
 use Rattle.cli_calls.specs.declared.draw.SessionDrawing.{SessionDrawing}
 use Rattle.cli_calls.specs.declared.draw.Drawing.TheVariants.{Text, Svg}
@@ -17,7 +17,7 @@ columns_of (Text width lengths) = width
 columns_of Svg = 1
 
 -- a session as text, in so many columns, or as a picture with the peaks of recordings, its times at a rate
-abbrev pub drawing_text : Drawing → ℕ → Sources → Content → List ℕ
+abbrev pub drawing_text : Drawing → ℕ → Sources → Session → List ℕ
 drawing_text (Text width lengths) rate sources session = timeline_text width lengths rate session
 drawing_text Svg rate sources session = svg_text rate sources session
 

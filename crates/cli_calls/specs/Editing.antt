@@ -2,13 +2,13 @@
 use Rattle.std.specs.Prelude.{◌≡◌, ◌≢◌, ℕ, max, List, [], ◌∷◌, ◌++◌, length, codes, Option, Some, None, Result, Ok, Err}
 use Rattle.std.specs.Fmt.{decimal}
 use Rattle.mt_stamp.specs.declared.name.Replica.{Replica}
-use Rattle.mt_op.specs.Operation.{Operation}
+use Rattle.mt_op.specs.OpValue.{Op}
 use Rattle.mt_opcodec.specs.LogValue.{LogMap}
-use Rattle.mt_lines.specs.Saying.{plain_script}
+use Rattle.text_json.specs.Saying.{plain_script}
 use Rattle.mt_sessionview.specs.SessionText.{newline}
 use Rattle.mt_script.specs.declared.fault.ScriptFault.TheVariants as script
 use Rattle.mt_script.specs.Script.{scripted, with_ops}
-use Rattle.cli_calls.specs.declared.both.Both.{Both}
+use Rattle.cli_calls.specs.declared.both.LogAndBytes.{LogAndBytes}
 use Rattle.cli_calls.specs.declared.fault.CliFault.{CliFault}
 use Rattle.cli_calls.specs.declared.fault.CliFault.TheVariants.{Script}
 use Rattle.cli_calls.specs.Reading.{text_of}
@@ -29,10 +29,10 @@ ops_line count = number_line (codes "ops ") count
 -- the log with the operations of a script, and the line of how many they are; or why the script is refused
 abbrev pub EditMakes : Replica → LogMap → List ℕ → Result (List ℕ × List ℕ) CliFault → Type 0
 EditMakes name log text (Ok made) =
-    (ops : List Operation) × ((scripted log name text ≡ Ok ops) × ((made.0 ≡ text_of (with_ops log ops)) × (made.1 ≡ ops_line (length ops))))
+    (ops : List Op) × ((scripted log name text ≡ Ok ops) × ((made.0 ≡ text_of (with_ops log ops)) × (made.1 ≡ ops_line (length ops))))
 EditMakes name log text (Err (Script fault)) = (fault ≢ script.Memory) × (scripted log name text ≡ Err fault)
 EditMakes name log text (Err _) = ⊥
 
 -- `edit`: of a log and the text of a script
-abbrev pub Edits : {Z : Type 0} → Replica → Option ℕ → Both Z → Result (List ℕ × List ℕ) CliFault → Type 0
+abbrev pub Edits : {Z : Type 0} → Replica → Option ℕ → LogAndBytes Z → Result (List ℕ × List ℕ) CliFault → Type 0
 Edits name rate both = EditMakes name both.log (asked rate both.bytes.items)

@@ -11,9 +11,9 @@ use Rattle.mt_cuewrite.specs.declared.fault.BounceFault.TheVariants as bounce
 use Rattle.mt_script.specs.Faults.{number_of as script_number}
 use Rattle.mt_script.specs.declared.fault.ScriptFault.{ScriptFault}
 use Rattle.mt_script.specs.declared.fault.ScriptFault.TheVariants as script
-use Rattle.mt_summary.specs.Faults.{number_of as message_number}
-use Rattle.mt_summary.specs.declared.fault.MessageFault.{MessageFault}
-use Rattle.mt_summary.specs.declared.fault.MessageFault.TheVariants as message
+use Rattle.sync_messages.specs.Faults.{number_of as message_number}
+use Rattle.sync_messages.specs.declared.fault.MessageFault.{MessageFault}
+use Rattle.sync_messages.specs.declared.fault.MessageFault.TheVariants as message
 use Rattle.mt_sync.specs.Faults.{number_of as sync_number}
 use Rattle.mt_sync.specs.declared.fault.TalkFault.TheVariants as talk
 use Rattle.mt_sync.specs.declared.fault.SyncFault.{SyncFault}

@@ -1,9 +1,9 @@
 -- The forms in which lines are told.
 use Rattle.std.specs.Prelude.{ℕ, max, List, Option, Some, None}
 use Rattle.std.specs.declared.alloc.Global.{Global}
-use Rattle.mt_lines.specs.Json.{json_text}
-use Rattle.mt_lines.specs.Saying.{timed_text}
-use Rattle.cli_calls.specs.declared.form.LineForm.{LineForm}
+use Rattle.text_json.specs.Json.{json_text}
+use Rattle.text_json.specs.Saying.{timed_text}
+use Rattle.cli_calls.specs.declared.form.TextOptions.{TextOptions}
 
 -- positions and lengths as times, at so many frames a second; a rate of 0 counts as 1
 abbrev pub with_times : Option ℕ → List ℕ → List ℕ
@@ -16,5 +16,5 @@ as_json None text = text
 as_json (Some memory) text = json_text text
 
 -- a text in a form: first its times, then its objects
-abbrev pub in_form : LineForm → List ℕ → List ℕ
+abbrev pub in_form : TextOptions → List ℕ → List ℕ
 in_form form text = as_json form.json (with_times form.rate text)

@@ -1,14 +1,14 @@
 -- The headline: what replicas with the same operations show, print, merge and render.
 use Rattle.std.specs.Prelude.{◌≡◌, ◌↔◌, ◌⊎◌, ℕ, List, [], ◌∷◌, Some}
 use Rattle.std.specs.List.{AllByRecursion}
-use Rattle.mt_op.specs.Operation.{Operation}
+use Rattle.mt_op.specs.OpValue.{Op}
 use Rattle.mt_opcodec.specs.LogValue.{LogMap}
 use Rattle.mt_opcodec.specs.Sets.{Has, IsSet}
 use Rattle.mt_opcodec.specs.Union.{union_all, AllAgree}
-use Rattle.mt_sessionview.specs.Content.{Content}
-use Rattle.mt_replica.specs.Kept.{Kept, session_in}
+use Rattle.mt_sessionview.specs.SessionValue.{Session}
+use Rattle.mt_replica.specs.EditorValue.{Editor, session_in}
 use Rattle.mt_render.specs.declared.fault.MixFault.{MixFault}
-use Rattle.mt_render.specs.Layout.{Layout}
+use Rattle.mt_render.specs.FormatValue.{Layout}
 use Rattle.mt_render.specs.Sources.{sources_of}
 use Rattle.mt_render.specs.Alike.{FindAlike}
 use Rattle.mt_cuewrite.specs.Head.{HeadText}
@@ -20,7 +20,7 @@ use Rattle.cli_calls.specs.Bouncing.{session_of_logs, CanBounce, session_file, I
 -- ---- the same operations, and the same recordings where they count
 
 -- an operation is in one of the logs
-abbrev pub IsIn : List LogMap → Operation → Type 0
+abbrev pub IsIn : List LogMap → Op → Type 0
 IsIn [] o = ⊥
 IsIn (log ∷ logs) o = Has log o ⊎ IsIn logs o
 
@@ -28,10 +28,10 @@ IsIn (log ∷ logs) o = Has log o ⊎ IsIn logs o
 pub record HaveSame (logs others : List LogMap) : Type 0 where
   pub sets : AllByRecursion IsSet logs
   pub other_sets : AllByRecursion IsSet others
-  pub same : (o : Operation) → IsIn logs o ↔ IsIn others o
+  pub same : (o : Op) → IsIn logs o ↔ IsIn others o
 
 -- Under the digest of each audible clip of a session the first of these recordings and the first of those are the same bytes, or neither is there.
-abbrev pub HearAlike : Content → List (List ℕ) → List (List ℕ) → Type 0
+abbrev pub HearAlike : Session → List (List ℕ) → List (List ℕ) → Type 0
 HearAlike session texts others = FindAlike session.tracks (sources_of texts) (sources_of others)
 
 -- ---- what is told of them
@@ -45,7 +45,7 @@ pub record TellAlike (logs others : List LogMap) : Type 0 where
   pub merged : text_of (union_all logs) ≡ text_of (union_all others)
 
 -- The files of two sessions are one, and both are written or neither: then both are refused, for the same and for nothing else.
-pub record RenderAlike (session other : Content) (texts others : List (List ℕ)) (layout : Layout) (head : HeadText) : Type 0 where
+pub record RenderAlike (session other : Session) (texts others : List (List ℕ)) (layout : Layout) (head : HeadText) : Type 0 where
   pub file : session_file session texts layout head ≡ session_file other others layout head
   pub written : CanBounce session texts layout head ↔ CanBounce other others layout head
   pub refused : (fault : MixFault) → IsMixRefusal session texts layout head fault ↔ IsMixRefusal other others layout head fault
@@ -71,7 +71,7 @@ SameIsRendered =
 -- Editors whose logs have the same operations lend one session.
 abbrev pub SameIsShown : Type 0
 SameIsShown =
-    (a b : Kept) (log other : LogMap) → a.log ≡ Some log → b.log ≡ Some other → HaveSame (log ∷ []) (other ∷ []) → session_in a ≡ session_in b
+    (a b : Editor) (log other : LogMap) → a.log ≡ Some log → b.log ≡ Some other → HaveSame (log ∷ []) (other ∷ []) → session_in a ≡ session_in b
 
 -- One log agrees with itself alone, and is its own union: so what is told of it is told of an editor that has it.
 abbrev pub OneIsItsUnion : Type 0

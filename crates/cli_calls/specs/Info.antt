@@ -4,16 +4,16 @@ use Rattle.std.specs.Fmt.{decimal}
 use Rattle.std.specs.List.{flat_map}
 use Rattle.hex.specs.Hex.{encode_lower}
 use Rattle.sha2.specs.Sha256.{sha256}
-use Rattle.mt_latch.specs.Latch.{Latched}
+use Rattle.base_io.specs.Latch.{Latch}
 use Rattle.mt_sessionview.specs.SessionText.{newline}
 use Rattle.mt_bwfread.specs.Wave.{IsWave, fault_of, rate_of, channels_of, bits_of, frames_of}
 use Rattle.mt_bwfread.specs.Extension.{Extension, bext_of}
 use Rattle.mt_bwfread.specs.Cues.{CueText, cues_of}
-use Rattle.mt_outline.specs.Outline.{IsOutline, Gives}
-use Rattle.mt_outline.specs.declared.outline.Outline.{Outline}
+use Rattle.wave_header.specs.WaveHeader.{IsWaveHeader, Gives}
+use Rattle.wave_header.specs.declared.header.WaveHeader.{WaveHeader}
 use Rattle.cli_calls.specs.declared.fault.CliFault.{CliFault}
 use Rattle.cli_calls.specs.declared.fault.CliFault.TheVariants.{Source}
-use Rattle.cli_calls.specs.declared.form.LineForm.{LineForm}
+use Rattle.cli_calls.specs.declared.form.TextOptions.{TextOptions}
 use Rattle.cli_calls.specs.declared.file_info.InfoForm.{InfoForm}
 use Rattle.cli_calls.specs.declared.file_info.InfoUnit.{InfoUnit}
 use Rattle.cli_calls.specs.declared.file_info.InfoUnit.TheVariants.{Frames, OwnRate, Rate}
@@ -96,11 +96,11 @@ rate_in OwnRate bytes = Some (rate_of bytes)
 rate_in (Rate rate) bytes = Some rate
 
 -- the form of the lines of a file
-abbrev pub lines_of : InfoForm → List ℕ → LineForm
+abbrev pub lines_of : InfoForm → List ℕ → TextOptions
 lines_of form bytes = record { rate = rate_in form.unit bytes; json = form.json }
 
 -- the same in lines of a form
-abbrev pub InformsIn : LineForm → List ℕ → Result (List ℕ) CliFault → Type 0
+abbrev pub InformsIn : TextOptions → List ℕ → Result (List ℕ) CliFault → Type 0
 InformsIn lines bytes (Ok text) = IsWave bytes × (text ≡ in_form lines (info_text bytes))
 InformsIn lines bytes (Err fault) = Informs bytes (Err fault)
 
@@ -110,16 +110,16 @@ InformsBy form bytes = InformsIn (lines_of form bytes) bytes
 
 -- ---- by an outline, of whichever file it is
 
-abbrev pub OutlineInforms : {A : Type 0} → Outline A → Result (List ℕ) CliFault → Type 0
-OutlineInforms o made = (bytes : List ℕ) → IsOutline bytes o → Informs bytes made
+abbrev pub WaveHeaderInforms : {A : Type 0} → WaveHeader A → Result (List ℕ) CliFault → Type 0
+WaveHeaderInforms o made = (bytes : List ℕ) → IsWaveHeader bytes o → Informs bytes made
 
-abbrev pub OutlineInformsIn : {A : Type 0} → LineForm → Outline A → Result (List ℕ) CliFault → Type 0
-OutlineInformsIn lines o made = (bytes : List ℕ) → IsOutline bytes o → InformsIn lines bytes made
+abbrev pub WaveHeaderInformsIn : {A : Type 0} → TextOptions → WaveHeader A → Result (List ℕ) CliFault → Type 0
+WaveHeaderInformsIn lines o made = (bytes : List ℕ) → IsWaveHeader bytes o → InformsIn lines bytes made
 
-abbrev pub OutlineInformsBy : {A : Type 0} → InfoForm → Outline A → Result (List ℕ) CliFault → Type 0
-OutlineInformsBy form o made = (bytes : List ℕ) → IsOutline bytes o → InformsBy form bytes made
+abbrev pub WaveHeaderInformsBy : {A : Type 0} → InfoForm → WaveHeader A → Result (List ℕ) CliFault → Type 0
+WaveHeaderInformsBy form o made = (bytes : List ℕ) → IsWaveHeader bytes o → InformsBy form bytes made
 
 -- one reader gave the file of this outline
-abbrev pub GaveOutline : {R A : Type 0} → (R → Option (List ℕ)) → List (Latched R) → Outline A → Type 0
-GaveOutline remaining (input ∷ []) o = Gives (remaining input.inner) o
-GaveOutline remaining _ o = ⊥
+abbrev pub GaveWaveHeader : {R A : Type 0} → (R → Option (List ℕ)) → List (Latch R) → WaveHeader A → Type 0
+GaveWaveHeader remaining (input ∷ []) o = Gives (remaining input.inner) o
+GaveWaveHeader remaining _ o = ⊥

@@ -1,12 +1,12 @@
 -- The lines of a script that lay recordings on a track, one behind another (profile).
 use Rattle.std.specs.Prelude.{◌≡◌, ℕ, ◌+◌, ◌^◌, ◌==◌, nat_le, not, List, [], ◌∷◌, ◌++◌, codes, Option, Some, None, Result, Ok, Err, if◌then◌else◌, Vec}
 use Rattle.sha2.specs.Sha256.{sha256}
-use Rattle.mt_latch.specs.Latch.{Latched}
+use Rattle.base_io.specs.Latch.{Latch}
 use Rattle.mt_bwfread.specs.Wave.{rate_of, frames_of}
-use Rattle.mt_logtext.specs.LogText.{word, number_word, act_text}
-use Rattle.mt_stamp.specs.Moment.{Moment}
+use Rattle.text_log.specs.LogText.{word, number_word, act_text}
+use Rattle.mt_stamp.specs.StampOrder.{Stamp}
 use Rattle.mt_stamp.specs.Texts.{stamp_text}
-use Rattle.mt_op.specs.Operation.{AddClip}
+use Rattle.mt_op.specs.OpValue.{AddClip}
 use Rattle.mt_op.specs.Digest.{digest_text}
 use Rattle.mt_sessionview.specs.SessionText.{newline}
 use Rattle.cli_calls.specs.declared.fault.CliFault.{CliFault}
@@ -31,7 +31,7 @@ clip_line track at s = clip_words track at s ++ newline ∷ []
 
 -- On a track that a stamp names these are the words of a log for an operation that adds this clip.
 abbrev pub LaidIsTold : Type 0
-LaidIsTold = (track : Moment) (at : ℕ) (s : Sound) → clip_words (stamp_text track) at s ≡ act_text (AddClip s.digest track at 0 s.frames)
+LaidIsTold = (track : Stamp) (at : ℕ) (s : Sound) → clip_words (stamp_text track) at s ≡ act_text (AddClip s.digest track at 0 s.frames)
 
 -- why a recording is not laid at a position, if it is not
 unfoldable pub lay_fault : Laying → ℕ → Sound → Option LayFault
@@ -76,13 +76,13 @@ NotLaid l sounds _ = ⊥
 
 module _ {R : Type 0} (remaining : R → Option (List ℕ)) where
   -- the reader gave a wave file, which is this recording
-  abbrev pub GaveSound : Latched R → Sound → Type 0
+  abbrev pub GaveSound : Latch R → Sound → Type 0
   GaveSound latch s = (bytes : List ℕ) × (GaveWave remaining latch bytes × (s ≡ sound_of bytes))
 
   -- each reader gave the recording at its place
-  abbrev pub GaveSounds : {Z : Type 0} → List (Latched R) → Vec Sound Z → Type 0
+  abbrev pub GaveSounds : {Z : Type 0} → List (Latch R) → Vec Sound Z → Type 0
   GaveSounds latches sounds = GaveEach GaveSound latches sounds.items
 
   -- why the first reader that gave no wave file gave none
-  abbrev pub HasWaveCause : List (Latched R) → List (Latched R) → CliFault → Type 0
+  abbrev pub HasWaveCause : List (Latch R) → List (Latch R) → CliFault → Type 0
   HasWaveCause = FirstCause (IsRead remaining) GaveSound (IsSourceCause remaining 0) 0

@@ -2,16 +2,16 @@
 use Rattle.std.specs.Prelude.{ℕ, List}
 use Rattle.mt_opcodec.specs.LogValue.{LogMap, operations}
 use Rattle.mt_opcodec.specs.Union.{union_all}
-use Rattle.mt_logtext.specs.LogText.{log_text}
+use Rattle.text_log.specs.LogText.{log_text}
 use Rattle.cli_calls.specs.Form.{in_form}
-use Rattle.cli_calls.specs.declared.form.LineForm.{LineForm}
+use Rattle.cli_calls.specs.declared.form.TextOptions.{TextOptions}
 
 -- the text of a log's operations
 abbrev pub log_list : LogMap → List ℕ
 log_list log = log_text (operations log)
 
 -- the same in a form
-abbrev pub list_in : LineForm → LogMap → List ℕ
+abbrev pub list_in : TextOptions → LogMap → List ℕ
 list_in form log = in_form form (log_list log)
 
 -- the text of the operations of the union of the logs' sets

@@ -1,14 +1,14 @@
 -- What calls promise in plain words. Each promise follows from the record that is the contract of the call.
 use Rattle.std.specs.Prelude.{◌≡◌, ◌≢◌, ℕ, true, List, Option, Some, Result, Ok, Err}
 use Rattle.std.specs.Io.KnownBytes.{Appends}
-use Rattle.mt_latch.specs.Latch.{Latched, AppendsPrefix}
+use Rattle.base_io.specs.Latch.{Latch, AppendsPrefix}
 use Rattle.mt_stamp.specs.declared.name.Dot.{Dot}
 use Rattle.mt_opcodec.specs.LogValue.{LogMap}
-use Rattle.mt_opcodec.specs.Union.{union_all, AllAgree, FirstClash}
+use Rattle.mt_opcodec.specs.Union.{union_all, AllAgree, FirstConflict}
 use Rattle.mt_bwfread.specs.Wave.{IsWave, fault_of}
 use Rattle.mt_bwfread.specs.declared.fault.WaveFault.{WaveFault}
 use Rattle.mt_render.specs.declared.fault.MixFault.{MixFault}
-use Rattle.mt_render.specs.Layout.{Layout}
+use Rattle.mt_render.specs.FormatValue.{Layout}
 use Rattle.mt_cuewrite.specs.Head.{HeadText}
 use Rattle.cli_calls.specs.declared.fault.CliFault.{CliFault}
 use Rattle.cli_calls.specs.declared.fault.CliFault.TheVariants.{Merge, Source, Mix, Write}
@@ -19,19 +19,19 @@ use Rattle.cli_calls.specs.Running.{Lent}
 use Rattle.cli_calls.specs.Sources.{GaveWaves}
 
 -- a text of the union of logs, as `view_logs` and `merge_logs` write it
-pub record WritesUnion {R W : Type 0} (remaining : R → Option (List ℕ)) (contents : W → Option (List ℕ)) (text : LogMap → List ℕ) (before after : Lent (List (Latched R)) (Latched W)) (result : Result (Unit {0}) CliFault) : Type 0 where
+pub record WritesUnion {R W : Type 0} (remaining : R → Option (List ℕ)) (contents : W → Option (List ℕ)) (text : LogMap → List ℕ) (before after : Lent (List (Latch R)) (Latch W)) (result : Result (Unit {0}) CliFault) : Type 0 where
   -- Where it answers Ok, the inputs gave logs that agree, and the text of their union was written, and nothing else.
   pub written : result ≡ Ok tt → (logs : List LogMap)
       × (GaveLogs remaining before.inputs logs × (AllAgree logs × Appends (contents before.output.inner) (contents after.output.inner) (text (union_all logs))))
   -- It answers Merge only where every input was read to its end and gave a log, and the logs clash, first at this dot.
-  pub clashes : (dot : Dot) → result ≡ Err (Merge dot) → (logs : List LogMap) × (GaveLogs remaining before.inputs logs × (AreRead remaining after.inputs × FirstClash logs dot))
+  pub conflicts : (dot : Dot) → result ≡ Err (Merge dot) → (logs : List LogMap) × (GaveLogs remaining before.inputs logs × (AreRead remaining after.inputs × FirstConflict logs dot))
   -- It answers Write only where the output has failed.
   pub fails : result ≡ Err Write → after.output.failed ≡ true
   -- Where it answers anything else, nothing was written.
   pub untouched : (fault : CliFault) → result ≡ Err fault → fault ≢ Write → after.output ≡ before.output
 
 -- the file of logs and recordings, as `bounce_logs` writes it
-pub record WritesFile {R W : Type 0} (remaining : R → Option (List ℕ)) (contents : W → Option (List ℕ)) (layout : Layout) (head : HeadText) (before after : Lent (RenderInputs R) (Latched W)) (result : Result (Unit {0}) CliFault) : Type 0 where
+pub record WritesFile {R W : Type 0} (remaining : R → Option (List ℕ)) (contents : W → Option (List ℕ)) (layout : Layout) (head : HeadText) (before after : Lent (RenderInputs R) (Latch W)) (result : Result (Unit {0}) CliFault) : Type 0 where
   -- Where it answers Ok, the inputs gave logs that agree and wave files, and the file of the session of the union over these was written, and nothing else.
   pub written : result ≡ Ok tt → (logs : List LogMap)
       × ((texts : List (List ℕ))
@@ -47,7 +47,7 @@ pub record WritesFile {R W : Type 0} (remaining : R → Option (List ℕ)) (cont
   pub untouched : (fault : CliFault) → result ≡ Err fault → fault ≢ Write → after.output ≡ before.output
 
 -- the text of a wave file, as `write_info` writes it
-pub record WritesInfo {W : Type 0} (contents : W → Option (List ℕ)) (bytes : List ℕ) (before after : Latched W) (result : Result (Unit {0}) CliFault) : Type 0 where
+pub record WritesInfo {W : Type 0} (contents : W → Option (List ℕ)) (bytes : List ℕ) (before after : Latch W) (result : Result (Unit {0}) CliFault) : Type 0 where
   -- Where it answers Ok, the bytes are a wave file, and its text was written, and nothing else.
   pub written : result ≡ Ok tt → IsWave bytes × Appends (contents before.inner) (contents after.inner) (info_text bytes)
   -- It answers Source only where they are none, with the first of their faults.

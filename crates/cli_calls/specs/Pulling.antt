@@ -3,13 +3,13 @@ use Rattle.std.specs.Prelude.{◌≡◌, ◌-◌, ℕ, List, [], ◌∷◌, ◌+
 use Rattle.std.specs.List.{flat_map, zip}
 use Rattle.std.specs.FinMap as fin
 use Rattle.std.specs.Fmt.{decimal}
-use Rattle.mt_latch.specs.Latch.{Latched}
+use Rattle.base_io.specs.Latch.{Latch}
 use Rattle.mt_opcodec.specs.LogValue.{LogMap}
-use Rattle.mt_opcodec.specs.Union.{union, union_all, AllAgree, FirstClash}
+use Rattle.mt_opcodec.specs.Union.{union, union_all, AllAgree, FirstConflict}
 use Rattle.mt_sessionview.specs.SessionText.{newline}
 use Rattle.cli_calls.specs.declared.fault.CliFault.{CliFault}
 use Rattle.cli_calls.specs.declared.fault.CliFault.TheVariants.{Merge}
-use Rattle.cli_calls.specs.declared.pull.Share.{Share}
+use Rattle.cli_calls.specs.declared.pull.PullCounts.{PullCounts}
 use Rattle.cli_calls.specs.Reading.{text_of, GaveLogs}
 use Rattle.cli_calls.specs.Editing.{ops_line}
 
@@ -18,26 +18,26 @@ abbrev pub added : LogMap → LogMap → ℕ
 added all log = fin.len (union all log) - fin.len all
 
 -- a log's share: what is new of it to the logs before it, and the rest, which these have too
-abbrev pub share : LogMap → LogMap → Share
+abbrev pub share : LogMap → LogMap → PullCounts
 share all log = record { new = added all log; shared = fin.len log - added all log }
 
-abbrev pub shares_from : LogMap → List LogMap → List Share
+abbrev pub shares_from : LogMap → List LogMap → List PullCounts
 shares_from all [] = []
 shares_from all (log ∷ logs) = share all log ∷ shares_from (union all log) logs
 
-abbrev pub shares : List LogMap → List Share
+abbrev pub shares : List LogMap → List PullCounts
 shares logs = shares_from fin.empty logs
 
 -- `from NAME new N shared N`
-abbrev pub share_line : List ℕ × Share → List ℕ
+abbrev pub share_line : List ℕ × PullCounts → List ℕ
 share_line named = codes "from " ++ (named.0 ++ (codes " new " ++ (decimal named.1.new ++ (codes " shared " ++ (decimal named.1.shared ++ newline ∷ [])))))
 
 -- a line for each under its name, in their order
-abbrev pub share_lines : List (List ℕ) → List Share → List ℕ
+abbrev pub share_lines : List (List ℕ) → List PullCounts → List ℕ
 share_lines names parts = flat_map share_line (zip names parts)
 
 -- What is told: of each log behind the first its share, under its name; and how many operations there are in all.
-abbrev pub told_text : List (List ℕ) → List Share → ℕ → List ℕ
+abbrev pub told_text : List (List ℕ) → List PullCounts → ℕ → List ℕ
 told_text names parts count = share_lines names (drop 1 parts) ++ ops_line count
 
 abbrev pub pull_text : List (List ℕ) → List LogMap → List ℕ
@@ -46,12 +46,12 @@ pull_text names logs = told_text names (shares logs) (fin.len (union_all logs))
 -- `pull`: the union of logs that agree, and what each adds to it; or the first dot at which they clash
 abbrev pub PullMakes : List (List ℕ) → List LogMap → Result (List ℕ × List ℕ) CliFault → Type 0
 PullMakes names logs (Ok made) = AllAgree logs × ((made.0 ≡ text_of (union_all logs)) × (made.1 ≡ pull_text names logs))
-PullMakes names logs (Err (Merge dot)) = FirstClash logs dot
+PullMakes names logs (Err (Merge dot)) = FirstConflict logs dot
 PullMakes names logs (Err _) = ⊥
 
 abbrev pub Pulls : {Z : Type 0} → List (List ℕ) → Vec LogMap Z → Result (List ℕ × List ℕ) CliFault → Type 0
 Pulls names logs = PullMakes names logs.items
 
 -- each reader gave the text of the log at its place
-abbrev pub GaveAll : {R Z : Type 0} → (R → Option (List ℕ)) → List (Latched R) → Vec LogMap Z → Type 0
+abbrev pub GaveAll : {R Z : Type 0} → (R → Option (List ℕ)) → List (Latch R) → Vec LogMap Z → Type 0
 GaveAll remaining latches logs = GaveLogs remaining latches logs.items

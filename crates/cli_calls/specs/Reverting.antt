@@ -1,13 +1,13 @@
 -- What takes operations of a log back (profile).
 use Rattle.std.specs.Prelude.{◌≡◌, ◌≢◌, ℕ, List, None, Result, Ok, Err}
-use Rattle.mt_stamp.specs.Moment.{Moment}
+use Rattle.mt_stamp.specs.StampOrder.{Stamp}
 use Rattle.mt_opcodec.specs.LogValue.{LogMap}
-use Rattle.mt_revert.specs.Revert.{first_missing, revert_text}
+use Rattle.text_revert.specs.Revert.{first_missing, revert_text}
 use Rattle.cli_calls.specs.declared.fault.CliFault.{CliFault}
 use Rattle.cli_calls.specs.declared.fault.CliFault.TheVariants.{NoSuchItem}
 
 -- `revert`: the script that takes the operations of these stamps back, or, where the log has none of one of them, a refusal that counts none
-abbrev pub Reverting : List Moment → LogMap → Result (List ℕ) CliFault → Type 0
+abbrev pub Reverting : List Stamp → LogMap → Result (List ℕ) CliFault → Type 0
 Reverting stamps log (Ok bytes) = (first_missing log stamps ≡ None) × (bytes ≡ revert_text log stamps)
 Reverting stamps log (Err (NoSuchItem count)) = (count ≡ 0) × (first_missing log stamps ≢ None)
 Reverting stamps log (Err _) = ⊥

@@ -1,6 +1,6 @@
 -- What every command answers and leaves: it reads its inputs, makes bytes of what they gave, or refuses, and writes these bytes.
 use Rattle.std.specs.Prelude.{◌≡◌, ℕ, true, List, Option, Result, OnOk, IfErr, ◌⊎◌}
-use Rattle.mt_latch.specs.Latch.{Latched}
+use Rattle.base_io.specs.Latch.{Latch}
 use Rattle.cli_calls.specs.declared.fault.CliFault.{CliFault}
 use Rattle.cli_calls.specs.Reading.{AreRead}
 use Rattle.cli_calls.specs.Writing.{MadeWritten, MadeFails, Outputs, BothWritten, BothFail}
@@ -25,7 +25,7 @@ NotDone {I} {O} {X} Given Cause AtEnd Fails before after fault =
 
 -- A command has run.
 pub record RanOn {I W X : Type 0} (Given : I → X → Type 0) (Cause : I → I → CliFault → Type 0) (AtEnd : I → Type 0) (Makes : X → Result (List ℕ) CliFault → Type 0) (contents : W → Option (List ℕ))
-    (before after : Lent I (Latched W)) (result : Result (Unit {0}) CliFault) : Type 0 where
+    (before after : Lent I (Latch W)) (result : Result (Unit {0}) CliFault) : Type 0 where
   -- Where it answers Ok, the inputs gave a value, and the bytes that are made of it were written, and nothing else.
   pub written : OnOk result (Done Given (λ x. MadeWritten contents (Makes x)) before after)
   -- Each input has been read to its end then.
@@ -36,13 +36,13 @@ pub record RanOn {I W X : Type 0} (Given : I → X → Type 0) (Cause : I → I 
   pub stays : before.output.failed ≡ true → after.output ≡ before.output
 
 -- A command has run that reads any number of readers.
-abbrev pub Ran : {R W X : Type 0} → (R → Option (List ℕ)) → (List (Latched R) → X → Type 0) → (List (Latched R) → List (Latched R) → CliFault → Type 0)
-    → (X → Result (List ℕ) CliFault → Type 0) → (W → Option (List ℕ)) → Lent (List (Latched R)) (Latched W) → Lent (List (Latched R)) (Latched W) → Result (Unit {0}) CliFault → Type 0
+abbrev pub Ran : {R W X : Type 0} → (R → Option (List ℕ)) → (List (Latch R) → X → Type 0) → (List (Latch R) → List (Latch R) → CliFault → Type 0)
+    → (X → Result (List ℕ) CliFault → Type 0) → (W → Option (List ℕ)) → Lent (List (Latch R)) (Latch W) → Lent (List (Latch R)) (Latch W) → Result (Unit {0}) CliFault → Type 0
 Ran remaining Given Cause Makes contents before after result = RanOn Given Cause (AreRead remaining) Makes contents before after result
 
 -- A command has run that prints a text beside what it writes.
-pub record RanAndPrinted {R W T X : Type 0} (remaining : R → Option (List ℕ)) (Given : List (Latched R) → X → Type 0) (Cause : List (Latched R) → List (Latched R) → CliFault → Type 0)
-    (Makes : X → Result (List ℕ × List ℕ) CliFault → Type 0) (contents : W → Option (List ℕ)) (prints : T → Option (List ℕ)) (before after : Lent (List (Latched R)) (Outputs W T)) (result : Result (Unit {0}) CliFault) : Type 0 where
+pub record RanAndPrinted {R W T X : Type 0} (remaining : R → Option (List ℕ)) (Given : List (Latch R) → X → Type 0) (Cause : List (Latch R) → List (Latch R) → CliFault → Type 0)
+    (Makes : X → Result (List ℕ × List ℕ) CliFault → Type 0) (contents : W → Option (List ℕ)) (prints : T → Option (List ℕ)) (before after : Lent (List (Latch R)) (Outputs W T)) (result : Result (Unit {0}) CliFault) : Type 0 where
   -- Where it answers Ok, the inputs gave a value, the bytes that are made of it were written, then the text was printed, and nothing else.
   pub written : OnOk result (Done Given (λ x. BothWritten contents prints (Makes x)) before after)
   -- Each input has been read to its end then.

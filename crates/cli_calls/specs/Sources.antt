@@ -1,6 +1,6 @@
 -- Reading recordings from readers, and why one is refused.
 use Rattle.std.specs.Prelude.{◌≡◌, ℕ, Bool, true, List, ◌+◌, Option, Some, map, Vec}
-use Rattle.mt_latch.specs.Latch.{Latched}
+use Rattle.base_io.specs.Latch.{Latch}
 use Rattle.mt_op.specs.declared.digest.Digest.{Digest}
 use Rattle.mt_bwfread.specs.Wave.{IsWave, fault_of}
 use Rattle.mt_render.specs.Sources.{found, sources_of}
@@ -18,25 +18,25 @@ HoldWanted wanted kept texts = (d : Digest) → wanted d ≡ true → found (sou
 
 module _ {R : Type 0} (remaining : R → Option (List ℕ)) where
   -- the reader gave the bytes of a wave file
-  abbrev pub GaveWave : Latched R → List ℕ → Type 0
+  abbrev pub GaveWave : Latch R → List ℕ → Type 0
   GaveWave latch text = Gave remaining latch text × IsWave text
 
   -- each reader gave the wave file at its place
-  abbrev pub GaveWaves : List (Latched R) → List (List ℕ) → Type 0
+  abbrev pub GaveWaves : List (Latch R) → List (List ℕ) → Type 0
   GaveWaves = GaveEach GaveWave
 
   -- each reader gave a wave file, and of these it is kept what is wanted
-  abbrev pub GaveKept : (Digest → Bool) → List (Latched R) → List (List ℕ) → Type 0
+  abbrev pub GaveKept : (Digest → Bool) → List (Latch R) → List (List ℕ) → Type 0
   GaveKept wanted latches kept = (texts : List (List ℕ)) × (GaveWaves latches texts × HoldWanted wanted kept texts)
 
   -- Why the reader of an index gave no wave file: the latch has failed, or its bytes are none, by the first of their faults. As a
   -- reader it is counted behind so many others, and as a recording it is not.
-  abbrev pub IsSourceCause : ℕ → ℕ → Latched R → Latched R → CliFault → Type 0
+  abbrev pub IsSourceCause : ℕ → ℕ → Latch R → Latch R → CliFault → Type 0
   IsSourceCause others index old new Memory = IsRest remaining old new
   IsSourceCause others index old new (Read place) = (place ≡ others + index) × (new.failed ≡ true) × IsRest remaining old new
   IsSourceCause others index old new (Source place fault) = (place ≡ index) × (IsRead remaining new × ((bytes : List ℕ) × (Gave remaining old bytes × (fault_of bytes ≡ Some fault))))
   IsSourceCause others index old new _ = ⊥
 
   -- the same of the readers from an index on
-  abbrev pub HasSourceCause : ℕ → ℕ → List (Latched R) → List (Latched R) → CliFault → Type 0
+  abbrev pub HasSourceCause : ℕ → ℕ → List (Latch R) → List (Latch R) → CliFault → Type 0
   HasSourceCause others = FirstCause (IsRead remaining) GaveWave (IsSourceCause others)

@@ -1,17 +1,17 @@
 -- What the commands make by which editors swap operations, of a log and of what another editor sent.
 use Rattle.std.specs.Prelude.{◌≡◌, ◌≢◌, ℕ, true, List, [], Option, Some, None, Result, Ok, Err, OnOk, IfErr, ◌⊎◌}
-use Rattle.mt_latch.specs.Latch.{Latched}
+use Rattle.base_io.specs.Latch.{Latch}
 use Rattle.mt_opcodec.specs.LogValue.{LogMap}
-use Rattle.mt_summary.specs.declared.fault.MessageFault.TheVariants as message
+use Rattle.sync_messages.specs.declared.fault.MessageFault.TheVariants as message
 use Rattle.mt_sync.specs.declared.fault.Side.{Side}
 use Rattle.mt_sync.specs.declared.fault.TalkFault.TheVariants as talk
 use Rattle.mt_sync.specs.declared.fault.SyncFault.{SyncFault}
 use Rattle.mt_sync.specs.declared.fault.SyncFault.TheVariants as sync
-use Rattle.mt_sync.specs.Conversation.{awaits_ops, hears}
+use Rattle.mt_sync.specs.Conversation.{awaits_ops, receives}
 use Rattle.mt_sync.specs.Feeding.{end_at}
 use Rattle.mt_sync.specs.Conversing.{HasBytes, Lacks, TakesAll, conversant, ConversesAs, AreSound, Blames}
 use Rattle.mt_sync.specs.Leaving.{StaysOrFails}
-use Rattle.cli_calls.specs.declared.both.Both.{Both}
+use Rattle.cli_calls.specs.declared.both.LogAndBytes.{LogAndBytes}
 use Rattle.cli_calls.specs.declared.fault.CliFault.{CliFault}
 use Rattle.cli_calls.specs.declared.fault.CliFault.TheVariants.{Memory, Write, Message, Sync}
 use Rattle.cli_calls.specs.Reading.{text_of}
@@ -33,12 +33,12 @@ Lacking log asked (Err _) = ⊥
 
 -- what another editor sent, which ends with Bye, brings a log's editor to this set
 abbrev pub Taken : LogMap → List ℕ → LogMap → Type 0
-Taken log sent set = TakesAll (hears (end_at (awaits_ops None) [] (Some log)) sent) (Ok tt) (Some set)
+Taken log sent set = TakesAll (receives (end_at (awaits_ops None) [] (Some log)) sent) (Ok tt) (Some set)
 
 -- it is not taken
 abbrev pub NotTaken : LogMap → List ℕ → CliFault → Type 0
 NotTaken log sent Memory = Unit {0}
-NotTaken log sent (Sync fault) = (fault ≢ sync.Talk talk.Memory) × ((set : Option LogMap) × TakesAll (hears (end_at (awaits_ops None) [] (Some log)) sent) (Err fault) set)
+NotTaken log sent (Sync fault) = (fault ≢ sync.Talk talk.Memory) × ((set : Option LogMap) × TakesAll (receives (end_at (awaits_ops None) [] (Some log)) sent) (Err fault) set)
 NotTaken log sent _ = ⊥
 
 -- `take`: the text of the set that the log's editor comes to by these bytes
@@ -48,10 +48,10 @@ Taking log sent (Err (Sync fault)) = NotTaken log sent (Sync fault)
 Taking log sent (Err _) = ⊥
 
 -- the same two of a log and the bytes after it
-abbrev pub LackMakes : {Z : Type 0} → Both Z → Result (List ℕ) CliFault → Type 0
+abbrev pub LackMakes : {Z : Type 0} → LogAndBytes Z → Result (List ℕ) CliFault → Type 0
 LackMakes both = Lacking both.log both.bytes.items
 
-abbrev pub TakeMakes : {Z : Type 0} → Both Z → Result (List ℕ) CliFault → Type 0
+abbrev pub TakeMakes : {Z : Type 0} → LogAndBytes Z → Result (List ℕ) CliFault → Type 0
 TakeMakes both = Taking both.log both.bytes.items
 
 -- ---- by a conversation
@@ -60,11 +60,11 @@ TakeMakes both = Taking both.log both.bytes.items
 -- written to it, and the output
 pub record TalkLent (R W O : Type 0) : Type 0 where
   pub set : Option LogMap
-  pub reader : Latched R
-  pub writer : Latched W
-  pub output : Latched O
+  pub reader : Latch R
+  pub writer : Latch W
+  pub output : Latch O
 
-abbrev pub lent_talk : {R W O : Type 0} → Option LogMap → Latched R → Latched W → Latched O → TalkLent R W O
+abbrev pub lent_talk : {R W O : Type 0} → Option LogMap → Latch R → Latch W → Latch O → TalkLent R W O
 lent_talk set reader writer output = record { set = set; reader = reader; writer = writer; output = output }
 
 module _ {R W O : Type 0} (remaining : R → Option (List ℕ)) (written : W → Option (List ℕ)) (contents : O → Option (List ℕ)) (side : Side) (before after : TalkLent R W O) where

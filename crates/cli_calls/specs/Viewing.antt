@@ -5,14 +5,14 @@ use Rattle.mt_opcodec.specs.Union.{union_all}
 use Rattle.mt_sessionview.specs.Session.{session_of}
 use Rattle.mt_sessionview.specs.SessionText.{session_text}
 use Rattle.cli_calls.specs.Form.{in_form}
-use Rattle.cli_calls.specs.declared.form.LineForm.{LineForm}
+use Rattle.cli_calls.specs.declared.form.TextOptions.{TextOptions}
 
 -- the text of a log's session
 abbrev pub log_view : LogMap → List ℕ
 log_view log = session_text (session_of (operations log))
 
 -- the same in a form
-abbrev pub view_in : LineForm → LogMap → List ℕ
+abbrev pub view_in : TextOptions → LogMap → List ℕ
 view_in form log = in_form form (log_view log)
 
 -- the text of the session of the union of the logs' sets

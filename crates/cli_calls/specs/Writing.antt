@@ -1,7 +1,7 @@
 -- Writing what a command makes: bytes, or a refusal.
 use Rattle.std.specs.Prelude.{◌≡◌, ℕ, true, false, List, Option, Result, Ok, Err, OnOk, IfErr}
 use Rattle.std.specs.Io.KnownBytes.{Appends}
-use Rattle.mt_latch.specs.Latch.{Latched, AppendsPrefix}
+use Rattle.base_io.specs.Latch.{Latch, AppendsPrefix}
 use Rattle.cli_calls.specs.declared.fault.CliFault.{CliFault}
 use Rattle.cli_calls.specs.declared.fault.CliFault.TheVariants.{Memory, Write, Print}
 
@@ -15,25 +15,25 @@ Prints text x made = Exactly (text x) made
 
 module _ {W : Type 0} (contents : W → Option (List ℕ)) where
   -- All these bytes were written, and nothing else, and the output is sound.
-  abbrev pub HasWritten : List ℕ → Latched W → Latched W → Type 0
+  abbrev pub HasWritten : List ℕ → Latch W → Latch W → Type 0
   HasWritten bytes old new = (new.failed ≡ false) × Appends (contents old.inner) (contents new.inner) bytes
 
   -- The output has failed, and holds a prefix of these bytes.
-  abbrev pub HasFailed : List ℕ → Latched W → Latched W → Type 0
+  abbrev pub HasFailed : List ℕ → Latch W → Latch W → Type 0
   HasFailed bytes old new = (new.failed ≡ true) × AppendsPrefix (contents old.inner) (contents new.inner) bytes
 
   -- What is made is bytes, and they were written.
-  abbrev pub MadeWritten : (Result (List ℕ) CliFault → Type 0) → Latched W → Latched W → Type 0
+  abbrev pub MadeWritten : (Result (List ℕ) CliFault → Type 0) → Latch W → Latch W → Type 0
   MadeWritten Makes old new = (bytes : List ℕ) × (Makes (Ok bytes) × HasWritten bytes old new)
 
   -- What is made is a refusal, or memory ran out, each with the output as it was; or it is bytes, and the output has failed.
-  abbrev pub MadeFails : (Result (List ℕ) CliFault → Type 0) → Latched W → Latched W → CliFault → Type 0
+  abbrev pub MadeFails : (Result (List ℕ) CliFault → Type 0) → Latch W → Latch W → CliFault → Type 0
   MadeFails Makes old new Memory = new ≡ old
   MadeFails Makes old new Write = (bytes : List ℕ) × (Makes (Ok bytes) × HasFailed bytes old new)
   MadeFails Makes old new fault = Makes (Err fault) × (new ≡ old)
 
 -- What is made was written, or why it was not.
-pub record Wrote {W : Type 0} (contents : W → Option (List ℕ)) (Makes : Result (List ℕ) CliFault → Type 0) (old new : Latched W) (result : Result (Unit {0}) CliFault) : Type 0 where
+pub record Wrote {W : Type 0} (contents : W → Option (List ℕ)) (Makes : Result (List ℕ) CliFault → Type 0) (old new : Latch W) (result : Result (Unit {0}) CliFault) : Type 0 where
   -- The bytes that are made were written, and nothing else.
   pub written : OnOk result (MadeWritten contents Makes old new)
   -- Memory ran out, or what is made is this refusal, each with the output as it was; or the output has failed, and holds a prefix of the bytes.
@@ -52,10 +52,10 @@ Refuses Makes fault = Makes (Err fault)
 
 -- what is lent to be written, before or after: the output, and that on which a text is printed
 pub record Outputs (W T : Type 0) : Type 0 where
-  pub output : Latched W
-  pub printed : Latched T
+  pub output : Latch W
+  pub printed : Latch T
 
-abbrev pub outputs : {W T : Type 0} → Latched W → Latched T → Outputs W T
+abbrev pub outputs : {W T : Type 0} → Latch W → Latch T → Outputs W T
 outputs output printed = record { output = output; printed = printed }
 
 module _ {W T : Type 0} (contents : W → Option (List ℕ)) (prints : T → Option (List ℕ)) where

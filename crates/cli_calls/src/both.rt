@@ -7,15 +7,15 @@ ghost use Rattle.cli_calls.specs.Reading.{GaveLog, IsRead, IsCause};
 use crate::command::Input;
 use crate::fault::CliFault;
 use crate::read::{read_all, read_log};
-use mt_latch::Latch;
+use base_io::Latch;
 use mt_opcodec::Log;
-use mt_sync::GrowingLog;
+use mt_sync::LogBuilder;
 use std::alloc::Allocator;
 use std::io::Read;
 
 /// A log, and the bytes that were read after it.
 #[derive(Drop)]
-pub(crate) struct Both<A: Allocator> {
+pub(crate) struct LogAndBytes<A: Allocator> {
     pub(crate) log: Log<A>,
     pub(crate) bytes: Vec<u8, A>,
 }
@@ -27,7 +27,7 @@ impl<A: Allocator + Clone> Input<A> for LogThenBytes {
     ghost use Rattle.std.specs.Prelude.{◌≡◌, length};
     ghost use Rattle.cli_calls.specs.Reading.{GaveBoth, BothCause};
 
-    type Value = Both<A>;
+    type Value = LogAndBytes<A>;
 
     ghost fits = { λ s R inputs. length inputs ≡ 2 };
 
@@ -35,13 +35,17 @@ impl<A: Allocator + Clone> Input<A> for LogThenBytes {
 
     ghost cause = { λ s R remaining. BothCause remaining };
 
-    fn read_from<R: Read>(&self, alloc: &A, inputs: &mut [Latch<R>]) -> Result<Both<A>, CliFault> {
+    fn read_from<R: Read>(
+        &self,
+        alloc: &A,
+        inputs: &mut [Latch<R>],
+    ) -> Result<LogAndBytes<A>, CliFault> {
         let log = match read_log(alloc, 0, &mut inputs[0]) {
             Ok(log) => log,
             Err(fault) => return Err(fault),
         };
         match read_all(alloc, 1, &mut inputs[1]) {
-            Ok(bytes) => Ok(Both { log, bytes }),
+            Ok(bytes) => Ok(LogAndBytes { log, bytes }),
             Err(fault) => Err(fault),
         }
     }
@@ -55,7 +59,7 @@ impl<A: Allocator + Clone> Input<A> for LogThenBytes {
 pub fn read_growing<A: Allocator + Clone, R: Read>(
     alloc: A,
     input: &mut Latch<R>,
-) -> Result<GrowingLog<A>, CliFault>
+) -> Result<LogBuilder<A>, CliFault>
     ensures ok { IfOk result (λ growing. (log : LogMap) × (GaveLog R.remaining input.old log
         × (growing ≡ record { set = Some log; whole = true }))) }
     ensures read { OnOk result (IsRead R.remaining input.new) }
@@ -65,7 +69,7 @@ pub fn read_growing<A: Allocator + Clone, R: Read>(
         Ok(log) => log,
         Err(fault) => return Err(fault),
     };
-    match GrowingLog::new(alloc, log) {
+    match LogBuilder::new(alloc, log) {
         Ok(growing) => Ok(growing),
         Err(_) => Err(CliFault::Memory),
     }

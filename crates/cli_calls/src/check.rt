@@ -8,18 +8,18 @@ ghost use Rattle.cli_calls.specs.Writing.{Wrote};
 
 use crate::command::{Command, Input, run};
 use crate::fault::CliFault;
-use crate::form::{LineForm, put_in_form};
+use crate::form::{TextOptions, put_in_form};
 use crate::read::read_log;
 use crate::render::{refused_file, refused_mix};
 use crate::sources::{catalogue_of, read_audible};
+use base_io::Latch;
 use mt_cuewrite::{Head, check_size};
-use mt_latch::Latch;
 use mt_opcodec::Log;
-use mt_preflight::{Audible, warnings_text};
 use mt_render::{Format, HashedFile, Mix};
 use mt_sessionview::{Session, from_scratch};
 use std::alloc::Allocator;
 use std::io::{Read, Write};
+use text_check::{Audible, warnings_text};
 
 /// A log, its session, and the recordings that its audible clips play.
 #[derive(Drop)]
@@ -70,7 +70,7 @@ impl<A: Allocator + Clone> Input<A> for LogThenRecordings {
 // Checks a session over these recordings.
 fn check_session<A: Allocator + Clone, W: Write>(
     alloc: A,
-    form: LineForm,
+    form: TextOptions,
     log: &Log<A>,
     session: &Session<A>,
     kept: &[HashedFile<A>],
@@ -96,7 +96,7 @@ fn check_session<A: Allocator + Clone, W: Write>(
 // What sounds otherwise than one may think.
 #[derive(Drop)]
 struct Check<'h, 't> {
-    form: LineForm,
+    form: TextOptions,
     head: &'h Head<'t>,
     format: Format,
 }
@@ -127,7 +127,7 @@ impl<A: Allocator + Clone> Command<A, Programme<A>> for Check<'_, '_> {
 }
 
 /// Writes what sounds otherwise than one may think where the session of the log of the first input is rendered
-/// from the recordings of the others, in a format and with a head: the text of mt_preflight's
+/// from the recordings of the others, in a format and with a head: the text of text_check's
 /// `warnings_text` in a form of lines. Nothing is mixed.
 ///
 /// Errors as `bounce_logs` of this log: `Read` (45) with the index of an input whose latch has failed, `Log`
@@ -136,7 +136,7 @@ impl<A: Allocator + Clone> Command<A, Programme<A>> for Check<'_, '_> {
 /// `Write` (37) where the output's latch has failed, which then holds a prefix of the text; `Memory` (0).
 pub fn check_log<A: Allocator + Clone, R: Read, W: Write>(
     alloc: A,
-    form: LineForm,
+    form: TextOptions,
     head: &Head<'_>,
     format: Format,
     inputs: &mut [Latch<R>],

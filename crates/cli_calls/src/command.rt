@@ -2,14 +2,14 @@
 
 ghost use Rattle.std.specs.Prelude.{◌≡◌, ℕ, List, Option, Result, Ok, Err, IfOk, IfErr, OnOk};
 ghost use Rattle.std.specs.String.{string_bytes};
-ghost use Rattle.mt_latch.specs.Latch.{Latched};
+ghost use Rattle.base_io.specs.Latch.{Latch};
 ghost use Rattle.cli_calls.specs.declared.fault.CliFault.{CliFault as Fault};
 ghost use Rattle.cli_calls.specs.Reading.{AreRead};
 ghost use Rattle.cli_calls.specs.Running.{lent, Ran, RanAndPrinted};
 ghost use Rattle.cli_calls.specs.Writing.{Wrote, WroteBoth, Refuses, outputs};
 
 use crate::fault::CliFault;
-use mt_latch::Latch;
+use base_io::Latch;
 use std::alloc::Allocator;
 use std::io::{Read, Write};
 
@@ -18,11 +18,11 @@ pub(crate) trait Input<A: Allocator> {
     /// What the readers give.
     type Value;
 
-    ghost fits: { Self → (R : Type 0) → List (Latched R) → Type 0 };
+    ghost fits: { Self → (R : Type 0) → List (Latch R) → Type 0 };
 
-    ghost given: { Self → (R : Type 0) → (R → Option (List ℕ)) → List (Latched R) → Self.Value → Type 0 };
+    ghost given: { Self → (R : Type 0) → (R → Option (List ℕ)) → List (Latch R) → Self.Value → Type 0 };
 
-    ghost cause: { Self → (R : Type 0) → (R → Option (List ℕ)) → List (Latched R) → List (Latched R) → Fault → Type 0 };
+    ghost cause: { Self → (R : Type 0) → (R → Option (List ℕ)) → List (Latch R) → List (Latch R) → Fault → Type 0 };
 
     /// Reads them, from left to right.
     fn read_from<R: Read>(

@@ -8,19 +8,19 @@ ghost use Rattle.cli_calls.specs.Writing.{Prints};
 
 use crate::command::{Command, Input, run};
 use crate::fault::CliFault;
-use crate::form::{LineForm, put_in_form};
+use crate::form::{TextOptions, put_in_form};
 use crate::laws::log_in_memory;
 use crate::read::{read_all, refused};
 use crate::take::with_sent;
-use mt_latch::Latch;
-use mt_logdiff::{diff_text, diff_with_fields_text, view_diff_text};
+use base_io::Latch;
 use mt_opcodec::Log;
 use std::alloc::{AllocError, Allocator, Global};
 use std::io::{Read, Write};
+use text_diff::{diff_text, diff_with_fields_text, view_diff_text};
 
 /// What is told of two logs beside each other.
 #[derive(Clone, Copy, Debug, PartialEq, Eq)]
-pub enum DiffForm {
+pub enum DiffKind {
     /// The operations that one of them alone has: the text of `diff_text`.
     Operations,
     /// The same, and the fields that both alone write: the text of `diff_with_fields_text`.
@@ -32,16 +32,16 @@ pub enum DiffForm {
 // What is asked for of two logs.
 fn diff_of<A: Allocator + Clone>(
     alloc: A,
-    form: DiffForm,
+    form: DiffKind,
     left: &Log<A>,
     right: &Log<A>,
 ) -> Result<Vec<u8, A>, AllocError>
     ensures { IfOk result (λ text. text.items ≡ diff_by form left.now right.now) }
 {
     match form {
-        DiffForm::Operations => Ok(diff_text(alloc, left, right)?.into_bytes()),
-        DiffForm::Fields => Ok(diff_with_fields_text(alloc, left, right)?.into_bytes()),
-        DiffForm::View => view_diff_text(alloc, left, right),
+        DiffKind::Operations => Ok(diff_text(alloc, left, right)?.into_bytes()),
+        DiffKind::Fields => Ok(diff_with_fields_text(alloc, left, right)?.into_bytes()),
+        DiffKind::View => view_diff_text(alloc, left, right),
     }
 }
 
@@ -138,8 +138,8 @@ impl<A: Allocator + Clone> Input<A> for LeftAndRight {
 // What is told of two logs, in lines of a form.
 #[derive(Drop)]
 struct Diff {
-    form: DiffForm,
-    lines: LineForm,
+    form: DiffKind,
+    lines: TextOptions,
 }
 
 impl<A: Allocator + Clone> Command<A, TwoLogs<A>> for Diff {
@@ -172,8 +172,8 @@ impl<A: Allocator + Clone> Command<A, TwoLogs<A>> for Diff {
 pub fn diff_logs<A: Allocator + Clone, R: Read, W: Write>(
     alloc: A,
     frames: Global,
-    form: DiffForm,
-    lines: LineForm,
+    form: DiffKind,
+    lines: TextOptions,
     inputs: &mut [Latch<R>],
     output: &mut Latch<W>,
 ) -> Result<(), CliFault>

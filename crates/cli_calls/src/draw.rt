@@ -10,20 +10,20 @@ use crate::command::{Command, run};
 use crate::fault::CliFault;
 use crate::put::put_bytes;
 use crate::union::UnionOfLogs;
-use mt_latch::Latch;
+use base_io::Latch;
 use mt_opcodec::Log;
 use mt_render::Catalogue;
 use mt_sessionview::{Session, of_log};
-use mt_svg::svg_text;
-use mt_timeline::{Lengths, timeline_text};
 use std::alloc::{AllocError, Allocator};
 use std::io::{Read, Write};
+use text_svg::svg_text;
+use text_timeline::{SpanUnits, timeline_text};
 
 /// How a session is drawn.
 #[derive(Clone, Copy)]
 pub enum Drawing {
     /// As text, in so many columns, 1 and more, whose last line says in which ways how long it is.
-    Text { width: u16, lengths: Lengths },
+    Text { width: u16, lengths: SpanUnits },
     /// As a picture, with the peaks of the recordings that are at hand: the text of an SVG file.
     Svg,
 }
@@ -84,8 +84,8 @@ impl<A: Allocator + Clone, C: Allocator> Command<A, Log<A>> for Drawn<'_, '_, '_
     }
 }
 
-/// Draws the session of the union of the inputs' logs, and writes nothing else: the text of `mt_timeline`,
-/// in a number of columns, or the one of `mt_svg`. Fails as `view_logs`.
+/// Draws the session of the union of the inputs' logs, and writes nothing else: the text of `text_timeline`,
+/// in a number of columns, or the one of `text_svg`. Fails as `view_logs`.
 pub fn draw_logs<A: Allocator + Clone, C: Allocator, R: Read, W: Write>(
     alloc: A,
     how: &SessionDrawing<'_, '_, C>,

@@ -9,19 +9,19 @@ ghost use Rattle.cli_calls.specs.Reading.{text_of, GaveBoth, BothCause};
 ghost use Rattle.cli_calls.specs.Running.{lent, RanAndPrinted};
 ghost use Rattle.cli_calls.specs.Writing.{outputs, Refuses};
 
-use crate::both::{Both, LogThenBytes};
+use crate::both::{LogAndBytes, LogThenBytes};
 use crate::command::{Made, Printing, run_and_print};
 use crate::fault::CliFault;
 use crate::form::at_least_one;
+use base_io::Latch;
 use base_text::append_number;
-use mt_latch::Latch;
-use mt_lines::with_frames;
 use mt_opcodec::Log;
 use mt_replica::Draft;
 use mt_script::{ScriptFault, run_draft};
 use mt_stamp::Replica;
 use std::alloc::{AllocError, Allocator};
 use std::io::{Read, Write};
+use text_json::with_frames;
 
 // Why a script is not run.
 fn refused_script(fault: ScriptFault) -> CliFault
@@ -100,13 +100,13 @@ struct Edit {
     rate: Option<u32>,
 }
 
-impl<A: Allocator + Clone> Printing<A, Both<A>> for Edit {
+impl<A: Allocator + Clone> Printing<A, LogAndBytes<A>> for Edit {
     ghost use Rattle.cli_calls.specs.Editing.{Edits};
 
     ghost makes = { λ edit. Edits edit.name edit.rate };
 
-    fn make(&self, alloc: A, both: Both<A>) -> Result<Made<A>, CliFault> {
-        let Both { log, bytes } = both;
+    fn make(&self, alloc: A, both: LogAndBytes<A>) -> Result<Made<A>, CliFault> {
+        let LogAndBytes { log, bytes } = both;
         let Some(rate) = self.rate else {
             return edited(alloc, self.name, log, &bytes);
         };
@@ -120,7 +120,7 @@ impl<A: Allocator + Clone> Printing<A, Both<A>> for Edit {
 /// Makes the changes of the script that the second input gives to the first input's log, as the editor of
 /// this name, all or none; writes the new log into `output`, and then the line `ops N` into `printed`, the
 /// number of changes. Where a rate is given the script may say times and decibels, at so many frames a
-/// second, of which 0 counts as 1 (`mt_lines::with_frames`).
+/// second, of which 0 counts as 1 (`text_json::with_frames`).
 ///
 /// Errors, in this order: as `lack_log` while reading; `Script` at the first line at fault, with its number,
 /// counted from 1 (41 or 42); `Write` (37) where the latch of `output` has failed, which then holds a prefix

@@ -2,22 +2,22 @@
 
 ghost use Rattle.std.specs.Prelude.{◌≡◌, ℕ, List, length};
 ghost use Rattle.mt_bwfread.specs.Wave.{IsWave};
-ghost use Rattle.mt_outline.specs.Outline.{IsOutline};
-ghost use Rattle.cli_calls.specs.Info.{rate_in, InformsBy, OutlineInformsIn};
+ghost use Rattle.wave_header.specs.WaveHeader.{IsWaveHeader};
+ghost use Rattle.cli_calls.specs.Info.{rate_in, InformsBy, WaveHeaderInformsIn};
 ghost use Rattle.cli_calls.specs.Reading.{GaveBytes, BytesCause};
 ghost use Rattle.cli_calls.specs.Running.{lent, Ran};
 ghost use Rattle.cli_calls.specs.Writing.{Wrote};
 
 use crate::command::{Command, Input, run};
 use crate::fault::CliFault;
-use crate::form::{LineForm, put_in_form};
-use crate::info::write_outline;
-use crate::read::read_outline;
+use crate::form::{TextOptions, put_in_form};
+use crate::info::write_header;
+use crate::read::read_header;
+use base_io::Latch;
 use mt_bwfread::Wave;
-use mt_latch::Latch;
-use mt_outline::Outline;
 use std::alloc::{Allocator, Global};
 use std::io::{Read, Write};
+use wave_header::WaveHeader;
 
 /// In what the positions and lengths of a file are printed.
 #[derive(Clone, Copy)]
@@ -40,13 +40,13 @@ pub struct InfoForm {
 }
 
 // At how many frames a second times are printed of the file of this outline, if they are.
-fn rate_in<A: Allocator>(unit: InfoUnit, outline: &Outline<A>) -> Option<u32>
-    ensures { (bytes : List ℕ) → IsOutline bytes outline.now → IsWave bytes → result ≡ rate_in unit bytes }
+fn rate_in<A: Allocator>(unit: InfoUnit, header: &WaveHeader<A>) -> Option<u32>
+    ensures { (bytes : List ℕ) → IsWaveHeader bytes header.now → IsWave bytes → result ≡ rate_in unit bytes }
 {
     match unit {
         InfoUnit::Frames => None,
         InfoUnit::Rate(rate) => Some(rate),
-        InfoUnit::OwnRate => match Wave::read(outline.bytes()) {
+        InfoUnit::OwnRate => match Wave::read(header.bytes()) {
             Ok(wave) => Some(wave.rate()),
             Err(_) => None,
         },
@@ -56,17 +56,17 @@ fn rate_in<A: Allocator>(unit: InfoUnit, outline: &Outline<A>) -> Option<u32>
 // Writes what the file of this outline says, in lines of a form. What is as it is need not be made in memory.
 fn put_lines<A: Allocator + Clone, W: Write>(
     alloc: A,
-    lines: LineForm,
-    outline: &Outline<A>,
+    lines: TextOptions,
+    header: &WaveHeader<A>,
     output: &mut Latch<W>,
 ) -> Result<(), CliFault>
-    ensures { Wrote W.contents (OutlineInformsIn lines outline.now) output.old output.new result }
+    ensures { Wrote W.contents (WaveHeaderInformsIn lines header.now) output.old output.new result }
 {
     if lines.is_plain() {
-        return write_outline(alloc, outline, output);
+        return write_header(alloc, header, output);
     }
     let mut text = Latch::new(Vec::new(alloc.clone()?));
-    match write_outline(alloc.clone()?, outline, &mut text) {
+    match write_header(alloc.clone()?, header, &mut text) {
         Ok(()) => put_in_form(alloc, lines, &text.into_inner(), output),
         Err(CliFault::Source(place, fault)) => Err(CliFault::Source(place, fault)),
         Err(_) => Err(CliFault::Memory),
@@ -74,18 +74,18 @@ fn put_lines<A: Allocator + Clone, W: Write>(
 }
 
 // One input, of which the outline is kept.
-struct OneOutline;
+struct OneWaveHeader;
 
-impl<A: Allocator + Clone> Input<A> for OneOutline {
+impl<A: Allocator + Clone> Input<A> for OneWaveHeader {
     ghost use Rattle.std.specs.Prelude.{◌≡◌, length};
-    ghost use Rattle.cli_calls.specs.Info.{GaveOutline};
+    ghost use Rattle.cli_calls.specs.Info.{GaveWaveHeader};
     ghost use Rattle.cli_calls.specs.Reading.{BytesCause};
 
-    type Value = Outline<A>;
+    type Value = WaveHeader<A>;
 
     ghost fits = { λ s R inputs. length inputs ≡ 1 };
 
-    ghost given = { λ s R remaining. GaveOutline remaining };
+    ghost given = { λ s R remaining. GaveWaveHeader remaining };
 
     ghost cause = { λ s R remaining. BytesCause remaining };
 
@@ -93,8 +93,8 @@ impl<A: Allocator + Clone> Input<A> for OneOutline {
         &self,
         alloc: &A,
         inputs: &mut [Latch<R>],
-    ) -> Result<Outline<A>, CliFault> {
-        read_outline(alloc, 0, &mut inputs[0])
+    ) -> Result<WaveHeader<A>, CliFault> {
+        read_header(alloc, 0, &mut inputs[0])
     }
 }
 
@@ -104,22 +104,22 @@ struct Info {
     form: InfoForm,
 }
 
-impl<A: Allocator + Clone> Command<A, Outline<A>> for Info {
-    ghost use Rattle.cli_calls.specs.Info.{OutlineInformsBy};
+impl<A: Allocator + Clone> Command<A, WaveHeader<A>> for Info {
+    ghost use Rattle.cli_calls.specs.Info.{WaveHeaderInformsBy};
 
-    ghost makes = { λ info. OutlineInformsBy info.form };
+    ghost makes = { λ info. WaveHeaderInformsBy info.form };
 
     fn write_value<W: Write>(
         &self,
         alloc: A,
-        outline: Outline<A>,
+        header: WaveHeader<A>,
         output: &mut Latch<W>,
     ) -> Result<(), CliFault> {
-        let lines = LineForm {
-            rate: rate_in(self.form.unit, &outline),
+        let lines = TextOptions {
+            rate: rate_in(self.form.unit, &header),
             json: self.form.json,
         };
-        put_lines(alloc, lines, &outline, output)
+        put_lines(alloc, lines, &header, output)
     }
 }
 
@@ -140,5 +140,5 @@ pub fn info_file<A: Allocator + Clone, R: Read, W: Write>(
     ensures { Ran R.remaining (GaveBytes R.remaining) (BytesCause R.remaining) (InformsBy form) W.contents
         (lent inputs.old output.old) (lent inputs.new output.new) result }
 {
-    run(&OneOutline, &Info { form }, alloc, inputs, output)
+    run(&OneWaveHeader, &Info { form }, alloc, inputs, output)
 }

@@ -3,8 +3,8 @@
 ghost use Rattle.std.specs.Prelude.{◌≡◌, ◌++◌, ◌∷◌, [], length, if◌then◌else◌, IfOk, OnOk};
 ghost use Rattle.std.specs.Str.{bytes_eq};
 ghost use Rattle.std.specs.String.{string_bytes};
-ghost use Rattle.mt_preflight.specs.Files.{is_same};
-ghost use Rattle.mt_preflight.specs.Played.{all_clips};
+ghost use Rattle.text_check.specs.Files.{is_same};
+ghost use Rattle.text_check.specs.Played.{all_clips};
 ghost use Rattle.mt_stamp.specs.Texts.{stamp_text};
 ghost use Rattle.mt_sessionview.specs.SessionText.{newline};
 ghost use Rattle.cli_calls.specs.Finding.{tracks_titled, markers_titled, clips_playing, found, stamp_lines, answer, Finding};
@@ -16,7 +16,7 @@ use crate::command::{Command, run};
 use crate::fault::CliFault;
 use crate::put::put_bytes;
 use crate::union::OneLog;
-use mt_latch::Latch;
+use base_io::Latch;
 use mt_op::{Digest, Title};
 use mt_opcodec::Log;
 use mt_sessionview::{ClipView, MarkerView, Session, TrackView, from_scratch};
@@ -26,7 +26,7 @@ use std::io::{Read, Write};
 
 /// What items are looked for by.
 #[derive(Clone, Copy)]
-pub enum Wanted<'a> {
+pub enum FindQuery<'a> {
     /// Tracks whose title is exactly this text.
     Track(&'a str),
     /// Markers whose title is exactly this text.
@@ -126,15 +126,15 @@ fn clips_playing<A: Allocator, B: Allocator>(
 // The stamps of the items of a session that have what is looked for.
 fn found<A: Allocator, B: Allocator>(
     alloc: A,
-    wanted: &Wanted<'_>,
+    wanted: &FindQuery<'_>,
     session: &Session<B>,
 ) -> Result<Vec<Stamp, A>, AllocError>
     ensures { IfOk result (λ stamps. stamps.items ≡ found wanted.now session.now) }
 {
     match *wanted {
-        Wanted::Track(title) => tracks_titled(alloc, title, session.tracks.items()),
-        Wanted::Marker(title) => markers_titled(alloc, title, session.markers.items()),
-        Wanted::Clip(source) => clips_playing(alloc, source, session.tracks.items()),
+        FindQuery::Track(title) => tracks_titled(alloc, title, session.tracks.items()),
+        FindQuery::Marker(title) => markers_titled(alloc, title, session.markers.items()),
+        FindQuery::Clip(source) => clips_playing(alloc, source, session.tracks.items()),
     }
 }
 
@@ -177,7 +177,7 @@ fn put_answer<A: Allocator, W: Write>(
 #[derive(Drop)]
 struct Find<'w, 'a> {
     one: bool,
-    wanted: &'w Wanted<'a>,
+    wanted: &'w FindQuery<'a>,
 }
 
 impl<A: Allocator + Clone> Command<A, Log<A>> for Find<'_, '_> {
@@ -210,7 +210,7 @@ impl<A: Allocator + Clone> Command<A, Log<A>> for Find<'_, '_> {
 pub fn find_items<A: Allocator + Clone, R: Read, W: Write>(
     alloc: A,
     one: bool,
-    wanted: &Wanted<'_>,
+    wanted: &FindQuery<'_>,
     inputs: &mut [Latch<R>],
     output: &mut Latch<W>,
 ) -> Result<(), CliFault>

@@ -1,30 +1,30 @@
 //! The forms in which lines are printed.
 
 ghost use Rattle.std.specs.Prelude.{◌≡◌, ◌≤◌, max, None, IsTrue, IfOk};
-ghost use Rattle.mt_lines.specs.Json.{json_text};
-ghost use Rattle.mt_lines.specs.Saying.{timed_text};
+ghost use Rattle.text_json.specs.Json.{json_text};
+ghost use Rattle.text_json.specs.Saying.{timed_text};
 ghost use Rattle.cli_calls.specs.Form.{in_form, with_times};
 ghost use Rattle.cli_calls.specs.Writing.{Exactly, Wrote};
 
 use crate::fault::CliFault;
 use crate::put::put_bytes;
-use mt_latch::Latch;
-use mt_lines::{json_text, timed_text};
+use base_io::Latch;
 use std::alloc::{AllocError, Allocator, Global};
 use std::io::Write;
+use text_json::{json_text, timed_text};
 
 /// The form in which the lines of a text are printed: as they are, or changed in one or both of two ways.
 #[derive(Clone, Copy)]
-pub struct LineForm {
+pub struct TextOptions {
     /// Positions and lengths as times, at so many frames a second, of which 0 counts as 1; else in frames.
     pub rate: Option<u32>,
     /// A JSON object for each line, which is made in this memory.
     pub json: Option<Global>,
 }
 
-impl LineForm {
+impl TextOptions {
     /// Lines as they are.
-    pub const PLAIN: LineForm = LineForm {
+    pub const PLAIN: TextOptions = TextOptions {
         rate: None,
         json: None,
     };
@@ -71,7 +71,7 @@ fn as_objects<A: Allocator>(
 /// Writes a text in a form, and nothing else.
 pub(crate) fn put_in_form<A: Allocator + Clone, W: Write>(
     alloc: A,
-    form: LineForm,
+    form: TextOptions,
     text: &[u8],
     output: &mut Latch<W>,
 ) -> Result<(), CliFault>

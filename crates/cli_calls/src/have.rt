@@ -10,7 +10,7 @@ use crate::command::{Command, run};
 use crate::fault::CliFault;
 use crate::put::put_bytes;
 use crate::union::OneLog;
-use mt_latch::Latch;
+use base_io::Latch;
 use mt_opcodec::Log;
 use mt_sync::{MessageFault, have_bytes};
 use std::alloc::Allocator;

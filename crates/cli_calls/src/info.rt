@@ -6,19 +6,19 @@ ghost use Rattle.std.specs.List.{flat_map};
 ghost use Rattle.std.specs.Option.{option_map, option_copied};
 ghost use Rattle.mt_bwfread.specs.Cues.{cues_of, cue_text};
 ghost use Rattle.mt_bwfread.specs.Extension.{extension};
-ghost use Rattle.mt_latch.specs.Buffered.{Puts};
+ghost use Rattle.base_io.specs.Buffered.{Puts};
 ghost use Rattle.mt_op.specs.Digest.{digest_text};
-ghost use Rattle.cli_calls.specs.Info.{told_text, line, shown_byte, shown, sound_lines, extension_lines, length_text, label_text, cue_line, Informs, OutlineInforms};
+ghost use Rattle.cli_calls.specs.Info.{told_text, line, shown_byte, shown, sound_lines, extension_lines, length_text, label_text, cue_line, Informs, WaveHeaderInforms};
 ghost use Rattle.cli_calls.specs.Writing.{Exactly, Wrote};
 
 use crate::fault::CliFault;
+use base_io::{BufferedLatch, Latch};
 use mt_bwfread::{Bext, Cue, Wave};
-use mt_latch::{BufferedLatch, Latch};
 use mt_op::Digest;
-use mt_outline::Outline;
 use std::alloc::Allocator;
 use std::io::Write;
 use text_cues::cues_in;
+use wave_header::WaveHeader;
 
 // Puts a byte of a file's text: as it is, or as `\x` and two digits.
 #[tactic(auto, unfolding(crate::specs::Info::shown_byte))]
@@ -35,7 +35,7 @@ fn put_shown_byte<W: Write>(output: &mut BufferedLatch<'_, W>, byte: u8)
 }
 
 // Puts a file's text.
-#[tactic(auto, using(mt_latch::proofs::Putting::puts_none))]
+#[tactic(auto, using(base_io::proofs::Putting::puts_none))]
 fn put_shown<W: Write>(output: &mut BufferedLatch<'_, W>, text: &[u8])
     ensures { Puts W.contents output.old output.new (shown text.now) }
 {
@@ -45,7 +45,7 @@ fn put_shown<W: Write>(output: &mut BufferedLatch<'_, W>, text: &[u8])
 }
 
 // Puts the line of a word and a value.
-#[tactic(auto, using(mt_latch::proofs::Putting::then_puts))]
+#[tactic(auto, using(base_io::proofs::Putting::then_puts))]
 fn put_line<W: Write>(output: &mut BufferedLatch<'_, W>, word: &str, value: &str)
     ensures { Puts W.contents output.old output.new (line word.now value.now) }
 {
@@ -104,7 +104,7 @@ fn put_extension<W: Write>(output: &mut BufferedLatch<'_, W>, bext: Option<Bext<
 }
 
 // Puts the length of a cue.
-#[tactic(auto, using(mt_latch::proofs::Putting::then_puts, mt_latch::proofs::Putting::puts_none))]
+#[tactic(auto, using(base_io::proofs::Putting::then_puts, base_io::proofs::Putting::puts_none))]
 fn put_length<W: Write>(output: &mut BufferedLatch<'_, W>, frames: Option<u32>)
     ensures { Puts W.contents output.old output.new (length_text frames) }
 {
@@ -115,7 +115,7 @@ fn put_length<W: Write>(output: &mut BufferedLatch<'_, W>, frames: Option<u32>)
 }
 
 // Puts the end of a cue's line.
-#[tactic(auto, using(mt_latch::proofs::Putting::then_puts, mt_latch::proofs::Putting::puts_none))]
+#[tactic(auto, using(base_io::proofs::Putting::then_puts, base_io::proofs::Putting::puts_none))]
 fn put_label<W: Write>(output: &mut BufferedLatch<'_, W>, label: Option<&[u8]>)
     ensures { Puts W.contents output.old output.new (label_text (option_copied label.entry)) }
 {
@@ -139,7 +139,7 @@ fn put_cue<W: Write>(output: &mut BufferedLatch<'_, W>, cue: &Cue<'_>)
 }
 
 // Puts the lines of cues, in order.
-#[tactic(auto, using(mt_latch::proofs::Putting::puts_none))]
+#[tactic(auto, using(base_io::proofs::Putting::puts_none))]
 fn put_cues<W: Write>(output: &mut BufferedLatch<'_, W>, cues: &[Cue<'_>])
     ensures { Puts W.contents output.old output.new (flat_map (λ c. cue_line (cue_text c)) cues.now) }
 {
@@ -176,19 +176,19 @@ pub fn write_info<A: Allocator + Clone, W: Write>(
 
 /// Writes the same of a wave file by its outline, and is refused as for the file. The time is that of the text and of the walks over the chunks of the
 /// outline, which has been hashed.
-pub fn write_outline<A: Allocator + Clone, W: Write>(
+pub fn write_header<A: Allocator + Clone, W: Write>(
     alloc: A,
-    outline: &Outline<A>,
+    header: &WaveHeader<A>,
     output: &mut Latch<W>,
 ) -> Result<(), CliFault>
-    ensures { Wrote W.contents (OutlineInforms outline.now) output.old output.new result }
+    ensures { Wrote W.contents (WaveHeaderInforms header.now) output.old output.new result }
 {
-    let wave = match Wave::read(outline.bytes()) {
+    let wave = match Wave::read(header.bytes()) {
         Ok(wave) => wave,
         Err(fault) => return Err(CliFault::Source(0, fault)),
     };
-    let digest = Digest(outline.digest());
-    write_told(alloc, digest, &wave, outline.frames(&wave), output)
+    let digest = Digest(header.digest());
+    write_told(alloc, digest, &wave, header.frames(&wave), output)
 }
 
 // Writes what is read off the bytes of a wave file, with this digest and so many frames.
@@ -209,7 +209,7 @@ fn write_told<A: Allocator + Clone, W: Write>(
 }
 
 // Writes that text of these digits and cues.
-#[tactic(auto, unfolding(mt_latch::specs::Buffered::Puts))]
+#[tactic(auto, unfolding(base_io::specs::Buffered::Puts))]
 fn write_lines<W: Write>(
     digits: &str,
     wave: &Wave<'_>,

@@ -5,12 +5,12 @@ ghost use Rattle.cli_calls.specs.Reading.{GaveBoth, BothCause};
 ghost use Rattle.cli_calls.specs.Running.{lent, Ran};
 ghost use Rattle.cli_calls.specs.Swapping.{LackMakes};
 
-use crate::both::{Both, LogThenBytes};
+use crate::both::{LogAndBytes, LogThenBytes};
 use crate::command::{Command, run};
 use crate::fault::CliFault;
 use crate::have::refused_message;
 use crate::put::put_bytes;
-use mt_latch::Latch;
+use base_io::Latch;
 use mt_sync::lack_bytes;
 use std::alloc::Allocator;
 use std::io::{Read, Write};
@@ -18,7 +18,7 @@ use std::io::{Read, Write};
 // The operations of a log that the summary in other bytes does not cover.
 struct Lack;
 
-impl<A: Allocator + Clone> Command<A, Both<A>> for Lack {
+impl<A: Allocator + Clone> Command<A, LogAndBytes<A>> for Lack {
     ghost use Rattle.cli_calls.specs.Swapping.{LackMakes};
 
     ghost makes = { λ _. LackMakes };
@@ -26,7 +26,7 @@ impl<A: Allocator + Clone> Command<A, Both<A>> for Lack {
     fn write_value<W: Write>(
         &self,
         alloc: A,
-        both: Both<A>,
+        both: LogAndBytes<A>,
         output: &mut Latch<W>,
     ) -> Result<(), CliFault> {
         match lack_bytes(alloc, &both.log, &both.bytes) {

@@ -1,11 +1,11 @@
 //! The headline, and when refusals are equal: each law is the contract of a small function, which does nothing or only compares.
 
 ghost use Rattle.std.specs.Prelude.{◌≡◌, ◌↔◌, ℕ, IsTrue, List, Result};
-ghost use Rattle.mt_latch.specs.Latch.{Latched};
+ghost use Rattle.base_io.specs.Latch.{Latch};
 ghost use Rattle.mt_opcodec.specs.IsLog.{IsLog};
 ghost use Rattle.mt_opcodec.specs.Sets.{IsSet};
 ghost use Rattle.mt_cuewrite.specs.Head.{HeadText};
-ghost use Rattle.mt_render.specs.Layout.{Layout};
+ghost use Rattle.mt_render.specs.FormatValue.{Layout};
 ghost use Rattle.cli_calls.specs.declared.fault.CliFault.{CliFault as Fault};
 ghost use Rattle.cli_calls.specs.Bouncing.{RenderInputs, RendersLogs, GaveLogsAndWaves, RenderCause, AreInputsRead};
 ghost use Rattle.cli_calls.specs.Info.{Informs};
@@ -67,14 +67,14 @@ pub fn equal_cli_faults(fault: &CliFault, other: &CliFault) -> bool
 /// inputs' logs, and nothing else; `Merge` comes only of logs that clash, `Write` only of an output that has
 /// failed, and else nothing was written.
 pub fn view_logs<R: Read, W: Write>()
-    ensures { (before after : Lent (List (Latched R)) (Latched W)) (result : Result (Unit {0}) Fault)
+    ensures { (before after : Lent (List (Latch R)) (Latch W)) (result : Result (Unit {0}) Fault)
         → Ran R.remaining (GaveUnion R.remaining) (UnionFails R.remaining) (Prints log_view) W.contents before after result
         → WritesUnion R.remaining W.contents log_view before after result }
 {}
 
 /// What `merge_logs` promises: the same of the text of the log of the union.
 pub fn merge_logs<R: Read, W: Write>()
-    ensures { (before after : Lent (List (Latched R)) (Latched W)) (result : Result (Unit {0}) Fault)
+    ensures { (before after : Lent (List (Latch R)) (Latch W)) (result : Result (Unit {0}) Fault)
         → Ran R.remaining (GaveUnion R.remaining) (UnionFails R.remaining) (Prints text_of) W.contents before after result
         → WritesUnion R.remaining W.contents text_of before after result }
 {}
@@ -83,7 +83,7 @@ pub fn merge_logs<R: Read, W: Write>()
 /// logs over the recordings, and nothing else; `Mix` comes only of a programme that cannot be mixed or whose
 /// file is too long, `Write` only of an output that has failed, and else nothing was written.
 pub fn bounce_logs<R: Read, W: Write>()
-    ensures { (layout : Layout) (head : HeadText) (before after : Lent (RenderInputs R) (Latched W)) (result : Result (Unit {0}) Fault)
+    ensures { (layout : Layout) (head : HeadText) (before after : Lent (RenderInputs R) (Latch W)) (result : Result (Unit {0}) Fault)
         → RanOn (GaveLogsAndWaves R.remaining) (RenderCause R.remaining) (AreInputsRead R.remaining) (RendersLogs layout head)
         W.contents before after result
         → WritesFile R.remaining W.contents layout head before after result }
@@ -93,7 +93,7 @@ pub fn bounce_logs<R: Read, W: Write>()
 /// and nothing else; `Source` comes only of bytes that are none, `Write` only of an output that has failed,
 /// and else nothing was written.
 pub fn write_info<W: Write>()
-    ensures { (bytes : List ℕ) (before after : Latched W) (result : Result (Unit {0}) Fault)
+    ensures { (bytes : List ℕ) (before after : Latch W) (result : Result (Unit {0}) Fault)
         → Wrote W.contents (Informs bytes) before after result
         → WritesInfo W.contents bytes before after result }
 {}

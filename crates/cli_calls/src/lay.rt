@@ -8,10 +8,10 @@ ghost use Rattle.cli_calls.specs.Running.{lent, Ran};
 use crate::command::{Command, Input, run};
 use crate::fault::{CliFault, LayFault};
 use crate::put::put_bytes;
-use crate::read::{OneInput, read_each, read_outline};
+use crate::read::{OneInput, read_each, read_header};
+use base_io::Latch;
 use base_text::{append_number, append_word};
 use mt_bwfread::Wave;
-use mt_latch::Latch;
 use mt_op::{Digest, append_digest};
 use std::alloc::{AllocError, Allocator};
 use std::io::{Read, Write};
@@ -56,12 +56,12 @@ impl<A: Allocator + Clone> OneInput<A> for SoundInput {
         index: usize,
         input: &mut Latch<R>,
     ) -> Result<Sound, CliFault> {
-        let outline = read_outline(alloc, index, input)?;
-        match Wave::read(outline.bytes()) {
+        let header = read_header(alloc, index, input)?;
+        match Wave::read(header.bytes()) {
             Ok(wave) => Ok(Sound {
-                digest: Digest(outline.digest()),
+                digest: Digest(header.digest()),
                 rate: wave.rate(),
-                frames: outline.frames(&wave) as u32,
+                frames: header.frames(&wave) as u32,
             }),
             Err(fault) => Err(CliFault::Source(index, fault)),
         }

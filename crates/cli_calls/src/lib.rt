@@ -5,7 +5,7 @@
 //!
 //! ```rust
 //! use cli_calls::{merge_logs, view_logs};
-//! use mt_latch::Latch;
+//! use base_io::Latch;
 //! use mt_op::{Body, Op, Title};
 //! use mt_opcodec::Log;
 //! use mt_stamp::{Replica, Stamp};
@@ -72,15 +72,15 @@ mod view;
 
 pub use both::read_growing;
 pub use check::check_log;
-pub use diff::{DiffForm, diff_logs};
+pub use diff::{DiffKind, diff_logs};
 pub use draw::{Drawing, SessionDrawing, draw_logs};
 pub use edit::edit_log;
 pub use fault::{CliFault, LayFault, PartFault};
 pub use file_info::{InfoForm, InfoUnit, info_file};
-pub use find::{Wanted, find_items};
-pub use form::LineForm;
+pub use find::{FindQuery, find_items};
+pub use form::TextOptions;
 pub use have::have_log;
-pub use info::{write_info, write_outline};
+pub use info::{write_header, write_info};
 pub use lack::lack_log;
 pub use lay::{Laying, lay_files};
 pub use list::list_logs;

@@ -7,18 +7,18 @@ ghost use Rattle.cli_calls.specs.Writing.{Prints};
 
 use crate::command::{Command, run};
 use crate::fault::CliFault;
-use crate::form::{LineForm, put_in_form};
+use crate::form::{TextOptions, put_in_form};
 use crate::union::UnionOfLogs;
-use mt_latch::Latch;
-use mt_logtext::operations_text;
+use base_io::Latch;
 use mt_opcodec::Log;
 use std::alloc::Allocator;
 use std::io::{Read, Write};
+use text_log::operations_text;
 
 // A log's operations, a line each, in a form.
 #[derive(Drop)]
 struct Listing {
-    form: LineForm,
+    form: TextOptions,
 }
 
 impl<A: Allocator + Clone> Command<A, Log<A>> for Listing {
@@ -39,10 +39,10 @@ impl<A: Allocator + Clone> Command<A, Log<A>> for Listing {
 }
 
 /// Writes the operations of the union of the inputs' logs, a line each by rising stamp, in a form of lines:
-/// the text of `mt_logtext`. Fails as `view_logs`.
+/// the text of `text_log`. Fails as `view_logs`.
 pub fn list_logs<A: Allocator + Clone, R: Read, W: Write>(
     alloc: A,
-    form: LineForm,
+    form: TextOptions,
     inputs: &mut [Latch<R>],
     output: &mut Latch<W>,
 ) -> Result<(), CliFault>

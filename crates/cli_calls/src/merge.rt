@@ -9,7 +9,7 @@ use crate::command::{Command, run};
 use crate::fault::CliFault;
 use crate::put::put_log;
 use crate::union::UnionOfLogs;
-use mt_latch::Latch;
+use base_io::Latch;
 use mt_opcodec::Log;
 use std::alloc::Allocator;
 use std::io::{Read, Write};

@@ -14,8 +14,8 @@ use crate::command::{Made, Printing, run_and_print};
 use crate::edit::append_number_line;
 use crate::fault::CliFault;
 use crate::union::EachLog;
+use base_io::Latch;
 use base_text::{append_number, append_word};
-use mt_latch::Latch;
 use mt_opcodec::{Log, LogFault};
 use std::alloc::{AllocError, Allocator};
 use std::collections::VecDeque;
@@ -23,20 +23,20 @@ use std::io::{Read, Write};
 
 // How many operations of a log were new to those before it, and how many these had too.
 #[derive(Clone, Copy)]
-pub(crate) struct Share {
+pub(crate) struct PullCounts {
     pub(crate) new: usize,
     pub(crate) shared: usize,
 }
 
 // The union of logs, and the share of each.
 #[derive(Drop)]
-struct Pulled<A: Allocator> {
+struct Merged<A: Allocator> {
     log: Log<A>,
-    shares: Vec<Share, A>,
+    shares: Vec<PullCounts, A>,
 }
 
 // The union of logs, joined from left to right, with what each adds to those before it.
-fn joined<A: Allocator + Clone>(alloc: A, logs: Vec<Log<A>, A>) -> Result<Pulled<A>, CliFault>
+fn joined<A: Allocator + Clone>(alloc: A, logs: Vec<Log<A>, A>) -> Result<Merged<A>, CliFault>
     ensures agree { IfOk result (λ _. AllAgree logs.items) }
     ensures log { IfOk result (λ pulled. pulled.log ≡ union_all logs.items) }
     ensures shares { IfOk result (λ pulled. pulled.shares.items ≡ shares logs.items) }
@@ -47,13 +47,13 @@ fn joined<A: Allocator + Clone>(alloc: A, logs: Vec<Log<A>, A>) -> Result<Pulled
     let mut rest = VecDeque::from(logs);
     loop {
         let Some(log) = rest.pop_front() else {
-            return Ok(Pulled { log: all, shares });
+            return Ok(Merged { log: all, shares });
         };
         let (before, count) = (all.len(), log.len());
         all = join_one(all, log)?;
         let new = all.len().saturating_sub(before);
         let shared = count.saturating_sub(new);
-        shares.push(Share { new, shared })?;
+        shares.push(PullCounts { new, shared })?;
     }
 }
 
@@ -73,7 +73,7 @@ fn join_one<A: Allocator + Clone>(all: Log<A>, log: Log<A>) -> Result<Log<A>, Cl
 fn append_share<A: Allocator>(
     text: &mut String<A>,
     name: &str,
-    share: Share,
+    share: PullCounts,
 ) -> Result<(), AllocError>
     ensures { OnOk result (string_bytes text.new ≡ string_bytes text.old ++ share_line (name.now, share)) }
 {
@@ -99,7 +99,7 @@ pub(crate) fn count_pairs<T>(names: &[&str], things: &[T]) -> usize
 fn append_shares<A: Allocator>(
     text: &mut String<A>,
     names: &[&str],
-    shares: &[Share],
+    shares: &[PullCounts],
 ) -> Result<(), AllocError>
     ensures { OnOk result (string_bytes text.new
         ≡ string_bytes text.old ++ share_lines (map (λ n. n.now) names.now) shares.now) }
@@ -112,7 +112,7 @@ fn append_shares<A: Allocator>(
 }
 
 // All but the first.
-fn behind_first(shares: &[Share]) -> &[Share]
+fn behind_first(shares: &[PullCounts]) -> &[PullCounts]
     ensures { result.now ≡ drop 1 shares.now }
 {
     match shares.split_first() {
@@ -125,7 +125,7 @@ fn behind_first(shares: &[Share]) -> &[Share]
 fn shares_text<A: Allocator>(
     alloc: A,
     names: &[&str],
-    shares: &[Share],
+    shares: &[PullCounts],
     count: usize,
 ) -> Result<String<A>, AllocError>
     ensures { IfOk result (λ text. string_bytes text ≡ told_text (map (λ n. n.now) names.now) shares.now count) }

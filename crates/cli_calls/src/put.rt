@@ -6,9 +6,9 @@ ghost use Rattle.cli_calls.specs.Swapping.{HeldMakes, LendLeaves};
 ghost use Rattle.cli_calls.specs.Writing.{Exactly, Wrote};
 
 use crate::fault::CliFault;
-use mt_latch::Latch;
+use base_io::Latch;
 use mt_opcodec::Log;
-use mt_sync::Holder;
+use mt_sync::OpStore;
 use std::alloc::Allocator;
 use std::io::Write;
 
@@ -36,7 +36,7 @@ pub(crate) fn put_log<A: Allocator + Clone, W: Write>(
 }
 
 /// Writes the text of the log that a holder lends. `Memory` also where it lends none, since it has failed or an allocation did.
-pub(crate) fn put_lent<A: Allocator + Clone, W: Write, H: Holder<A>>(
+pub(crate) fn put_lent<A: Allocator + Clone, W: Write, H: OpStore<A>>(
     holder: &mut H,
     output: &mut Latch<W>,
 ) -> Result<(), CliFault>
@@ -45,8 +45,8 @@ pub(crate) fn put_lent<A: Allocator + Clone, W: Write, H: Holder<A>>(
     ensures left { IfErr result (LendLeaves (H.held holder.old) (H.held holder.new)) }
     ensures name { H.named holder.new ≡ H.named holder.old }
 {
-    match holder.settle() {
-        Ok(()) => match holder.whole_log() {
+    match holder.compact() {
+        Ok(()) => match holder.compacted_log() {
             Some(log) => put_log(log, output),
             None => Err(CliFault::Memory),
         },

@@ -1,21 +1,21 @@
 //! Reading one input, and several of one kind.
 
 ghost use Rattle.std.specs.Prelude.{◌≡◌, ◌≢◌, ◌+◌, ◌<◌, ◌^◌, ℕ, List, Option, IfOk, IfErr, OnOk};
-ghost use Rattle.mt_latch.specs.Latch.{Latched};
+ghost use Rattle.base_io.specs.Latch.{Latch};
 ghost use Rattle.mt_opcodec.specs.declared.fault.LogFault.TheVariants as log;
-ghost use Rattle.mt_outline.specs.Outline.{Gives};
+ghost use Rattle.wave_header.specs.WaveHeader.{Gives};
 ghost use Rattle.cli_calls.specs.declared.fault.CliFault.{CliFault as Fault};
 ghost use Rattle.cli_calls.specs.declared.fault.CliFault.TheVariants.{Memory};
 ghost use Rattle.cli_calls.specs.Reading.{Gave, GaveDigest, GaveEach, GaveLog, IsRead, IsRest, AreRead, IsReadCause, IsCause, FirstCause};
 
 use crate::fault::CliFault;
 use crate::laws::log_in_memory;
-use mt_latch::{Latch, LatchFault};
+use base_io::{Latch, LatchFault};
 use mt_op::Digest;
 use mt_opcodec::{Log, LogFault};
-use mt_outline::Outline;
 use std::alloc::Allocator;
 use std::io::Read;
+use wave_header::WaveHeader;
 
 // How many bytes `read_into` asks for in one read.
 const PIECE: usize = 65_536;
@@ -64,18 +64,18 @@ pub(crate) fn read_into<A: Allocator, R: Read>(
 }
 
 /// Reads the outline of the file of the input of this index.
-pub(crate) fn read_outline<A: Allocator + Clone, R: Read>(
+pub(crate) fn read_header<A: Allocator + Clone, R: Read>(
     alloc: &A,
     index: usize,
     input: &mut Latch<R>,
-) -> Result<Outline<A>, CliFault>
+) -> Result<WaveHeader<A>, CliFault>
     ensures read { OnOk result (IsRead R.remaining input.new) }
-    ensures ok { IfOk result (λ outline. Gives (R.remaining input.old.inner) outline) }
+    ensures ok { IfOk result (λ header. Gives (R.remaining input.old.inner) header) }
     ensures rest { IsRest R.remaining input.old input.new }
     ensures err { IfErr result (IsReadCause index input.new) }
 {
-    match Outline::read(alloc.clone()?, input) {
-        Ok(outline) => Ok(outline),
+    match WaveHeader::read(alloc.clone()?, input) {
+        Ok(header) => Ok(header),
         Err(LatchFault::Memory) => Err(CliFault::Memory),
         Err(_) => Err(CliFault::Read(index)),
     }
@@ -94,8 +94,8 @@ pub fn read_digest<A: Allocator + Clone, R: Read>(
     ensures rest { IsRest R.remaining input.old input.new }
     ensures err { IfErr result (IsReadCause index input.new) }
 {
-    match read_outline(alloc, index, input) {
-        Ok(outline) => Ok(Digest(outline.digest())),
+    match read_header(alloc, index, input) {
+        Ok(header) => Ok(Digest(header.digest())),
         Err(fault) => Err(fault),
     }
 }
@@ -137,9 +137,9 @@ pub(crate) trait OneInput<A: Allocator> {
     /// What it gives.
     type Value;
 
-    ghost gives: { Self → (R : Type 0) → (R → Option (List ℕ)) → Latched R → Self.Value → Type 0 };
+    ghost gives: { Self → (R : Type 0) → (R → Option (List ℕ)) → Latch R → Self.Value → Type 0 };
 
-    ghost cause: { Self → (R : Type 0) → (R → Option (List ℕ)) → ℕ → Latched R → Latched R → Fault → Type 0 };
+    ghost cause: { Self → (R : Type 0) → (R → Option (List ℕ)) → ℕ → Latch R → Latch R → Fault → Type 0 };
 
     /// Reads the input of this index.
     fn read_one<R: Read>(
@@ -156,7 +156,7 @@ pub(crate) trait OneInput<A: Allocator> {
 
     /// For the proof: that memory which runs out is a cause, whatever was read.
     fn starves<R: Read>(&self)
-        ensures { (index : ℕ) (old new : Latched R) → IsRest R.remaining old new
+        ensures { (index : ℕ) (old new : Latch R) → IsRest R.remaining old new
             → cause self.now R R.remaining index old new Memory };
 }
 

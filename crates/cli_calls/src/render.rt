@@ -11,13 +11,13 @@ use crate::command::Input;
 use crate::fault::CliFault;
 use crate::sources::{catalogue_of, read_audible};
 use crate::union::UnionOfLogs;
+use base_io::Latch;
 use mt_cuewrite::{BounceFault, Head, bounce};
-use mt_latch::Latch;
-use mt_preflight::Audible;
 use mt_render::{Format, HashedFile, Mix, MixFault};
 use mt_sessionview::{Session, of_log};
 use std::alloc::Allocator;
 use std::io::{Read, Write};
+use text_check::Audible;
 
 /// Why a programme is not mixed.
 pub(crate) fn refused_mix(fault: MixFault) -> CliFault

@@ -9,12 +9,12 @@ use crate::command::{Command, run};
 use crate::fault::CliFault;
 use crate::put::put_bytes;
 use crate::union::OneLog;
-use mt_latch::Latch;
+use base_io::Latch;
 use mt_opcodec::Log;
-use mt_revert::{RevertFault, revert_text};
 use mt_stamp::Stamp;
 use std::alloc::Allocator;
 use std::io::{Read, Write};
+use text_revert::{RevertFault, revert_text};
 
 // The script that takes the operations of these stamps back.
 #[derive(Drop)]
@@ -42,7 +42,7 @@ impl<A: Allocator + Clone> Command<A, Log<A>> for Revert<'_> {
 }
 
 /// Writes the script that takes the operations of these stamps of the log of the one input back, and nothing
-/// else: the text of `mt_revert`.
+/// else: the text of `text_revert`.
 ///
 /// Errors, in this order: `Read` (45) where the input's latch has failed, or `Log` (11 to 16, 52) where its
 /// bytes are no log, each with index 0; `NoSuchItem` (21) with 0 where no operation of the log has one of the

@@ -2,37 +2,37 @@
 
 ghost use Rattle.std.specs.Prelude.{◌≡◌, ℕ, ◌+◌, List, map, length, IfOk};
 ghost use Rattle.mt_bwfread.specs.Wave.{fault_of};
-ghost use Rattle.mt_outline.specs.Outline.{IsOutline};
-ghost use Rattle.mt_preflight.specs.Files.{recording_of};
+ghost use Rattle.wave_header.specs.WaveHeader.{IsWaveHeader};
+ghost use Rattle.text_check.specs.Files.{recording_of};
 ghost use Rattle.cli_calls.specs.Running.{lent, Ran};
 ghost use Rattle.cli_calls.specs.SourcesListing.{given_files, sources_in, GaveListed, ListedCause};
 ghost use Rattle.cli_calls.specs.Writing.{Prints};
 
 use crate::command::{Command, Input, run};
 use crate::fault::CliFault;
-use crate::form::{LineForm, put_in_form};
+use crate::form::{TextOptions, put_in_form};
 use crate::pull::count_pairs;
-use crate::read::{OneInput, read_each, read_log, read_outline};
+use crate::read::{OneInput, read_each, read_header, read_log};
+use base_io::Latch;
 use mt_bwfread::{Wave, WaveFault};
-use mt_latch::Latch;
 use mt_op::Digest;
 use mt_opcodec::Log;
-use mt_outline::Outline;
-use mt_preflight::{Given, Listing, Recording, sources_text};
 use mt_sessionview::from_scratch;
 use std::alloc::{AllocError, Allocator};
 use std::io::{Read, Write};
+use text_check::{Given, Listing, Recording, sources_text};
+use wave_header::WaveHeader;
 
 // What the file of this outline is.
-fn recording_of<A: Allocator>(outline: &Outline<A>) -> Result<Recording, WaveFault>
-    ensures { (text : List ℕ) → IsOutline text outline.now → result ≡ recording_of text (fault_of text) }
+fn recording_of<A: Allocator>(header: &WaveHeader<A>) -> Result<Recording, WaveFault>
+    ensures { (text : List ℕ) → IsWaveHeader text header.now → result ≡ recording_of text (fault_of text) }
 {
-    match Wave::read(outline.bytes()) {
+    match Wave::read(header.bytes()) {
         Ok(wave) => Ok(Recording {
-            digest: Digest(outline.digest()),
+            digest: Digest(header.digest()),
             rate: wave.rate(),
             channels: wave.channels(),
-            frames: outline.frames(&wave),
+            frames: header.frames(&wave),
         }),
         Err(fault) => Err(fault),
     }
@@ -56,8 +56,8 @@ impl<A: Allocator + Clone> OneInput<A> for FileInput {
         index: usize,
         input: &mut Latch<R>,
     ) -> Result<Result<Recording, WaveFault>, CliFault> {
-        match read_outline(alloc, index + 1, input) {
-            Ok(outline) => Ok(recording_of(&outline)),
+        match read_header(alloc, index + 1, input) {
+            Ok(header) => Ok(recording_of(&header)),
             Err(fault) => Err(fault),
         }
     }
@@ -127,7 +127,7 @@ fn given_files<'n, A: Allocator>(
 // The text on the recordings of a log's session, and on files of these names.
 #[derive(Drop)]
 struct SourceList<'n> {
-    form: LineForm,
+    form: TextOptions,
     which: Listing,
     names: &'n [&'n str],
 }
@@ -155,7 +155,7 @@ impl<A: Allocator + Clone> Command<A, Listed<A>> for SourceList<'_> {
 }
 
 /// Writes which recordings the clips of the session of the log of the first input name, and which of the
-/// files of the others these are, in one of the ways of `mt_preflight` and in a form of lines. `names` are
+/// files of the others these are, in one of the ways of `text_check` and in a form of lines. `names` are
 /// those of the files, as they are printed, one for each. The memory is that of the log, of its session and
 /// of the outline of one file at a time.
 ///
@@ -165,7 +165,7 @@ impl<A: Allocator + Clone> Command<A, Listed<A>> for SourceList<'_> {
 /// where an allocation failed. A file that is no wave file is printed, and is no error.
 pub fn list_sources<A: Allocator + Clone, R: Read, W: Write>(
     alloc: A,
-    form: LineForm,
+    form: TextOptions,
     which: Listing,
     names: &[&str],
     inputs: &mut [Latch<R>],

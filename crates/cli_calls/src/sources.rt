@@ -6,22 +6,22 @@ ghost use Rattle.std.specs.Vec.{vec_capacity};
 ghost use Rattle.sha2.specs.Sha256.{sha256};
 ghost use Rattle.mt_bwfread.specs.Wave.{IsWave};
 ghost use Rattle.mt_op.specs.declared.digest.Digest.{Digest as DigestOf};
-ghost use Rattle.mt_preflight.specs.Using.{plays};
+ghost use Rattle.text_check.specs.Using.{plays};
 ghost use Rattle.mt_render.specs.Sources.{found, sources_of};
 ghost use Rattle.cli_calls.specs.Reading.{Gave, IsRead, IsRest, AreRead};
 ghost use Rattle.cli_calls.specs.Sources.{IsSourceCause, HasSourceCause, HoldWanted, GaveKept, GaveWaves, bytes_in};
 
 use crate::fault::CliFault;
 use crate::read::read_into;
+use base_io::Latch;
+use base_sha256::digests_of;
 use mt_bwfread::Wave;
-use mt_digests::digests_of;
-use mt_latch::Latch;
 use mt_op::Digest;
-use mt_preflight::Audible;
 use mt_render::{Catalogue, HashedFile};
 use std::alloc::{AllocError, Allocator};
 use std::io::Read;
 use std::mem;
+use text_check::Audible;
 
 // How many recordings are held until they are hashed together and those that are not audible are let go.
 const GROUP: usize = 8;

@@ -6,8 +6,8 @@ ghost use Rattle.cli_calls.specs.Swapping.{lent_talk, Swapped};
 use crate::fault::CliFault;
 use crate::put::put_lent;
 use crate::take::refused_sync;
-use mt_latch::Latch;
-use mt_sync::{Holder, Side, converse};
+use base_io::Latch;
+use mt_sync::{OpStore, Side, converse};
 use std::alloc::{Allocator, Global};
 use std::io::{Read, Write};
 
@@ -19,7 +19,7 @@ use std::io::{Read, Write};
 /// `Write` (37) where the output's latch has failed, which then holds a prefix of the log's text; `Memory`
 /// (0) where an allocation failed. Holder, reader and writer are as `converse` leaves them; where memory
 /// ran out after the conversation the holder may have failed.
-pub fn swap_log<A: Allocator + Clone, R: Read, W: Write, O: Write, H: Holder<A>>(
+pub fn swap_log<A: Allocator + Clone, R: Read, W: Write, O: Write, H: OpStore<A>>(
     alloc: A,
     frames: Global,
     holder: &mut H,

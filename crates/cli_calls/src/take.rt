@@ -6,13 +6,13 @@ ghost use Rattle.cli_calls.specs.Reading.{GaveBoth, BothCause};
 ghost use Rattle.cli_calls.specs.Running.{lent, Ran};
 ghost use Rattle.cli_calls.specs.Swapping.{TakeMakes, Taken, NotTaken};
 
-use crate::both::{Both, LogThenBytes};
+use crate::both::{LogAndBytes, LogThenBytes};
 use crate::command::{Command, run};
 use crate::fault::CliFault;
 use crate::put::put_log;
-use mt_latch::Latch;
+use base_io::Latch;
 use mt_opcodec::Log;
-use mt_sync::{GrowingLog, SyncFault, TalkFault, take_ops};
+use mt_sync::{LogBuilder, SyncFault, TalkFault, take_ops};
 use std::alloc::{Allocator, Global};
 use std::io::{Read, Write};
 
@@ -36,7 +36,7 @@ pub(crate) fn with_sent<A: Allocator + Clone>(
     ensures ok { IfOk result (Taken log sent.now) }
     ensures err { IfErr result (NotTaken log sent.now) }
 {
-    let mut growing = GrowingLog::new(alloc.clone()?, log)?;
+    let mut growing = LogBuilder::new(alloc.clone()?, log)?;
     match take_ops(alloc, frames, &mut growing, sent) {
         Ok(()) => match growing.into_log() {
             Ok(log) => Ok(log),
@@ -52,7 +52,7 @@ struct Take {
     frames: Global,
 }
 
-impl<A: Allocator + Clone> Command<A, Both<A>> for Take {
+impl<A: Allocator + Clone> Command<A, LogAndBytes<A>> for Take {
     ghost use Rattle.cli_calls.specs.Swapping.{TakeMakes};
 
     ghost makes = { λ _. TakeMakes };
@@ -60,10 +60,10 @@ impl<A: Allocator + Clone> Command<A, Both<A>> for Take {
     fn write_value<W: Write>(
         &self,
         alloc: A,
-        both: Both<A>,
+        both: LogAndBytes<A>,
         output: &mut Latch<W>,
     ) -> Result<(), CliFault> {
-        let Both { log, bytes } = both;
+        let LogAndBytes { log, bytes } = both;
         match with_sent(alloc, self.frames, log, &bytes) {
             Ok(log) => put_log(&log, output),
             Err(fault) => Err(fault),

@@ -7,7 +7,7 @@ ghost use Rattle.cli_calls.specs.Joining.{AllFail};
 use crate::command::Input;
 use crate::fault::CliFault;
 use crate::read::{LogInput, read_each, read_log};
-use mt_latch::Latch;
+use base_io::Latch;
 use mt_opcodec::{Log, LogFault};
 use std::alloc::Allocator;
 use std::io::Read;

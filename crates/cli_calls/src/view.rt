@@ -10,9 +10,9 @@ ghost use Rattle.cli_calls.specs.Writing.{Exactly, Prints, Wrote};
 
 use crate::command::{Command, run};
 use crate::fault::CliFault;
-use crate::form::{LineForm, put_in_form};
+use crate::form::{TextOptions, put_in_form};
 use crate::union::UnionOfLogs;
-use mt_latch::Latch;
+use base_io::Latch;
 use mt_opcodec::Log;
 use mt_sessionview::{Session, of_log, write_text};
 use std::alloc::Allocator;
@@ -34,7 +34,7 @@ fn put_session<A: Allocator, W: Write>(
 // Writes the text of a session in a form. What is as it is need not be made in memory.
 fn put_session_in<A: Allocator + Clone, W: Write>(
     alloc: A,
-    form: LineForm,
+    form: TextOptions,
     session: &Session<A>,
     output: &mut Latch<W>,
 ) -> Result<(), CliFault>
@@ -53,7 +53,7 @@ fn put_session_in<A: Allocator + Clone, W: Write>(
 // The text of a log's session, in a form.
 #[derive(Drop)]
 struct View {
-    form: LineForm,
+    form: TextOptions,
 }
 
 impl<A: Allocator + Clone> Command<A, Log<A>> for View {
@@ -89,7 +89,7 @@ pub fn view_logs<A: Allocator + Clone, R: Read, W: Write>(
         (lent inputs.old output.old) (lent inputs.new output.new) result }
 {
     let view = View {
-        form: LineForm::PLAIN,
+        form: TextOptions::PLAIN,
     };
     run(&UnionOfLogs, &view, alloc, inputs, output)
 }
@@ -97,7 +97,7 @@ pub fn view_logs<A: Allocator + Clone, R: Read, W: Write>(
 /// Writes the text of `view_logs` in a form: with times, as JSON objects, or as it is. Fails as `view_logs`.
 pub fn view_logs_in<A: Allocator + Clone, R: Read, W: Write>(
     alloc: A,
-    form: LineForm,
+    form: TextOptions,
     inputs: &mut [Latch<R>],
     output: &mut Latch<W>,
 ) -> Result<(), CliFault>

@@ -6,7 +6,7 @@ mod zsh;
 
 use crate::escape::{Language, put_escaped};
 use crate::words::{Lists, Word, Words};
-use mt_latch::{BufferedLatch, Latch, LatchFault};
+use base_io::{BufferedLatch, Latch, LatchFault};
 use std::io::Write;
 
 /// A shell.

@@ -1,9 +1,9 @@
 //! Texts in a language in which some of their bytes would mean something else.
 
-ghost use Rattle.mt_latch.specs.Buffered.{Puts};
+ghost use Rattle.base_io.specs.Buffered.{Puts};
 ghost use Rattle.cli_words.specs.Escaping.{roff_byte, zsh_byte, fish_byte, escaped_byte, escaped};
 
-use mt_latch::BufferedLatch;
+use base_io::BufferedLatch;
 use std::io::Write;
 
 /// What a text is written in.
@@ -68,7 +68,7 @@ fn put_byte<W: Write>(output: &mut BufferedLatch<'_, W>, language: Language, byt
 }
 
 /// Puts a text, which the language reads as this text.
-#[tactic(auto, using(mt_latch::proofs::Putting::puts_none))]
+#[tactic(auto, using(base_io::proofs::Putting::puts_none))]
 pub(crate) fn put_escaped<W: Write>(
     output: &mut BufferedLatch<'_, W>,
     language: Language,

@@ -5,7 +5,7 @@
 //!
 //! ```rust
 //! use cli_words::{Lists, Words, put_page};
-//! use mt_latch::Latch;
+//! use base_io::Latch;
 //! use std::str;
 //! use std::test::Fail;
 //!

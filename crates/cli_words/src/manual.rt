@@ -1,8 +1,8 @@
 //! The page of the manual, in roff.
 
 use crate::escape::{Language, put_escaped};
-use crate::words::{ABOUT, HELP, HELP_COMMAND, Lists, NUMBER, Shape, VERSION, WHY, Word, Words};
-use mt_latch::{BufferedLatch, Latch, LatchFault};
+use crate::words::{ABOUT, ArgKind, HELP, HELP_COMMAND, Lists, NUMBER, VERSION, WHY, Word, Words};
+use base_io::{BufferedLatch, Latch, LatchFault};
 use std::io::Write;
 
 const SYNOPSIS: &[u8] = b"
@@ -89,11 +89,11 @@ fn put_after<W: Write>(page: &mut BufferedLatch<'_, W>, after: &str) {
 // Puts a word of a command's line, if it is no option.
 fn put_place<W: Write>(page: &mut BufferedLatch<'_, W>, word: &Word) {
     let (front, behind) = match word.shape() {
-        Shape::One => (" ", ""),
-        Shape::Optional => (" [", "]"),
-        Shape::Any => (" [", "]..."),
-        Shape::Many => (" ", "..."),
-        Shape::Flag | Shape::Valued => return,
+        ArgKind::One => (" ", ""),
+        ArgKind::Optional => (" [", "]"),
+        ArgKind::Any => (" [", "]..."),
+        ArgKind::Many => (" ", "..."),
+        ArgKind::Flag | ArgKind::Valued => return,
     };
     page.put(front.as_bytes());
     put_text(page, word.name());

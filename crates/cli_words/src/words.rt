@@ -1,8 +1,8 @@
 //! The words of commands, as data, and what the parser takes of them.
 
+use base_io::BufferedLatch;
 use clap::builder::ValueParser;
 use clap::{Arg, ArgAction, Command};
-use mt_latch::BufferedLatch;
 use std::alloc::{AllocError, Global};
 use std::io::Write;
 
@@ -114,7 +114,7 @@ pub(crate) fn has_below(lists: &Lists) -> bool {
 
 /// How a word is written.
 #[derive(Clone, Copy, PartialEq, Eq)]
-pub enum Shape {
+pub enum ArgKind {
     /// One that has to be there, at its place among those that are no options.
     One,
     /// One that may be left out.
@@ -165,25 +165,25 @@ impl Word {
     }
 
     /// How it is written.
-    pub fn shape(&self) -> Shape {
+    pub fn shape(&self) -> ArgKind {
         match self {
-            Word::Needed { .. } => Shape::One,
-            Word::OneOf { .. } => Shape::One,
-            Word::Number { .. } => Shape::Optional,
-            Word::Any { .. } => Shape::Any,
-            Word::Many { .. } => Shape::Many,
-            Word::Text { .. } => Shape::Valued,
-            Word::Count { .. } => Shape::Valued,
-            Word::Limit { .. } => Shape::Valued,
-            Word::Files { .. } => Shape::Valued,
-            Word::Flag { .. } => Shape::Flag,
-            Word::Choice { .. } => Shape::Flag,
+            Word::Needed { .. } => ArgKind::One,
+            Word::OneOf { .. } => ArgKind::One,
+            Word::Number { .. } => ArgKind::Optional,
+            Word::Any { .. } => ArgKind::Any,
+            Word::Many { .. } => ArgKind::Many,
+            Word::Text { .. } => ArgKind::Valued,
+            Word::Count { .. } => ArgKind::Valued,
+            Word::Limit { .. } => ArgKind::Valued,
+            Word::Files { .. } => ArgKind::Valued,
+            Word::Flag { .. } => ArgKind::Flag,
+            Word::Choice { .. } => ArgKind::Flag,
         }
     }
 
     /// Whether it is an option.
     pub fn is_option(&self) -> bool {
-        matches!(self.shape(), Shape::Flag | Shape::Valued)
+        matches!(self.shape(), ArgKind::Flag | ArgKind::Valued)
     }
 
     /// What stands for its value; nothing of one that has none.

@@ -4,7 +4,7 @@ use Rattle.std.specs.Ordering.{ordering_then, is_eq, eq_by_cmp}
 use Rattle.std.specs.declared.cmp.Ordering.{Ordering}
 use Rattle.std.specs.declared.cmp.Ordering.TheVariants.{Less, Equal, Greater}
 use Rattle.std.specs.Cmp.{tied_itself, Equal-is}
-use Rattle.mt_stamp.specs.Moment.{Moment, stamp_cmp}
+use Rattle.mt_stamp.specs.StampOrder.{Stamp, stamp_cmp}
 use Rattle.mt_stamp.proofs.Order.{stamp_cmp_total, stamp_cmp-IsAntisymmetric}
 use Rattle.mt_stamp.specs.Written.{Written}
 use Rattle.mt_cells.specs.Pairs.{written_cmp}
@@ -29,5 +29,5 @@ module _ {T : Type 0} (cmp : T → T → Ordering) (eq : T → T → Bool) (matc
 
       back : (a.writer ≡ b.writer) × IsTrue (eq a.value b.value) → IsTrue result
       back same =
-          let tied : stamp_cmp a.writer b.writer ≡ Equal = ap (λ (s : Moment). stamp_cmp a.writer s) (sym same.0) ∙ tied_itself stamp_cmp_total a.writer in
+          let tied : stamp_cmp a.writer b.writer ≡ Equal = ap (λ (s : Stamp). stamp_cmp a.writer s) (sym same.0) ∙ tied_itself stamp_cmp_total a.writer in
           is ∙ ap (λ (o : Ordering). is_eq (ordering_then o (cmp a.value b.value))) tied ∙ sym (matches a.value b.value) ∙ same.1

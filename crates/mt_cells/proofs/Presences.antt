@@ -5,20 +5,20 @@ use Rattle.std.specs.List.{list_any}
 use Rattle.std.specs.FinSet as set
 use Rattle.std.specs.Ordering.{eq_by_cmp}
 use Rattle.std.specs.Cmp.{Equal-is}
-use Rattle.mt_stamp.specs.Moment.{Moment, stamp_cmp}
+use Rattle.mt_stamp.specs.StampOrder.{Stamp, stamp_cmp}
 use Rattle.mt_stamp.proofs.Order.{stamp_cmp-IsAntisymmetric}
-use Rattle.mt_cells.specs.Marks.{Marks, is_live, IsPresent, together, same_marks}
+use Rattle.mt_cells.specs.PresenceValue.{Presence, is_live, IsPresent, together, same_marks}
 use Rattle.mt_cells.specs.Together.{same_set, contains-union, within, is_within, same_marks-of}
 
 abbrev Stamps : Type 0
 Stamps = set.FinSet stamp_cmp
 
 -- what passes in a list that has it
-found : (p : Moment → Bool) (stamps : List Moment) → IsTrue (list_any p stamps) → (stamp : Moment) × IsTrue (p stamp)
+found : (p : Stamp → Bool) (stamps : List Stamp) → IsTrue (list_any p stamps) → (stamp : Stamp) × IsTrue (p stamp)
 found p [] one = absurd (true≢false (sym one))
 found p (stamp ∷ stamps) one = by (p stamp) refl one (found p stamps)
   where
-    by : (b : Bool) → p stamp ≡ b → IsTrue (b || list_any p stamps) → (IsTrue (list_any p stamps) → (other : Moment) × IsTrue (p other)) → (other : Moment) × IsTrue (p other)
+    by : (b : Bool) → p stamp ≡ b → IsTrue (b || list_any p stamps) → (IsTrue (list_any p stamps) → (other : Stamp) × IsTrue (p other)) → (other : Stamp) × IsTrue (p other)
     by true passes some later = (stamp, passes)
     by false passes some later = later some
 
@@ -27,7 +27,7 @@ or_either true = refl
 or_either false = refl
 
 -- a list passes where a listed stamp does
-passes_at : (p : Moment → Bool) (stamp : Moment) → IsTrue (p stamp) → (stamps : List Moment) → IsTrue (list_any (eq_by_cmp stamp_cmp stamp) stamps) → IsTrue (list_any p stamps)
+passes_at : (p : Stamp → Bool) (stamp : Stamp) → IsTrue (p stamp) → (stamps : List Stamp) → IsTrue (list_any (eq_by_cmp stamp_cmp stamp) stamps) → IsTrue (list_any p stamps)
 passes_at p stamp passes [] one = one
 passes_at p stamp passes (other ∷ stamps) one = by (eq_by_cmp stamp_cmp stamp other) refl one (passes_at p stamp passes stamps)
   where
@@ -48,17 +48,17 @@ live_lacks true false live removed = true≢false (sym removed)
 live_lacks false b live removed = true≢false (sym live)
 
 -- the items of a set of tags without a live one are all removed
-none_left : (m : Marks) → list_any (is_live m) (set.items m.tags) ≡ false → IsTrue (set.is_subset m.tags m.removed)
+none_left : (m : Presence) → list_any (is_live m) (set.items m.tags) ≡ false → IsTrue (set.is_subset m.tags m.removed)
 none_left m none = is_within m.tags m.removed (λ stamp has. by stamp has (set.contains m.removed stamp) refl)
   where
-    by : (stamp : Moment) → IsTrue (set.contains m.tags stamp) → (b : Bool) → set.contains m.removed stamp ≡ b → IsTrue b
+    by : (stamp : Stamp) → IsTrue (set.contains m.tags stamp) → (b : Bool) → set.contains m.removed stamp ≡ b → IsTrue b
     by stamp has true is = refl
     by stamp has false is =
         let live : IsTrue (is_live m stamp) = (λ i. has i && not (is i)) in
         absurd (true≢false (sym (passes_at (is_live m) stamp live (set.items m.tags) (sym (set.contains-items m.tags stamp) ∙ has)) ∙ none))
 
 -- there is a live tag exactly where the tags are not all removed
-pub present_exactly : (m : Marks) (b : Bool) → b ≡ set.is_subset m.tags m.removed → IsTrue (not b) ↔ IsPresent m
+pub present_exactly : (m : Presence) (b : Bool) → b ≡ set.is_subset m.tags m.removed → IsTrue (not b) ↔ IsPresent m
 present_exactly m true is = (
   λ lost. absurd (true≢false (sym lost)),
   λ present. absurd (live_lacks (set.contains m.tags present.0) (set.contains m.removed present.0) present.1
@@ -85,16 +85,16 @@ in_itself s = is_within s s (λ stamp has. has)
 in_union : (s t : Stamps) → IsTrue (set.is_subset s (set.union s t))
 in_union s t = is_within s (set.union s t) (λ stamp has. contains-union s t stamp ∙ ap (λ (b : Bool). b || set.contains t stamp) has)
 
-absorbed : (a n : Marks) → IsTrue (set.is_subset a.tags n.tags) → IsTrue (set.is_subset a.removed n.removed) → IsTrue (same_marks (together a n) n)
+absorbed : (a n : Presence) → IsTrue (set.is_subset a.tags n.tags) → IsTrue (set.is_subset a.removed n.removed) → IsTrue (same_marks (together a n) n)
 absorbed a n tags removed = same_marks-of (together a n) n (λ i. record { tags = absorbs a.tags n.tags tags i; removed = absorbs a.removed n.removed removed i })
 
 -- where joined marks lie when the tags, and when the removed ones, were joined in part
-module _ (a o : Marks) (tags removed other_tags other_removed : Stamps) (view : ◌≡◌ {A = Marks} (record { tags = tags; removed = removed }) a) (other_view : ◌≡◌ {A = Marks} (record { tags = other_tags; removed = other_removed }) o) where
+module _ (a o : Presence) (tags removed other_tags other_removed : Stamps) (view : ◌≡◌ {A = Presence} (record { tags = tags; removed = removed }) a) (other_view : ◌≡◌ {A = Presence} (record { tags = other_tags; removed = other_removed }) o) where
   pub tags_from : (new : Stamps) → IsTrue (set.is_subset tags new) → IsTrue (same_marks (together a (record { tags = new; removed = removed })) (record { tags = new; removed = removed }))
   tags_from new from =
       absorbed a (record { tags = new; removed = removed })
-      (ap (λ (m : Marks). set.is_subset m.tags new) (sym view) ∙ from)
-      (ap (λ (m : Marks). set.is_subset m.removed removed) (sym view) ∙ in_itself removed)
+      (ap (λ (m : Presence). set.is_subset m.tags new) (sym view) ∙ from)
+      (ap (λ (m : Presence). set.is_subset m.removed removed) (sym view) ∙ in_itself removed)
 
   pub tags_to : (new : Stamps) → IsTrue (set.is_subset new (set.union tags other_tags)) → IsTrue (same_marks (together (record { tags = new; removed = removed }) (together a o)) (together a o))
   tags_to new to =
@@ -107,7 +107,7 @@ module _ (a o : Marks) (tags removed other_tags other_removed : Stamps) (view : 
     removed_from from =
         absorbed a (record { tags = all; removed = new })
         ((λ i. set.is_subset (sym view i).tags (union i)) ∙ in_union tags other_tags)
-        (ap (λ (m : Marks). set.is_subset m.removed new) (sym view) ∙ from)
+        (ap (λ (m : Presence). set.is_subset m.removed new) (sym view) ∙ from)
 
     pub removed_to : IsTrue (set.is_subset new (set.union removed other_removed)) → IsTrue (same_marks (together (record { tags = all; removed = new }) (together a o)) (together a o))
     removed_to to =

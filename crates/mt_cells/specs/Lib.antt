@@ -1,6 +1,6 @@
 pub mod Folds
 pub mod Pairs
 pub mod Greater
-pub mod Marks
+pub mod PresenceValue
 pub mod Together
 pub mod Laws

@@ -4,9 +4,9 @@ ghost use Rattle.std.specs.Prelude.{◌≡◌, ◌↔◌, IsTrue, IfOk, OnOk, On
 ghost use Rattle.std.specs.List.Sorted.{IsStrictlySortedBy};
 ghost use Rattle.std.specs.Ordering.{eq_by_cmp};
 ghost use Rattle.std.specs.FinSet as set;
-ghost use Rattle.mt_stamp.specs.Moment.{Moment, stamp_cmp};
+ghost use Rattle.mt_stamp.specs.StampOrder.{Stamp, stamp_cmp};
 ghost use Rattle.mt_cells.specs.Folds.{is_in};
-ghost use Rattle.mt_cells.specs.Marks.{unmarked, is_live, IsPresent};
+ghost use Rattle.mt_cells.specs.PresenceValue.{unmarked, is_live, IsPresent};
 
 use crate::fault::CellFault;
 use crate::join::Join;
@@ -27,9 +27,9 @@ pub struct Presence<A: Allocator = Global> {
 }
 
 impl<A: Allocator> Model for Presence<A> {
-    ghost use Rattle.mt_cells.specs.Marks.{Marks, marks_code};
+    ghost use Rattle.mt_cells.specs.PresenceValue.{Presence, marks_code};
 
-    ghost Value = { Marks };
+    ghost Value = { Presence };
 
     ghost coded = { marks_code };
 
@@ -90,7 +90,7 @@ impl<A: Allocator> Presence<A> {
     where
         A: Clone,
         ensures rising { IfOk result (λ tags. IsStrictlySortedBy stamp_cmp tags.items) }
-        ensures live { IfOk result (λ tags. (stamp : Moment) → is_in (eq_by_cmp stamp_cmp) tags.items stamp ≡ is_live self.now stamp) }
+        ensures live { IfOk result (λ tags. (stamp : Stamp) → is_in (eq_by_cmp stamp_cmp) tags.items stamp ≡ is_live self.now stamp) }
     {
         self.tags.difference(&self.alloc, &self.removed)
     }
@@ -111,7 +111,7 @@ impl<A: Allocator> Presence<A> {
 
 impl<A: Allocator> PartialEq for Presence<A> {
     ghost use Rattle.std.specs.Cmp.{partial_equiv_from_equiv};
-    ghost use Rattle.mt_cells.specs.Marks.{same_marks};
+    ghost use Rattle.mt_cells.specs.PresenceValue.{same_marks};
     ghost use Rattle.mt_cells.specs.Together.{same_marks_equiv};
 
     ghost eq = { same_marks };
@@ -134,7 +134,7 @@ impl<A: Allocator> Eq for Presence<A> {
 
 impl<A: Allocator + Clone> Join for Presence<A> {
     ghost use Rattle.std.specs.Prelude.{true};
-    ghost use Rattle.mt_cells.specs.Marks.{together};
+    ghost use Rattle.mt_cells.specs.PresenceValue.{together};
     ghost use Rattle.mt_cells.specs.Together.{together_commutative, together_associative, together_idempotent, together_respects};
 
     ghost joined = { together };

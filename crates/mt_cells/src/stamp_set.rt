@@ -5,7 +5,7 @@ ghost use Rattle.std.specs.List.{list_all, filter};
 ghost use Rattle.std.specs.List.Sorted.{IsStrictlySortedBy};
 ghost use Rattle.std.specs.Ordering.{eq_by_cmp};
 ghost use Rattle.std.specs.FinSet as set;
-ghost use Rattle.mt_stamp.specs.Moment.{Moment, stamp_cmp};
+ghost use Rattle.mt_stamp.specs.StampOrder.{Stamp, stamp_cmp};
 ghost use Rattle.mt_cells.specs.Folds.{is_in};
 
 use crate::fault::CellFault;
@@ -17,7 +17,7 @@ use std::marker::Model;
 
 /// Where the stamps of a set are: up to two take no memory.
 #[derive(Drop)]
-enum Kept<A: Allocator> {
+enum Inline<A: Allocator> {
     Nothing,
     One(Stamp),
     Two(Stamp, Stamp),
@@ -27,13 +27,13 @@ enum Kept<A: Allocator> {
 /// A set of stamps, which takes memory from its third stamp on.
 #[derive(Drop)]
 pub(crate) struct StampSet<A: Allocator> {
-    stamps: Kept<A>,
+    stamps: Inline<A>,
 }
 
 impl<A: Allocator> Model for StampSet<A> {
     ghost use Rattle.std.specs.FinSet as set;
-    ghost use Rattle.mt_stamp.specs.Moment.{stamp_cmp};
-    ghost use Rattle.mt_cells.specs.Marks.{stamps_code, stamps_in};
+    ghost use Rattle.mt_stamp.specs.StampOrder.{stamp_cmp};
+    ghost use Rattle.mt_cells.specs.PresenceValue.{stamps_code, stamps_in};
 
     ghost Value = { set.FinSet stamp_cmp };
 
@@ -75,7 +75,7 @@ impl<A: Allocator> StampSet<A> {
         ensures { result ≡ set.empty }
     {
         StampSet {
-            stamps: Kept::Nothing,
+            stamps: Inline::Nothing,
         }
     }
 
@@ -83,10 +83,10 @@ impl<A: Allocator> StampSet<A> {
         ensures { result ≡ set.contains self.now stamp.now }
     {
         match &self.stamps {
-            Kept::Nothing => false,
-            Kept::One(one) => stamp == one,
-            Kept::Two(one, another) => stamp == one || stamp == another,
-            Kept::Many(stamps) => stamps.contains(stamp),
+            Inline::Nothing => false,
+            Inline::One(one) => stamp == one,
+            Inline::Two(one, another) => stamp == one || stamp == another,
+            Inline::Many(stamps) => stamps.contains(stamp),
         }
     }
 
@@ -95,11 +95,11 @@ impl<A: Allocator> StampSet<A> {
         ensures { result ≡ set.is_subset self.now other.now }
     {
         match (&self.stamps, &other.stamps) {
-            (Kept::Nothing, _) => true,
-            (Kept::One(one), _) => other.contains(one),
-            (Kept::Two(one, another), _) => other.contains(one) && other.contains(another),
-            (Kept::Many(stamps), Kept::Many(others)) => stamps.is_subset(others),
-            (Kept::Many(stamps), _) => are_in(stamps, other),
+            (Inline::Nothing, _) => true,
+            (Inline::One(one), _) => other.contains(one),
+            (Inline::Two(one, another), _) => other.contains(one) && other.contains(another),
+            (Inline::Many(stamps), Inline::Many(others)) => stamps.is_subset(others),
+            (Inline::Many(stamps), _) => are_in(stamps, other),
         }
     }
 
@@ -111,20 +111,20 @@ impl<A: Allocator> StampSet<A> {
         ensures kept { OnErr result (self.new ≡ self.old) }
     {
         match &mut self.stamps {
-            Kept::Nothing => self.stamps = Kept::One(stamp),
-            Kept::One(one) => {
+            Inline::Nothing => self.stamps = Inline::One(stamp),
+            Inline::One(one) => {
                 let one = *one;
                 if !self.contains(&stamp) {
-                    self.stamps = Kept::Two(one, stamp);
+                    self.stamps = Inline::Two(one, stamp);
                 }
             }
-            Kept::Two(one, another) => {
+            Inline::Two(one, another) => {
                 let (one, another) = (*one, *another);
                 if !self.contains(&stamp) {
-                    self.stamps = Kept::Many(three(alloc, one, another, stamp)?);
+                    self.stamps = Inline::Many(three(alloc, one, another, stamp)?);
                 }
             }
-            Kept::Many(stamps) => {
+            Inline::Many(stamps) => {
                 stamps.insert(stamp)?;
             }
         }
@@ -141,13 +141,13 @@ impl<A: Allocator> StampSet<A> {
     {
         let StampSet { stamps: others } = other;
         match others {
-            Kept::Nothing => Ok(()),
-            Kept::One(stamp) => self.insert(alloc, stamp),
-            Kept::Two(one, another) => {
+            Inline::Nothing => Ok(()),
+            Inline::One(stamp) => self.insert(alloc, stamp),
+            Inline::Two(one, another) => {
                 self.insert(alloc, one)?;
                 self.insert(alloc, another)
             }
-            Kept::Many(others) => self.append_many(others),
+            Inline::Many(others) => self.append_many(others),
         }
     }
 
@@ -161,17 +161,17 @@ impl<A: Allocator> StampSet<A> {
     {
         let mut others = others;
         match &mut self.stamps {
-            Kept::Nothing => self.stamps = Kept::Many(others),
-            Kept::One(stamp) => {
+            Inline::Nothing => self.stamps = Inline::Many(others),
+            Inline::One(stamp) => {
                 others.insert(*stamp)?;
-                self.stamps = Kept::Many(others);
+                self.stamps = Inline::Many(others);
             }
-            Kept::Two(one, another) => {
+            Inline::Two(one, another) => {
                 others.insert(*one)?;
                 others.insert(*another)?;
-                self.stamps = Kept::Many(others);
+                self.stamps = Inline::Many(others);
             }
-            Kept::Many(stamps) => stamps.append(&mut others)?,
+            Inline::Many(stamps) => stamps.append(&mut others)?,
         }
         Ok(())
     }
@@ -181,18 +181,18 @@ impl<A: Allocator> StampSet<A> {
     where
         A: Clone,
         ensures rising { IfOk result (λ stamps. IsStrictlySortedBy stamp_cmp stamps.items) }
-        ensures members { IfOk result (λ stamps. (stamp : Moment) → is_in (eq_by_cmp stamp_cmp) stamps.items stamp ≡ (set.contains self.now stamp && not (set.contains other.now stamp))) }
+        ensures members { IfOk result (λ stamps. (stamp : Stamp) → is_in (eq_by_cmp stamp_cmp) stamps.items stamp ≡ (set.contains self.now stamp && not (set.contains other.now stamp))) }
     {
         match &self.stamps {
-            Kept::Nothing => Ok(Vec::new(alloc.clone()?)),
-            Kept::One(one) => left_of_one(alloc, one, other),
+            Inline::Nothing => Ok(Vec::new(alloc.clone()?)),
+            Inline::One(one) => left_of_one(alloc, one, other),
             // A set never keeps two equal stamps; no invariant says so, and so they would be given once.
-            Kept::Two(one, another) => match one.cmp(another) {
+            Inline::Two(one, another) => match one.cmp(another) {
                 Ordering::Less => left_of_two(alloc, one, another, other),
                 Ordering::Equal => left_of_one(alloc, one, other),
                 Ordering::Greater => left_of_two(alloc, another, one, other),
             },
-            Kept::Many(stamps) => left_of_many(alloc, stamps, other),
+            Inline::Many(stamps) => left_of_many(alloc, stamps, other),
         }
     }
 
@@ -202,10 +202,10 @@ impl<A: Allocator> StampSet<A> {
         ensures { IfOk result (λ copy. copy ≡ self.now) }
     {
         let stamps = match &self.stamps {
-            Kept::Nothing => Kept::Nothing,
-            Kept::One(one) => Kept::One(*one),
-            Kept::Two(one, another) => Kept::Two(*one, *another),
-            Kept::Many(stamps) => Kept::Many(stamps.clone()?),
+            Inline::Nothing => Inline::Nothing,
+            Inline::One(one) => Inline::One(*one),
+            Inline::Two(one, another) => Inline::Two(*one, *another),
+            Inline::Many(stamps) => Inline::Many(stamps.clone()?),
         };
         Ok(StampSet { stamps })
     }

@@ -1,9 +1,9 @@
 -- Working words: what stops the program without any command.
 use Rattle.std.specs.Prelude.{◌≡◌, true}
-use Rattle.mt_cli.specs.declared.stop.Stop.{Stop}
-use Rattle.mt_cli.specs.declared.stop.Stop.TheVariants.{Refused, Told}
+use Rattle.mt_cli.specs.declared.stop.Exit.{Exit}
+use Rattle.mt_cli.specs.declared.stop.Exit.TheVariants.{Refused, Told}
 
 -- the words do not parse
-abbrev pub IsMistake : Stop → Type 0
+abbrev pub IsMistake : Exit → Type 0
 IsMistake (Refused fault why) = ⊥
 IsMistake (Told text is_mistake) = is_mistake ≡ true

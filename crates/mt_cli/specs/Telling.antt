@@ -4,7 +4,7 @@ use Rattle.std.specs.List.{flat_map, list_any, position}
 use Rattle.std.specs.Str.{bytes_eq}
 use Rattle.std.specs.String.{string_bytes}
 use Rattle.std.specs.Io.KnownBytes.{Appends}
-use Rattle.mt_latch.specs.Latch.{Latched, AppendsPrefix}
+use Rattle.base_io.specs.Latch.{Latch, AppendsPrefix}
 use Rattle.mt_sessionview.specs.SessionText.{newline}
 use Rattle.cli_calls.specs.declared.fault.CliFault.{CliFault}
 use Rattle.cli_calls.specs.Faults.{number_of}
@@ -36,17 +36,17 @@ abbrev pub why_line : List ℕ → List ℕ
 why_line text = codes "radio: why: " ++ (flat_map on_line text ++ newline ∷ [])
 
 -- A text was told, or a prefix of it where the output has failed; one that had failed stays as it was.
-pub record HasTold {E : Type 0} (contents : E → Option (List ℕ)) (old new : Latched E) (text : List ℕ) : Type 0 where
+pub record HasTold {E : Type 0} (contents : E → Option (List ℕ)) (old new : Latch E) (text : List ℕ) : Type 0 where
   pub prefix : AppendsPrefix (contents old.inner) (contents new.inner) text
   pub whole : new.failed ≡ false → Appends (contents old.inner) (contents new.inner) text
   pub stays : old.failed ≡ true → new ≡ old
 
 -- some text was told
-abbrev pub TellsText : {E : Type 0} → (E → Option (List ℕ)) → Latched E → Latched E → Type 0
+abbrev pub TellsText : {E : Type 0} → (E → Option (List ℕ)) → Latch E → Latch E → Type 0
 TellsText contents old new = (text : List ℕ) × HasTold contents old new text
 
 -- nothing was told; or some text, where causes are asked for
-abbrev pub TellsCauses : {E : Type 0} → (E → Option (List ℕ)) → Bool → Latched E → Latched E → Type 0
+abbrev pub TellsCauses : {E : Type 0} → (E → Option (List ℕ)) → Bool → Latch E → Latch E → Type 0
 TellsCauses contents false old new = new ≡ old
 TellsCauses contents true old new = TellsText contents old new
 
@@ -56,8 +56,8 @@ IsRefusal false fault told = told ≡ fault_line fault
 IsRefusal true fault told = (before : List ℕ) × ((text : List ℕ) × (told ≡ before ++ (fault_line fault ++ why_line text)))
 
 -- a refusal was told
-abbrev pub TellsFault : {E : Type 0} → (E → Option (List ℕ)) → Bool → CliFault → Latched E → Latched E → Type 0
+abbrev pub TellsFault : {E : Type 0} → (E → Option (List ℕ)) → Bool → CliFault → Latch E → Latch E → Type 0
 TellsFault contents asked fault old new = (told : List ℕ) × (IsRefusal asked fault told × HasTold contents old new told)
 
-abbrev pub TellsRefusal : {E : Type 0} → (E → Option (List ℕ)) → Bool → Latched E → Latched E → Type 0
+abbrev pub TellsRefusal : {E : Type 0} → (E → Option (List ℕ)) → Bool → Latch E → Latch E → Type 0
 TellsRefusal contents asked old new = (fault : CliFault) × TellsFault contents asked fault old new

@@ -7,11 +7,11 @@ use std::rt::Files;
 
 /// The file of a log that was read, where it is OUT: what is written stands in for this file, and for no other.
 #[derive(Drop)]
-pub(crate) struct Base {
+pub(crate) struct ReplaceGuard {
     log: File,
 }
 
-impl Base {
+impl ReplaceGuard {
     /// The file of a log that was opened by its name, where OUT names it too: by the same text, or as the same file. Refused as `Write` where
     /// the system gives no second handle of it.
     pub(crate) fn of<F: Files<File = File>>(
@@ -19,19 +19,24 @@ impl Base {
         log: &File,
         name: &str,
         out: &str,
-    ) -> Result<Option<Base>, CliFault> {
+    ) -> Result<Option<ReplaceGuard>, CliFault> {
         if name != out && !is_named(rt, log, out) {
             return Ok(None);
         }
         match log.try_clone() {
-            Ok(log) => Ok(Some(Base { log })),
+            Ok(log) => Ok(Some(ReplaceGuard { log })),
             Err(_) => Err(CliFault::Write),
         }
     }
 
     /// Gives a part the name OUT, if OUT is still this file: under its lock, so that of two programs which began with one log one is done, and the
     /// other is not. Answers whether it was given.
-    pub(crate) fn give_way<F: Files<File = File>>(&self, rt: &F, part: &str, out: &str) -> bool {
+    pub(crate) fn rename_if_same<F: Files<File = File>>(
+        &self,
+        rt: &F,
+        part: &str,
+        out: &str,
+    ) -> bool {
         if self.log.try_lock().is_err() {
             return false;
         }

@@ -2,13 +2,13 @@
 
 ghost use Rattle.std.specs.Prelude.{◌≡◌, ◌+◌, length, IfOk};
 
-use crate::base::Base;
+use crate::base::ReplaceGuard;
 use crate::files::{OpenLog, open_log};
-use crate::part::{Naming, Part};
+use crate::part::{Part, WriteOptions};
+use base_io::Latch;
 use clap::ArgMatches;
-use cli_calls::{CliFault, LineForm, read_growing, swap_log};
-use mt_latch::Latch;
-use mt_sync::{GrowingLog, Holder, Side};
+use cli_calls::{CliFault, TextOptions, read_growing, swap_log};
+use mt_sync::{LogBuilder, OpStore, Side};
 use std::alloc::{AllocError, Global};
 use std::fs::File;
 use std::io::{Read, Write};
@@ -71,8 +71,8 @@ fn memory_of_objects(alloc: Global, words: &ArgMatches<'_>) -> Option<Global> {
 }
 
 // The form of lines that these words ask for.
-fn form_of(alloc: Global, words: &ArgMatches<'_>) -> LineForm {
-    LineForm {
+fn form_of(alloc: Global, words: &ArgMatches<'_>) -> TextOptions {
+    TextOptions {
         rate: rate_of_times(words),
         json: memory_of_objects(alloc, words),
     }
@@ -81,8 +81,8 @@ fn form_of(alloc: Global, words: &ArgMatches<'_>) -> LineForm {
 // The log in a file, which is to grow, and the file where it is OUT.
 #[derive(Drop)]
 struct OpenGrowing {
-    growing: GrowingLog,
-    base: Option<Base>,
+    growing: LogBuilder,
+    base: Option<ReplaceGuard>,
 }
 
 fn open_growing<F: Files<File = File> + AllocGlobal>(
@@ -125,7 +125,7 @@ fn swap<F: Files<File = File> + AllocGlobal, S: Read + Write + OpenStream + Drop
     side: Side,
     stream: S,
     out: &str,
-    naming: Naming,
+    naming: WriteOptions,
 ) -> Result<(), CliFault> {
     let alloc = rt.alloc();
     let OpenGrowing { mut growing, base } = opened;
@@ -136,7 +136,7 @@ fn swap<F: Files<File = File> + AllocGlobal, S: Read + Write + OpenStream + Drop
     let mut writer = Latch::new(other);
     let mut part = Part::later(alloc, rt, out, naming)?;
     // for the proof: that the log lies there as one, as it was read
-    let Ok(()) = growing.settle() else {
+    let Ok(()) = growing.compact() else {
         return Err(CliFault::Memory);
     };
     let swapped = swap_log(

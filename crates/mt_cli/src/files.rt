@@ -2,9 +2,9 @@
 
 ghost use Rattle.std.specs.Prelude.{◌≡◌, length, IfOk};
 
-use crate::base::Base;
+use crate::base::ReplaceGuard;
+use base_io::Latch;
 use cli_calls::CliFault;
-use mt_latch::Latch;
 use std::fs::{self, File};
 use std::io::{self, ErrorKind, Read};
 use std::rt::Files;
@@ -39,17 +39,17 @@ pub(crate) fn open<F: Files + AllocGlobal>(
 /// A file that is opened where it is first read, and closed at its end: so as many can be read, one after another, as there are. One that cannot be
 /// opened is one that cannot be read.
 #[derive(Drop)]
-pub(crate) struct LateFile<'r, 'n, F: Files> {
+pub(crate) struct LazyFile<'r, 'n, F: Files> {
     rt: &'r F,
     name: &'n str,
     file: Option<F::File>,
     is_over: bool,
 }
 
-impl<'r, 'n, F: Files> LateFile<'r, 'n, F> {
+impl<'r, 'n, F: Files> LazyFile<'r, 'n, F> {
     /// The file of a name.
-    pub(crate) fn new(rt: &'r F, name: &'n str) -> LateFile<'r, 'n, F> {
-        LateFile {
+    pub(crate) fn new(rt: &'r F, name: &'n str) -> LazyFile<'r, 'n, F> {
+        LazyFile {
             rt,
             name,
             file: None,
@@ -58,7 +58,7 @@ impl<'r, 'n, F: Files> LateFile<'r, 'n, F> {
     }
 }
 
-impl<F: Files> Read for LateFile<'_, '_, F> {
+impl<F: Files> Read for LazyFile<'_, '_, F> {
     fn read(&mut self, buf: &mut [u8]) -> io::Result<usize> {
         if self.is_over {
             return Ok(0);
@@ -98,15 +98,15 @@ pub(crate) fn in_latch<R: Read>(latch: &mut Latch<R>) -> Latch<InLatch<'_, R>> {
 }
 
 /// Files that are opened where they are first read, from left to right.
-pub(crate) fn late_files<'r, 'n, F: Files + AllocGlobal>(
+pub(crate) fn lazy_files<'r, 'n, F: Files + AllocGlobal>(
     rt: &'r F,
     names: &[&'n str],
-) -> Result<Vec<Latch<LateFile<'r, 'n, F>>>, CliFault>
+) -> Result<Vec<Latch<LazyFile<'r, 'n, F>>>, CliFault>
     ensures { IfOk result (λ files. length files.items ≡ length names.now) }
 {
     let mut files = Vec::new(rt.alloc());
     for place in 0..names.len() {
-        files.push(Latch::new(LateFile::new(rt, names[place])))?;
+        files.push(Latch::new(LazyFile::new(rt, names[place])))?;
     }
     Ok(files)
 }
@@ -115,7 +115,7 @@ pub(crate) fn late_files<'r, 'n, F: Files + AllocGlobal>(
 #[derive(Drop)]
 pub(crate) struct OpenLog {
     pub(crate) log: Latch<File>,
-    pub(crate) base: Option<Base>,
+    pub(crate) base: Option<ReplaceGuard>,
 }
 
 /// Opens the log of this index, which OUT may name as well.
@@ -128,7 +128,7 @@ pub(crate) fn open_log<F: Files<File = File>>(
     let Ok(file) = fs::open(rt, name) else {
         return Err(CliFault::Read(index));
     };
-    let base = Base::of(rt, &file, name, out)?;
+    let base = ReplaceGuard::of(rt, &file, name, out)?;
     Ok(OpenLog {
         log: Latch::new(file),
         base,
@@ -139,7 +139,7 @@ pub(crate) fn open_log<F: Files<File = File>>(
 #[derive(Drop)]
 pub(crate) struct OpenLogs {
     pub(crate) logs: Vec<Latch<File>>,
-    pub(crate) base: Option<Base>,
+    pub(crate) base: Option<ReplaceGuard>,
 }
 
 /// Opens the logs from left to right, one of which OUT may name as well.

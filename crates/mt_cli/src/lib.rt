@@ -1,6 +1,6 @@
 //! The commands of `radio`.
 //!
-//! `view_logs`, `list_logs`, `draw_logs`, `merge_logs`, `pull_logs`, `list_sources`, `find_items`, `diff_logs`, `lay_files`, `revert_log`, `check_log`, `bounce_logs`, `info_file`, `write_info`, `write_outline`, `edit_log`, `have_log`, `lack_log`, `take_log` and
+//! `view_logs`, `list_logs`, `draw_logs`, `merge_logs`, `pull_logs`, `list_sources`, `find_items`, `diff_logs`, `lay_files`, `revert_log`, `check_log`, `bounce_logs`, `info_file`, `write_info`, `write_header`, `edit_log`, `have_log`, `lack_log`, `take_log` and
 //! `swap_log` do the work of commands over any readers and writers, of which each is in a latch:
 //!
 //! ```rust
@@ -52,11 +52,11 @@ mod stop;
 mod why;
 
 pub use cli_calls::{
-    CliFault, DiffForm, Drawing, InfoForm, InfoUnit, LayFault, Laying, LineForm, PartFault,
-    SessionDrawing, Wanted, bounce_logs, check_log, diff_logs, draw_logs, edit_log, find_items,
-    have_log, info_file, lack_log, laws, lay_files, list_logs, list_sources, merge_logs, pull_logs,
-    read_growing, revert_log, swap_log, take_log, view_logs, view_logs_in, write_info,
-    write_outline,
+    CliFault, DiffKind, Drawing, FindQuery, InfoForm, InfoUnit, LayFault, Laying, PartFault,
+    SessionDrawing, TextOptions, bounce_logs, check_log, diff_logs, draw_logs, edit_log,
+    find_items, have_log, info_file, lack_log, laws, lay_files, list_logs, list_sources,
+    merge_logs, pull_logs, read_growing, revert_log, swap_log, take_log, view_logs, view_logs_in,
+    write_header, write_info,
 };
 pub use program::command;
 pub use refusals::{Refusal, find_refusal};

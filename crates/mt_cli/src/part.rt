@@ -3,10 +3,10 @@
 ghost use Rattle.std.specs.Prelude.{◌≡◌, ◌≢◌, true, false, Ok, Err, is_err, IfErr, OnOk, ◌⊎◌};
 ghost use Rattle.cli_calls.specs.Faults.{IsOfOutput};
 
-use crate::base::Base;
+use crate::base::ReplaceGuard;
+use base_io::Latch;
 use clap::ArgMatches;
 use cli_calls::{CliFault, PartFault};
-use mt_latch::Latch;
 use std::alloc::{AllocError, Global};
 use std::fs::{self, File, OpenFile, Permissions};
 use std::io::{self, ErrorKind, Write};
@@ -15,25 +15,25 @@ use std::rt::Files;
 
 /// How what is written gets its name.
 #[derive(Clone, Copy)]
-pub(crate) struct Naming {
+pub(crate) struct WriteOptions {
     /// OUT may not be there.
     is_new: bool,
     /// It is on the disk before it gets its name, and its name before the command is done.
     is_synced: bool,
 }
 
-impl Naming {
+impl WriteOptions {
     /// As the flags of a command say.
-    pub(crate) fn of(words: &ArgMatches<'_>) -> Naming {
-        Naming {
+    pub(crate) fn of(words: &ArgMatches<'_>) -> WriteOptions {
+        WriteOptions {
             is_new: words.get_flag("new"),
             is_synced: !words.get_flag("no-sync"),
         }
     }
 
     /// As the flags of a command say that writes a file which is there.
-    pub(crate) fn in_place(words: &ArgMatches<'_>) -> Naming {
-        Naming {
+    pub(crate) fn in_place(words: &ArgMatches<'_>) -> WriteOptions {
+        WriteOptions {
             is_new: false,
             is_synced: !words.get_flag("no-sync"),
         }
@@ -43,25 +43,25 @@ impl Naming {
 /// A file that is made by the first write at the latest. One of its name that is there already is not touched, and the write fails; so does it
 /// where OUT is there and may not be.
 #[derive(Drop)]
-pub(crate) struct PartFile<'a, F: Files> {
+pub(crate) struct TempFile<'a, F: Files> {
     rt: &'a F,
     name: String,
     out: String,
-    naming: Naming,
+    naming: WriteOptions,
     made: Option<F::File>,
     /// Why it could not be made.
     refused: Option<PartFault>,
 }
 
-impl<'a, F: Files> PartFile<'a, F> {
+impl<'a, F: Files> TempFile<'a, F> {
     // One that is not made yet.
     fn unmade(
         alloc: Global,
         rt: &'a F,
         out: &str,
-        naming: Naming,
-    ) -> Result<PartFile<'a, F>, AllocError> {
-        Ok(PartFile {
+        naming: WriteOptions,
+    ) -> Result<TempFile<'a, F>, AllocError> {
+        Ok(TempFile {
             rt,
             name: part_name(alloc, out)?,
             out: String::from_str(alloc, out)?,
@@ -102,7 +102,7 @@ impl<'a, F: Files> PartFile<'a, F> {
     }
 }
 
-impl<F: Files> Write for PartFile<'_, F> {
+impl<F: Files> Write for TempFile<'_, F> {
     fn write(&mut self, bytes: &[u8]) -> io::Result<usize> {
         if let Some(file) = &mut self.made {
             return file.write(bytes);
@@ -131,7 +131,7 @@ impl<F: Files> Write for PartFile<'_, F> {
 /// A file that is written under a name of its own, `OUT.part`, and gets the name OUT once it is whole.
 #[derive(Drop)]
 pub(crate) struct Part<'a, F: Files> {
-    output: Latch<PartFile<'a, F>>,
+    output: Latch<TempFile<'a, F>>,
 }
 
 impl<'a, F: Files> Part<'a, F> {
@@ -141,10 +141,10 @@ impl<'a, F: Files> Part<'a, F> {
         alloc: Global,
         rt: &'a F,
         out: &str,
-        naming: Naming,
+        naming: WriteOptions,
     ) -> Result<Part<'a, F>, CliFault> {
         Ok(Part {
-            output: Latch::new(PartFile::unmade(alloc, rt, out, naming)?),
+            output: Latch::new(TempFile::unmade(alloc, rt, out, naming)?),
         })
     }
 
@@ -154,9 +154,9 @@ impl<'a, F: Files> Part<'a, F> {
         alloc: Global,
         rt: &'a F,
         out: &str,
-        naming: Naming,
+        naming: WriteOptions,
     ) -> Result<Part<'a, F>, CliFault> {
-        let mut part = PartFile::unmade(alloc, rt, out, naming)?;
+        let mut part = TempFile::unmade(alloc, rt, out, naming)?;
         match part.make() {
             Ok(file) => part.made = Some(file),
             Err(fault) => return Err(CliFault::Part(fault)),
@@ -167,7 +167,7 @@ impl<'a, F: Files> Part<'a, F> {
     }
 
     /// Where it is written.
-    pub(crate) fn output(&mut self) -> &mut Latch<PartFile<'a, F>> {
+    pub(crate) fn output(&mut self) -> &mut Latch<TempFile<'a, F>> {
         &mut self.output
     }
 
@@ -177,7 +177,7 @@ impl<'a, F: Files> Part<'a, F> {
     /// not get its name, and as `Write`.
     pub(crate) fn finish(
         self,
-        base: Option<Base>,
+        base: Option<ReplaceGuard>,
         written: Result<(), CliFault>,
     ) -> Result<(), CliFault>
     where
@@ -198,7 +198,7 @@ impl<'a, F: Files> Part<'a, F> {
 }
 
 // A part whose output has failed is taken away: it could not be made, or not be written.
-fn unwritten<F: Files>(part: PartFile<'_, F>) -> Result<(), CliFault>
+fn unwritten<F: Files>(part: TempFile<'_, F>) -> Result<(), CliFault>
     ensures refused { is_err result ≡ true }
     ensures of_output { IfErr result (λ fault. IsOfOutput fault) }
 {
@@ -209,7 +209,7 @@ fn unwritten<F: Files>(part: PartFile<'_, F>) -> Result<(), CliFault>
 }
 
 // A part that was made is taken away, for this cause.
-fn taken_away<F: Files>(part: PartFile<'_, F>, fault: CliFault) -> Result<(), CliFault>
+fn taken_away<F: Files>(part: TempFile<'_, F>, fault: CliFault) -> Result<(), CliFault>
     ensures { result ≡ Err fault }
 {
     if part.made.is_some() {
@@ -219,10 +219,13 @@ fn taken_away<F: Files>(part: PartFile<'_, F>, fault: CliFault) -> Result<(), Cl
 }
 
 // A part that was written gets its name.
-fn named<F: Files<File = File>>(part: PartFile<'_, F>, base: Option<Base>) -> Result<(), CliFault>
+fn named<F: Files<File = File>>(
+    part: TempFile<'_, F>,
+    base: Option<ReplaceGuard>,
+) -> Result<(), CliFault>
     ensures { IfErr result (λ fault. IsOfOutput fault) }
 {
-    let PartFile {
+    let TempFile {
         rt,
         name,
         out,
@@ -250,11 +253,11 @@ fn gets_name<F: Files<File = File>>(
     rt: &F,
     name: &str,
     out: &str,
-    naming: Naming,
-    base: Option<Base>,
+    naming: WriteOptions,
+    base: Option<ReplaceGuard>,
 ) -> bool {
     let is_given = match base {
-        Some(base) => base.give_way(rt, name, out),
+        Some(base) => base.rename_if_same(rt, name, out),
         None if naming.is_new => is_linked(rt, name, out),
         None => fs::rename(rt, name, out).is_ok(),
     };

@@ -10,12 +10,12 @@ use crate::commands::{
 };
 use crate::refusal_lines::{asks_why, put_cause, put_refusal, put_text};
 use crate::runtime::Runtime;
-use crate::stop::{Stop, refused, stopped_by};
+use crate::stop::{Exit, exit_of, refused};
 use crate::why::explained;
+use base_io::Latch;
 use clap::{ArgMatches, Command};
 use cli_calls::CliFault;
 use cli_words::{ABOUT, Lists, NUMBER, Words, bare, why_flag, with_all};
-use mt_latch::Latch;
 use std::alloc::{AllocError, Global};
 use std::io::{Read, Write};
 
@@ -41,15 +41,15 @@ pub fn command<F: Runtime, R: Read, W: Write, E: Write>(
 {
     match run(rt, words, input, output, errors) {
         Ok(()) => 0,
-        Err(Stop::Told { text, is_mistake }) if is_mistake => {
+        Err(Exit::Told { text, is_mistake }) if is_mistake => {
             put_text(&text, errors);
             2
         }
-        Err(Stop::Told { text, .. }) => match output.put(text.as_bytes()) {
+        Err(Exit::Told { text, .. }) => match output.put(text.as_bytes()) {
             Ok(()) => 0,
             Err(_) => not_printed(words, errors),
         },
-        Err(Stop::Refused { fault, why }) => status_of(words, fault, known(&why), errors),
+        Err(Exit::Refused { fault, why }) => status_of(words, fault, known(&why), errors),
     }
 }
 
@@ -92,7 +92,7 @@ fn run<F: Runtime, R: Read, W: Write, E: Write>(
     input: &mut Latch<R>,
     output: &mut Latch<W>,
     errors: &mut Latch<E>,
-) -> Result<(), Stop>
+) -> Result<(), Exit>
     ensures told { TellsCauses E.contents (asks_why words.now) errors.old errors.new }
     ensures untouched_input { IfErr result (λ stop. IsMistake stop → input.new ≡ input.old) }
     ensures untouched_output { IfErr result (λ stop. IsMistake stop → output.new ≡ output.old) }
@@ -102,7 +102,7 @@ fn run<F: Runtime, R: Read, W: Write, E: Write>(
     };
     let matches = match command.try_get_matches_from(words) {
         Ok(matches) => matches,
-        Err(error) => return Err(Stop::told(rt.alloc(), error)),
+        Err(error) => return Err(Exit::told(rt.alloc(), error)),
     };
     match matches.subcommand() {
         Some((name, found)) => {
@@ -115,8 +115,8 @@ fn run<F: Runtime, R: Read, W: Write, E: Write>(
 }
 
 // What a command that nobody handles comes to.
-fn nobody(alloc: Global) -> Stop {
-    Stop::Told {
+fn nobody(alloc: Global) -> Exit {
+    Exit::Told {
         text: String::new(alloc),
         is_mistake: true,
     }
@@ -132,26 +132,26 @@ fn print<F: Runtime, R: Read, W: Write, E: Write>(
     output: &mut Latch<W>,
     asked: bool,
     errors: &mut Latch<E>,
-) -> Result<(), Stop>
+) -> Result<(), Exit>
     ensures told { TellsCauses E.contents asked errors.old errors.new }
     ensures untouched_input { IfErr result (λ stop. IsMistake stop → input.new ≡ input.old) }
     ensures untouched_output { IfErr result (λ stop. IsMistake stop → output.new ≡ output.old) }
 {
     match name {
-        "view" => stopped_by(view::run(rt, words, input, output)),
-        "log" => stopped_by(log::run(rt, words, input, output)),
-        "timeline" => stopped_by(timeline::run(rt, words, input, output)),
-        "sources" => stopped_by(sources::run(rt, words, output)),
+        "view" => exit_of(view::run(rt, words, input, output)),
+        "log" => exit_of(log::run(rt, words, input, output)),
+        "timeline" => exit_of(timeline::run(rt, words, input, output)),
+        "sources" => exit_of(sources::run(rt, words, output)),
         "find" => find::run(rt, words, output),
-        "diff" => stopped_by(diff::run(rt, words, output)),
-        "check" => stopped_by(check::run(rt, words, output)),
-        "info" => stopped_by(info::run(rt, words, output)),
-        "lay" => stopped_by(lay::run(rt, words, output)),
-        "revert" => stopped_by(revert::run(rt, words, output)),
+        "diff" => exit_of(diff::run(rt, words, output)),
+        "check" => exit_of(check::run(rt, words, output)),
+        "info" => exit_of(info::run(rt, words, output)),
+        "lay" => exit_of(lay::run(rt, words, output)),
+        "revert" => exit_of(revert::run(rt, words, output)),
         "explain" => explain::run(rt.alloc(), words, output),
-        "id" => stopped_by(id::run(rt, output)),
-        "completions" => stopped_by(completions::run(&lists(), words, output)),
-        "man" => stopped_by(man::run(&lists(), output)),
+        "id" => exit_of(id::run(rt, output)),
+        "completions" => exit_of(completions::run(&lists(), words, output)),
+        "man" => exit_of(man::run(&lists(), output)),
         _ => make(rt, name, words, output, asked, errors),
     }
 }
@@ -165,15 +165,15 @@ fn make<F: Runtime, W: Write, E: Write>(
     output: &mut Latch<W>,
     asked: bool,
     errors: &mut Latch<E>,
-) -> Result<(), Stop>
+) -> Result<(), Exit>
     ensures told { TellsCauses E.contents asked errors.old errors.new }
     ensures untouched_output { IfErr result (λ stop. IsMistake stop → output.new ≡ output.old) }
 {
     match name {
-        "merge" => stopped_by(merge::run(rt, words)),
-        "pull" => stopped_by(pull::run(rt, words, output)),
-        "edit" => stopped_by(edit::run(rt, words, output)),
-        "render" => stopped_by(render::run(rt, words)),
+        "merge" => exit_of(merge::run(rt, words)),
+        "pull" => exit_of(pull::run(rt, words, output)),
+        "edit" => exit_of(edit::run(rt, words, output)),
+        "render" => exit_of(render::run(rt, words)),
         _ => swap(rt, name, words, asked, errors),
     }
 }
@@ -186,15 +186,15 @@ fn swap<F: Runtime, E: Write>(
     words: &ArgMatches<'_>,
     asked: bool,
     errors: &mut Latch<E>,
-) -> Result<(), Stop>
+) -> Result<(), Exit>
     ensures told { TellsCauses E.contents asked errors.old errors.new }
 {
     match name {
-        "have" => stopped_by(have::run(rt, words)),
-        "lack" => stopped_by(lack::run(rt, words)),
-        "take" => stopped_by(take::run(rt, words)),
-        "serve" => stopped_by(serve::run(rt, words, asked, errors)),
-        "meet" => stopped_by(meet::run(rt, words)),
+        "have" => exit_of(have::run(rt, words)),
+        "lack" => exit_of(lack::run(rt, words)),
+        "take" => exit_of(take::run(rt, words)),
+        "serve" => exit_of(serve::run(rt, words, asked, errors)),
+        "meet" => exit_of(meet::run(rt, words)),
         _ => Err(nobody(rt.alloc())),
     }
 }

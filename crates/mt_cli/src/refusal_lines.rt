@@ -2,12 +2,12 @@
 
 ghost use Rattle.std.specs.Prelude.{◌≡◌, ◌++◌, codes};
 ghost use Rattle.std.specs.List.{flat_map, position};
-ghost use Rattle.mt_latch.specs.Buffered.{Puts};
+ghost use Rattle.base_io.specs.Buffered.{Puts};
 ghost use Rattle.cli_calls.specs.Editing.{number_line};
 ghost use Rattle.mt_cli.specs.Telling.{is_word, up_to, asks_why, on_line, why_line, fault_line, HasTold};
 
+use base_io::{BufferedLatch, Latch};
 use cli_calls::CliFault;
-use mt_latch::{BufferedLatch, Latch};
 use std::io::Write;
 
 // Where the first `--` stands.
@@ -48,7 +48,7 @@ fn hand_byte<W: Write>(line: &mut BufferedLatch<'_, W>, byte: u8)
 }
 
 // Hands over a text, with no end of a line in it.
-#[tactic(auto, using(mt_latch::proofs::Putting::puts_none))]
+#[tactic(auto, using(base_io::proofs::Putting::puts_none))]
 fn hand_text<W: Write>(line: &mut BufferedLatch<'_, W>, text: &[u8])
     ensures { Puts W.contents line.old line.new (flat_map on_line text.now) }
 {
@@ -58,7 +58,7 @@ fn hand_text<W: Write>(line: &mut BufferedLatch<'_, W>, text: &[u8])
 }
 
 // Hands over a line: these bytes and a number.
-#[tactic(auto, using(mt_latch::proofs::Putting::then_puts))]
+#[tactic(auto, using(base_io::proofs::Putting::then_puts))]
 fn hand_line<W: Write>(line: &mut BufferedLatch<'_, W>, front: &[u8], number: u64)
     ensures { Puts W.contents line.old line.new (number_line front.now number) }
 {
@@ -68,7 +68,7 @@ fn hand_line<W: Write>(line: &mut BufferedLatch<'_, W>, front: &[u8], number: u6
 }
 
 // Hands over the line that tells a cause.
-#[tactic(auto, using(mt_latch::proofs::Putting::then_puts))]
+#[tactic(auto, using(base_io::proofs::Putting::then_puts))]
 fn hand_cause<W: Write>(line: &mut BufferedLatch<'_, W>, text: &str)
     ensures { Puts W.contents line.old line.new (why_line text.now) }
 {

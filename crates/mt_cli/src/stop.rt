@@ -9,7 +9,7 @@ use std::alloc::Global;
 
 /// What stops the program.
 #[derive(Debug, Drop)]
-pub(crate) enum Stop {
+pub(crate) enum Exit {
     /// A command was refused; beside it what is known of the cause, where that was asked for and there was memory to tell it.
     Refused {
         fault: CliFault,
@@ -23,7 +23,7 @@ pub(crate) enum Stop {
 }
 
 /// What a command comes to, as the program is stopped by it.
-pub(crate) fn stopped_by(done: Result<(), CliFault>) -> Result<(), Stop>
+pub(crate) fn exit_of(done: Result<(), CliFault>) -> Result<(), Exit>
     ensures no_mistake { IfErr result (λ stop. IsMistake stop → ⊥) }
 {
     match done {
@@ -33,20 +33,20 @@ pub(crate) fn stopped_by(done: Result<(), CliFault>) -> Result<(), Stop>
 }
 
 // A refusal, of which no more is known.
-pub(crate) fn refused(fault: CliFault) -> Stop
+pub(crate) fn refused(fault: CliFault) -> Exit
     ensures { IsMistake result → ⊥ }
 {
-    Stop::Refused { fault, why: None }
+    Exit::Refused { fault, why: None }
 }
 
-impl Stop {
+impl Exit {
     /// What the parser tells in place of a match.
-    pub(crate) fn told(alloc: Global, error: clap::Error) -> Stop {
+    pub(crate) fn told(alloc: Global, error: clap::Error) -> Exit {
         if error.kind() == ErrorKind::OutOfMemory {
             return refused(CliFault::Memory);
         }
         match error.to_string(alloc) {
-            Ok(text) => Stop::Told {
+            Ok(text) => Exit::Told {
                 text,
                 is_mistake: error.use_stderr(),
             },

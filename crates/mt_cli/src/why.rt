@@ -3,12 +3,12 @@
 ghost use Rattle.std.specs.Prelude.{◌≡◌, IfErr, Err};
 ghost use Rattle.mt_cli.specs.Mistakes.{IsMistake};
 
-use crate::stop::Stop;
+use crate::stop::Exit;
+use base_io::Latch;
 use clap::ArgMatches;
 use cli_calls::{CliFault, LayFault, PartFault};
 use mt_bwfread::Wave;
 use mt_cuewrite::HeadFault;
-use mt_latch::Latch;
 use mt_op::Digest;
 use mt_opcodec::{Log, LogFault};
 use mt_render::MixFault;
@@ -36,8 +36,8 @@ pub(crate) fn explained<F: Files + AllocGlobal>(
     name: &str,
     words: &ArgMatches<'_>,
     asked: bool,
-    done: Result<(), Stop>,
-) -> Result<(), Stop>
+    done: Result<(), Exit>,
+) -> Result<(), Exit>
     ensures { IfErr result (λ stop. IsMistake stop → done ≡ Err stop) }
 {
     match done {
@@ -52,16 +52,16 @@ fn with_cause<F: Files + AllocGlobal>(
     rt: &F,
     name: &str,
     words: &ArgMatches<'_>,
-    stop: Stop,
-) -> Stop
+    stop: Exit,
+) -> Exit
     ensures { IsMistake result → stop ≡ result }
 {
     match stop {
-        Stop::Refused { fault, why } => {
+        Exit::Refused { fault, why } => {
             drop(why);
             refused_for(rt, name, words, fault)
         }
-        Stop::Told { text, is_mistake } => Stop::Told { text, is_mistake },
+        Exit::Told { text, is_mistake } => Exit::Told { text, is_mistake },
     }
 }
 
@@ -71,11 +71,11 @@ fn refused_for<F: Files + AllocGlobal>(
     name: &str,
     words: &ArgMatches<'_>,
     fault: CliFault,
-) -> Stop
+) -> Exit
     ensures { IsMistake result → ⊥ }
 {
     let why = cause(rt, name, words, &fault);
-    Stop::Refused { fault, why }
+    Exit::Refused { fault, why }
 }
 
 // A command's name, and the words that it was called with.
@@ -197,7 +197,7 @@ fn cause_of<F: Files + AllocGlobal>(
         CliFault::Memory => told(alloc, "memory", ""),
         CliFault::Read(index) => told(alloc, "input ", call.read_input(index)),
         CliFault::Log(index, fault) => log_cause(alloc, call.input(call.inputs(), index), fault),
-        CliFault::Merge(dot) => clash_cause(rt, call, dot),
+        CliFault::Merge(dot) => conflict_cause(rt, call, dot),
         CliFault::Source(index, _) => { told(alloc, "recording ", call.recording(index)) }
         CliFault::Mix(fault) => mix_cause(rt, call, fault),
         CliFault::Lay(index, fault) => lay_cause(rt, call.input(call.inputs(), index), fault),
@@ -244,7 +244,7 @@ fn operation_cause(alloc: Global, name: &str, dot: Dot) -> Option<String> {
 }
 
 // The first log that has another operation of this name than those before it: they are read once more.
-fn clash_cause<F: Files + AllocGlobal>(rt: &F, call: &Call<'_, '_>, dot: Dot) -> Option<String> {
+fn conflict_cause<F: Files + AllocGlobal>(rt: &F, call: &Call<'_, '_>, dot: Dot) -> Option<String> {
     let mut first = None;
     for id in call.inputs() {
         for name in call.words.get_strs(id).unwrap_or(&[]) {

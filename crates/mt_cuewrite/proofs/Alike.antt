@@ -2,9 +2,9 @@
 use Rattle.std.proofs.Common.{◌≡◌, ℕ, zero, suc, List, ◌∷◌, ◌++◌, refl, ap, ◌∙◌, ℤ}
 use Rattle.std.specs.Prelude.{codes}
 use Rattle.std.specs.List.{flat_map}
-use Rattle.mt_sessionview.specs.Content.{Track, Marker}
+use Rattle.mt_sessionview.specs.SessionValue.{Track, Marker}
 use Rattle.mt_bwfread.specs.Riff.{chunk_text}
-use Rattle.mt_render.specs.Layout.{Layout}
+use Rattle.mt_render.specs.FormatValue.{Format}
 use Rattle.mt_render.specs.Sources.{Sources}
 use Rattle.mt_render.specs.Mix.{length_of, mixed_sample}
 use Rattle.mt_render.specs.Alike.{FindAlike, over}
@@ -13,7 +13,7 @@ use Rattle.mt_cuewrite.specs.Head.{HeadText}
 use Rattle.mt_cuewrite.specs.File.{padded, bext, format, sample, channels_from, frames_from, before, marker_chunks, riff, file}
 use Rattle.mt_cuewrite.specs.Alike.{OnlyAudibleAreWritten}
 
-module _ (tracks : List Track) (layout : Layout) (a b : Sources) (same : FindAlike tracks a b) where
+module _ (tracks : List Track) (layout : Format) (a b : Sources) (same : FindAlike tracks a b) where
   channels_alike : (f c n : ℕ) → channels_from (over tracks layout a) f c n ≡ channels_from (over tracks layout b) f c n
   unfolding channels_from
   channels_alike f c zero = refl

@@ -5,12 +5,12 @@ use Rattle.std.proofs.lemmas.Bool.{ne_eqb}
 use Rattle.std.proofs.lemmas.List.{take_more, take-append-drop, append-nil, length-take-le}
 use Rattle.std.proofs.lemmas.List.Elements.{filter-append}
 use Rattle.std.proofs.lemmas.List.Sums.{length-filter, count_by-le-length}
-use Rattle.mt_latch.specs.declared.buffered.BufferedLatch.{BufferedLatch}
-use Rattle.mt_sessionview.specs.Content.{Marker}
+use Rattle.base_io.specs.declared.buffered.BufferedLatch.{BufferedLatch}
+use Rattle.mt_sessionview.specs.SessionValue.{Marker}
 use Rattle.mt_cuewrite.specs.File.{padded, before, named, label_content, label, region_content, region, list_content}
-use Rattle.mt_latch.specs.Buffered.{Handed}
+use Rattle.base_io.specs.Buffered.{Handed}
 use Rattle.mt_cuewrite.specs.Sizes.{padded_size}
-use Rattle.mt_latch.proofs.Putting.{then_handed, same_handed}
+use Rattle.base_io.proofs.Putting.{then_handed, same_handed}
 use Rattle.mt_cuewrite.proofs.Sizing.{length-padded, length-label_content, length-region_content}
 
 -- ---- which are before the end

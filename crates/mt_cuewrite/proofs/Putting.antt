@@ -2,9 +2,9 @@
 use Rattle.std.proofs.Common.{◌≡◌, ℕ, ◌%◌, List, ◌++◌, length, sym, ap}
 use Rattle.std.specs.Prelude.{Option}
 use Rattle.byteorder.specs.Endian.{little_bytes}
-use Rattle.mt_latch.specs.declared.buffered.BufferedLatch.{BufferedLatch}
-use Rattle.mt_latch.specs.Buffered.{Handed}
-use Rattle.mt_latch.proofs.Putting.{then_handed, same_handed, none_handed}
+use Rattle.base_io.specs.declared.buffered.BufferedLatch.{BufferedLatch}
+use Rattle.base_io.specs.Buffered.{Handed}
+use Rattle.base_io.proofs.Putting.{then_handed, same_handed, none_handed}
 use Rattle.mt_cuewrite.specs.File.{zeros, padded}
 
 module _ {W : Type 0} (contents : W → Option (List ℕ)) where

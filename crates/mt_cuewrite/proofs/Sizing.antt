@@ -4,9 +4,9 @@ use Rattle.std.specs.Prelude.{codes, None}
 use Rattle.std.specs.Fmt.{decimal}
 use Rattle.std.proofs.lemmas.List.{length-replicate}
 use Rattle.byteorder.specs.Endian.{little_bytes}
-use Rattle.mt_sessionview.specs.Content.{Marker}
+use Rattle.mt_sessionview.specs.SessionValue.{Marker}
 use Rattle.mt_bwfread.specs.Riff.{Chunk, chunk_text}
-use Rattle.mt_render.specs.Layout.{Layout}
+use Rattle.mt_render.specs.FormatValue.{Format}
 use Rattle.mt_cuewrite.specs.Head.{HeadText, bad_text}
 use Rattle.mt_cuewrite.specs.File.{zeros, padded, filled, history, channels_word, texts, bext, format, label_content, region_content}
 use Rattle.mt_cuewrite.specs.Sizes.{padded_size}
@@ -39,7 +39,7 @@ length-texts h none =
     let d = length-two (filled 256 h.description ++ filled 32 h.originator ++ filled 32 h.reference) h.date 320 10 c (length-date h none) in
     length-two (filled 256 h.description ++ filled 32 h.originator ++ filled 32 h.reference ++ h.date) h.time 330 8 d (length-time h none)
 
-pub length-bext : (l : Layout) (h : HeadText) → bad_text h ≡ None → length (bext l h) ≡ 602 + length (history l)
+pub length-bext : (l : Format) (h : HeadText) → bad_text h ≡ None → length (bext l h) ≡ 602 + length (history l)
 unfolding bext
 length-bext l h none =
     let a = length-two (texts h) (little_bytes 8 h.time_reference) 338 8 (length-texts h none) refl in
@@ -48,7 +48,7 @@ length-bext l h none =
     let c = length-two (p ++ little_bytes 2 0) (zeros 254) 348 254 b refl in
     length-two (p ++ little_bytes 2 0 ++ zeros 254) (history l) 602 (length (history l)) c refl
 
-pub length-history : (l : Layout) → length (history l) ≡ 8 + length (decimal l.rate) + 3 + length (decimal l.bits) + 3 + length (channels_word l.channels) + 2
+pub length-history : (l : Format) → length (history l) ≡ 8 + length (decimal l.rate) + 3 + length (decimal l.bits) + 3 + length (channels_word l.channels) + 2
 unfolding history
 length-history l =
     let rate = length (decimal l.rate) in
@@ -66,7 +66,7 @@ length-history l =
     let e : length t ≡ 8 + rate + 3 + bits + 3 + word = length-two s (channels_word l.channels) (8 + rate + 3 + bits + 3) word d refl in
     length-two t (codes "\r\n") (8 + rate + 3 + bits + 3 + word) 2 e refl
 
-pub length-format : (l : Layout) → length (format l) ≡ 16
+pub length-format : (l : Format) → length (format l) ≡ 16
 unfolding format
 length-format l = refl
 

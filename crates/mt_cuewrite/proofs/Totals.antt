@@ -4,7 +4,7 @@ use Rattle.std.specs.Prelude.{◌==◌, min, codes}
 use Rattle.std.specs.List.{flat_map}
 use Rattle.std.proofs.lemmas.Bool.{eqb-true, ne_eqb, eq-eqb, false≢true}
 use Rattle.std.proofs.lemmas.List.{append-nil}
-use Rattle.mt_sessionview.specs.Content.{Marker}
+use Rattle.mt_sessionview.specs.SessionValue.{Marker}
 use Rattle.mt_render.specs.Mix.{Programme, length_of}
 use Rattle.byteorder.specs.Endian.{little_bytes}
 use Rattle.mt_cuewrite.specs.Head.{HeadText}

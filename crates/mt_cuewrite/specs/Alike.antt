@@ -1,7 +1,7 @@
 -- What of the recordings a file depends on.
 use Rattle.std.specs.Prelude.{◌≡◌, List}
-use Rattle.mt_sessionview.specs.Content.{Track, Marker}
-use Rattle.mt_render.specs.Layout.{Layout}
+use Rattle.mt_sessionview.specs.SessionValue.{Track, Marker}
+use Rattle.mt_render.specs.FormatValue.{Format}
 use Rattle.mt_render.specs.Sources.{Sources}
 use Rattle.mt_render.specs.Mix.{Programme}
 use Rattle.mt_render.specs.Alike.{FindAlike, over}
@@ -16,5 +16,5 @@ pub record WriteAlike (p q : Programme) (ms : List Marker) (h : HeadText) : Type
 -- Of the recordings only those count that are under the digests of audible clips, whatever the markers and the head.
 abbrev pub OnlyAudibleAreWritten : Type 0
 OnlyAudibleAreWritten =
-    (tracks : List Track) (layout : Layout) (a b : Sources) (ms : List Marker) (h : HeadText) → FindAlike tracks a b
+    (tracks : List Track) (layout : Format) (a b : Sources) (ms : List Marker) (h : HeadText) → FindAlike tracks a b
     → WriteAlike (over tracks layout a) (over tracks layout b) ms h

@@ -1,7 +1,7 @@
 -- Why a file is not written (profile).
 use Rattle.std.specs.Prelude.{◌≡◌, ℕ, ◌^◌, ◌<◌, ◌≤◌, true, List, length, Option, Some}
-use Rattle.mt_latch.specs.Latch.{Latched, AppendsPrefix}
-use Rattle.mt_sessionview.specs.Content.{Marker}
+use Rattle.base_io.specs.Latch.{Latch, AppendsPrefix}
+use Rattle.mt_sessionview.specs.SessionValue.{Marker}
 use Rattle.mt_render.specs.Mix.{Programme}
 use Rattle.mt_cuewrite.specs.declared.fault.BounceFault.{BounceFault}
 use Rattle.mt_cuewrite.specs.declared.fault.BounceFault.TheVariants.{Memory, TooLong, Write}
@@ -27,7 +27,7 @@ Fits p ms h = length (riff p ms h) < 2 ^ 32
 module _ {W : Type 0} (contents : W → Option (List ℕ)) where
   -- What refuses it: a size that does not fit, or memory, each with the output as it was; or the output has failed, and holds
   -- a prefix of the file.
-  abbrev pub BounceFails : Programme → List Marker → HeadText → Latched W → Latched W → BounceFault → Type 0
+  abbrev pub BounceFails : Programme → List Marker → HeadText → Latch W → Latch W → BounceFault → Type 0
   BounceFails p ms h old new Memory = Fits p ms h × (new ≡ old)
   BounceFails p ms h old new TooLong = (2 ^ 32 ≤ length (riff p ms h)) × (new ≡ old)
   BounceFails p ms h old new Write = Fits p ms h × (new.failed ≡ true) × AppendsPrefix (contents old.inner) (contents new.inner) (file p ms h)

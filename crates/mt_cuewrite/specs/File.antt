@@ -6,9 +6,9 @@ use Rattle.std.specs.Int.{w64}
 use Rattle.std.specs.Fmt.{decimal}
 use Rattle.std.specs.List.{filter, flat_map}
 use Rattle.byteorder.specs.Endian.{little_bytes, low_bytes}
-use Rattle.mt_sessionview.specs.Content.{Marker}
+use Rattle.mt_sessionview.specs.SessionValue.{Marker}
 use Rattle.mt_bwfread.specs.Riff.{Chunk, chunk_text}
-use Rattle.mt_render.specs.Layout.{Layout}
+use Rattle.mt_render.specs.FormatValue.{Format}
 use Rattle.mt_render.specs.Mix.{Programme, mixed_sample, length_of}
 use Rattle.mt_cuewrite.specs.Head.{HeadText}
 
@@ -32,7 +32,7 @@ abbrev pub channels_word : ℕ → List ℕ
 channels_word channels = if channels == 1 then codes "mono" else codes "stereo"
 
 -- the coding history: `A=PCM,F=RATE,W=BITS,M=mono` or `M=stereo`, and the end of the line
-unfoldable pub history : Layout → List ℕ
+unfoldable pub history : Format → List ℕ
 history l = codes "A=PCM,F=" ++ decimal l.rate ++ codes ",W=" ++ decimal l.bits ++ codes ",M=" ++ channels_word l.channels ++ codes "\r\n"
 
 -- the texts of a head in their fields; a date fills its 10 bytes, and a time its 8
@@ -40,17 +40,17 @@ unfoldable pub texts : HeadText → List ℕ
 texts h = filled 256 h.description ++ filled 32 h.originator ++ filled 32 h.reference ++ h.date ++ h.time
 
 -- The texts, the time reference with its lowest byte first, version 0, 254 bytes that version 0 reserves, and the coding history.
-unfoldable pub bext : Layout → HeadText → List ℕ
+unfoldable pub bext : Format → HeadText → List ℕ
 bext l h = texts h ++ little_bytes 8 h.time_reference ++ little_bytes 2 0 ++ zeros 254 ++ history l
 
 -- ---- fmt
 
 -- the bytes of a frame
-abbrev pub block_align : Layout → ℕ
+abbrev pub block_align : Format → ℕ
 block_align l = l.channels * (l.bits / 8)
 
 -- PCM, the channels, the frames a second, the bytes a second, the bytes of a frame, and the bits of a sample
-unfoldable pub format : Layout → List ℕ
+unfoldable pub format : Format → List ℕ
 format l =
     little_bytes 2 1 ++ little_bytes 2 l.channels ++ little_bytes 4 l.rate ++ little_bytes 4 (l.rate * block_align l)
     ++ little_bytes 2 (block_align l) ++ little_bytes 2 l.bits

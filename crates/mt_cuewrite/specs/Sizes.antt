@@ -1,6 +1,6 @@
 -- The sizes of what is written, as they are counted: no definition of the subject.
 use Rattle.std.specs.Prelude.{◌≡◌, ℕ, ◌+◌, ◌*◌, ◌%◌, ◌^◌, ◌<◌, ◌==◌, if◌then◌else◌, List, length, min}
-use Rattle.mt_sessionview.specs.Content.{Marker}
+use Rattle.mt_sessionview.specs.SessionValue.{Marker}
 use Rattle.mt_render.specs.Mix.{Programme, length_of}
 use Rattle.mt_cuewrite.specs.Head.{HeadText}
 use Rattle.mt_cuewrite.specs.File.{before, list_content, samples, riff}

@@ -3,7 +3,7 @@
 ghost use Rattle.std.specs.Prelude.{◌≡◌, ℕ, ◌++◌, drop, ◌+◌, ◌*◌, ◌/◌, ◌%◌, ◌<◌, ◌≤◌, ◌^◌, length, slice_index_or, pos};
 ghost use Rattle.std.specs.List.{flat_map};
 ghost use Rattle.mt_render.specs.Mix.{length_of, mixed_sample};
-ghost use Rattle.mt_latch.specs.Buffered.{Puts};
+ghost use Rattle.base_io.specs.Buffered.{Puts};
 ghost use Rattle.mt_cuewrite.specs.File.{sample, frames_from, samples as all_samples};
 
 use byteorder::{ByteOrder, LittleEndian};

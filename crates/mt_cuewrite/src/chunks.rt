@@ -2,7 +2,7 @@
 
 ghost use Rattle.std.specs.Prelude.{◌≡◌, ◌<◌, ◌≤◌, ◌+◌, length, codes};
 ghost use Rattle.std.specs.Fmt.{decimal};
-ghost use Rattle.mt_latch.specs.Buffered.{Puts};
+ghost use Rattle.base_io.specs.Buffered.{Puts};
 ghost use Rattle.mt_cuewrite.specs.File.{padded, channels_word, history, texts, bext, format as format_content};
 
 use crate::head::Head;

@@ -5,7 +5,7 @@ ghost use Rattle.std.specs.Io.KnownBytes.{Appends};
 ghost use Rattle.mt_render.specs.Mix.{length_of};
 ghost use Rattle.mt_cuewrite.specs.Faults.{Fits, BounceFails};
 ghost use Rattle.mt_cuewrite.specs.File.{before, list_content, marker_chunks, padded, riff, samples as all_samples, file};
-ghost use Rattle.mt_latch.specs.Buffered.{Puts};
+ghost use Rattle.base_io.specs.Buffered.{Puts};
 ghost use Rattle.mt_cuewrite.specs.Sizes.{AreSizes};
 ghost use Rattle.std.specs.List.{flat_map};
 
@@ -104,7 +104,7 @@ pub fn check_size<A: Allocator, B: Allocator>(
 /// The output is given pieces of at most 24,576 bytes, a block of 4,096 frames at a time. The memory is 32,768 bytes, whatever the
 /// length is; the time is that of the mix, and of one walk over the markers for their points, their labels, their regions and their
 /// sizes each.
-#[tactic(auto, unfolding(mt_latch::specs::Buffered::Puts))]
+#[tactic(auto, unfolding(base_io::specs::Buffered::Puts))]
 pub fn bounce<A: Allocator, B: Allocator, W: Write>(
     alloc: A,
     mix: &Mix<'_, '_, B>,

@@ -11,7 +11,7 @@
 //! use mt_render::{Catalogue, Format, Mix};
 //! use mt_sessionview::from_scratch;
 //! use mt_stamp::Stamp;
-//! use mt_testkit::{A, RECORDING, log_of_a_clip};
+//! use test_kit::{A, RECORDING, log_of_a_clip};
 //! use std::test::Fail;
 //!
 //! fn writes_a_programme(rt: HostRuntime) -> Result<(), Fail> {

@@ -1,7 +1,7 @@
 //! The cue points, their labels and their regions.
 
 ghost use Rattle.std.specs.Prelude.{◌≡◌, ℕ, nat_lt, ◌+◌, ◌-◌, ◌*◌, ◌<◌, ◌≤◌, ◌^◌, min, length, codes};
-ghost use Rattle.mt_latch.specs.Buffered.{Puts};
+ghost use Rattle.base_io.specs.Buffered.{Puts};
 ghost use Rattle.mt_cuewrite.specs.File.{padded, before, point, points, label_content, label, region_content, region, list_content, named};
 
 use crate::put::{put_chunk_head, put_pad, put_u32, put_zeros};
@@ -67,7 +67,7 @@ pub(crate) fn label_size<A: Allocator>(marker: &MarkerView<A>) -> u32
 }
 
 // Puts the content of the label of this name.
-#[tactic(auto, using(mt_latch::proofs::Putting::then_puts), unfolding(crate::specs::File::label_content))]
+#[tactic(auto, using(base_io::proofs::Putting::then_puts), unfolding(crate::specs::File::label_content))]
 fn put_label_content<A: Allocator, W: Write>(
     output: &mut BufferedLatch<'_, W>,
     name: u32,

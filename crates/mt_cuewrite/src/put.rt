@@ -2,7 +2,7 @@
 
 ghost use Rattle.std.specs.Prelude.{◌≡◌, ◌++◌, ◌<◌, ◌≤◌, ◌%◌, ◌^◌, length};
 ghost use Rattle.byteorder.specs.Endian.{little_bytes};
-ghost use Rattle.mt_latch.specs.Buffered.{Puts};
+ghost use Rattle.base_io.specs.Buffered.{Puts};
 ghost use Rattle.mt_cuewrite.specs.File.{zeros, filled};
 
 use byteorder::{ByteOrder, LittleEndian};
@@ -46,7 +46,7 @@ pub(crate) fn put_zeros<W: Write>(output: &mut BufferedLatch<'_, W>, count: usiz
 }
 
 /// Puts a text in a field of so many bytes, up to 256, filled with zero bytes.
-#[tactic(auto, using(mt_latch::proofs::Putting::then_puts), unfolding(crate::specs::File::filled))]
+#[tactic(auto, using(base_io::proofs::Putting::then_puts), unfolding(crate::specs::File::filled))]
 pub(crate) fn put_filled<W: Write>(output: &mut BufferedLatch<'_, W>, size: usize, text: &str)
     requires small { size ≤ 256 }
     requires within { length text.now ≤ size }
@@ -57,7 +57,7 @@ pub(crate) fn put_filled<W: Write>(output: &mut BufferedLatch<'_, W>, size: usiz
 }
 
 /// Puts the id of a chunk and the size of its content.
-#[tactic(auto, using(mt_latch::proofs::Putting::then_puts))]
+#[tactic(auto, using(base_io::proofs::Putting::then_puts))]
 pub(crate) fn put_chunk_head<W: Write>(output: &mut BufferedLatch<'_, W>, id: &[u8; 4], size: u32)
     ensures { Puts W.contents output.old output.new (id.now ++ little_bytes 4 size) }
 {

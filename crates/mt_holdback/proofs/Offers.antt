@@ -9,13 +9,13 @@ use Rattle.std.proofs.lemmas.Cmp.{ranked}
 use Rattle.std.proofs.lemmas.List.{length-append}
 use Rattle.std.proofs.lemmas.List.Sorted.{IsPermutation-trans, IsPermutation-sym, IsPermutation-middle, IsPermutation-insert, IsPermutation-append_right, IsPermutation-filter_both}
 use Rattle.std.specs.List.Sorted.{IsPermutation}
-use Rattle.mt_stamp.specs.Moment.{Moment, stamp_cmp, stamp_eq}
+use Rattle.mt_stamp.specs.StampOrder.{Stamp, stamp_cmp, stamp_eq}
 use Rattle.mt_stamp.proofs.Order.{stamp_cmp_total, stamp_cmp-IsAntisymmetric, stamp_eq-itself}
 use Rattle.mt_holdback.specs.Waiting.{Rules, NamesOlder, clock_of, meets, is_ready, AllNameOlder}
 use Rattle.mt_holdback.specs.Laws.{is_met_by, passed, ClocksRise}
 use Rattle.mt_holdback.specs.Passing.{left, after_pass}
 use Rattle.mt_holdback.specs.Queue.{contents_of, IsQueueOf, TakenIn, Takes, NoneIsMet}
-use Rattle.mt_holdback.specs.Value.{HoldBackValue}
+use Rattle.mt_holdback.specs.Value.{HoldBack}
 use Rattle.mt_holdback.specs.Offering.{answer, OfferGives}
 use Rattle.mt_holdback.specs.declared.hold_back.Offered.{Offered}
 use Rattle.mt_holdback.specs.declared.hold_back.Offered.TheVariants.{Held, Ready}
@@ -121,7 +121,7 @@ module _ {T R : Type 0} (rules : Rules T R) where
       behind : (o : Ordering) → stamp_cmp (rules.key u) (rules.key t) ≡ o → is_lt o ≡ false → stamp_cmp (rules.key t) (rules.key u) ≡ Less
       behind Less e h = absurd (true≢false h)
       behind Equal e h =
-          absurd (true≢false (sym (ap (λ (s : Moment). stamp_eq s (rules.key t)) (stamp_cmp-IsAntisymmetric (rules.key u) (rules.key t) e) ∙ stamp_eq-itself (rules.key t)) ∙ fresh.0))
+          absurd (true≢false (sym (ap (λ (s : Stamp). stamp_eq s (rules.key t)) (stamp_cmp-IsAntisymmetric (rules.key u) (rules.key t) e) ∙ stamp_eq-itself (rules.key t)) ∙ fresh.0))
       behind Greater e h = stamp_cmp_total.antisymm (rules.key t) (rules.key u) ∙ ap ordering_reverse e
 
       by : (b : Bool) → is_lt (stamp_cmp (rules.key u) (rules.key t)) ≡ b → KeysRise rules (queued rules t waiting) → KeysRise rules (cond b (u ∷ queued rules t waiting) (t ∷ u ∷ waiting))
@@ -138,7 +138,7 @@ module _ {T R : Type 0} (rules : Rules T R) where
       by true rest = (all_kept (λ u. stamp_cmp (rules.key x) (rules.key u) ≡ Less) r xs rise.0, rest)
       by false rest = rest
 
-  none_known : (stamp : Moment) (items : List T) → list_any (λ u. stamp_eq (rules.key u) stamp) items ≡ false → AllByRecursion (λ u. stamp_eq (rules.key u) stamp ≡ false) items
+  none_known : (stamp : Stamp) (items : List T) → list_any (λ u. stamp_eq (rules.key u) stamp) items ≡ false → AllByRecursion (λ u. stamp_eq (rules.key u) stamp ≡ false) items
   none_known stamp [] none = tt
   none_known stamp (u ∷ items) none = by (stamp_eq (rules.key u) stamp) refl none (none_known stamp items)
     where
@@ -227,7 +227,7 @@ module _ {T R : Type 0} (rules : Rules T R) where
       kept_rise (is_ready rules (offered_with rules contents t)) (queued rules t contents.waiting) (queue_rises t contents.waiting is.rise (all_rest (λ u. stamp_eq (rules.key u) (rules.key t) ≡ false) contents.released contents.waiting (none_known (rules.key t) (offered rules contents) fresh)))
 
   -- an earlier stamp has no greater clock
-  pub less_clock : (a b : Moment) → stamp_cmp a b ≡ Less → a.clock ≤ b.clock
+  pub less_clock : (a b : Stamp) → stamp_cmp a b ≡ Less → a.clock ≤ b.clock
   less_clock a b less = by (nat_cmp a.clock b.clock) (ordering_then (nat_cmp a.replica.0 b.replica.0) (nat_cmp a.seq b.seq)) (ranked a.clock b.clock (nat_cmp a.clock b.clock) refl) less
     where
       by : (o rest : Ordering) → MatchOrdering o (a.clock < b.clock) (a.clock ≡ b.clock) (b.clock < a.clock) → ordering_then o rest ≡ Less → a.clock ≤ b.clock
@@ -284,14 +284,14 @@ module _ {T R : Type 0} (rules : Rules T R) where
       }
 
   -- what an offer answers and leaves, from the item that was taken in and how many were released before and after
-  pub told_of : {A : Type 0} {before : HoldBackValue T} {t : T} {released released' : List T} {queue : Queue T A} {failed : Bool} {m n : ℕ} {offered : Offered}
+  pub told_of : {A : Type 0} {before : HoldBack T} {t : T} {released released' : List T} {queue : Queue T A} {failed : Bool} {m n : ℕ} {offered : Offered}
       → (waiting : Option (Queue T A)) → record { contents = contents_of released waiting; failed = failed } ≡ before → failed ≡ false → offered ≡ cond (ltb m n) (Ready m) Held → m ≡ length released → n ≡ length released'
       → TakenIn rules (contents_of released waiting) t released' queue → OfferGives rules before (record { contents = contents_of released' (Some queue); failed = failed }) t (Ok offered)
   told_of {A} {before} {t} {released} waiting is sound told first last taken = record {
-    answered = told ∙ (λ i. cond (ltb (first i) (last i)) (Ready (first i)) Held) ∙ ap (λ (b : Bool). cond b (Ready (length released)) Held) taken.ready ∙ ap (λ (s : HoldBackValue T). answer rules s.contents t) is;
-    kept = λ i. record { contents = (taken.kept ∙ ap (λ (s : HoldBackValue T). contents_with rules s.contents t) is) i; failed = sound i };
-    rising = subst (λ (s : HoldBackValue T). KeysRise rules (newly_ready rules s.contents t)) is taken.rising;
-    failed = (λ h. cc, λ h. absurd (true≢false (sym h ∙ ap (λ (s : HoldBackValue T). s.failed) (sym is) ∙ sound)));
+    answered = told ∙ (λ i. cond (ltb (first i) (last i)) (Ready (first i)) Held) ∙ ap (λ (b : Bool). cond b (Ready (length released)) Held) taken.ready ∙ ap (λ (s : HoldBack T). answer rules s.contents t) is;
+    kept = λ i. record { contents = (taken.kept ∙ ap (λ (s : HoldBack T). contents_with rules s.contents t) is) i; failed = sound i };
+    rising = subst (λ (s : HoldBack T). KeysRise rules (newly_ready rules s.contents t)) is taken.rising;
+    failed = (λ h. cc, λ h. absurd (true≢false (sym h ∙ ap (λ (s : HoldBack T). s.failed) (sym is) ∙ sound)));
     unchanged = λ h. cc;
     emptied = λ h. cc;
   }
@@ -312,7 +312,7 @@ module _ {T R : Type 0} (rules : Rules T R) where
   or_neither false = refl
 
   -- one that is not older is named by none of these needs
-  not_named : (released : List T) (t : T) (c : ℕ) → c ≤ clock_of rules t → (ns : List (Moment × R)) → AllByRecursion (λ need. need.0.clock < c) ns
+  not_named : (released : List T) (t : T) (c : ℕ) → c ≤ clock_of rules t → (ns : List (Stamp × R)) → AllByRecursion (λ need. need.0.clock < c) ns
       → list_all (λ need. list_any (meets rules need) (released ++ t ∷ [])) ns ≡ list_all (λ need. list_any (meets rules need) released) ns
   not_named released t c above [] older = refl
   not_named released t c above (need ∷ ns) older =

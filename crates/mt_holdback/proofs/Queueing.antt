@@ -9,10 +9,10 @@ use Rattle.std.specs.Ordering.{ordering_reverse, match_ordering}
 use Rattle.std.specs.declared.cmp.Ordering.{Ordering}
 use Rattle.std.specs.declared.cmp.Ordering.TheVariants.{Less, Equal, Greater}
 use Rattle.std.proofs.lemmas.Option.{same_Some, none-some}
-use Rattle.mt_stamp.specs.Moment.{Moment, stamp_cmp, stamp_eq}
+use Rattle.mt_stamp.specs.StampOrder.{Stamp, stamp_cmp, stamp_eq}
 use Rattle.mt_stamp.proofs.Order.{stamp_cmp_total, stamp_eq-true}
-use Rattle.mt_stampmap.specs.Index.{first_place, other_place, Finds}
-use Rattle.mt_stampmap.specs.declared.index.StampIndex.{StampIndex}
+use Rattle.base_stampmap.specs.Index.{first_place, other_place, Finds}
+use Rattle.base_stampmap.specs.declared.index.StampIndex.{StampIndex}
 use Rattle.mt_holdback.specs.Waiting.{Rules, NamesOlder, meets}
 use Rattle.mt_holdback.specs.Laws.{is_met_by}
 use Rattle.mt_holdback.specs.Passing.{after_pass}
@@ -30,19 +30,19 @@ use Rattle.mt_holdback.proofs.Released.{finds_more}
 
 module _ {T R : Type 0} (rules : Rules T R) where
   -- what lacks a need is not met
-  lack_unmet : (released : List T) (t : T) (i : ℕ) (stamp : Moment) → LacksAt rules released t i stamp → is_met_by rules released t ≡ false
+  lack_unmet : (released : List T) (t : T) (i : ℕ) (stamp : Stamp) → LacksAt rules released t i stamp → is_met_by rules released t ≡ false
   lack_unmet released t i stamp lack = one_fails (is_met_in rules released) (rules.needs t) i (stamp, lack.role) lack.at lack.unmet
 
   -- and lacks it still where one is released that the need does not name
-  lack_kept : (released : List T) (t u : T) (i : ℕ) (stamp : Moment) → stamp_eq stamp (rules.key u) ≡ false → LacksAt rules released t i stamp → LacksAt rules (released ++ u ∷ []) t i stamp
+  lack_kept : (released : List T) (t u : T) (i : ℕ) (stamp : Stamp) → stamp_eq stamp (rules.key u) ≡ false → LacksAt rules released t i stamp → LacksAt rules (released ++ u ∷ []) t i stamp
   lack_kept released t u i stamp differs lack = record {
     role = lack.role;
     at = lack.at;
     unmet = any_push (meets rules (stamp, lack.role)) released u ∙ neither _ _ lack.unmet (not_and (stamp_eq stamp (rules.key u)) (rules.fits lack.role u) differs);
   }
 
-  stands_more : (released : List T) (lists lists' : Moment → Moment → Bool) (woken : Moment → Bool) → ((s q : Moment) → lists s q ≡ true → lists' s q ≡ true)
-      → (es : List (Moment × Waiter T)) → AllByRecursion (Stands rules released lists woken) es → AllByRecursion (Stands rules released lists' woken) es
+  stands_more : (released : List T) (lists lists' : Stamp → Stamp → Bool) (woken : Stamp → Bool) → ((s q : Stamp) → lists s q ≡ true → lists' s q ≡ true)
+      → (es : List (Stamp × Waiter T)) → AllByRecursion (Stands rules released lists woken) es → AllByRecursion (Stands rules released lists' woken) es
   stands_more released lists lists' woken stay [] all = tt
   stands_more released lists lists' woken stay (e ∷ es) all = (
     record {
@@ -60,9 +60,9 @@ module _ {T R : Type 0} (rules : Rules T R) where
       by (inr l) = inr (record { stamp = l.stamp; lacks = l.lacks; under = stay l.stamp e.0 l.under })
 
   -- a key that no entry has is looked at no more
-  stands_less : (released : List T) (lists : Moment → Moment → Bool) (woken woken' : Moment → Bool) (k : Moment)
-      → ((q : Moment) → woken' q ≡ cond (is_eq (stamp_cmp k q)) false (woken q))
-      → (es : List (Moment × Waiter T)) → AllByRecursion (λ e. is_eq (stamp_cmp k e.0) ≡ false) es
+  stands_less : (released : List T) (lists : Stamp → Stamp → Bool) (woken woken' : Stamp → Bool) (k : Stamp)
+      → ((q : Stamp) → woken' q ≡ cond (is_eq (stamp_cmp k q)) false (woken q))
+      → (es : List (Stamp × Waiter T)) → AllByRecursion (λ e. is_eq (stamp_cmp k e.0) ≡ false) es
       → AllByRecursion (Stands rules released lists woken) es → AllByRecursion (Stands rules released lists woken') es
   stands_less released lists woken woken' k popped [] others all = tt
   stands_less released lists woken woken' k popped (e ∷ es) others all = (
@@ -81,40 +81,40 @@ module _ {T R : Type 0} (rules : Rules T R) where
       by (inr l) = inr l
 
   -- the one of a key
-  stands_at : (released : List T) (lists : Moment → Moment → Bool) (woken : Moment → Bool) (k : Moment) (es : List (Moment × Waiter T)) (v : Waiter T) → lookup (is_at (stamp_cmp k)) es ≡ Some v
+  stands_at : (released : List T) (lists : Stamp → Stamp → Bool) (woken : Stamp → Bool) (k : Stamp) (es : List (Stamp × Waiter T)) (v : Waiter T) → lookup (is_at (stamp_cmp k)) es ≡ Some v
       → AllByRecursion (Stands rules released lists woken) es → Stands rules released lists woken (k, v)
   stands_at released lists woken k [] v found all = absurd (none-some v found)
   stands_at released lists woken k (e ∷ es) v found all = by (is_eq (stamp_cmp k e.0)) refl found (λ h. stands_at released lists woken k es v h all.1)
     where
       by : (b : Bool) → is_eq (stamp_cmp k e.0) ≡ b → cond b (Some e.1) (lookup (is_at (stamp_cmp k)) es) ≡ Some v
           → (lookup (is_at (stamp_cmp k)) es ≡ Some v → Stands rules released lists woken (k, v)) → Stands rules released lists woken (k, v)
-      by true is h rest = subst (λ (f : Moment × Waiter T). Stands rules released lists woken f) (λ i. (sym (is_same k e.0 is) i, same_Some e.1 v h i)) all.0
+      by true is h rest = subst (λ (f : Stamp × Waiter T). Stands rules released lists woken f) (λ i. (sym (is_same k e.0 is) i, same_Some e.1 v h i)) all.0
       by false is h rest = rest h
 
   -- The next one is taken out, and it is met: a pass comes to it first of all that are met.
-  module _ (released : List T) (t : T) (k : Moment) (own : k ≡ rules.key t) (met : is_met_by rules released t ≡ true) where
-    unmet_both : (lists : Moment → Moment → Bool) (woken : Moment → Bool) (e : Moment × Waiter T) → stamp_cmp e.0 k ≡ Less → ((q : Moment) → woken q ≡ true → is_gt (stamp_cmp k q) ≡ false)
+  module _ (released : List T) (t : T) (k : Stamp) (own : k ≡ rules.key t) (met : is_met_by rules released t ≡ true) where
+    unmet_both : (lists : Stamp → Stamp → Bool) (woken : Stamp → Bool) (e : Stamp × Waiter T) → stamp_cmp e.0 k ≡ Less → ((q : Stamp) → woken q ≡ true → is_gt (stamp_cmp k q) ≡ false)
         → Stands rules released lists woken e → (is_met_by rules released e.1.item ≡ false) × (is_met_by rules (released ++ t ∷ []) e.1.item ≡ false)
     unmet_both lists woken e less least stands = by stands.waits
       where
-        differs : (stamp : Moment) → (lack : LacksAt rules released e.1.item e.1.met stamp) → stamp_eq stamp (rules.key t) ≡ false
+        differs : (stamp : Stamp) → (lack : LacksAt rules released e.1.item e.1.met stamp) → stamp_eq stamp (rules.key t) ≡ false
         differs stamp lack = by (stamp_eq stamp (rules.key t)) refl
           where
             by : (b : Bool) → stamp_eq stamp (rules.key t) ≡ b → b ≡ false
             by false h = refl
             by true h =
                 let smaller = all_at (λ need. need.0.clock < (rules.key e.1.item).clock) (rules.needs e.1.item) e.1.met (stamp, lack.role) stands.older lack.at in
-                let same = ap (λ (s : Moment). s.clock) (stamp_eq-true stamp (rules.key t) h) in
-                let own_clock = ap (λ (s : Moment). s.clock) own in
-                let e_clock = ap (λ (s : Moment). s.clock) stands.own in
+                let same = ap (λ (s : Stamp). s.clock) (stamp_eq-true stamp (rules.key t) h) in
+                let own_clock = ap (λ (s : Stamp). s.clock) own in
+                let e_clock = ap (λ (s : Stamp). s.clock) stands.own in
                 absurd (omega (arith, smaller, same, own_clock, e_clock, less_clock rules e.0 k less))
 
         by : (woken e.0 ≡ true) ⊎ Lacks rules released lists e → (is_met_by rules released e.1.item ≡ false) × (is_met_by rules (released ++ t ∷ []) e.1.item ≡ false)
         by (inl h) = absurd (true≢false (sym (ap is_gt (stamp_cmp_total.antisymm k e.0 ∙ ap ordering_reverse less)) ∙ least e.0 h))
         by (inr l) = (lack_unmet released e.1.item e.1.met l.stamp l.lacks, lack_unmet (released ++ t ∷ []) e.1.item e.1.met l.stamp (lack_kept released e.1.item t e.1.met l.stamp (differs l.stamp l.lacks) l.lacks))
 
-    pub taken : (lists : Moment → Moment → Bool) (woken : Moment → Bool) (v : Waiter T) → v.item ≡ t → ((q : Moment) → woken q ≡ true → is_gt (stamp_cmp k q) ≡ false)
-        → (es : List (Moment × Waiter T)) → IsStrictlySortedBy stamp_cmp (keys_of es) → lookup (is_at (stamp_cmp k)) es ≡ Some v → AllByRecursion (Stands rules released lists woken) es
+    pub taken : (lists : Stamp → Stamp → Bool) (woken : Stamp → Bool) (v : Waiter T) → v.item ≡ t → ((q : Stamp) → woken q ≡ true → is_gt (stamp_cmp k q) ≡ false)
+        → (es : List (Stamp × Waiter T)) → IsStrictlySortedBy stamp_cmp (keys_of es) → lookup (is_at (stamp_cmp k)) es ≡ Some v → AllByRecursion (Stands rules released lists woken) es
         → Takes rules released t (items_of es) (items_of (remove_entry (is_at (stamp_cmp k)) es))
     unfolding IsStrictlySortedBy
     taken lists woken v is least [] sorted found all = absurd (none-some v found)
@@ -137,8 +137,8 @@ module _ {T R : Type 0} (rules : Rules T R) where
   passes_none released (u ∷ ws) none = ap (goes_by rules released u ws) none.0 ∙ ap (stays_first rules u) (passes_none released ws none.1)
 
   -- where none is to be looked at, none is met
-  pub none_is_met : (released : List T) (lists : Moment → Moment → Bool) (woken : Moment → Bool) → ((q : Moment) → woken q ≡ false)
-      → (es : List (Moment × Waiter T)) → AllByRecursion (Stands rules released lists woken) es → NoneIsMet rules released (items_of es)
+  pub none_is_met : (released : List T) (lists : Stamp → Stamp → Bool) (woken : Stamp → Bool) → ((q : Stamp) → woken q ≡ false)
+      → (es : List (Stamp × Waiter T)) → AllByRecursion (Stands rules released lists woken) es → NoneIsMet rules released (items_of es)
   none_is_met released lists woken asleep [] all = tt
   none_is_met released lists woken asleep (e ∷ es) all = (by all.0.waits, none_is_met released lists woken asleep es all.1)
     where
@@ -148,22 +148,22 @@ module _ {T R : Type 0} (rules : Rules T R) where
 
   -- the next one that is to be looked at does not wait
 
-  pub pop_absent : {A : Type 0} (released : List T) (places : StampIndex A) (es fs : List (Moment × Waiter T)) (lists : Moment → Moment → Bool) (woken woken' : Moment → Bool) (k : Moment)
-      → Works rules released places es lists woken → ((q : Moment) → woken' q ≡ cond (is_eq (stamp_cmp k q)) false (woken q)) → lookup (is_at (stamp_cmp k)) es ≡ None → fs ≡ es
+  pub pop_absent : {A : Type 0} (released : List T) (places : StampIndex A) (es fs : List (Stamp × Waiter T)) (lists : Stamp → Stamp → Bool) (woken woken' : Stamp → Bool) (k : Stamp)
+      → Works rules released places es lists woken → ((q : Stamp) → woken' q ≡ cond (is_eq (stamp_cmp k q)) false (woken q)) → lookup (is_at (stamp_cmp k)) es ≡ None → fs ≡ es
       → Works rules released places fs lists woken'
   pop_absent released places es fs lists woken woken' k works popped none same =
-      subst (λ (gs : List (Moment × Waiter T)). Works rules released places gs lists woken') (sym same)
+      subst (λ (gs : List (Stamp × Waiter T)). Works rules released places gs lists woken') (sym same)
       (record { finds = works.finds; sorted = works.sorted; each = stands_less released lists woken woken' k popped es (none_found k es none) works.each })
 
   -- it waits, and is taken out
-  pub record IsOut {A : Type 0} (released : List T) (places : StampIndex A) (es fs : List (Moment × Waiter T)) (lists : Moment → Moment → Bool) (woken woken' : Moment → Bool) (k : Moment) (v : Waiter T) : Type 0 where
+  pub record IsOut {A : Type 0} (released : List T) (places : StampIndex A) (es fs : List (Stamp × Waiter T)) (lists : Stamp → Stamp → Bool) (woken woken' : Stamp → Bool) (k : Stamp) (v : Waiter T) : Type 0 where
     pub works : Works rules released places es lists woken
-    pub popped : (q : Moment) → woken' q ≡ cond (is_eq (stamp_cmp k q)) false (woken q)
+    pub popped : (q : Stamp) → woken' q ≡ cond (is_eq (stamp_cmp k q)) false (woken q)
     pub found : lookup (is_at (stamp_cmp k)) es ≡ Some v
     pub gone : fs ≡ remove_entry (is_at (stamp_cmp k)) es
     pub sorted : IsStrictlySortedBy stamp_cmp (keys_of fs)
 
-  module _ {A : Type 0} {released : List T} {places : StampIndex A} {es fs : List (Moment × Waiter T)} {lists : Moment → Moment → Bool} {woken woken' : Moment → Bool} {k : Moment} {v : Waiter T}
+  module _ {A : Type 0} {released : List T} {places : StampIndex A} {es fs : List (Stamp × Waiter T)} {lists : Stamp → Stamp → Bool} {woken woken' : Stamp → Bool} {k : Stamp} {v : Waiter T}
       (out : IsOut released places es fs lists woken woken' k v) where
     pub stood : Stands rules released lists woken (k, v)
     stood = stands_at released lists woken k es v out.found out.works.each
@@ -172,33 +172,33 @@ module _ {T R : Type 0} (rules : Rules T R) where
     pop_works = record {
       finds = out.works.finds;
       sorted = out.sorted;
-      each = subst (λ (gs : List (Moment × Waiter T)). AllByRecursion (Stands rules released lists woken') gs) (sym out.gone)
+      each = subst (λ (gs : List (Stamp × Waiter T)). AllByRecursion (Stands rules released lists woken') gs) (sym out.gone)
           (stands_less released lists woken woken' k out.popped (remove_entry (is_at (stamp_cmp k)) es) (others_left k es out.works.sorted) (all_removed (Stands rules released lists woken) (is_at (stamp_cmp k)) es out.works.each));
     }
 
-    pub pop_takes : ((q : Moment) → woken q ≡ true → is_gt (stamp_cmp k q) ≡ false) → is_met_by rules released v.item ≡ true → Takes rules released v.item (items_of es) (items_of fs)
+    pub pop_takes : ((q : Stamp) → woken q ≡ true → is_gt (stamp_cmp k q) ≡ false) → is_met_by rules released v.item ≡ true → Takes rules released v.item (items_of es) (items_of fs)
     pop_takes least met =
-        subst (λ (gs : List (Moment × Waiter T)). Takes rules released v.item (items_of es) (items_of gs)) (sym out.gone)
+        subst (λ (gs : List (Stamp × Waiter T)). Takes rules released v.item (items_of es) (items_of gs)) (sym out.gone)
         (taken released v.item k stood.own met lists woken v refl least es out.works.sorted out.found out.works.each)
 
     pub pop_fresh : list_any (λ u. stamp_eq (rules.key u) (rules.key v.item)) released ≡ false
-    pop_fresh = subst (λ (q : Moment). list_any (λ u. stamp_eq (rules.key u) q) released ≡ false) stood.own stood.fresh
+    pop_fresh = subst (λ (q : Stamp). list_any (λ u. stamp_eq (rules.key u) q) released ≡ false) stood.own stood.fresh
 
     pub pop_others : AllByRecursion (λ e. stamp_eq e.0 (rules.key v.item) ≡ false) fs
-    pop_others = subst (λ (gs : List (Moment × Waiter T)). AllByRecursion (λ e. stamp_eq e.0 (rules.key v.item) ≡ false) gs) (sym out.gone) (by (remove_entry (is_at (stamp_cmp k)) es) (others_left k es out.works.sorted))
+    pop_others = subst (λ (gs : List (Stamp × Waiter T)). AllByRecursion (λ e. stamp_eq e.0 (rules.key v.item) ≡ false) gs) (sym out.gone) (by (remove_entry (is_at (stamp_cmp k)) es) (others_left k es out.works.sorted))
       where
-        by : (gs : List (Moment × Waiter T)) → AllByRecursion (λ e. is_eq (stamp_cmp k e.0) ≡ false) gs → AllByRecursion (λ e. stamp_eq e.0 (rules.key v.item) ≡ false) gs
+        by : (gs : List (Stamp × Waiter T)) → AllByRecursion (λ e. is_eq (stamp_cmp k e.0) ≡ false) gs → AllByRecursion (λ e. stamp_eq e.0 (rules.key v.item) ≡ false) gs
         by [] all = tt
         by (g ∷ gs) all = (ap (stamp_eq g.0) (sym stood.own) ∙ eq_turned g.0 k ∙ same_test k g.0 ∙ all.0, by gs all.1)
 
     -- it lacks a need, and is put in again
-    pub held_works : (lists' : Moment → Moment → Bool) (gs : List (Moment × Waiter T)) (lack : Lack) → FirstLack rules released v.item lack
-        → ((s q : Moment) → lists s q ≡ true → lists' s q ≡ true) → lists' lack.stamp k ≡ true → gs ≡ insert_entry stamp_cmp fs k (record { item = v.item; met = lack.place }) → IsStrictlySortedBy stamp_cmp (keys_of gs)
+    pub held_works : (lists' : Stamp → Stamp → Bool) (gs : List (Stamp × Waiter T)) (lack : Lack) → FirstLack rules released v.item lack
+        → ((s q : Stamp) → lists s q ≡ true → lists' s q ≡ true) → lists' lack.stamp k ≡ true → gs ≡ insert_entry stamp_cmp fs k (record { item = v.item; met = lack.place }) → IsStrictlySortedBy stamp_cmp (keys_of gs)
         → Works rules released places gs lists' woken'
     held_works lists' gs lack first stay there put ascend = record {
       finds = out.works.finds;
       sorted = ascend;
-      each = subst (λ (hs : List (Moment × Waiter T)). AllByRecursion (Stands rules released lists' woken') hs) (sym put)
+      each = subst (λ (hs : List (Stamp × Waiter T)). AllByRecursion (Stands rules released lists' woken') hs) (sym put)
           (all_inserted (Stands rules released lists' woken') k (record { item = v.item; met = lack.place }) fs (record {
             own = stood.own;
             older = stood.older;
@@ -208,9 +208,9 @@ module _ {T R : Type 0} (rules : Rules T R) where
           }) (stands_more released lists lists' woken' stay fs pop_works.each));
     }
 
-    pub held_same : (gs : List (Moment × Waiter T)) (place : ℕ) → gs ≡ insert_entry stamp_cmp fs k (record { item = v.item; met = place }) → items_of gs ≡ items_of es
+    pub held_same : (gs : List (Stamp × Waiter T)) (place : ℕ) → gs ≡ insert_entry stamp_cmp fs k (record { item = v.item; met = place }) → items_of gs ≡ items_of es
     held_same gs place put =
-        ap items_of put ∙ ap (λ (hs : List (Moment × Waiter T)). items_of (insert_entry stamp_cmp hs k (record { item = v.item; met = place }))) out.gone
+        ap items_of put ∙ ap (λ (hs : List (Stamp × Waiter T)). items_of (insert_entry stamp_cmp hs k (record { item = v.item; met = place }))) out.gone
         ∙ reinserted k es v (record { item = v.item; met = place }) out.works.sorted out.found refl
 
   -- the next one, if there is one
@@ -225,10 +225,10 @@ module _ {T R : Type 0} (rules : Rules T R) where
 
   -- one more is released
 
-  module _ (released : List T) (t : T) (lists lists' : Moment → Moment → Bool) (woken woken' : Moment → Bool)
-      (others : (s q : Moment) → stamp_eq s (rules.key t) ≡ false → lists s q ≡ true → lists' s q ≡ true) (woke : (q : Moment) → lists (rules.key t) q ≡ true → woken' q ≡ true)
-      (stay : (q : Moment) → woken q ≡ true → woken' q ≡ true) where
-    stands_released : (es : List (Moment × Waiter T)) → AllByRecursion (λ e. stamp_eq e.0 (rules.key t) ≡ false) es → AllByRecursion (Stands rules released lists woken) es
+  module _ (released : List T) (t : T) (lists lists' : Stamp → Stamp → Bool) (woken woken' : Stamp → Bool)
+      (others : (s q : Stamp) → stamp_eq s (rules.key t) ≡ false → lists s q ≡ true → lists' s q ≡ true) (woke : (q : Stamp) → lists (rules.key t) q ≡ true → woken' q ≡ true)
+      (stay : (q : Stamp) → woken q ≡ true → woken' q ≡ true) where
+    stands_released : (es : List (Stamp × Waiter T)) → AllByRecursion (λ e. stamp_eq e.0 (rules.key t) ≡ false) es → AllByRecursion (Stands rules released lists woken) es
         → AllByRecursion (Stands rules (released ++ t ∷ []) lists' woken') es
     stands_released [] apart all = tt
     stands_released (e ∷ es) apart all = (
@@ -244,15 +244,15 @@ module _ {T R : Type 0} (rules : Rules T R) where
     )
       where
         waits_for : (l : Lacks rules released lists e) (b : Bool) → stamp_eq l.stamp (rules.key t) ≡ b → (woken' e.0 ≡ true) ⊎ Lacks rules (released ++ t ∷ []) lists' e
-        waits_for l true h = inl (woke e.0 (subst (λ (s : Moment). lists s e.0 ≡ true) (stamp_eq-true l.stamp (rules.key t) h) l.under))
+        waits_for l true h = inl (woke e.0 (subst (λ (s : Stamp). lists s e.0 ≡ true) (stamp_eq-true l.stamp (rules.key t) h) l.under))
         waits_for l false h = inr (record { stamp = l.stamp; lacks = lack_kept released e.1.item t e.1.met l.stamp h l.lacks; under = others l.stamp e.0 h l.under })
 
         by : (woken e.0 ≡ true) ⊎ Lacks rules released lists e → (woken' e.0 ≡ true) ⊎ Lacks rules (released ++ t ∷ []) lists' e
         by (inl h) = inl (stay e.0 h)
         by (inr l) = waits_for l (stamp_eq l.stamp (rules.key t)) refl
 
-    pub release_works : {A : Type 0} (more : List T) (places places' : StampIndex A) (es : List (Moment × Waiter T)) → Works rules released places es lists woken
-        → more ≡ released ++ t ∷ [] → ((s : Moment) (i : ℕ) → first_place places s ≡ Some i → first_place places' s ≡ Some i) → ((s : Moment) → stamp_eq (rules.key t) s ≡ false → other_place places' s ≡ other_place places s)
+    pub release_works : {A : Type 0} (more : List T) (places places' : StampIndex A) (es : List (Stamp × Waiter T)) → Works rules released places es lists woken
+        → more ≡ released ++ t ∷ [] → ((s : Stamp) (i : ℕ) → first_place places s ≡ Some i → first_place places' s ≡ Some i) → ((s : Stamp) → stamp_eq (rules.key t) s ≡ false → other_place places' s ≡ other_place places s)
         → (first_place places' (rules.key t) ≡ Some (length released)) ⊎ (other_place places' (rules.key t) ≡ Some (length released)) → list_any (λ u. stamp_eq (rules.key u) (rules.key t)) released ≡ false
         → AllByRecursion (λ e. stamp_eq e.0 (rules.key t) ≡ false) es → Works rules more places' es lists' woken'
     release_works more places places' es works is_more stays others_stay points fresh apart =
@@ -261,11 +261,11 @@ module _ {T R : Type 0} (rules : Rules T R) where
 
   -- what is known
 
-  pub items_known : (released : List T) (lists : Moment → Moment → Bool) (woken : Moment → Bool) (q : Moment) (es : List (Moment × Waiter T)) → AllByRecursion (Stands rules released lists woken) es
+  pub items_known : (released : List T) (lists : Stamp → Stamp → Bool) (woken : Stamp → Bool) (q : Stamp) (es : List (Stamp × Waiter T)) → AllByRecursion (Stands rules released lists woken) es
       → list_any (λ t. stamp_eq (rules.key t) q) (items_of es) ≡ is_some (lookup (is_at (stamp_cmp q)) es)
   items_known released lists woken q [] all = refl
   items_known released lists woken q (e ∷ es) all =
-      ap (λ (b : Bool). b || list_any (λ t. stamp_eq (rules.key t) q) (items_of es)) (ap (λ (k : Moment). stamp_eq k q) (sym all.0.own) ∙ eq_turned e.0 q ∙ same_test q e.0)
+      ap (λ (b : Bool). b || list_any (λ t. stamp_eq (rules.key t) q) (items_of es)) (ap (λ (k : Stamp). stamp_eq k q) (sym all.0.own) ∙ eq_turned e.0 q ∙ same_test q e.0)
       ∙ by (is_eq (stamp_cmp q e.0)) (items_known released lists woken q es all.1)
     where
       by : (b : Bool) → list_any (λ t. stamp_eq (rules.key t) q) (items_of es) ≡ is_some (lookup (is_at (stamp_cmp q)) es)
@@ -273,7 +273,7 @@ module _ {T R : Type 0} (rules : Rules T R) where
       by true rest = refl
       by false rest = rest
 
-  pub works_known : {A : Type 0} (released : List T) (places : StampIndex A) (es : List (Moment × Waiter T)) (lists : Moment → Moment → Bool) (woken : Moment → Bool) (q : Moment) → Works rules released places es lists woken
+  pub works_known : {A : Type 0} (released : List T) (places : StampIndex A) (es : List (Stamp × Waiter T)) (lists : Stamp → Stamp → Bool) (woken : Stamp → Bool) (q : Stamp) → Works rules released places es lists woken
       → list_any (λ t. stamp_eq (rules.key t) q) (released ++ items_of es) ≡ (list_any (λ t. stamp_eq (rules.key t) q) released || is_some (lookup (is_at (stamp_cmp q)) es))
   works_known released places es lists woken q works =
       any_append (λ t. stamp_eq (rules.key t) q) released (items_of es)
@@ -289,12 +289,12 @@ module _ {T R : Type 0} (rules : Rules T R) where
   second_false true b h = absurd (true≢false h)
   second_false false b h = h
 
-  queued_items : (released : List T) (lists : Moment → Moment → Bool) (woken : Moment → Bool) (w : Waiter T) (es : List (Moment × Waiter T)) → AllByRecursion (Stands rules released lists woken) es
+  queued_items : (released : List T) (lists : Stamp → Stamp → Bool) (woken : Stamp → Bool) (w : Waiter T) (es : List (Stamp × Waiter T)) → AllByRecursion (Stands rules released lists woken) es
       → AllByRecursion (λ e. is_eq (stamp_cmp (rules.key w.item) e.0) ≡ false) es → items_of (insert_entry stamp_cmp es (rules.key w.item) w) ≡ queued rules w.item (items_of es)
   queued_items released lists woken w [] all apart = refl
   queued_items released lists woken w (e ∷ es) all apart =
       by (stamp_cmp (rules.key w.item) e.0) refl (queued_items released lists woken w es all.1 apart.1)
-      ∙ sym (queued_is rules w.item e.1.item (items_of es) ∙ ap (λ (k : Moment). cond (is_lt (stamp_cmp k (rules.key w.item))) (e.1.item ∷ queued rules w.item (items_of es)) (w.item ∷ e.1.item ∷ items_of es)) (sym all.0.own))
+      ∙ sym (queued_is rules w.item e.1.item (items_of es) ∙ ap (λ (k : Stamp). cond (is_lt (stamp_cmp k (rules.key w.item))) (e.1.item ∷ queued rules w.item (items_of es)) (w.item ∷ e.1.item ∷ items_of es)) (sym all.0.own))
     where
       by : (o : Ordering) → stamp_cmp (rules.key w.item) e.0 ≡ o → items_of (insert_entry stamp_cmp es (rules.key w.item) w) ≡ queued rules w.item (items_of es)
           → items_of (match_ordering (stamp_cmp (rules.key w.item) e.0) ((rules.key w.item, w) ∷ e ∷ es) ((e.0, w) ∷ es) (e ∷ insert_entry stamp_cmp es (rules.key w.item) w))
@@ -309,7 +309,7 @@ module _ {T R : Type 0} (rules : Rules T R) where
           ∙ ap (λ (o : Ordering). cond (is_lt o) (e.1.item ∷ queued rules w.item (items_of es)) (w.item ∷ e.1.item ∷ items_of es)) (sym (stamp_cmp_total.antisymm e.0 (rules.key w.item) ∙ ap ordering_reverse is))
 
   module _ {A : Type 0} (released : List T) (queue : Queue T A) (t : T) (works : IsQueueOf rules released queue) (unknown : knows rules (contents_of released (Some queue)) (rules.key t) ≡ false) where
-    abbrev entries : List (Moment × Waiter T)
+    abbrev entries : List (Stamp × Waiter T)
     entries = queue.items.entries
 
     apart : AllByRecursion (λ e. is_eq (stamp_cmp (rules.key t) e.0) ≡ false) entries
@@ -325,17 +325,17 @@ module _ {T R : Type 0} (rules : Rules T R) where
     pub new_apart : IsApart rules released queue t
     new_apart = record { fresh = new_fresh; others = by entries apart }
       where
-        by : (gs : List (Moment × Waiter T)) → AllByRecursion (λ e. is_eq (stamp_cmp (rules.key t) e.0) ≡ false) gs → AllByRecursion (λ e. stamp_eq e.0 (rules.key t) ≡ false) gs
+        by : (gs : List (Stamp × Waiter T)) → AllByRecursion (λ e. is_eq (stamp_cmp (rules.key t) e.0) ≡ false) gs → AllByRecursion (λ e. stamp_eq e.0 (rules.key t) ≡ false) gs
         by [] all = tt
         by (g ∷ gs) all = (eq_turned g.0 (rules.key t) ∙ same_test (rules.key t) g.0 ∙ all.0, by gs all.1)
 
-    module _ (fs : List (Moment × Waiter T)) (lack : Lack) (put : fs ≡ insert_entry stamp_cmp entries (rules.key t) (record { item = t; met = lack.place })) where
-      pub put_works : (lists' : Moment → Moment → Bool) → NamesOlder rules t → FirstLack rules released t lack
-          → ((s q : Moment) → is_under queue s q ≡ true → lists' s q ≡ true) → lists' lack.stamp (rules.key t) ≡ true → IsStrictlySortedBy stamp_cmp (keys_of fs) → Works rules released queue.places fs lists' (is_woken queue)
+    module _ (fs : List (Stamp × Waiter T)) (lack : Lack) (put : fs ≡ insert_entry stamp_cmp entries (rules.key t) (record { item = t; met = lack.place })) where
+      pub put_works : (lists' : Stamp → Stamp → Bool) → NamesOlder rules t → FirstLack rules released t lack
+          → ((s q : Stamp) → is_under queue s q ≡ true → lists' s q ≡ true) → lists' lack.stamp (rules.key t) ≡ true → IsStrictlySortedBy stamp_cmp (keys_of fs) → Works rules released queue.places fs lists' (is_woken queue)
       put_works lists' older first stay there sorted = record {
         finds = works.finds;
         sorted = sorted;
-        each = subst (λ (gs : List (Moment × Waiter T)). AllByRecursion (Stands rules released lists' (is_woken queue)) gs) (sym put)
+        each = subst (λ (gs : List (Stamp × Waiter T)). AllByRecursion (Stands rules released lists' (is_woken queue)) gs) (sym put)
             (all_inserted (Stands rules released lists' (is_woken queue)) (rules.key t) (record { item = t; met = lack.place }) entries (record {
               own = refl;
               older = older;
@@ -349,14 +349,14 @@ module _ {T R : Type 0} (rules : Rules T R) where
       put_items = ap items_of put ∙ queued_items released (is_under queue) (is_woken queue) (record { item = t; met = lack.place }) entries works.each apart
 
   -- nothing waits yet
-  pub none_yet : {A : Type 0} (released : List T) (places : StampIndex A) (es : List (Moment × Waiter T)) (lists : Moment → Moment → Bool) (woken : Moment → Bool) → released ≡ [] → es ≡ []
+  pub none_yet : {A : Type 0} (released : List T) (places : StampIndex A) (es : List (Stamp × Waiter T)) (lists : Stamp → Stamp → Bool) (woken : Stamp → Bool) → released ≡ [] → es ≡ []
       → IsStrictlySortedBy stamp_cmp (keys_of es) → Works rules released places es lists woken
   none_yet released places es lists woken no_released empty sorted = record {
     finds = subst (λ (rs : List T). Finds (map rules.key rs) places) (sym no_released) (λ k stamp at. absurd (none-some stamp at));
     sorted = sorted;
-    each = subst (λ (gs : List (Moment × Waiter T)). AllByRecursion (Stands rules released lists woken) gs) (sym empty) tt;
+    each = subst (λ (gs : List (Stamp × Waiter T)). AllByRecursion (Stands rules released lists woken) gs) (sym empty) tt;
   }
 
-  pub asleep_works : {A : Type 0} (released : List T) (places : StampIndex A) (es : List (Moment × Waiter T)) (lists : Moment → Moment → Bool) (keys keys' : List Moment) → keys' ≡ keys
+  pub asleep_works : {A : Type 0} (released : List T) (places : StampIndex A) (es : List (Stamp × Waiter T)) (lists : Stamp → Stamp → Bool) (keys keys' : List Stamp) → keys' ≡ keys
       → Works rules released places es lists (λ q. list_any (is_at (stamp_cmp q)) keys) → Works rules released places es lists (λ q. list_any (is_at (stamp_cmp q)) keys')
-  asleep_works released places es lists keys keys' same works = subst (λ (ks : List Moment). Works rules released places es lists (λ q. list_any (is_at (stamp_cmp q)) ks)) (sym same) works
+  asleep_works released places es lists keys keys' same works = subst (λ (ks : List Stamp). Works rules released places es lists (λ q. list_any (is_at (stamp_cmp q)) ks)) (sym same) works

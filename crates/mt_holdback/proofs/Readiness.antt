@@ -1,7 +1,7 @@
 -- The laws of everything that waits.
 use Rattle.std.proofs.Common.{◌≡◌, ℕ, ◌<◌, ◌≤◌, Bool, true, false, not, cond, ◌||◌, ◌&&◌, List, [], ◌∷◌, ◌++◌, filter, refl, sym, ap, ◌∙◌, subst, arith, append_assoc, append-nil}
 use Rattle.std.specs.List.{AllByRecursion, list_all, list_any}
-use Rattle.mt_stamp.specs.Moment.{Moment}
+use Rattle.mt_stamp.specs.StampOrder.{Stamp}
 use Rattle.mt_stamp.proofs.Order.{stamp_eq-true}
 use Rattle.mt_op.specs.Ready as rule
 use Rattle.mt_op.proofs.Needs.{and_first}
@@ -63,9 +63,9 @@ module _ {D : Type 0} where
   all_rest P (x ∷ xs) ys all = all_rest P xs ys all.1
 
 module _ {T R : Type 0} (rules : Rules T R) where
-  older_needs : (c : ℕ) (ns : List (Moment × R)) → AllByRecursion (λ need. need.0.clock < c) ns → AllByRecursion (λ need. (e : T) → meets rules need e ≡ true → clock_of rules e < c) ns
+  older_needs : (c : ℕ) (ns : List (Stamp × R)) → AllByRecursion (λ need. need.0.clock < c) ns → AllByRecursion (λ need. (e : T) → meets rules need e ≡ true → clock_of rules e < c) ns
   older_needs c [] older = tt
-  older_needs c (need ∷ ns) older = (λ e m. subst (λ (s : Moment). s.clock < c) (stamp_eq-true need.0 (rules.key e) (and_first _ _ m)) older.0, older_needs c ns older.1)
+  older_needs c (need ∷ ns) older = (λ e m. subst (λ (s : Stamp). s.clock < c) (stamp_eq-true need.0 (rules.key e) (and_first _ _ m)) older.0, older_needs c ns older.1)
 
   pub all_older : (items : List T) → AllNameOlder rules items → AllByRecursion (rule.NeedsAreOlder (clock_of rules) rules.needs (meets rules)) items
   all_older [] older = tt
@@ -83,7 +83,7 @@ module _ {T R : Type 0} (rules : Rules T R) where
   unfound r o xs true fails = ap (λ (t : Bool). t || list_any r xs) fails
   unfound r o xs false fails = refl
 
-  met_without : (r : T → Bool) (o : T) (s : List T) → r o ≡ false → (ns : List (Moment × R))
+  met_without : (r : T → Bool) (o : T) (s : List T) → r o ≡ false → (ns : List (Stamp × R))
       → list_all (λ need. list_any r (filter (meets rules need) (o ∷ s))) ns ≡ list_all (λ need. list_any r (filter (meets rules need) s)) ns
   met_without r o s fails [] = refl
   met_without r o s fails (n ∷ ns) = λ i. unfound r o (filter (meets rules n) s) (meets rules n o) fails i && met_without r o s fails ns i
@@ -99,16 +99,16 @@ module _ {T R : Type 0} (rules : Rules T R) where
       (ready_is_defined items older.1).only r (rule_without r t items held items (ready_is_defined (t ∷ items) older).satisfies.1)
 
   -- no item that waits from here on is named by one of these needs
-  pub named_later : (c : ℕ) (need : Moment × R) → need.0.clock < c → (later : List T) → AllByRecursion (λ u. c ≤ clock_of rules u) later → AllByRecursion (λ u. meets rules need u ≡ false) later
+  pub named_later : (c : ℕ) (need : Stamp × R) → need.0.clock < c → (later : List T) → AllByRecursion (λ u. c ≤ clock_of rules u) later → AllByRecursion (λ u. meets rules need u ≡ false) later
   named_later c need smaller [] greater = tt
   named_later c need smaller (u ∷ later) greater = (by (meets rules need u) refl, named_later c need smaller later greater.1)
     where
       by : (b : Bool) → meets rules need u ≡ b → b ≡ false
-      by true e = let same = ap (λ (s : Moment). s.clock) (stamp_eq-true need.0 (rules.key u) (and_first _ _ e)) in absurd (omega (arith, smaller, greater.0, same))
+      by true e = let same = ap (λ (s : Stamp). s.clock) (stamp_eq-true need.0 (rules.key u) (and_first _ _ e)) in absurd (omega (arith, smaller, greater.0, same))
       by false e = refl
 
   module _ (all : List T) (older : AllNameOlder rules all) where
-    met_each : (d : T) (seen later : List T) → all ≡ seen ++ later → AllByRecursion (λ u. clock_of rules d ≤ clock_of rules u) later → (ns : List (Moment × R)) → AllByRecursion (λ need. need.0.clock < (rules.key d).clock) ns
+    met_each : (d : T) (seen later : List T) → all ≡ seen ++ later → AllByRecursion (λ u. clock_of rules d ≤ clock_of rules u) later → (ns : List (Stamp × R)) → AllByRecursion (λ need. need.0.clock < (rules.key d).clock) ns
         → AllByRecursion (λ need. list_any (meets rules need) (filter (is_ready rules all) seen) ≡ list_any (is_ready rules all) (filter (meets rules need) all)) ns
     met_each d seen later cut greater [] names_older = tt
     met_each d seen later cut greater (need ∷ ns) names_older = (

@@ -5,17 +5,17 @@ use Rattle.std.specs.Option.{option_map}
 use Rattle.std.specs.List.{list_any}
 use Rattle.std.proofs.lemmas.List.{length-map, map-append}
 use Rattle.std.proofs.lemmas.Option.{none-some, slice_get-map}
-use Rattle.mt_stamp.specs.Moment.{Moment, stamp_eq}
+use Rattle.mt_stamp.specs.StampOrder.{Stamp, stamp_eq}
 use Rattle.mt_stamp.proofs.Order.{stamp_eq-true}
-use Rattle.mt_stampmap.specs.Index.{first_place, other_place, is_key, or_else, checked, Finds}
-use Rattle.mt_stampmap.specs.declared.index.StampIndex.{StampIndex}
-use Rattle.mt_stampmap.proofs.Finding.{IsNew, pointed}
+use Rattle.base_stampmap.specs.Index.{first_place, other_place, is_key, or_else, checked, Finds}
+use Rattle.base_stampmap.specs.declared.index.StampIndex.{StampIndex}
+use Rattle.base_stampmap.proofs.Finding.{IsNew, pointed}
 use Rattle.mt_holdback.specs.Waiting.{Rules, meets}
 use Rattle.mt_holdback.specs.Queue.{is_met_in, passes, passes_at}
 use Rattle.mt_holdback.proofs.Keys.{same_answer, or_second, eq_turned}
 
 -- a place that is checked is the place itself
-place_only : (ks : List Moment) (o : Option ℕ) (stamp : Moment) (j : ℕ) → checked ks o stamp ≡ Some j → o ≡ Some j
+place_only : (ks : List Stamp) (o : Option ℕ) (stamp : Stamp) (j : ℕ) → checked ks o stamp ≡ Some j → o ≡ Some j
 place_only ks None stamp j h = h
 place_only ks (Some i) stamp j h = by (is_key (slice_get ks i) stamp) h
   where
@@ -26,7 +26,7 @@ place_only ks (Some i) stamp j h = by (is_key (slice_get ks i) stamp) h
 or_first : (a b : Bool) → a ≡ true → (a || b) ≡ true
 or_first a b h = ap (λ (c : Bool). c || b) h
 
-module _ {T : Type 0} (key : T → Moment) where
+module _ {T : Type 0} (key : T → Stamp) where
   -- one that passes a test stands somewhere
   stands_somewhere : (p : T → Bool) (items : List T) → list_any p items ≡ true → (k : ℕ) × ((t : T) × ((slice_get items k ≡ Some t) × (p t ≡ true)))
   stands_somewhere p [] h = absurd (true≢false (sym h))
@@ -48,7 +48,7 @@ module _ {T : Type 0} (key : T → Moment) where
   there_passes p items (Some k) h = one_passes p items k h
 
   -- Where a test passes but items of one stamp: if it passes none at the first place that is told of the stamp, it passes one of these where it passes one at the other.
-  found : {A : Type 0} (p : T → Bool) (stamp : Moment) → ((t : T) → p t ≡ true → key t ≡ stamp) → (items : List T) (places : StampIndex A) → Finds (map key items) places
+  found : {A : Type 0} (p : T → Bool) (stamp : Stamp) → ((t : T) → p t ≡ true → key t ≡ stamp) → (items : List T) (places : StampIndex A) → Finds (map key items) places
       → passes_at p items (first_place places stamp) ≡ false → passes_at p items (other_place places stamp) ≡ list_any p items
   found p stamp own items places finds none = same_answer _ _ (there_passes p items (other_place places stamp)) (λ h. at (stands_somewhere p items h))
     where
@@ -69,11 +69,11 @@ module _ {T : Type 0} (key : T → Moment) where
           by None is = holds (other_place places stamp) (place_only (map key items) (other_place places stamp) stamp w.0 (before None is))
 
   -- one of a stamp
-  pub found_stamp : {A : Type 0} (stamp : Moment) (items : List T) (places : StampIndex A) → Finds (map key items) places
+  pub found_stamp : {A : Type 0} (stamp : Stamp) (items : List T) (places : StampIndex A) → Finds (map key items) places
       → passes_at (λ t. stamp_eq (key t) stamp) items (first_place places stamp) ≡ false → passes_at (λ t. stamp_eq (key t) stamp) items (other_place places stamp) ≡ list_any (λ t. stamp_eq (key t) stamp) items
   found_stamp stamp items places finds none = found (λ t. stamp_eq (key t) stamp) stamp (λ t same. stamp_eq-true (key t) stamp same) items places finds none
 
-  new_keys : (items : List T) (stamp : Moment) → list_any (λ u. stamp_eq (key u) stamp) items ≡ false → IsNew (map key items) stamp
+  new_keys : (items : List T) (stamp : Stamp) → list_any (λ u. stamp_eq (key u) stamp) items ≡ false → IsNew (map key items) stamp
   new_keys [] stamp fresh = tt
   new_keys (t ∷ items) stamp fresh = by (stamp_eq (key t) stamp) refl fresh (new_keys items stamp)
     where
@@ -84,17 +84,17 @@ module _ {T : Type 0} (key : T → Moment) where
 
   -- an index that is told where one more stands finds it, and the others
   pub finds_more : {A : Type 0} (items : List T) (t : T) (places places' : StampIndex A) → Finds (map key items) places
-      → ((s : Moment) (i : ℕ) → first_place places s ≡ Some i → first_place places' s ≡ Some i) → ((s : Moment) → stamp_eq (key t) s ≡ false → other_place places' s ≡ other_place places s)
+      → ((s : Stamp) (i : ℕ) → first_place places s ≡ Some i → first_place places' s ≡ Some i) → ((s : Stamp) → stamp_eq (key t) s ≡ false → other_place places' s ≡ other_place places s)
       → (first_place places' (key t) ≡ Some (length items)) ⊎ (other_place places' (key t) ≡ Some (length items))
       → list_any (λ u. stamp_eq (key u) (key t)) items ≡ false → Finds (map key (items ++ t ∷ [])) places'
   finds_more items t places places' finds stays others points fresh =
-      subst (λ (ks : List Moment). Finds ks places') (sym (map-append key items (t ∷ [])))
+      subst (λ (ks : List Stamp). Finds ks places') (sym (map-append key items (t ∷ [])))
       (pointed (map key items) places places' (key t) (new_keys items (key t) fresh) stays others
       (subst (λ (n : ℕ). (first_place places' (key t) ≡ Some n) ⊎ (other_place places' (key t) ≡ Some n)) (sym (length-map items key)) points) finds)
 
 module _ {T R : Type 0} (rules : Rules T R) where
   -- one that meets a need
-  pub found_need : {A : Type 0} (need : Moment × R) (items : List T) (places : StampIndex A) → Finds (map rules.key items) places
+  pub found_need : {A : Type 0} (need : Stamp × R) (items : List T) (places : StampIndex A) → Finds (map rules.key items) places
       → passes_at (meets rules need) items (first_place places need.0) ≡ false → passes_at (meets rules need) items (other_place places need.0) ≡ is_met_in rules items need
   found_need need items places finds none = found rules.key (meets rules need) need.0 own items places finds none
     where

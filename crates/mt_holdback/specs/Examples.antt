@@ -1,39 +1,39 @@
 -- Offers of operations, worked out one after another.
 use Rattle.std.specs.Prelude.{◌≡◌, ℕ, Bool, true, false, List, [], ◌∷◌, Some, None, refl, codes}
-use Rattle.mt_stamp.specs.Moment.{Moment}
+use Rattle.mt_stamp.specs.StampOrder.{Stamp}
 use Rattle.mt_op.specs.Gain.{unchanged}
-use Rattle.mt_op.specs.Operation.{AddTrack, SetGain, Remove, Restore, AddMarker, Retitle, Operation}
+use Rattle.mt_op.specs.OpValue.{AddTrack, SetGain, Remove, Restore, AddMarker, Retitle, Op}
 use Rattle.mt_holdback.specs.Ops.{op_rules}
 use Rattle.mt_holdback.specs.HoldBack.{Contents, knows, contents_with, newly_ready}
 use Rattle.mt_holdback.specs.Offering.{empty, answer}
 use Rattle.mt_holdback.specs.declared.hold_back.Offered.{Offered}
 use Rattle.mt_holdback.specs.declared.hold_back.Offered.TheVariants.{Held, Ready}
 
-abbrev by : ℕ → ℕ → ℕ → Moment
+abbrev by : ℕ → ℕ → ℕ → Stamp
 by c r n = record { clock = c; replica = record { 0 = r }; seq = n }
 
 -- what an offer answers, what is kept after it, and what it releases
-abbrev told : Contents Operation → Operation → Offered
+abbrev told : Contents Op → Op → Offered
 told contents o = answer op_rules contents o
 
-abbrev after : Contents Operation → Operation → Contents Operation
+abbrev after : Contents Op → Op → Contents Op
 after contents o = contents_with op_rules contents o
 
-abbrev released_by : Contents Operation → Operation → List Operation
+abbrev released_by : Contents Op → Op → List Op
 released_by contents o = newly_ready op_rules contents o
 
-abbrev is_known : Contents Operation → Moment → Bool
+abbrev is_known : Contents Op → Stamp → Bool
 is_known contents stamp = knows op_rules contents stamp
 
-abbrev kept_of : List Operation → List Operation → Contents Operation
+abbrev kept_of : List Op → List Op → Contents Op
 kept_of released waiting = record { released = released; waiting = waiting }
 
 -- ---- a marker, and its title that comes before it
 
-abbrev news : Operation
+abbrev news : Op
 news = record { stamp = by 1 10 1; act = AddMarker 480 (codes "News") }
 
-abbrev late : Operation
+abbrev late : Op
 late = record { stamp = by 2 11 1; act = Retitle (by 1 10 1) (codes "Late") }
 
 pub early_retitle : told empty late ≡ Held
@@ -60,13 +60,13 @@ retitle_in_time = refl
 
 -- ---- a chain of three tracks, each after the one before
 
-abbrev first : Operation
+abbrev first : Op
 first = record { stamp = by 1 11 1; act = AddTrack None (codes "a") }
 
-abbrev second : Operation
+abbrev second : Op
 second = record { stamp = by 2 11 2; act = AddTrack (Some (by 1 11 1)) (codes "b") }
 
-abbrev third : Operation
+abbrev third : Op
 third = record { stamp = by 3 11 3; act = AddTrack (Some (by 2 11 2)) (codes "c") }
 
 -- they wait by rising stamp, whatever order they came in
@@ -85,10 +85,10 @@ chain_is_told = refl
 
 -- ---- a Remove that lists the tags of an Add and of a Restore waits for both
 
-abbrev restored : Operation
+abbrev restored : Op
 restored = record { stamp = by 2 10 2; act = Restore (by 1 10 1) }
 
-abbrev removed : Operation
+abbrev removed : Op
 removed = record { stamp = by 3 10 3; act = Remove (by 1 10 1) (by 1 10 1 ∷ by 2 10 2 ∷ []) }
 
 pub waits_for_its_last_tag : after (after empty news) removed ≡ kept_of (news ∷ []) (removed ∷ [])
@@ -99,7 +99,7 @@ last_tag_releases_it = refl
 
 -- ---- a wrong role: a marker has no gain, so what gives it one waits for good
 
-abbrev louder : Operation
+abbrev louder : Op
 louder = record { stamp = by 2 11 1; act = SetGain (by 1 10 1) unchanged }
 
 pub wrong_role : told (after empty news) louder ≡ Held
@@ -109,17 +109,17 @@ pub wrong_role_before : after (after empty louder) news ≡ kept_of (news ∷ []
 wrong_role_before = refl
 
 -- a tag of another item is in the wrong role too
-abbrev sport : Operation
+abbrev sport : Op
 sport = record { stamp = by 1 11 1; act = AddMarker 7 (codes "Sport") }
 
-abbrev removed_by_another_tag : Operation
+abbrev removed_by_another_tag : Op
 removed_by_another_tag = record { stamp = by 2 10 2; act = Remove (by 1 10 1) (by 1 11 1 ∷ []) }
 
 pub tag_of_another_item : told (after (after empty news) sport) removed_by_another_tag ≡ Held
 tag_of_another_item = refl
 
 -- a stamp is met as a whole: another operation of that replica and number does not meet it
-abbrev news_later : Operation
+abbrev news_later : Op
 news_later = record { stamp = by 2 10 1; act = AddMarker 480 (codes "News") }
 
 pub other_clock : told (after empty news_later) (record { stamp = by 3 11 1; act = Retitle (by 1 10 1) (codes "Late") }) ≡ Held

@@ -4,7 +4,7 @@ use Rattle.std.specs.List.{AllByRecursion, list_any, prefix_len}
 use Rattle.std.specs.List.Sorted.{IsPermutation}
 use Rattle.std.specs.Ordering.{is_lt}
 use Rattle.std.specs.declared.cmp.Ordering.TheVariants.{Less}
-use Rattle.mt_stamp.specs.Moment.{Moment, stamp_cmp, stamp_eq}
+use Rattle.mt_stamp.specs.StampOrder.{Stamp, stamp_cmp, stamp_eq}
 use Rattle.mt_holdback.specs.Waiting.{Rules, NamesOlder, is_ready, AllNameOlder}
 
 -- what was released, in the order in which it was, and what is held, by rising key
@@ -18,7 +18,7 @@ module _ {T R : Type 0} (rules : Rules T R) where
   offered contents = contents.released ++ contents.waiting
 
   -- whether an item with this key was offered
-  abbrev pub knows : Contents T → Moment → Bool
+  abbrev pub knows : Contents T → Stamp → Bool
   knows contents stamp = list_any (λ t. stamp_eq (rules.key t) stamp) (offered contents)
 
   abbrev pub KeysRise : List T → Type 0

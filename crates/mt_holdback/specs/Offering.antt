@@ -2,7 +2,7 @@
 use Rattle.std.specs.Prelude.{◌≡◌, ◌↔◌, true, false, cond, [], length, Result, IfOk, OnOk, IsErrOf}
 use Rattle.mt_holdback.specs.Waiting.{Rules, is_ready}
 use Rattle.mt_holdback.specs.HoldBack.{Contents, KeysRise, offered_with, newly_ready, contents_with}
-use Rattle.mt_holdback.specs.Value.{HoldBackValue}
+use Rattle.mt_holdback.specs.Value.{HoldBack}
 use Rattle.mt_holdback.specs.declared.fault.HoldBackFault.{HoldBackFault}
 use Rattle.mt_holdback.specs.declared.fault.HoldBackFault.TheVariants.{Memory, Failed}
 use Rattle.mt_holdback.specs.declared.hold_back.Offered.{Offered}
@@ -18,7 +18,7 @@ module _ {T R : Type 0} (rules : Rules T R) where
   answer contents t = cond (is_ready rules (offered_with rules contents t) t) (Ready (length contents.released)) Held
 
   -- An item was offered.
-  pub record OfferGives (before after : HoldBackValue T) (t : T) (result : Result Offered HoldBackFault) : Type 0 where
+  pub record OfferGives (before after : HoldBack T) (t : T) (result : Result Offered HoldBackFault) : Type 0 where
     -- It is held, or what was released from an index on is new.
     pub answered : IfOk result (λ offered. offered ≡ answer before.contents t)
     -- What it makes ready is released then, and the rest waits.

@@ -1,11 +1,11 @@
 -- What operations wait by: their stamps, and pairs of stamps and roles.
 use Rattle.std.specs.Prelude.{map}
 use Rattle.mt_op.specs.declared.need.Role.{Role}
-use Rattle.mt_op.specs.Operation.{Operation}
+use Rattle.mt_op.specs.OpValue.{Op}
 use Rattle.mt_op.specs.Needs.{needs, fits}
 use Rattle.mt_holdback.specs.Waiting.{Rules}
 
-abbrev pub op_rules : Rules Operation Role
+abbrev pub op_rules : Rules Op Role
 op_rules = record {
   key = λ o. o.stamp;
   needs = λ o. map (λ need. (need.stamp, need.role)) (needs o);

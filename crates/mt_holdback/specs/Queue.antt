@@ -5,9 +5,9 @@ use Rattle.std.specs.List.Sorted.{IsStrictlySortedBy}
 use Rattle.std.specs.BTreeMap.{get}
 use Rattle.std.specs.BTreeSet.{contains}
 use Rattle.std.specs.Map.{keys_of}
-use Rattle.mt_stamp.specs.Moment.{Moment, stamp_cmp, stamp_eq}
-use Rattle.mt_stampmap.specs.Index.{Finds}
-use Rattle.mt_stampmap.specs.declared.index.StampIndex.{StampIndex}
+use Rattle.mt_stamp.specs.StampOrder.{Stamp, stamp_cmp, stamp_eq}
+use Rattle.base_stampmap.specs.Index.{Finds}
+use Rattle.base_stampmap.specs.declared.index.StampIndex.{StampIndex}
 use Rattle.mt_holdback.specs.Waiting.{Rules, NamesOlder, meets, is_ready}
 use Rattle.mt_holdback.specs.Laws.{is_met_by}
 use Rattle.mt_holdback.specs.HoldBack.{Contents, KeysRise, knows, with_queued, offered_with, newly_ready, contents_with, IsHoldBack}
@@ -17,7 +17,7 @@ use Rattle.mt_holdback.specs.declared.queue.Queue.{Queue}
 use Rattle.mt_holdback.specs.declared.queue.Waiter.{Waiter}
 
 -- the items of entries, in their order
-abbrev pub items_of : {T : Type 0} → List (Moment × Waiter T) → List T
+abbrev pub items_of : {T : Type 0} → List (Stamp × Waiter T) → List T
 items_of [] = []
 items_of (e ∷ es) = e.1.item ∷ items_of es
 
@@ -31,19 +31,19 @@ abbrev pub contents_of : {T A : Type 0} → List T → Option (Queue T A) → Co
 contents_of released queue = record { released = released; waiting = waiting_in queue }
 
 -- whether a key is in a list, where there is one
-abbrev pub is_in : {V : Type 0} → (V → List Moment) → Option V → Moment → Bool
+abbrev pub is_in : {V : Type 0} → (V → List Stamp) → Option V → Stamp → Bool
 is_in keys None key = false
 is_in keys (Some v) key = list_any (stamp_eq key) (keys v)
 
 -- whether a key is in the list under a stamp
-abbrev pub listed : {V : Type 0} → (V → List Moment) → (Moment → Option V) → Moment → Moment → Bool
+abbrev pub listed : {V : Type 0} → (V → List Stamp) → (Stamp → Option V) → Stamp → Stamp → Bool
 listed keys lists stamp key = is_in keys (lists stamp) key
 
 -- whether a key is listed in a queue under a stamp, and whether it is to be looked at
-abbrev pub is_under : {T A : Type 0} → Queue T A → Moment → Moment → Bool
+abbrev pub is_under : {T A : Type 0} → Queue T A → Stamp → Stamp → Bool
 is_under queue = listed (λ v. v.items) (get stamp_cmp queue.lacking)
 
-abbrev pub is_woken : {T A : Type 0} → Queue T A → Moment → Bool
+abbrev pub is_woken : {T A : Type 0} → Queue T A → Stamp → Bool
 is_woken queue = contains stamp_cmp queue.woken
 
 -- whether what is there passes a test
@@ -58,11 +58,11 @@ passes_at p items (Some i) = passes p (slice_get items i)
 
 module _ {T R : Type 0} (rules : Rules T R) where
   -- whether one of these meets a need
-  abbrev pub is_met_in : List T → Moment × R → Bool
+  abbrev pub is_met_in : List T → Stamp × R → Bool
   is_met_in released need = list_any (meets rules need) released
 
   -- an item's need at a place names this stamp, and is met by none
-  pub record LacksAt (released : List T) (t : T) (i : ℕ) (stamp : Moment) : Type 0 where
+  pub record LacksAt (released : List T) (t : T) (i : ℕ) (stamp : Stamp) : Type 0 where
     pub role : R
     pub at : slice_get (rules.needs t) i ≡ Some (stamp, role)
     pub unmet : is_met_in released (stamp, role) ≡ false
@@ -72,13 +72,13 @@ module _ {T R : Type 0} (rules : Rules T R) where
   MetTo released t i = list_all (is_met_in released) (take i (rules.needs t)) ≡ true
 
   -- the need at which an item stands is met by none, and the item is listed under it
-  pub record Lacks (released : List T) (lists : Moment → Moment → Bool) (e : Moment × Waiter T) : Type 0 where
-    pub stamp : Moment
+  pub record Lacks (released : List T) (lists : Stamp → Stamp → Bool) (e : Stamp × Waiter T) : Type 0 where
+    pub stamp : Stamp
     pub lacks : LacksAt released e.1.item e.1.met stamp
     pub under : lists stamp e.0 ≡ true
 
   -- one that waits: the needs before the one at which it stands are met, and it is to be looked at or lacks that one
-  pub record Stands (released : List T) (lists : Moment → Moment → Bool) (woken : Moment → Bool) (e : Moment × Waiter T) : Type 0 where
+  pub record Stands (released : List T) (lists : Stamp → Stamp → Bool) (woken : Stamp → Bool) (e : Stamp × Waiter T) : Type 0 where
     pub own : e.0 ≡ rules.key e.1.item
     pub older : NamesOlder rules e.1.item
     pub fresh : list_any (λ t. stamp_eq (rules.key t) e.0) released ≡ false
@@ -86,7 +86,7 @@ module _ {T R : Type 0} (rules : Rules T R) where
     pub waits : (woken e.0 ≡ true) ⊎ Lacks released lists e
 
   -- each of those that were released is found by its stamp, and each of those that wait lacks a need or is to be looked at
-  pub record Works {A : Type 0} (released : List T) (places : StampIndex A) (entries : List (Moment × Waiter T)) (lists : Moment → Moment → Bool) (woken : Moment → Bool) : Type 0 where
+  pub record Works {A : Type 0} (released : List T) (places : StampIndex A) (entries : List (Stamp × Waiter T)) (lists : Stamp → Stamp → Bool) (woken : Stamp → Bool) : Type 0 where
     pub finds : Finds (map rules.key released) places
     pub sorted : IsStrictlySortedBy stamp_cmp (keys_of entries)
     pub each : AllByRecursion (Stands released lists woken) entries

@@ -2,6 +2,6 @@
 use Rattle.std.specs.Prelude.{Bool}
 use Rattle.mt_holdback.specs.HoldBack.{Contents}
 
-pub record HoldBackValue (T : Type 0) : Type 0 where
+pub record HoldBack (T : Type 0) : Type 0 where
   pub contents : Contents T
   pub failed : Bool

@@ -2,15 +2,15 @@
 -- RR-7506, operation-based objects).
 use Rattle.std.specs.Prelude.{ℕ, ◌<◌, Bool, ◌&&◌, List}
 use Rattle.std.specs.List.{AllByRecursion}
-use Rattle.mt_stamp.specs.Moment.{Moment, stamp_eq}
+use Rattle.mt_stamp.specs.StampOrder.{Stamp, stamp_eq}
 use Rattle.mt_op.specs.Ready as rule
 
 -- What items wait by.
 pub record Rules (T R : Type 0) : Type 0 where
   -- The stamp of an item.
-  pub key : T → Moment
+  pub key : T → Stamp
   -- What it needs: the stamp of each item, and the role in which that is needed.
-  pub needs : T → List (Moment × R)
+  pub needs : T → List (Stamp × R)
   -- Whether an item may be needed in a role.
   pub fits : R → T → Bool
 
@@ -23,7 +23,7 @@ module _ {T R : Type 0} (rules : Rules T R) where
   clock_of t = (rules.key t).clock
 
   -- Whether an item is the one that a need names: by its whole stamp and its role.
-  abbrev pub meets : Moment × R → T → Bool
+  abbrev pub meets : Stamp × R → T → Bool
   meets need t = stamp_eq need.0 (rules.key t) && rules.fits need.1 t
 
   -- Whether an item is ready in a list: each of its needs is met by a ready item of the list.

@@ -31,10 +31,10 @@ pub struct HoldBack<T: Waits, A: Allocator = Global> {
 }
 
 impl<T: Waits, A: Allocator> Model for HoldBack<T, A> {
-    ghost use Rattle.mt_holdback.specs.Value.{HoldBackValue};
+    ghost use Rattle.mt_holdback.specs.Value.{HoldBack};
     ghost use Rattle.mt_holdback.specs.Queue.{contents_of, InOrder};
 
-    ghost Value = { HoldBackValue T };
+    ghost Value = { HoldBack T };
 
     ghost view = { λ h. record { contents = contents_of h.released.items h.waiting; failed = h.failed } };
 
@@ -99,7 +99,7 @@ impl<T: Waits + Drop, A: Allocator> HoldBack<T, A> {
 
     /// Offers an item as `offer` does, of which it is known that each need is met by one that was released: it is ready, and none of
     /// its needs is looked for.
-    pub fn offer_met(&mut self, item: T) -> Result<Offered, HoldBackFault>
+    pub fn offer_ready(&mut self, item: T) -> Result<Offered, HoldBackFault>
     where
         A: Clone,
         requires unknown { knows T.rules self.old.contents (T.rules.key item) ≡ false }

@@ -38,7 +38,7 @@
 //! met, and is listed under the next that is not. What is to be looked at is taken by rising key from a sorted set, not by calls
 //! within calls, so a chain of any length is released by one loop; and as each item needs smaller clocks alone, the keys that are
 //! taken rise. So n offers with m needs in all cost (n + m) log n, in whatever order they come. Who knows that the needs of an item
-//! are met says so (`offer_met`), and spares the search for them.
+//! are met says so (`offer_ready`), and spares the search for them.
 #![tactic(auto)]
 
 mod fault;

@@ -1,7 +1,7 @@
 //! One item more.
 
 ghost use Rattle.std.specs.Prelude.{◌≡◌, Some, true, false, [], IsTrue, IfOk, OnOk, MatchOption, map};
-ghost use Rattle.mt_stampmap.specs.Index.{Finds};
+ghost use Rattle.base_stampmap.specs.Index.{Finds};
 ghost use Rattle.mt_holdback.specs.Laws.{is_met_by};
 ghost use Rattle.mt_holdback.specs.HoldBack.{knows, with_queued};
 ghost use Rattle.mt_holdback.specs.Queue.{waiting_in, contents_of, IsQueueOf, InOrder, MayOffer, Admitted, TakenIn, FirstLack};
@@ -9,7 +9,7 @@ ghost use Rattle.mt_holdback.specs.Queue.{waiting_in, contents_of, IsQueueOf, In
 use crate::fault::HoldBackFault;
 use crate::queue::{Lack, Queue, Waiter, first_lack, put_under, release, settle};
 use crate::waits::Waits;
-use mt_stampmap::StampIndex;
+use base_stampmap::StampIndex;
 use std::alloc::Allocator;
 use std::collections::{BTreeMap, BTreeSet};
 

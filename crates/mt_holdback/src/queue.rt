@@ -5,17 +5,17 @@ ghost use Rattle.std.specs.Ordering.{is_eq, is_gt};
 ghost use Rattle.std.specs.List.{list_any};
 ghost use Rattle.std.specs.BTreeMap.{get};
 ghost use Rattle.std.specs.BTreeSet.{contains};
-ghost use Rattle.mt_stamp.specs.Moment.{Moment, stamp_cmp, stamp_eq};
+ghost use Rattle.mt_stamp.specs.StampOrder.{Stamp, stamp_cmp, stamp_eq};
 ghost use Rattle.mt_holdback.specs.Laws.{is_met_by};
 ghost use Rattle.mt_holdback.specs.Passing.{after_pass};
-ghost use Rattle.mt_stampmap.specs.Index.{Finds};
+ghost use Rattle.base_stampmap.specs.Index.{Finds};
 ghost use Rattle.mt_holdback.specs.Waiting.{meets};
 ghost use Rattle.mt_holdback.specs.Queue.{contents_of, listed, passes_at, is_met_in, MetTo, LacksAt, FirstLack, IsQueueOf, IsApart, NextIs};
 
 use crate::fault::HoldBackFault;
 use crate::waits::Waits;
+use base_stampmap::StampIndex;
 use mt_stamp::Stamp;
-use mt_stampmap::StampIndex;
 use std::alloc::Allocator;
 use std::collections::{BTreeMap, BTreeSet};
 
@@ -159,10 +159,10 @@ fn keys_under<A: Allocator + Clone>(
     lacking: &mut BTreeMap<Stamp, Vec<Stamp, A>, A>,
     stamp: Stamp,
 ) -> Result<Vec<Stamp, A>, HoldBackFault>
-    ensures keys { IfOk result (λ keys. (q : Moment)
+    ensures keys { IfOk result (λ keys. (q : Stamp)
         → listed (λ v. v.items) (get stamp_cmp lacking.old) stamp q ≡ true
         → list_any (stamp_eq q) keys.items ≡ true) }
-    ensures others { OnOk result ((s : Moment)
+    ensures others { OnOk result ((s : Stamp)
         → get stamp_cmp lacking.new s ≡ cond (is_eq (stamp_cmp stamp s)) None (get stamp_cmp lacking.old s)) }
 {
     match lacking.remove(&stamp) {
@@ -178,7 +178,7 @@ pub(crate) fn put_under<A: Allocator + Clone>(
     stamp: Stamp,
     key: Stamp,
 ) -> Result<(), HoldBackFault>
-    ensures stay { OnOk result ((s q : Moment) → listed (λ v. v.items) (get stamp_cmp lacking.old) s q ≡ true
+    ensures stay { OnOk result ((s q : Stamp) → listed (λ v. v.items) (get stamp_cmp lacking.old) s q ≡ true
         → listed (λ v. v.items) (get stamp_cmp lacking.new) s q ≡ true) }
     ensures there { OnOk result (listed (λ v. v.items) (get stamp_cmp lacking.new) stamp key ≡ true) }
 {
@@ -193,9 +193,9 @@ fn note_all<A: Allocator + Clone>(
     woken: &mut BTreeSet<Stamp, A>,
     keys: Vec<Stamp, A>,
 ) -> Result<(), HoldBackFault>
-    ensures woken { OnOk result ((q : Moment) → list_any (stamp_eq q) keys.items ≡ true
+    ensures woken { OnOk result ((q : Stamp) → list_any (stamp_eq q) keys.items ≡ true
         → contains stamp_cmp woken.new q ≡ true) }
-    ensures stay { OnOk result ((q : Moment) → contains stamp_cmp woken.old q ≡ true
+    ensures stay { OnOk result ((q : Stamp) → contains stamp_cmp woken.old q ≡ true
         → contains stamp_cmp woken.new q ≡ true) }
 {
     for key in keys {
@@ -211,12 +211,12 @@ fn wake<A: Allocator + Clone>(
     woken: &mut BTreeSet<Stamp, A>,
     stamp: Stamp,
 ) -> Result<(), HoldBackFault>
-    ensures others { OnOk result ((s q : Moment) → stamp_eq s stamp ≡ false
+    ensures others { OnOk result ((s q : Stamp) → stamp_eq s stamp ≡ false
         → listed (λ v. v.items) (get stamp_cmp lacking.old) s q ≡ true
         → listed (λ v. v.items) (get stamp_cmp lacking.new) s q ≡ true) }
-    ensures woken { OnOk result ((q : Moment) → listed (λ v. v.items) (get stamp_cmp lacking.old) stamp q ≡ true
+    ensures woken { OnOk result ((q : Stamp) → listed (λ v. v.items) (get stamp_cmp lacking.old) stamp q ≡ true
         → contains stamp_cmp woken.new q ≡ true) }
-    ensures stay { OnOk result ((q : Moment) → contains stamp_cmp woken.old q ≡ true
+    ensures stay { OnOk result ((q : Stamp) → contains stamp_cmp woken.old q ≡ true
         → contains stamp_cmp woken.new q ≡ true) }
 {
     let keys = keys_under(alloc, lacking, stamp)?;
@@ -225,9 +225,9 @@ fn wake<A: Allocator + Clone>(
 
 // Takes out the least of the keys that are to be looked at.
 fn next_woken<A: Allocator>(woken: &mut BTreeSet<Stamp, A>) -> Option<Stamp>
-    ensures least { IfSome result (λ key. (q : Moment) → IsTrue (contains stamp_cmp woken.old q)
+    ensures least { IfSome result (λ key. (q : Stamp) → IsTrue (contains stamp_cmp woken.old q)
         → is_gt (stamp_cmp key q) ≡ false) }
-    ensures removed { IfSome result (λ key. (q : Moment)
+    ensures removed { IfSome result (λ key. (q : Stamp)
         → contains stamp_cmp woken.new q ≡ cond (is_eq (stamp_cmp key q)) false (contains stamp_cmp woken.old q)) }
     ensures fewer { IfSome result (λ _. length woken.new.keys < length woken.old.keys) }
     ensures unchanged { IfNone result (woken.new.keys ≡ woken.old.keys) }

@@ -6,7 +6,7 @@ use Rattle.std.specs.Ordering.{is_lt}
 use Rattle.std.specs.Cmp.{tied_itself}
 use Rattle.std.specs.declared.cmp.Ordering.{Ordering}
 use Rattle.std.specs.declared.cmp.Ordering.TheVariants.{Less, Equal, Greater}
-use Rattle.mt_stamp.specs.Moment.{Moment, stamp_cmp}
+use Rattle.mt_stamp.specs.StampOrder.{Stamp, stamp_cmp}
 use Rattle.mt_stamp.proofs.Order.{stamp_cmp_total}
 use Rattle.mt_stamp.specs.Written.{Written}
 use Rattle.mt_op.specs.Writes.{later, latest}
@@ -17,12 +17,12 @@ is_less Less e = refl
 is_less Equal e = cc e
 is_less Greater e = cc e
 
-never_itself : (m : Moment) → is_lt (stamp_cmp m m) ≡ false
+never_itself : (m : Stamp) → is_lt (stamp_cmp m m) ≡ false
 never_itself m = ap is_lt (tied_itself stamp_cmp_total m)
 
 module _ {X : Type 0} where
   -- what a smaller stamp is not below, a greater one is not below
-  after : (x v : Moment) → is_lt (stamp_cmp v x) ≡ true → (us : List (Written X)) → AllByRecursion (λ u. is_lt (stamp_cmp v u.writer) ≡ false) us
+  after : (x v : Stamp) → is_lt (stamp_cmp v x) ≡ true → (us : List (Written X)) → AllByRecursion (λ u. is_lt (stamp_cmp v u.writer) ≡ false) us
       → AllByRecursion (λ u. is_lt (stamp_cmp x u.writer) ≡ false) us
   after x v less [] all = tt
   after x v less (u ∷ us) all = (by (is_lt (stamp_cmp x u.writer)) refl, after x v less us all.1)

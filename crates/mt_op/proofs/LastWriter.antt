@@ -5,10 +5,10 @@ use Rattle.std.specs.List.{AllByRecursion, Contains, cons_option, filter_map}
 use Rattle.std.specs.Ordering.{is_lt}
 use Rattle.std.proofs.lemmas.List.Elements.{Contains-append_right}
 use Rattle.std.proofs.lemmas.Option.{same_Some}
-use Rattle.mt_stamp.specs.Moment.{Moment, stamp_eq, stamp_cmp}
+use Rattle.mt_stamp.specs.StampOrder.{Stamp, stamp_eq, stamp_cmp}
 use Rattle.mt_stamp.proofs.Order.{stamp_eq-true, stamp_eq-itself}
 use Rattle.mt_stamp.specs.Written.{Written}
-use Rattle.mt_op.specs.Operation.{Act, Operation}
+use Rattle.mt_op.specs.OpValue.{Body, Op}
 use Rattle.mt_op.specs.Writes.{Value, Write, sets, writes, kept, written_by}
 use Rattle.mt_op.specs.Laws.{IsFieldOf, LastWriteIsGreatest}
 use Rattle.mt_op.proofs.LastWrite.{latest_is_greatest}
@@ -45,11 +45,11 @@ all_given {X} {Y} h P (z ∷ xs) all (suc i) x y at is = by (h z) all (λ rest. 
 
 -- ---- what operations write
 
-module _ {X : Type 0} (make : X → Value) (field : Moment → Act → Option (Write X)) (is_field : IsFieldOf make field) where
-  abbrev Wrote : Moment → Operation → Written X → Type 0
+module _ {X : Type 0} (make : X → Value) (field : Stamp → Body → Option (Write X)) (is_field : IsFieldOf make field) where
+  abbrev Wrote : Stamp → Op → Written X → Type 0
   Wrote item o w = (w.writer ≡ o.stamp) × Contains (writes o.stamp o.act) (sets item (make w.value))
 
-  wrote : (item : Moment) (o : Operation) (w : Written X) → written_by field item o ≡ Some w → Wrote item o w
+  wrote : (item : Stamp) (o : Op) (w : Written X) → written_by field item o ≡ Some w → Wrote item o w
   wrote item o w is = by (field o.stamp o.act) refl is
     where
       of_item : (u : Write X) → field o.stamp o.act ≡ Some u → (b : Bool) → stamp_eq u.item item ≡ b → cond b (Some (record { writer = o.stamp; value = u.value })) None ≡ Some w → Wrote item o w
@@ -61,7 +61,7 @@ module _ {X : Type 0} (make : X → Value) (field : Moment → Act → Option (W
       by None told e = absurd cc
       by (Some u) told e = of_item u told (stamp_eq u.item item) refl e
 
-  write_of : (item : Moment) (o : Operation) (value : X) → Contains (writes o.stamp o.act) (sets item (make value)) → written_by field item o ≡ Some (record { writer = o.stamp; value = value })
+  write_of : (item : Stamp) (o : Op) (value : X) → Contains (writes o.stamp o.act) (sets item (make value)) → written_by field item o ≡ Some (record { writer = o.stamp; value = value })
   write_of item o value has = rw (is_field.only o.stamp o.act item value has, stamp_eq-itself item) refl
 
   pub last_write_is_greatest : LastWriteIsGreatest make field

@@ -6,11 +6,11 @@ use Rattle.std.specs.Ordering.{is_lt, ordering_reverse}
 use Rattle.std.specs.declared.cmp.Ordering.{Ordering}
 use Rattle.std.specs.declared.cmp.Ordering.TheVariants.{Less, Equal, Greater}
 use Rattle.std.proofs.lemmas.Option.{same_Some, none-some}
-use Rattle.mt_stamp.specs.Moment.{Moment, stamp_cmp}
+use Rattle.mt_stamp.specs.StampOrder.{Stamp, stamp_cmp}
 use Rattle.mt_stamp.proofs.Order.{stamp_cmp_total, stamp_cmp-IsAntisymmetric}
 use Rattle.mt_stamp.specs.Written.{Written}
 use Rattle.mt_stamp.specs.Presence.{is_left}
-use Rattle.mt_op.specs.Operation.{Act, Operation}
+use Rattle.mt_op.specs.OpValue.{Body, Op}
 use Rattle.mt_op.specs.Needs.{is_tag_of}
 use Rattle.mt_op.specs.Presence.{is_listed, tags_removed, tags, removed_tags, live_tags, is_any, is_present}
 use Rattle.mt_op.specs.Writes.{Write, latest, written_by, last_write}
@@ -75,36 +75,36 @@ latest_same {X} Q apart vs ws same all_v all_w = by (latest vs) (latest ws) refl
         let one : v ≡ w = apart v w (all_here Q vs all_v of_v.place v of_v.is) (all_here Q ws all_w of_w.place w of_w.is) (stamp_cmp-IsAntisymmetric v.writer w.writer tied) in
         a ∙ ap Some one ∙ sym b
 
-any_items : (xs : List Moment) → is_any xs ≡ list_any (λ (x : Moment). true) xs
+any_items : (xs : List Stamp) → is_any xs ≡ list_any (λ (x : Stamp). true) xs
 any_items [] = refl
 any_items (x ∷ xs) = refl
 
 -- operations of one stamp are one
-module _ (P : Operation → Type 0) (one : (a b : Operation) → P a → P b → a.stamp ≡ b.stamp → a ≡ b) where
+module _ (P : Op → Type 0) (one : (a b : Op) → P a → P b → a.stamp ≡ b.stamp → a ≡ b) where
   -- one writer writes one field of one item once
-  pub one_write : {X : Type 0} (field : Moment → Act → Option (Write X)) (i j : Moment) (v w : Written X) → GivenBy P (written_by field i) v → GivenBy P (written_by field j) w → v.writer ≡ w.writer → (i ≡ j) × (v ≡ w)
+  pub one_write : {X : Type 0} (field : Stamp → Body → Option (Write X)) (i j : Stamp) (v w : Written X) → GivenBy P (written_by field i) v → GivenBy P (written_by field j) w → v.writer ≡ w.writer → (i ≡ j) × (v ≡ w)
   one_write {X} field i j v w of_v of_w writers =
       let a = is_write_of field i of_v.0 v of_v.2 in
       let b = is_write_of field j of_w.0 w of_w.2 in
       let stamps : of_v.0.stamp ≡ of_w.0.stamp = sym (ap (λ (x : Written X). x.writer) a.value_is) ∙ writers ∙ ap (λ (x : Written X). x.writer) b.value_is in
       let op : of_v.0 ≡ of_w.0 = one of_v.0 of_w.0 of_v.1 of_w.1 stamps in
-      let writes : a.write ≡ b.write = same_Some a.write b.write (sym a.made ∙ ap (λ (o : Operation). field o.stamp o.act) op ∙ b.made) in
+      let writes : a.write ≡ b.write = same_Some a.write b.write (sym a.made ∙ ap (λ (o : Op). field o.stamp o.act) op ∙ b.made) in
       (sym a.item_is ∙ ap (λ (x : Write X). x.item) writes ∙ b.item_is, a.value_is ∙ (λ k. record { writer = stamps k; value = (writes k).value }) ∙ sym b.value_is)
 
-  module _ (r u : List Operation) (same : SameItems r u) (all_r : AllByRecursion P r) (all_u : AllByRecursion P u) where
-    pub last_write_same : {X : Type 0} (field : Moment → Act → Option (Write X)) (item : Moment) → last_write field item r ≡ last_write field item u
+  module _ (r u : List Op) (same : SameItems r u) (all_r : AllByRecursion P r) (all_u : AllByRecursion P u) where
+    pub last_write_same : {X : Type 0} (field : Stamp → Body → Option (Write X)) (item : Stamp) → last_write field item r ≡ last_write field item u
     last_write_same field item =
         latest_same (GivenBy P (written_by field item)) (λ v w of_v of_w writers. (one_write field item item v w of_v of_w writers).1) (filter_map (written_by field item) r) (filter_map (written_by field item) u)
         (same_filter_map r u same (written_by field item)) (all_filter_map P (written_by field item) r all_r) (all_filter_map P (written_by field item) u all_u)
 
 -- an item is present in the same operations
-pub present_same : (r u : List Operation) → SameItems r u → (item : Moment) → is_present r item ≡ is_present u item
+pub present_same : (r u : List Op) → SameItems r u → (item : Stamp) → is_present r item ≡ is_present u item
 present_same r u same item =
-    let tagged = same_map (filter (λ (o : Operation). is_tag_of item o.stamp o.act) r) (filter (λ (o : Operation). is_tag_of item o.stamp o.act) u) (same_filter r u same (λ o. is_tag_of item o.stamp o.act)) (λ (o : Operation). o.stamp) in
-    let removed = same_flat_map r u same (λ (o : Operation). tags_removed item o.act) in
-    let listed : (tag : Moment) → is_listed (removed_tags item r) tag ≡ is_listed (removed_tags item u) tag = λ tag. same_any (removed_tags item r) (removed_tags item u) removed _ in
-    let live : Moment → Bool = is_left (is_listed (removed_tags item r)) in
+    let tagged = same_map (filter (λ (o : Op). is_tag_of item o.stamp o.act) r) (filter (λ (o : Op). is_tag_of item o.stamp o.act) u) (same_filter r u same (λ o. is_tag_of item o.stamp o.act)) (λ (o : Op). o.stamp) in
+    let removed = same_flat_map r u same (λ (o : Op). tags_removed item o.act) in
+    let listed : (tag : Stamp) → is_listed (removed_tags item r) tag ≡ is_listed (removed_tags item u) tag = λ tag. same_any (removed_tags item r) (removed_tags item u) removed _ in
+    let live : Stamp → Bool = is_left (is_listed (removed_tags item r)) in
     any_items (live_tags item r)
     ∙ same_any (live_tags item r) (filter live (tags item u)) (same_filter (tags item r) (tags item u) tagged live) (λ x. true)
-    ∙ (λ i. list_any (λ (x : Moment). true) (filter (is_left (λ tag. listed tag i)) (tags item u)))
+    ∙ (λ i. list_any (λ (x : Stamp). true) (filter (is_left (λ tag. listed tag i)) (tags item u)))
     ∙ sym (any_items (live_tags item u))

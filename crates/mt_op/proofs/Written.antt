@@ -6,14 +6,14 @@ use Rattle.std.proofs.lemmas.Bool.{eq-eqb}
 use Rattle.std.proofs.lemmas.List.Elements.{Contains-append_right}
 use Rattle.std.proofs.lemmas.Map.Keys.{any_passes_from_place}
 use Rattle.std.proofs.lemmas.Option.{same_Some, slice_get_read}
-use Rattle.mt_stamp.specs.Moment.{Moment}
-use Rattle.mt_op.specs.Gain.{Ratio}
+use Rattle.mt_stamp.specs.StampOrder.{Stamp}
+use Rattle.mt_op.specs.Gain.{Gain}
 use Rattle.mt_op.specs.declared.digest.Digest.{Digest}
 use Rattle.mt_op.specs.declared.value.Placement.{Placement}
 use Rattle.mt_op.specs.declared.value.TrimRange.{TrimRange}
 use Rattle.mt_op.specs.declared.value.FadeLengths.{FadeLengths}
-use Rattle.mt_op.specs.Operation.{Act, AddTrack}
-use Rattle.mt_op.specs.Writes.{Value, Title, Gain, Mute, TrackPlace, ClipPlace, Trim, Source, Position, Fades, MarkerLength, Write, sets, writes, or_later, first_of, title_in, gain_in, mute_in, track_place_in, clip_place_in, trim_in, source_in, position_in, fades_in, marker_length_in, title_written, gain_written, mute_written, track_place_written, clip_place_written, trim_written, source_written, position_written, fades_written, marker_length_written}
+use Rattle.mt_op.specs.OpValue.{Body, AddTrack}
+use Rattle.mt_op.specs.Writes.{Value, Title, GainFields, Mute, TrackPlace, ClipPlace, Trim, Source, Position, Fades, MarkerLength, Write, sets, writes, or_later, first_of, title_in, gain_in, mute_in, track_place_in, clip_place_in, trim_in, source_in, position_in, fades_in, marker_length_in, title_written, gain_written, mute_written, track_place_written, clip_place_written, trim_written, source_written, position_written, fades_written, marker_length_written}
 use Rattle.mt_op.specs.Laws.{IsFieldOf}
 use Rattle.mt_op.proofs.Needs.{and_first, and_second}
 
@@ -21,7 +21,7 @@ use Rattle.mt_op.proofs.Needs.{and_first, and_second}
 
 abbrev kind : Value → ℕ
 kind (Title title) = 0
-kind (Gain gain) = 1
+kind (GainFields gain) = 1
 kind (Mute on) = 2
 kind (TrackPlace after) = 3
 kind (ClipPlace place) = 4
@@ -38,7 +38,7 @@ abbrev differ : List (Write Value) → Bool
 differ [] = true
 differ (w ∷ ws) = not (list_any (is_alike w.value) ws) && differ ws
 
-all_differ : (own : Moment) (act : Act) → differ (writes own act) ≡ true
+all_differ : (own : Stamp) (act : Body) → differ (writes own act) ≡ true
 all_differ own (AddTrack after title) = refl
 all_differ own _ = refl
 
@@ -56,7 +56,7 @@ module _ {X : Type 0} (make : X → Value) (one_of : Value → Option X) (made :
       by None is e rest = Contains-append_right (v ∷ []) ws (sets w.item (make w.value)) (rest e)
       by (Some x) is e rest = rw (← same_Some (record { item = v.item; value = x }) w e, ← made v.value x is) (0, omega arith, refl)
 
-  first : (ws : List (Write Value)) → differ ws ≡ true → (i : ℕ) (item : Moment) (value : X) → slice_get ws i ≡ Some (sets item (make value)) → first_of one_of ws ≡ Some (record { item = item; value = value })
+  first : (ws : List (Write Value)) → differ ws ≡ true → (i : ℕ) (item : Stamp) (value : X) → slice_get ws i ≡ Some (sets item (make value)) → first_of one_of ws ≡ Some (record { item = item; value = value })
   first [] d i item value e = absurd cc
   first (w ∷ ws) d zero item value e = rw (same_Some w (sets item (make value)) e, read value) refl
   first (w ∷ ws) d (suc i) item value e = by (one_of w.value) refl (first ws (and_second _ _ d) i item value e)
@@ -83,12 +83,12 @@ title_made _ x e = absurd cc
 pub titles : IsFieldOf Title title_written
 titles = is_field Title title_in title_made (λ x. refl) (λ x y. refl)
 
-gain_made : (v : Value) (x : Ratio) → gain_in v ≡ Some x → v ≡ Gain x
-gain_made (Gain y) x e = cc e
+gain_made : (v : Value) (x : Gain) → gain_in v ≡ Some x → v ≡ GainFields x
+gain_made (GainFields y) x e = cc e
 gain_made _ x e = absurd cc
 
-pub gains : IsFieldOf Gain gain_written
-gains = is_field Gain gain_in gain_made (λ x. refl) (λ x y. refl)
+pub gains : IsFieldOf GainFields gain_written
+gains = is_field GainFields gain_in gain_made (λ x. refl) (λ x y. refl)
 
 mute_made : (v : Value) (x : Bool) → mute_in v ≡ Some x → v ≡ Mute x
 mute_made (Mute y) x e = cc e
@@ -97,7 +97,7 @@ mute_made _ x e = absurd cc
 pub mutes : IsFieldOf Mute mute_written
 mutes = is_field Mute mute_in mute_made (λ x. refl) (λ x y. refl)
 
-track_place_made : (v : Value) (x : Option Moment) → track_place_in v ≡ Some x → v ≡ TrackPlace x
+track_place_made : (v : Value) (x : Option Stamp) → track_place_in v ≡ Some x → v ≡ TrackPlace x
 track_place_made (TrackPlace y) x e = cc e
 track_place_made _ x e = absurd cc
 

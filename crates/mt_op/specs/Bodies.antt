@@ -1,10 +1,10 @@
 -- What a body in memory says.
 use Rattle.std.specs.Prelude.{Bool, true, false}
-use Rattle.mt_op.specs.declared.body.Body.{Body}
+use Rattle.mt_op.specs.declared.body.Body.{Body as BodyFields}
 use Rattle.mt_op.specs.declared.body.Body.TheVariants as body
-use Rattle.mt_op.specs.Operation.{Act, AddTrack, MoveTrack, AddClip, MoveClip, TrimClip, SetGain, SetMute, Remove, Restore, AddMarker, MoveMarker, Retitle, SetFade, SetMarkerLength}
+use Rattle.mt_op.specs.OpValue.{Body, AddTrack, MoveTrack, AddClip, MoveClip, TrimClip, SetGain, SetMute, Remove, Restore, AddMarker, MoveMarker, Retitle, SetFade, SetMarkerLength}
 
-abbrev pub act_of : {A : Type 0} → Body A → Act
+abbrev pub act_of : {A : Type 0} → BodyFields A → Body
 act_of (body.AddTrack after title) = AddTrack after title
 act_of (body.MoveTrack track after) = MoveTrack track after
 act_of (body.AddClip source track at offset len) = AddClip source track at offset len
@@ -20,7 +20,7 @@ act_of (body.Retitle item title) = Retitle item title
 act_of (body.SetFade clip fade_in fade_out) = SetFade clip fade_in fade_out
 act_of (body.SetMarkerLength marker len) = SetMarkerLength marker len
 
-abbrev pub body_of : {A : Type 0} → Act → Body A
+abbrev pub body_of : {A : Type 0} → Body → BodyFields A
 body_of (AddTrack after title) = body.AddTrack after title
 body_of (MoveTrack track after) = body.MoveTrack track after
 body_of (AddClip source track at offset len) = body.AddClip source track at offset len
@@ -37,7 +37,7 @@ body_of (SetFade clip fade_in fade_out) = body.SetFade clip fade_in fade_out
 body_of (SetMarkerLength marker len) = body.SetMarkerLength marker len
 
 -- whether an act's fields are of a fixed size, which all are but titles and tags (profile)
-abbrev pub is_fixed_size : Act → Bool
+abbrev pub is_fixed_size : Body → Bool
 is_fixed_size (AddTrack after title) = false
 is_fixed_size (Remove item tags) = false
 is_fixed_size (AddMarker at title) = false

@@ -2,11 +2,11 @@
 use Rattle.std.specs.Prelude.{◌≡◌, ℕ, Bool, List, Option, ◌⊎◌, refl}
 use Rattle.std.specs.Coded.{Coded, code_by, coded×, coded⊎, coded_ℕ, coded_bool, coded_list, coded_option}
 use mathlib.Core.Logic.{inl, inr}
-use Rattle.mt_stamp.specs.Moment.{Moment}
-use Rattle.mt_stamp.specs.Codes.{moment_code}
-use Rattle.mt_op.specs.Gain.{Ratio}
+use Rattle.mt_stamp.specs.StampOrder.{Stamp}
+use Rattle.mt_stamp.specs.Codes.{stamp_code}
+use Rattle.mt_op.specs.Gain.{Gain}
 use Rattle.mt_op.specs.declared.digest.Digest.{Digest}
-use Rattle.mt_op.specs.Operation.{Act, AddTrack, MoveTrack, AddClip, MoveClip, TrimClip, SetGain, SetMute, Remove, Restore, AddMarker, MoveMarker, Retitle, SetFade, SetMarkerLength, Operation}
+use Rattle.mt_op.specs.OpValue.{Body, AddTrack, MoveTrack, AddClip, MoveClip, TrimClip, SetGain, SetMute, Remove, Restore, AddMarker, MoveMarker, Retitle, SetFade, SetMarkerLength, Op}
 
 abbrev Text : Type 0
 Text = List ℕ
@@ -14,7 +14,7 @@ Text = List ℕ
 abbrev text_code : Coded Text
 text_code = coded_list coded_ℕ
 
-abbrev ratio_code : Coded Ratio
+abbrev ratio_code : Coded Gain
 ratio_code = code_by (ℕ × ℕ) (coded× coded_ℕ coded_ℕ) (λ g. (g.num, g.den)) (λ p. record { num = p.0; den = p.1 }) (λ _. refl)
 
 abbrev digest_code : Coded Digest
@@ -22,22 +22,22 @@ digest_code = code_by Text text_code (λ d. d.0) (λ bytes. record { 0 = bytes }
 
 -- the fields of the acts on tracks, on clips, on either, and on any item
 abbrev OfTracks : Type 0
-OfTracks = (Option Moment × Text) ⊎ (Moment × Option Moment)
+OfTracks = (Option Stamp × Text) ⊎ (Stamp × Option Stamp)
 
 abbrev OfClips : Type 0
-OfClips = (Digest × (Moment × (ℕ × (ℕ × ℕ)))) ⊎ ((Moment × (Moment × ℕ)) ⊎ (Moment × (ℕ × ℕ)))
+OfClips = (Digest × (Stamp × (ℕ × (ℕ × ℕ)))) ⊎ ((Stamp × (Stamp × ℕ)) ⊎ (Stamp × (ℕ × ℕ)))
 
 abbrev OfSounds : Type 0
-OfSounds = (Moment × Ratio) ⊎ (Moment × Bool)
+OfSounds = (Stamp × Gain) ⊎ (Stamp × Bool)
 
 abbrev OfItems : Type 0
-OfItems = (Moment × List Moment) ⊎ (Moment ⊎ ((ℕ × Text) ⊎ ((Moment × ℕ) ⊎ ((Moment × Text) ⊎ ((Moment × (ℕ × ℕ)) ⊎ (Moment × ℕ))))))
+OfItems = (Stamp × List Stamp) ⊎ (Stamp ⊎ ((ℕ × Text) ⊎ ((Stamp × ℕ) ⊎ ((Stamp × Text) ⊎ ((Stamp × (ℕ × ℕ)) ⊎ (Stamp × ℕ))))))
 
 -- an act by the place of its case and its fields
 abbrev Fields : Type 0
 Fields = OfTracks ⊎ (OfClips ⊎ (OfSounds ⊎ OfItems))
 
-abbrev fields_of : Act → Fields
+abbrev fields_of : Body → Fields
 fields_of (AddTrack after title) = inl (inl (after, title))
 fields_of (MoveTrack track after) = inl (inr (track, after))
 fields_of (AddClip source track at offset len) = inr (inl (inl (source, (track, (at, (offset, len))))))
@@ -53,7 +53,7 @@ fields_of (Retitle item title) = inr (inr (inr (inr (inr (inr (inr (inl (item, t
 fields_of (SetFade clip fade_in fade_out) = inr (inr (inr (inr (inr (inr (inr (inr (inl (clip, (fade_in, fade_out))))))))))
 fields_of (SetMarkerLength marker len) = inr (inr (inr (inr (inr (inr (inr (inr (inr (marker, len)))))))))
 
-abbrev act_of_fields : Fields → Act
+abbrev act_of_fields : Fields → Body
 act_of_fields (inl (inl p)) = AddTrack p.0 p.1
 act_of_fields (inl (inr p)) = MoveTrack p.0 p.1
 act_of_fields (inr (inl (inl p))) = AddClip p.0 p.1.0 p.1.1.0 p.1.1.1.0 p.1.1.1.1
@@ -69,25 +69,25 @@ act_of_fields (inr (inr (inr (inr (inr (inr (inr (inl p)))))))) = Retitle p.0 p.
 act_of_fields (inr (inr (inr (inr (inr (inr (inr (inr (inl p))))))))) = SetFade p.0 p.1.0 p.1.1
 act_of_fields (inr (inr (inr (inr (inr (inr (inr (inr (inr p))))))))) = SetMarkerLength p.0 p.1
 
-abbrev act_of_fields-fields_of : (a : Act) → act_of_fields (fields_of a) ≡ a
+abbrev act_of_fields-fields_of : (a : Body) → act_of_fields (fields_of a) ≡ a
 act_of_fields-fields_of (AddTrack after title) = refl
 act_of_fields-fields_of _ = refl
 
 abbrev pub fields_code : Coded Fields
 fields_code =
-    coded⊎ (coded⊎ (coded× (coded_option moment_code) text_code) (coded× moment_code (coded_option moment_code)))
-    (coded⊎ (coded⊎ (coded× digest_code (coded× moment_code (coded× coded_ℕ (coded× coded_ℕ coded_ℕ)))) (coded⊎ (coded× moment_code (coded× moment_code coded_ℕ)) (coded× moment_code (coded× coded_ℕ coded_ℕ))))
-    (coded⊎ (coded⊎ (coded× moment_code ratio_code) (coded× moment_code coded_bool))
-    (coded⊎ (coded× moment_code (coded_list moment_code))
-    (coded⊎ moment_code
+    coded⊎ (coded⊎ (coded× (coded_option stamp_code) text_code) (coded× stamp_code (coded_option stamp_code)))
+    (coded⊎ (coded⊎ (coded× digest_code (coded× stamp_code (coded× coded_ℕ (coded× coded_ℕ coded_ℕ)))) (coded⊎ (coded× stamp_code (coded× stamp_code coded_ℕ)) (coded× stamp_code (coded× coded_ℕ coded_ℕ))))
+    (coded⊎ (coded⊎ (coded× stamp_code ratio_code) (coded× stamp_code coded_bool))
+    (coded⊎ (coded× stamp_code (coded_list stamp_code))
+    (coded⊎ stamp_code
     (coded⊎ (coded× coded_ℕ text_code)
-    (coded⊎ (coded× moment_code coded_ℕ)
-    (coded⊎ (coded× moment_code text_code)
-    (coded⊎ (coded× moment_code (coded× coded_ℕ coded_ℕ))
-    (coded× moment_code coded_ℕ)))))))))
+    (coded⊎ (coded× stamp_code coded_ℕ)
+    (coded⊎ (coded× stamp_code text_code)
+    (coded⊎ (coded× stamp_code (coded× coded_ℕ coded_ℕ))
+    (coded× stamp_code coded_ℕ)))))))))
 
-abbrev pub act_code : Coded Act
+abbrev pub act_code : Coded Body
 act_code = code_by Fields fields_code fields_of act_of_fields act_of_fields-fields_of
 
-abbrev pub operation_code : Coded Operation
-operation_code = code_by (Moment × Act) (coded× moment_code act_code) (λ o. (o.stamp, o.act)) (λ p. record { stamp = p.0; act = p.1 }) (λ _. refl)
+abbrev pub operation_code : Coded Op
+operation_code = code_by (Stamp × Body) (coded× stamp_code act_code) (λ o. (o.stamp, o.act)) (λ p. record { stamp = p.0; act = p.1 }) (λ _. refl)

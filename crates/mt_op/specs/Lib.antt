@@ -1,6 +1,6 @@
 pub mod Title
 pub mod Gain
-pub mod Operation
+pub mod OpValue
 pub mod Bodies
 pub mod Rising
 pub mod Tags

@@ -1,37 +1,37 @@
 -- Which tags of an item are left (OR-Set: INRIA RR-7506, section 3.3.5).
 use Rattle.std.specs.Prelude.{Bool, true, false, List, [], ◌∷◌, map, filter, if◌then◌else◌}
 use Rattle.std.specs.List.{list_any, flat_map}
-use Rattle.mt_stamp.specs.Moment.{Moment}
+use Rattle.mt_stamp.specs.StampOrder.{Stamp}
 use Rattle.mt_stamp.specs.Presence.{is_left}
-use Rattle.mt_op.specs.Operation.{Act, Remove, Operation}
+use Rattle.mt_op.specs.OpValue.{Body, Remove, Op}
 use Rattle.mt_op.specs.Needs.{stamp_eq, is_tag_of}
 
 -- whether a stamp is listed
-abbrev pub is_listed : List Moment → Moment → Bool
+abbrev pub is_listed : List Stamp → Stamp → Bool
 is_listed stamps s = list_any (stamp_eq s) stamps
 
 -- the tags that an act lists as removed from an item (profile)
-abbrev pub tags_removed : Moment → Act → List Moment
+abbrev pub tags_removed : Stamp → Body → List Stamp
 tags_removed item (Remove i tags) = if stamp_eq i item then tags else []
 tags_removed item _ = []
 
 -- the stamps of the operations that are tags of an item
-abbrev pub tags : Moment → List Operation → List Moment
-tags item ops = map (λ (o : Operation). o.stamp) (filter (λ o. is_tag_of item o.stamp o.act) ops)
+abbrev pub tags : Stamp → List Op → List Stamp
+tags item ops = map (λ (o : Op). o.stamp) (filter (λ o. is_tag_of item o.stamp o.act) ops)
 
 -- the tags that are listed as removed from an item
-abbrev pub removed_tags : Moment → List Operation → List Moment
+abbrev pub removed_tags : Stamp → List Op → List Stamp
 removed_tags item ops = flat_map (λ o. tags_removed item o.act) ops
 
 -- the tags that are live
-abbrev pub live_tags : Moment → List Operation → List Moment
+abbrev pub live_tags : Stamp → List Op → List Stamp
 live_tags item ops = filter (λ tag. is_left (is_listed (removed_tags item ops)) tag) (tags item ops)
 
 -- whether there is one
-abbrev pub is_any : List Moment → Bool
+abbrev pub is_any : List Stamp → Bool
 is_any [] = false
 is_any (s ∷ stamps) = true
 
 -- An item is present where one of its tags is live.
-abbrev pub is_present : List Operation → Moment → Bool
+abbrev pub is_present : List Op → Stamp → Bool
 is_present ops item = is_any (live_tags item ops)

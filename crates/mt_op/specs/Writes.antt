@@ -1,23 +1,23 @@
 -- What an operation writes, and the value that the last writer gave (LWW-Register: INRIA RR-7506, section 3.2.1).
 use Rattle.std.specs.Prelude.{ℕ, Bool, false, List, [], ◌∷◌, Option, Some, None, if◌then◌else◌}
 use Rattle.std.specs.List.{filter_map}
-use Rattle.mt_stamp.specs.Moment.{Moment}
+use Rattle.mt_stamp.specs.StampOrder.{Stamp}
 use Rattle.mt_stamp.specs.Written.{Written, writer_cmp, greater}
-use Rattle.mt_op.specs.Gain.{Ratio, unchanged}
+use Rattle.mt_op.specs.Gain.{Gain, unchanged}
 use Rattle.mt_op.specs.declared.digest.Digest.{Digest}
 use Rattle.mt_op.specs.declared.value.Placement.{Placement}
 use Rattle.mt_op.specs.declared.value.TrimRange.{TrimRange}
 use Rattle.mt_op.specs.declared.value.FadeLengths.{FadeLengths}
-use Rattle.mt_op.specs.Operation.{Act, AddTrack, MoveTrack, AddClip, MoveClip, TrimClip, SetGain, SetMute, AddMarker, MoveMarker, Remove, Restore, Retitle, SetFade, SetMarkerLength, Operation}
+use Rattle.mt_op.specs.OpValue.{Body, AddTrack, MoveTrack, AddClip, MoveClip, TrimClip, SetGain, SetMute, AddMarker, MoveMarker, Remove, Restore, Retitle, SetFade, SetMarkerLength, Op}
 use Rattle.mt_op.specs.Needs.{stamp_eq}
 
 -- a value of a field: the fields of tracks, of clips and of markers (profile)
 pub data Value : Type 0 where
   Title : List ℕ → Value
-  Gain : Ratio → Value
+  GainFields : Gain → Value
   Mute : Bool → Value
   -- the place that a track stands after, none for the head
-  TrackPlace : Option Moment → Value
+  TrackPlace : Option Stamp → Value
   -- the track that a clip is on, and at which frame of the session
   ClipPlace : Placement → Value
   -- the first frame of the recording that a clip plays, and how many it plays
@@ -33,10 +33,10 @@ pub data Value : Type 0 where
 
 -- a value for one field of an item
 pub record Write (X : Type 0) : Type 0 where
-  pub item : Moment
+  pub item : Stamp
   pub value : X
 
-abbrev pub sets : Moment → Value → Write Value
+abbrev pub sets : Stamp → Value → Write Value
 sets item value = record { item = item; value = value }
 
 -- the fades of a clip that is added
@@ -44,28 +44,28 @@ abbrev pub no_fades : FadeLengths
 no_fades = record { fade_in = 0; fade_out = 0 }
 
 -- the item that an operation adds or names, which is all that it changes (profile)
-abbrev pub subject : Moment → Act → Moment
-subject own (MoveTrack track after) = track
-subject own (MoveClip clip track at) = clip
-subject own (TrimClip clip offset len) = clip
-subject own (SetGain item gain) = item
-subject own (SetMute item on) = item
-subject own (Remove item tags) = item
-subject own (Restore item) = item
-subject own (MoveMarker marker at) = marker
-subject own (Retitle item title) = item
-subject own (SetFade clip fade_in fade_out) = clip
-subject own (SetMarkerLength marker len) = marker
-subject own _ = own
+abbrev pub op_item : Stamp → Body → Stamp
+op_item own (MoveTrack track after) = track
+op_item own (MoveClip clip track at) = clip
+op_item own (TrimClip clip offset len) = clip
+op_item own (SetGain item gain) = item
+op_item own (SetMute item on) = item
+op_item own (Remove item tags) = item
+op_item own (Restore item) = item
+op_item own (MoveMarker marker at) = marker
+op_item own (Retitle item title) = item
+op_item own (SetFade clip fade_in fade_out) = clip
+op_item own (SetMarkerLength marker len) = marker
+op_item own _ = own
 
 -- what each act writes, `own` being the operation's stamp (profile)
-abbrev pub writes : Moment → Act → List (Write Value)
-writes own (AddTrack after title) = sets own (TrackPlace after) ∷ sets own (Title title) ∷ sets own (Gain unchanged) ∷ sets own (Mute false) ∷ []
+abbrev pub writes : Stamp → Body → List (Write Value)
+writes own (AddTrack after title) = sets own (TrackPlace after) ∷ sets own (Title title) ∷ sets own (GainFields unchanged) ∷ sets own (Mute false) ∷ []
 writes own (MoveTrack track after) = sets track (TrackPlace after) ∷ []
-writes own (AddClip source track at offset len) = sets own (ClipPlace (record { track = track; at = at })) ∷ sets own (Trim (record { offset = offset; len = len })) ∷ sets own (Source source) ∷ sets own (Gain unchanged) ∷ sets own (Mute false) ∷ sets own (Fades no_fades) ∷ []
+writes own (AddClip source track at offset len) = sets own (ClipPlace (record { track = track; at = at })) ∷ sets own (Trim (record { offset = offset; len = len })) ∷ sets own (Source source) ∷ sets own (GainFields unchanged) ∷ sets own (Mute false) ∷ sets own (Fades no_fades) ∷ []
 writes own (MoveClip clip track at) = sets clip (ClipPlace (record { track = track; at = at })) ∷ []
 writes own (TrimClip clip offset len) = sets clip (Trim (record { offset = offset; len = len })) ∷ []
-writes own (SetGain item gain) = sets item (Gain gain) ∷ []
+writes own (SetGain item gain) = sets item (GainFields gain) ∷ []
 writes own (SetMute item on) = sets item (Mute on) ∷ []
 writes own (AddMarker at title) = sets own (Position at) ∷ sets own (Title title) ∷ sets own (MarkerLength 0) ∷ []
 writes own (MoveMarker marker at) = sets marker (Position at) ∷ []
@@ -75,7 +75,7 @@ writes own (SetMarkerLength marker len) = sets marker (MarkerLength len) ∷ []
 writes own _ = []
 
 -- the first of several values that is one of a field
-abbrev pub or_later : {X : Type 0} → Moment → Option X → Option (Write X) → Option (Write X)
+abbrev pub or_later : {X : Type 0} → Stamp → Option X → Option (Write X) → Option (Write X)
 or_later item None rest = rest
 or_later item (Some value) rest = Some (record { item = item; value = value })
 
@@ -88,15 +88,15 @@ abbrev pub title_in : Value → Option (List ℕ)
 title_in (Title title) = Some title
 title_in _ = None
 
-abbrev pub gain_in : Value → Option Ratio
-gain_in (Gain gain) = Some gain
+abbrev pub gain_in : Value → Option Gain
+gain_in (GainFields gain) = Some gain
 gain_in _ = None
 
 abbrev pub mute_in : Value → Option Bool
 mute_in (Mute on) = Some on
 mute_in _ = None
 
-abbrev pub track_place_in : Value → Option (Option Moment)
+abbrev pub track_place_in : Value → Option (Option Stamp)
 track_place_in (TrackPlace after) = Some after
 track_place_in _ = None
 
@@ -125,34 +125,34 @@ marker_length_in (MarkerLength len) = Some len
 marker_length_in _ = None
 
 -- the item whose field an act writes, and the value
-abbrev pub title_written : Moment → Act → Option (Write (List ℕ))
+abbrev pub title_written : Stamp → Body → Option (Write (List ℕ))
 title_written own act = first_of title_in (writes own act)
 
-abbrev pub gain_written : Moment → Act → Option (Write Ratio)
+abbrev pub gain_written : Stamp → Body → Option (Write Gain)
 gain_written own act = first_of gain_in (writes own act)
 
-abbrev pub mute_written : Moment → Act → Option (Write Bool)
+abbrev pub mute_written : Stamp → Body → Option (Write Bool)
 mute_written own act = first_of mute_in (writes own act)
 
-abbrev pub track_place_written : Moment → Act → Option (Write (Option Moment))
+abbrev pub track_place_written : Stamp → Body → Option (Write (Option Stamp))
 track_place_written own act = first_of track_place_in (writes own act)
 
-abbrev pub clip_place_written : Moment → Act → Option (Write Placement)
+abbrev pub clip_place_written : Stamp → Body → Option (Write Placement)
 clip_place_written own act = first_of clip_place_in (writes own act)
 
-abbrev pub trim_written : Moment → Act → Option (Write TrimRange)
+abbrev pub trim_written : Stamp → Body → Option (Write TrimRange)
 trim_written own act = first_of trim_in (writes own act)
 
-abbrev pub source_written : Moment → Act → Option (Write Digest)
+abbrev pub source_written : Stamp → Body → Option (Write Digest)
 source_written own act = first_of source_in (writes own act)
 
-abbrev pub position_written : Moment → Act → Option (Write ℕ)
+abbrev pub position_written : Stamp → Body → Option (Write ℕ)
 position_written own act = first_of position_in (writes own act)
 
-abbrev pub fades_written : Moment → Act → Option (Write FadeLengths)
+abbrev pub fades_written : Stamp → Body → Option (Write FadeLengths)
 fades_written own act = first_of fades_in (writes own act)
 
-abbrev pub marker_length_written : Moment → Act → Option (Write ℕ)
+abbrev pub marker_length_written : Stamp → Body → Option (Write ℕ)
 marker_length_written own act = first_of marker_length_in (writes own act)
 
 -- the later of two by their writers, the second where they tie
@@ -165,15 +165,15 @@ abbrev pub latest : {X : Type 0} → List (Written X) → Option (Written X)
 latest [] = None
 latest (w ∷ ws) = later w (latest ws)
 
-module _ {X : Type 0} (field : Moment → Act → Option (Write X)) where
+module _ {X : Type 0} (field : Stamp → Body → Option (Write X)) where
   -- what an operation writes to this item's field
-  abbrev pub kept : Moment → Moment → Option (Write X) → Option (Written X)
+  abbrev pub kept : Stamp → Stamp → Option (Write X) → Option (Written X)
   kept item own None = None
   kept item own (Some w) = if stamp_eq w.item item then Some (record { writer = own; value = w.value }) else None
 
-  abbrev pub written_by : Moment → Operation → Option (Written X)
+  abbrev pub written_by : Stamp → Op → Option (Written X)
   written_by item o = kept item o.stamp (field o.stamp o.act)
 
   -- the last writer of an item's field among these operations
-  abbrev pub last_write : Moment → List Operation → Option (Written X)
+  abbrev pub last_write : Stamp → List Op → Option (Written X)
   last_write item ops = latest (filter_map (written_by item) ops)

@@ -2,7 +2,7 @@
 
 ghost use Rattle.std.specs.Prelude.{◌≡◌, IfOk, IfErr, IfSome, IsOk, IsTrue, nat_lt};
 ghost use Rattle.std.specs.List.{list_all};
-ghost use Rattle.mt_stamp.specs.Moment.{IsMoment};
+ghost use Rattle.mt_stamp.specs.StampOrder.{IsStamp};
 ghost use Rattle.mt_op.specs.declared.need.Need.{Need};
 ghost use Rattle.mt_op.specs.Needs.{place_needs};
 
@@ -109,7 +109,7 @@ pub enum Body<A: Allocator = Global> {
 // Whether the clock of a stamp, where there is one, is smaller than this one.
 fn is_older(stamp: Option<Stamp>, clock: u64) -> bool
     ensures older { result ≡ list_all (λ (need : Need). nat_lt need.stamp.clock clock) (place_needs stamp) }
-    ensures valid { IfSome stamp IsMoment }
+    ensures valid { IfSome stamp IsStamp }
 {
     match stamp {
         Some(stamp) => stamp.clock() < clock,
@@ -118,16 +118,16 @@ fn is_older(stamp: Option<Stamp>, clock: u64) -> bool
 }
 
 impl<A: Allocator> Body<A> {
-    ghost use Rattle.mt_op.specs.Operation.{Operation};
+    ghost use Rattle.mt_op.specs.OpValue.{Op};
     ghost use Rattle.mt_op.specs.Bodies.{act_of, is_fixed_size};
     ghost use Rattle.mt_op.specs.Needs.{names_are_older};
     ghost use Rattle.mt_op.specs.Valid.{AreFields, length_is_good, fades_are_good, tags_are_good};
-    ghost use Rattle.mt_stamp.specs.Moment.{IsMoment};
+    ghost use Rattle.mt_stamp.specs.StampOrder.{IsStamp};
 
     // Whether every stamp that the body names has a smaller clock than the stamp.
     pub(crate) fn names_are_older_than(&self, stamp: Stamp) -> bool
         ensures older { result ≡ names_are_older (record { stamp = stamp; act = act_of self.now }) }
-        ensures stamp { IsMoment stamp }
+        ensures stamp { IsStamp stamp }
         ensures fields { IsTrue result → AreFields (act_of self.now) }
     {
         // for the proof: the reads that are let go bring the ranges of what is read

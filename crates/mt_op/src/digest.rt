@@ -7,8 +7,8 @@ ghost use Rattle.sha2.specs.Sha256.{sha256};
 ghost use Rattle.mt_op.specs.Digest.{digest_text, is_digest_text, IsDigest};
 
 use crate::fault::OpFault;
+use base_sha256::sha256_of;
 use hex::FromHex;
-use mt_digests::sha256_of;
 use std::alloc::Allocator;
 
 /// The SHA-256 (FIPS 180-4) of a recording's bytes, which names the recording. Digests are ordered by their

@@ -1,7 +1,7 @@
 //! Gains.
 
 ghost use Rattle.std.specs.Prelude.{◌≡◌, ◌↔◌, IfOk, IfErr, IsErrOf};
-ghost use Rattle.mt_op.specs.Gain.{IsRatio};
+ghost use Rattle.mt_op.specs.Gain.{IsGain};
 
 use crate::fault::OpFault;
 use std::marker::Model;
@@ -15,13 +15,13 @@ pub struct Gain {
 }
 
 impl Model for Gain {
-    ghost use Rattle.mt_op.specs.Gain.{Ratio, IsRatio};
+    ghost use Rattle.mt_op.specs.Gain.{Gain, IsGain};
 
-    ghost Value = { Ratio };
+    ghost Value = { Gain };
 
     ghost view = { λ g. record { num = g.num; den = g.den } };
 
-    ghost invariant = { λ g. IsRatio (record { num = g.num; den = g.den }) };
+    ghost invariant = { λ g. IsGain (record { num = g.num; den = g.den }) };
 
     ghost inverse = { λ g. record { num = g.num; den = g.den } };
 }
@@ -45,7 +45,7 @@ impl Gain {
     /// What a sample is multiplied by, from 0 to 65,535.
     pub fn num(&self) -> u16
         ensures value { result ≡ self.now.num }
-        ensures valid { IsRatio self.now }
+        ensures valid { IsGain self.now }
     {
         self.num
     }
@@ -53,7 +53,7 @@ impl Gain {
     /// What it is then divided by, from 1 to 65,535.
     pub fn den(&self) -> u16
         ensures value { result ≡ self.now.den }
-        ensures valid { IsRatio self.now }
+        ensures valid { IsGain self.now }
     {
         self.den
     }

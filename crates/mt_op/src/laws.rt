@@ -3,8 +3,8 @@
 
 ghost use Rattle.std.specs.Prelude.{◌≡◌, ◌↔◌, ℕ, Bool, List, Option, IsTrue};
 ghost use Rattle.std.specs.Ordering.{nat_cmp, ordering_then};
-ghost use Rattle.mt_stamp.specs.Moment.{Moment};
-ghost use Rattle.mt_op.specs.Gain.{Ratio, unchanged};
+ghost use Rattle.mt_stamp.specs.StampOrder.{Stamp};
+ghost use Rattle.mt_op.specs.Gain.{Gain, unchanged};
 ghost use Rattle.mt_op.specs.declared.digest.Digest.{Digest as DigestOf};
 ghost use Rattle.mt_op.specs.declared.value.Placement.{Placement};
 ghost use Rattle.mt_op.specs.declared.value.TrimRange.{TrimRange};
@@ -51,9 +51,9 @@ pub fn writes()
 /// The last write of each field is the one with the greatest stamp, and there is one where the field was written.
 pub fn last_write()
     ensures titles { LatestIsGreatest (List ℕ) }
-    ensures gains { LatestIsGreatest Ratio }
+    ensures gains { LatestIsGreatest Gain }
     ensures mutes { LatestIsGreatest Bool }
-    ensures track_places { LatestIsGreatest (Option Moment) }
+    ensures track_places { LatestIsGreatest (Option Stamp) }
     ensures clip_places { LatestIsGreatest Placement }
     ensures trims { LatestIsGreatest TrimRange }
     ensures sources { LatestIsGreatest DigestOf }

@@ -2,12 +2,12 @@
 
 ghost use Rattle.std.specs.Prelude.{◌≡◌, ◌↔◌, ◌⊎◌, true, false, IfOk, IfErr, IsOk, IsTrue, List, [], ◌∷◌, slice_get, length};
 ghost use Rattle.mt_op.specs.Bodies.{act_of, is_fixed_size};
-ghost use Rattle.mt_op.specs.Operation.{MoveTrack, Remove};
+ghost use Rattle.mt_op.specs.OpValue.{MoveTrack, Remove};
 ghost use Rattle.mt_op.specs.Needs.{need_of, place_needs, needs_of, needs, fits};
-ghost use Rattle.mt_op.specs.Valid.{IsOperation};
+ghost use Rattle.mt_op.specs.Valid.{IsOp};
 ghost use Rattle.mt_op.specs.Refused.{op_or_fault};
 ghost use Rattle.mt_op.specs.Dots.{op_dot};
-ghost use Rattle.mt_op.specs.Writes.{subject};
+ghost use Rattle.mt_op.specs.Writes.{op_item};
 
 use crate::body::Body;
 use crate::fault::OpFault;
@@ -27,16 +27,16 @@ pub struct Op<A: Allocator = Global> {
 }
 
 impl<A: Allocator> Model for Op<A> {
-    ghost use Rattle.mt_op.specs.Operation.{Operation};
+    ghost use Rattle.mt_op.specs.OpValue.{Op};
 
-    ghost Value = { Operation };
+    ghost Value = { Op };
 
     ghost use Rattle.mt_op.specs.Bodies.{act_of, body_of};
-    ghost use Rattle.mt_op.specs.Valid.{IsOperation};
+    ghost use Rattle.mt_op.specs.Valid.{IsOp};
 
     ghost view = { λ o. record { stamp = o.stamp; act = act_of o.body } };
 
-    ghost invariant = { λ o. IsOperation (record { stamp = o.stamp; act = act_of o.body }) };
+    ghost invariant = { λ o. IsOp (record { stamp = o.stamp; act = act_of o.body }) };
 
     ghost inverse = { λ o. record { stamp = o.stamp; body = body_of o.act } };
 }
@@ -97,7 +97,7 @@ fn remove_need(item: Stamp, tags: &[Stamp], i: usize) -> Option<Need>
 }
 
 impl<A: Allocator> Op<A> {
-    ghost use Rattle.mt_op.specs.Operation.{Operation};
+    ghost use Rattle.mt_op.specs.OpValue.{Op};
 
     /// An operation of a stamp and a body. Takes no memory. Refused, in this order:
     ///
@@ -128,7 +128,7 @@ impl<A: Allocator> Op<A> {
     /// The stamp.
     pub fn stamp(&self) -> Stamp
         ensures value { result ≡ self.now.stamp }
-        ensures valid { IsOperation self.now }
+        ensures valid { IsOp self.now }
     {
         // for the proof: that stamp and body are those of an operation
         let _ = &self.body;
@@ -138,7 +138,7 @@ impl<A: Allocator> Op<A> {
     /// The stamp's dot: its replica and number, without the clock.
     pub fn dot(&self) -> Dot
         ensures value { result ≡ op_dot self.now }
-        ensures valid { IsOperation self.now }
+        ensures valid { IsOp self.now }
     {
         // for the proof: that stamp and body are those of an operation
         let _ = &self.body;
@@ -148,14 +148,14 @@ impl<A: Allocator> Op<A> {
     /// What the operation does.
     pub fn body(&self) -> &Body<A>
         ensures act { act_of result.now ≡ self.now.act }
-        ensures valid { IsOperation self.now }
+        ensures valid { IsOp self.now }
     {
         &self.body
     }
 
     /// The item that it adds or names, which is all that it changes.
     pub fn item(&self) -> Stamp
-        ensures { result ≡ subject self.now.stamp self.now.act }
+        ensures { result ≡ op_item self.now.stamp self.now.act }
     {
         match &self.body {
             Body::AddTrack { .. } | Body::AddClip { .. } | Body::AddMarker { .. } => self.stamp,

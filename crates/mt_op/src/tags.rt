@@ -2,7 +2,7 @@
 
 ghost use Rattle.std.specs.Prelude.{◌≡◌, Option, Some, None, IsTrue, nat_lt};
 ghost use Rattle.std.specs.List.{list_all, AllByRecursion};
-ghost use Rattle.mt_stamp.specs.Moment.{Moment, IsMoment, stamp_cmp};
+ghost use Rattle.mt_stamp.specs.StampOrder.{Stamp, IsStamp, stamp_cmp};
 ghost use Rattle.mt_op.specs.Rising.{is_after};
 ghost use Rattle.mt_op.specs.Tags.{stamps_rise, are_tags};
 
@@ -44,8 +44,8 @@ pub(crate) fn are_tags(tags: &[Stamp]) -> bool
 
 // Whether the clock of each stamp is smaller than this one.
 pub(crate) fn are_older(tags: &[Stamp], clock: u64) -> bool
-    ensures older { result ≡ list_all (λ (tag : Moment). nat_lt tag.clock clock) tags.now }
-    ensures valid { IsTrue result → AllByRecursion IsMoment tags.now }
+    ensures older { result ≡ list_all (λ (tag : Stamp). nat_lt tag.clock clock) tags.now }
+    ensures valid { IsTrue result → AllByRecursion IsStamp tags.now }
 {
     for tag in tags {
         if tag.clock() >= clock {

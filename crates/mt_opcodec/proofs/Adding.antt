@@ -5,7 +5,7 @@ use Rattle.std.specs.FinMap as fin
 use Rattle.std.proofs.lemmas.Option.{same_Some, slice_get_read, slice_get_within}
 use Rattle.mt_stamp.specs.declared.name.Dot.{Dot}
 use Rattle.mt_stamp.specs.declared.name.Replica.{Replica}
-use Rattle.mt_op.specs.Operation.{Operation}
+use Rattle.mt_op.specs.OpValue.{Op}
 use Rattle.mt_op.specs.Dots.{op_dot}
 use Rattle.mt_opcodec.specs.LogValue.{LogMap, log_of, Adds}
 use Rattle.mt_opcodec.specs.declared.fault.LogFault.{LogFault}
@@ -14,7 +14,7 @@ use Rattle.mt_opcodec.specs.Runs.{RunOf, AreRuns, run_ops, IsRunAt, IsRunGap}
 use Rattle.mt_opcodec.proofs.Runs.{get-run, get-no_run}
 
 -- it rests on what the log has under the operation's dot
-Adds-same : (o : Operation) (a b : LogMap) → fin.get b (op_dot o) ≡ fin.get a (op_dot o) → (r : Result Bool LogFault) → Adds o a r → Adds o b r
+Adds-same : (o : Op) (a b : LogMap) → fin.get b (op_dot o) ≡ fin.get a (op_dot o) → (r : Result Bool LogFault) → Adds o a r → Adds o b r
 Adds-same o a b e (Ok true) h = e ∙ h
 Adds-same o a b e (Ok false) h = e ∙ h
 Adds-same o a b e (Err fault.Memory) h = e ∙ h
@@ -28,7 +28,7 @@ Adds-same o a b e (Err (fault.OutOfOrder index)) h = h
 Adds-same o a b e (Err fault.Trailing) h = h
 Adds-same o a b e (Err fault.VersionTooHigh) h = h
 
-module _ (log : LogMap) (runs : List RunOf) (is : log_of (run_ops runs) ≡ log) (h : AreRuns runs) (o : Operation) where
+module _ (log : LogMap) (runs : List RunOf) (is : log_of (run_ops runs) ≡ log) (h : AreRuns runs) (o : Op) where
   pub run_adds : (i : ℕ) (r : RunOf) → slice_get runs i ≡ Some r → r.replica ≡ o.stamp.replica → (res : Result Bool LogFault) → Adds o (log_of r.ops) res → Adds o log res
   run_adds i r e own res adds =
       Adds-same o (log_of r.ops) log (ap (λ (m : LogMap). fin.get m (op_dot o)) (sym is) ∙ get-run runs i r (op_dot o) h e own) res adds

@@ -4,18 +4,18 @@ use Rattle.std.specs.Prelude.{is_some}
 use Rattle.std.specs.List.{AllByRecursion}
 use Rattle.std.specs.FinMap as fin
 use Rattle.std.proofs.lemmas.Option.{none-some}
-use Rattle.mt_stamp.specs.Moment.{dot_cmp}
-use Rattle.mt_op.specs.Operation.{Operation}
+use Rattle.mt_stamp.specs.StampOrder.{dot_cmp}
+use Rattle.mt_op.specs.OpValue.{Op}
 use Rattle.mt_opcodec.specs.LogValue.{LogMap}
 use Rattle.mt_opcodec.specs.Union.{Agree, union, AgreeFrom}
 use Rattle.mt_opcodec.specs.Laws.{PairsAgree, AgreePairwise, AgreeGrouped}
 use Rattle.mt_opcodec.proofs.Union.{get-union}
 
-pub in_first : (x y : Option Operation) (o : Operation) → x ≡ Some o → cond (is_some x) x y ≡ Some o
-in_first x y o e = subst (λ (z : Option Operation). cond (is_some z) z y ≡ Some o) (sym e) refl
+pub in_first : (x y : Option Op) (o : Op) → x ≡ Some o → cond (is_some x) x y ≡ Some o
+in_first x y o e = subst (λ (z : Option Op). cond (is_some z) z y ≡ Some o) (sym e) refl
 
-pub in_second : (x y : Option Operation) → x ≡ None → cond (is_some x) x y ≡ y
-in_second x y e = subst (λ (z : Option Operation). cond (is_some z) z y ≡ y) (sym e) refl
+pub in_second : (x y : Option Op) → x ≡ None → cond (is_some x) x y ≡ y
+in_second x y e = subst (λ (z : Option Op). cond (is_some z) z y ≡ y) (sym e) refl
 
 pub of_first : (a b c : LogMap) → Agree (union a b) c → Agree a c
 of_first a b c h dot o p at_a at_c = h dot o p (get-union a b dot ∙ in_first (fin.get a dot) (fin.get b dot) o at_a) at_c
@@ -23,14 +23,14 @@ of_first a b c h dot o p at_a at_c = h dot o p (get-union a b dot ∙ in_first (
 pub of_second : (a b c : LogMap) → Agree a b → Agree (union a b) c → Agree b c
 of_second a b c ab h dot o p at_b at_c = by (fin.get a dot) refl
   where
-    by : (x : Option Operation) → fin.get a dot ≡ x → o ≡ p
+    by : (x : Option Op) → fin.get a dot ≡ x → o ≡ p
     by None e = h dot o p (get-union a b dot ∙ in_second (fin.get a dot) (fin.get b dot) e ∙ at_b) at_c
     by (Some q) e = sym (ab dot q o e at_b) ∙ h dot q p (get-union a b dot ∙ in_first (fin.get a dot) (fin.get b dot) q e) at_c
 
 pub of_both : (a b c : LogMap) → Agree a c → Agree b c → Agree (union a b) c
 of_both a b c ac bc dot o p at_u at_c = by (fin.get a dot) refl
   where
-    by : (x : Option Operation) → fin.get a dot ≡ x → o ≡ p
+    by : (x : Option Op) → fin.get a dot ≡ x → o ≡ p
     by None e = bc dot o p (sym (get-union a b dot ∙ in_second (fin.get a dot) (fin.get b dot) e) ∙ at_u) at_c
     by (Some q) e = ac dot o p (e ∙ sym (get-union a b dot ∙ in_first (fin.get a dot) (fin.get b dot) q e) ∙ at_u) at_c
 

@@ -2,8 +2,8 @@
 use Rattle.std.proofs.Common.{◌≡◌, ℕ, ◌+◌, ◌<◌, List, [], ◌∷◌, ◌++◌, length, get_or, take, sym, ap, ◌∙◌, append_assoc}
 use Rattle.std.specs.List.{flat_map}
 use Rattle.sha2.specs.Sha256.{sha256}
-use Rattle.mt_op.specs.Operation.{Operation}
-use Rattle.mt_opcodec.specs.LogText.{log_body, log_text}
+use Rattle.mt_op.specs.OpValue.{Op}
+use Rattle.mt_opcodec.specs.LogText.{log_body, log_bytes}
 use Rattle.std.proofs.lemmas.List.{flat_map_more, take_more}
 
 -- a kind byte and two pieces
@@ -24,5 +24,5 @@ piece_more {X = X} f head xs i x so_far new lt is so new_is =
     new_is ∙ ap (λ (l : List ℕ). l ++ f x) so ∙ flat_map_more f head (take i xs) x ∙ ap (λ (ys : List X). head ++ flat_map f ys) (ap (λ (y : X). take i xs ++ y ∷ []) is ∙ sym (take_more xs i x lt))
 
 -- what the digest is made of, and the digest
-pub sealed : (ops : List Operation) (text digest new : List ℕ) → text ≡ log_body ops → digest ≡ sha256 text → new ≡ text ++ digest → new ≡ log_text ops
+pub sealed : (ops : List Op) (text digest new : List ℕ) → text ≡ log_body ops → digest ≡ sha256 text → new ≡ text ++ digest → new ≡ log_bytes ops
 sealed ops text digest new text_is digest_is new_is = new_is ∙ ap (λ (d : List ℕ). text ++ d) digest_is ∙ ap (λ (t : List ℕ). t ++ sha256 t) text_is

@@ -1,11 +1,11 @@
 -- The acts on clips: what is read is spelled so, and what is spelled so is read.
 use Rattle.std.proofs.Common.{◌≡◌, ℕ, ◌^◌, true, ltb, leb, ◌&&◌, List, ◌++◌, Result, Ok, refl, ap, subst, ◌∙◌, append_assoc}
 use Rattle.std.specs.Int.{w32}
-use Rattle.mt_stamp.specs.Moment.{Moment, IsMoment}
+use Rattle.mt_stamp.specs.StampOrder.{Stamp, IsStamp}
 use Rattle.mt_op.specs.declared.digest.Digest.{Digest}
 use Rattle.mt_op.specs.Digest.{IsDigest}
 use Rattle.mt_op.specs.Valid.{IsFrame, longest_fade}
-use Rattle.mt_op.specs.Operation.{Act, AddClip, MoveClip, TrimClip, SetFade}
+use Rattle.mt_op.specs.OpValue.{Body, AddClip, MoveClip, TrimClip, SetFade}
 use Rattle.mt_opcodec.specs.declared.fault.ReadFault.{ReadFault}
 use Rattle.mt_opcodec.specs.declared.fault.ReadFault.TheVariants.{BadField}
 use Rattle.mt_opcodec.specs.OpText.{stamp_bytes, frame_bytes, trim_bytes, fades_bytes, add_clip_kind, move_clip_kind, trim_clip_kind, set_fade_kind}
@@ -77,7 +77,7 @@ fades_again fade_in fade_out rest in_fits out_fits in_short out_short =
 
 -- ---- what is read is spelled so
 
-pub add_clip_takes : (stamp : Moment) (bytes : List ℕ) (x : Act × List ℕ) → IsBytes bytes → add_clip_at stamp.clock bytes ≡ Ok x → Found stamp add_clip_kind bytes x
+pub add_clip_takes : (stamp : Stamp) (bytes : List ℕ) (x : Body × List ℕ) → IsBytes bytes → add_clip_at stamp.clock bytes ≡ Ok x → Found stamp add_clip_kind bytes x
 unfolding add_clip_at
 add_clip_takes stamp bytes x fits e =
     let a = bind_ok (digest_at bytes) _ x e in
@@ -92,11 +92,11 @@ add_clip_takes stamp bytes x fits e =
     let from_at = Takes-then b.0.1 (frame_bytes c.0.0) c.0.1 trim d.0.1 t2.0 t3.0 in
     let from_track = Takes-then a.0.1 (stamp_bytes b.0.0) b.0.1 (frame_bytes c.0.0 ++ trim) d.0.1 t1.0 from_at in
     let all = Takes-then bytes a.0.0.0 a.0.1 (stamp_bytes b.0.0 ++ (frame_bytes c.0.0 ++ trim)) d.0.1 t0.0 from_track in
-    let made : Act × List ℕ = (AddClip a.0.0 b.0.0 c.0.0 d.0.0.0 d.0.0.1, d.0.1) in
+    let made : Body × List ℕ = (AddClip a.0.0 b.0.0 c.0.0 d.0.0.0 d.0.0.1, d.0.1) in
     let older : act_is_older stamp (AddClip a.0.0 b.0.0 c.0.0 d.0.0.0 d.0.0.1) ≡ true = rw t1.2 refl in
     subst (Found stamp add_clip_kind bytes) (ok_is made x d.2) (record { front = with_kind add_clip_kind bytes _ _ all; fields = (t0.1, (t1.1, (t2.1, (t3.1, t3.2)))); older = older; length = t3.3; fades = refl; tags = refl })
 
-pub move_clip_takes : (stamp : Moment) (bytes : List ℕ) (x : Act × List ℕ) → IsBytes bytes → move_clip_at stamp.clock bytes ≡ Ok x → Found stamp move_clip_kind bytes x
+pub move_clip_takes : (stamp : Stamp) (bytes : List ℕ) (x : Body × List ℕ) → IsBytes bytes → move_clip_at stamp.clock bytes ≡ Ok x → Found stamp move_clip_kind bytes x
 unfolding move_clip_at
 move_clip_takes stamp bytes x fits e =
     let a = bind_ok (older_stamp_at stamp.clock bytes) _ x e in
@@ -107,11 +107,11 @@ move_clip_takes stamp bytes x fits e =
     let t2 = number_takes w32 (2 ^ 32) wide32 b.0.1 c.0.0 c.0.1 t1.0.rest_fits c.1 in
     let from_track = Takes-then a.0.1 (stamp_bytes b.0.0) b.0.1 (frame_bytes c.0.0) c.0.1 t1.0 t2.0 in
     let all = Takes-then bytes (stamp_bytes a.0.0) a.0.1 (stamp_bytes b.0.0 ++ frame_bytes c.0.0) c.0.1 t0.0 from_track in
-    let made : Act × List ℕ = (MoveClip a.0.0 b.0.0 c.0.0, c.0.1) in
+    let made : Body × List ℕ = (MoveClip a.0.0 b.0.0 c.0.0, c.0.1) in
     let older : act_is_older stamp (MoveClip a.0.0 b.0.0 c.0.0) ≡ true = rw (t0.2, t1.2) refl in
     subst (Found stamp move_clip_kind bytes) (ok_is made x c.2) (record { front = with_kind move_clip_kind bytes _ _ all; fields = (t0.1, (t1.1, t2.1)); older = older; length = refl; fades = refl; tags = refl })
 
-pub trim_clip_takes : (stamp : Moment) (bytes : List ℕ) (x : Act × List ℕ) → IsBytes bytes → trim_clip_at stamp.clock bytes ≡ Ok x → Found stamp trim_clip_kind bytes x
+pub trim_clip_takes : (stamp : Stamp) (bytes : List ℕ) (x : Body × List ℕ) → IsBytes bytes → trim_clip_at stamp.clock bytes ≡ Ok x → Found stamp trim_clip_kind bytes x
 unfolding trim_clip_at
 trim_clip_takes stamp bytes x fits e =
     let a = bind_ok (older_stamp_at stamp.clock bytes) _ x e in
@@ -119,11 +119,11 @@ trim_clip_takes stamp bytes x fits e =
     let t0 = older_takes stamp.clock bytes a.0 fits a.1 in
     let t1 = trim_takes a.0.1 b.0 t0.0.rest_fits b.1 in
     let both = Takes-then bytes (stamp_bytes a.0.0) a.0.1 (trim_bytes b.0.0.0 b.0.0.1) b.0.1 t0.0 t1.0 in
-    let made : Act × List ℕ = (TrimClip a.0.0 b.0.0.0 b.0.0.1, b.0.1) in
+    let made : Body × List ℕ = (TrimClip a.0.0 b.0.0.0 b.0.0.1, b.0.1) in
     let older : act_is_older stamp (TrimClip a.0.0 b.0.0.0 b.0.0.1) ≡ true = rw t0.2 refl in
     subst (Found stamp trim_clip_kind bytes) (ok_is made x b.2) (record { front = with_kind trim_clip_kind bytes _ _ both; fields = (t0.1, (t1.1, t1.2)); older = older; length = t1.3; fades = refl; tags = refl })
 
-pub set_fade_takes : (stamp : Moment) (bytes : List ℕ) (x : Act × List ℕ) → IsBytes bytes → set_fade_at stamp.clock bytes ≡ Ok x → Found stamp set_fade_kind bytes x
+pub set_fade_takes : (stamp : Stamp) (bytes : List ℕ) (x : Body × List ℕ) → IsBytes bytes → set_fade_at stamp.clock bytes ≡ Ok x → Found stamp set_fade_kind bytes x
 unfolding set_fade_at
 set_fade_takes stamp bytes x fits e =
     let a = bind_ok (older_stamp_at stamp.clock bytes) _ x e in
@@ -131,13 +131,13 @@ set_fade_takes stamp bytes x fits e =
     let t0 = older_takes stamp.clock bytes a.0 fits a.1 in
     let t1 = fades_takes a.0.1 b.0 t0.0.rest_fits b.1 in
     let both = Takes-then bytes (stamp_bytes a.0.0) a.0.1 (fades_bytes b.0.0.0 b.0.0.1) b.0.1 t0.0 t1.0 in
-    let made : Act × List ℕ = (SetFade a.0.0 b.0.0.0 b.0.0.1, b.0.1) in
+    let made : Body × List ℕ = (SetFade a.0.0 b.0.0.0 b.0.0.1, b.0.1) in
     let older : act_is_older stamp (SetFade a.0.0 b.0.0.0 b.0.0.1) ≡ true = rw t0.2 refl in
     subst (Found stamp set_fade_kind bytes) (ok_is made x b.2) (record { front = with_kind set_fade_kind bytes _ _ both; fields = (t0.1, (t1.1, t1.2)); older = older; length = refl; fades = t1.3; tags = refl })
 
 -- ---- what is spelled so is read
 
-pub add_clip_again : (clock : ℕ) (source : Digest) (track : Moment) (at offset len : ℕ) (rest : List ℕ) → IsDigest source → IsMoment track → ltb track.clock clock ≡ true → IsFrame at → IsFrame offset → IsFrame len → leb 1 len ≡ true
+pub add_clip_again : (clock : ℕ) (source : Digest) (track : Stamp) (at offset len : ℕ) (rest : List ℕ) → IsDigest source → IsStamp track → ltb track.clock clock ≡ true → IsFrame at → IsFrame offset → IsFrame len → leb 1 len ≡ true
     → add_clip_at clock ((source.0 ++ (stamp_bytes track ++ (frame_bytes at ++ trim_bytes offset len))) ++ rest) ≡ Ok (AddClip source track at offset len, rest)
 unfolding add_clip_at
 add_clip_again clock source track at offset len rest is fits older at_fits offset_fits len_fits from =
@@ -147,31 +147,31 @@ add_clip_again clock source track at offset len rest is fits older at_fits offse
     ∙ ap (λ (l : List ℕ). source.0 ++ l) (append_assoc (stamp_bytes track) (frame_bytes at ++ trim) rest ∙ ap (λ (l : List ℕ). stamp_bytes track ++ l) (append_assoc (frame_bytes at) trim rest)) in
     ap (add_clip_at clock) regrouped
     ∙ ap (λ (r : Result (Digest × List ℕ) ReadFault). r >>= λ source. older_stamp_at clock source.1 >>= λ track. number_at w32 track.1 >>= λ at. trim_at at.1 >>= λ trim. Ok (AddClip source.0 track.0 at.0 trim.0.0 trim.0.1, trim.1)) (digest_again source (stamp_bytes track ++ (frame_bytes at ++ (trim ++ rest))) is)
-    ∙ ap (λ (r : Result (Moment × List ℕ) ReadFault). r >>= λ track. number_at w32 track.1 >>= λ at. trim_at at.1 >>= λ trim. Ok (AddClip source track.0 at.0 trim.0.0 trim.0.1, trim.1)) (older_again clock track (frame_bytes at ++ (trim ++ rest)) fits older)
+    ∙ ap (λ (r : Result (Stamp × List ℕ) ReadFault). r >>= λ track. number_at w32 track.1 >>= λ at. trim_at at.1 >>= λ trim. Ok (AddClip source track.0 at.0 trim.0.0 trim.0.1, trim.1)) (older_again clock track (frame_bytes at ++ (trim ++ rest)) fits older)
     ∙ ap (λ (r : Result (ℕ × List ℕ) ReadFault). r >>= λ at. trim_at at.1 >>= λ trim. Ok (AddClip source track at.0 trim.0.0 trim.0.1, trim.1)) (number_again w32 (2 ^ 32) wide32 at (trim ++ rest) at_fits)
     ∙ ap (λ (r : Result ((ℕ × ℕ) × List ℕ) ReadFault). r >>= λ trim. Ok (AddClip source track at trim.0.0 trim.0.1, trim.1)) (trim_again offset len rest offset_fits len_fits from)
 
-pub move_clip_again : (clock : ℕ) (clip track : Moment) (at : ℕ) (rest : List ℕ) → IsMoment clip → ltb clip.clock clock ≡ true → IsMoment track → ltb track.clock clock ≡ true → IsFrame at
+pub move_clip_again : (clock : ℕ) (clip track : Stamp) (at : ℕ) (rest : List ℕ) → IsStamp clip → ltb clip.clock clock ≡ true → IsStamp track → ltb track.clock clock ≡ true → IsFrame at
     → move_clip_at clock ((stamp_bytes clip ++ (stamp_bytes track ++ frame_bytes at)) ++ rest) ≡ Ok (MoveClip clip track at, rest)
 unfolding move_clip_at
 move_clip_again clock clip track at rest clip_fits clip_older track_fits track_older at_fits =
     ap (move_clip_at clock) (append_assoc (stamp_bytes clip) (stamp_bytes track ++ frame_bytes at) rest ∙ ap (λ (l : List ℕ). stamp_bytes clip ++ l) (append_assoc (stamp_bytes track) (frame_bytes at) rest))
-    ∙ ap (λ (r : Result (Moment × List ℕ) ReadFault). r >>= λ clip. older_stamp_at clock clip.1 >>= λ track. number_at w32 track.1 >>= λ at. Ok (MoveClip clip.0 track.0 at.0, at.1)) (older_again clock clip (stamp_bytes track ++ (frame_bytes at ++ rest)) clip_fits clip_older)
-    ∙ ap (λ (r : Result (Moment × List ℕ) ReadFault). r >>= λ track. number_at w32 track.1 >>= λ at. Ok (MoveClip clip track.0 at.0, at.1)) (older_again clock track (frame_bytes at ++ rest) track_fits track_older)
+    ∙ ap (λ (r : Result (Stamp × List ℕ) ReadFault). r >>= λ clip. older_stamp_at clock clip.1 >>= λ track. number_at w32 track.1 >>= λ at. Ok (MoveClip clip.0 track.0 at.0, at.1)) (older_again clock clip (stamp_bytes track ++ (frame_bytes at ++ rest)) clip_fits clip_older)
+    ∙ ap (λ (r : Result (Stamp × List ℕ) ReadFault). r >>= λ track. number_at w32 track.1 >>= λ at. Ok (MoveClip clip track.0 at.0, at.1)) (older_again clock track (frame_bytes at ++ rest) track_fits track_older)
     ∙ ap (λ (r : Result (ℕ × List ℕ) ReadFault). r >>= λ at. Ok (MoveClip clip track at.0, at.1)) (number_again w32 (2 ^ 32) wide32 at rest at_fits)
 
-pub trim_clip_again : (clock : ℕ) (clip : Moment) (offset len : ℕ) (rest : List ℕ) → IsMoment clip → ltb clip.clock clock ≡ true → IsFrame offset → IsFrame len → leb 1 len ≡ true
+pub trim_clip_again : (clock : ℕ) (clip : Stamp) (offset len : ℕ) (rest : List ℕ) → IsStamp clip → ltb clip.clock clock ≡ true → IsFrame offset → IsFrame len → leb 1 len ≡ true
     → trim_clip_at clock ((stamp_bytes clip ++ trim_bytes offset len) ++ rest) ≡ Ok (TrimClip clip offset len, rest)
 unfolding trim_clip_at
 trim_clip_again clock clip offset len rest fits older offset_fits len_fits from =
     ap (trim_clip_at clock) (append_assoc (stamp_bytes clip) (trim_bytes offset len) rest)
-    ∙ ap (λ (r : Result (Moment × List ℕ) ReadFault). r >>= λ clip. trim_at clip.1 >>= λ trim. Ok (TrimClip clip.0 trim.0.0 trim.0.1, trim.1)) (older_again clock clip (trim_bytes offset len ++ rest) fits older)
+    ∙ ap (λ (r : Result (Stamp × List ℕ) ReadFault). r >>= λ clip. trim_at clip.1 >>= λ trim. Ok (TrimClip clip.0 trim.0.0 trim.0.1, trim.1)) (older_again clock clip (trim_bytes offset len ++ rest) fits older)
     ∙ ap (λ (r : Result ((ℕ × ℕ) × List ℕ) ReadFault). r >>= λ trim. Ok (TrimClip clip trim.0.0 trim.0.1, trim.1)) (trim_again offset len rest offset_fits len_fits from)
 
-pub set_fade_again : (clock : ℕ) (clip : Moment) (fade_in fade_out : ℕ) (rest : List ℕ) → IsMoment clip → ltb clip.clock clock ≡ true → IsFrame fade_in → IsFrame fade_out → leb fade_in longest_fade ≡ true → leb fade_out longest_fade ≡ true
+pub set_fade_again : (clock : ℕ) (clip : Stamp) (fade_in fade_out : ℕ) (rest : List ℕ) → IsStamp clip → ltb clip.clock clock ≡ true → IsFrame fade_in → IsFrame fade_out → leb fade_in longest_fade ≡ true → leb fade_out longest_fade ≡ true
     → set_fade_at clock ((stamp_bytes clip ++ fades_bytes fade_in fade_out) ++ rest) ≡ Ok (SetFade clip fade_in fade_out, rest)
 unfolding set_fade_at
 set_fade_again clock clip fade_in fade_out rest fits older in_fits out_fits in_short out_short =
     ap (set_fade_at clock) (append_assoc (stamp_bytes clip) (fades_bytes fade_in fade_out) rest)
-    ∙ ap (λ (r : Result (Moment × List ℕ) ReadFault). r >>= λ clip. fades_at clip.1 >>= λ fades. Ok (SetFade clip.0 fades.0.0 fades.0.1, fades.1)) (older_again clock clip (fades_bytes fade_in fade_out ++ rest) fits older)
+    ∙ ap (λ (r : Result (Stamp × List ℕ) ReadFault). r >>= λ clip. fades_at clip.1 >>= λ fades. Ok (SetFade clip.0 fades.0.0 fades.0.1, fades.1)) (older_again clock clip (fades_bytes fade_in fade_out ++ rest) fits older)
     ∙ ap (λ (r : Result ((ℕ × ℕ) × List ℕ) ReadFault). r >>= λ fades. Ok (SetFade clip fades.0.0 fades.0.1, fades.1)) (fades_again fade_in fade_out rest in_fits out_fits in_short out_short)

@@ -5,8 +5,8 @@ use Rattle.std.specs.Bool.{Decides}
 use Rattle.std.specs.List.{AllByRecursion}
 use Rattle.std.specs.Cmp.Lexicographic.{pointwise}
 use Rattle.std.specs.declared.alloc.Allocator.{Ghosts}
-use Rattle.mt_op.specs.Operation.{Operation}
-use Rattle.mt_op.specs.Valid.{IsOperation}
+use Rattle.mt_op.specs.OpValue.{Op}
+use Rattle.mt_op.specs.Valid.{IsOp}
 use Rattle.mt_op.proofs.Needs.{and_first, and_second}
 use Rattle.mt_op.proofs.Equal.{op_test, op_decides, bytes_same, bytes_itself}
 use Rattle.mt_opcodec.specs.LogText.{op_texts}
@@ -14,7 +14,7 @@ use Rattle.mt_opcodec.specs.LogValue.{LogMap, operations, log_of, AreLogged}
 use Rattle.mt_opcodec.proofs.Operations.{op_text-apart}
 
 -- the texts of operations, one after another, determine them
-texts_same : (a b : List Operation) → AllByRecursion IsOperation a → AllByRecursion IsOperation b → op_texts a ≡ op_texts b → a ≡ b
+texts_same : (a b : List Op) → AllByRecursion IsOp a → AllByRecursion IsOp b → op_texts a ≡ op_texts b → a ≡ b
 texts_same [] [] valid_a valid_b e = refl
 texts_same [] (y ∷ b) valid_a valid_b e = absurd cc
 texts_same (x ∷ a) [] valid_a valid_b e = absurd cc
@@ -24,14 +24,14 @@ texts_same (x ∷ a) (y ∷ b) valid_a valid_b e =
     λ i. apart.0 i ∷ rest i
 
 -- their texts tell whether operations are the same
-pub texts_decide : (a b : List Operation) → AllByRecursion IsOperation a → AllByRecursion IsOperation b → Decides (pointwise nat_eq (op_texts a) (op_texts b)) (a ≡ b)
+pub texts_decide : (a b : List Op) → AllByRecursion IsOp a → AllByRecursion IsOp b → Decides (pointwise nat_eq (op_texts a) (op_texts b)) (a ≡ b)
 texts_decide a b valid_a valid_b = (
   λ h. texts_same a b valid_a valid_b (bytes_same (op_texts a) (op_texts b) h),
-  λ e. subst (λ (c : List Operation). pointwise nat_eq (op_texts a) (op_texts c) ≡ true) e (bytes_itself (op_texts a)),
+  λ e. subst (λ (c : List Op). pointwise nat_eq (op_texts a) (op_texts c) ≡ true) e (bytes_itself (op_texts a)),
 )
 
 module _ (A : denote.RattleType.RattleType) (alloc : Ghosts A.Denot) (d e : mir.Syntax.Dict) where
-  ops_same : (a b : List Operation) → pointwise (op_test A alloc d e) a b ≡ true → a ≡ b
+  ops_same : (a b : List Op) → pointwise (op_test A alloc d e) a b ≡ true → a ≡ b
   ops_same [] [] h = refl
   ops_same [] (y ∷ b) h = absurd cc
   ops_same (x ∷ a) [] h = absurd cc
@@ -40,7 +40,7 @@ module _ (A : denote.RattleType.RattleType) (alloc : Ghosts A.Denot) (d e : mir.
       let rest = ops_same a b (and_second _ _ h) in
       λ i. first i ∷ rest i
 
-  ops_itself : (a : List Operation) → pointwise (op_test A alloc d e) a a ≡ true
+  ops_itself : (a : List Op) → pointwise (op_test A alloc d e) a a ≡ true
   ops_itself [] = refl
   ops_itself (x ∷ a) = rw ((op_decides A alloc d e x x (op_test A alloc d e x x) refl).1 refl) (ops_itself a)
 

@@ -7,7 +7,7 @@ use Rattle.std.proofs.lemmas.Option.{none-some, same_Some}
 use Rattle.std.proofs.lemmas.Bool.{cases_lt}
 use Rattle.mt_stamp.specs.declared.name.Dot.{Dot}
 use Rattle.mt_stamp.specs.declared.name.Replica.{Replica}
-use Rattle.mt_op.specs.Operation.{Operation}
+use Rattle.mt_op.specs.OpValue.{Op}
 use Rattle.mt_opcodec.specs.LogValue.{LogMap, log_of}
 use Rattle.mt_opcodec.specs.Union.{Agree, union}
 use Rattle.mt_opcodec.proofs.Logs.{get-log_of}
@@ -18,7 +18,7 @@ use Rattle.mt_opcodec.proofs.Runs.{at, or_else, or_none, at-append, at-other, ge
 
 -- ---- lists of runs
 
-grouped : (x y z : Option Operation) → or_else (or_else x y) z ≡ or_else x (or_else y z)
+grouped : (x y z : Option Op) → or_else (or_else x y) z ≡ or_else x (or_else y z)
 grouped None y z = refl
 grouped (Some o) y z = refl
 
@@ -28,7 +28,7 @@ at-parts (x ∷ a) b q =
     at-append x.ops (run_ops (a ++ b)) q
     ∙ ap (or_else (at x.ops q)) (at-parts a b q)
     ∙ sym (grouped (at x.ops q) (at (run_ops a) q) (at (run_ops b) q))
-    ∙ ap (λ (y : Option Operation). or_else y (at (run_ops b) q)) (sym (at-append x.ops (run_ops a) q))
+    ∙ ap (λ (y : Option Op). or_else y (at (run_ops b) q)) (sym (at-append x.ops (run_ops a) q))
 
 at-one : (x : RunOf) (q : Dot) → at (run_ops (x ∷ [])) q ≡ at x.ops q
 at-one x q = at-append x.ops [] q ∙ or_none (at x.ops q)
@@ -64,11 +64,11 @@ at-below : (out : List RunOf) (s : Replica) (q : Dot) → AllByRecursion IsRun o
 at-below [] s q each below is = refl
 at-below (y ∷ out) s q each below is =
     at-append y.ops (run_ops out) q
-    ∙ ap (λ (x : Option Operation). or_else x (at (run_ops out) q)) (at-other y.ops y.replica q each.0.own (λ same. let lt = below.0 in absurd (omega arith)))
+    ∙ ap (λ (x : Option Op). or_else x (at (run_ops out) q)) (at-other y.ops y.replica q each.0.own (λ same. let lt = below.0 in absurd (omega arith)))
     ∙ at-below out s q each.1 below.1 is
 
 -- what a run has stands under a dot of its replica
-pub own_dot : (ops : List Operation) (s : Replica) (q : Dot) (o : Operation) → AllByRecursion (λ (p : Operation). p.stamp.replica ≡ s) ops → at ops q ≡ Some o → q.replica.0 ≡ s.0
+pub own_dot : (ops : List Op) (s : Replica) (q : Dot) (o : Op) → AllByRecursion (λ (p : Op). p.stamp.replica ≡ s) ops → at ops q ≡ Some o → q.replica.0 ≡ s.0
 own_dot ops s q o own e = elim (cases_lt q.replica.0 s.0) [
   | inl lt ↦ absurd (none-some o (sym (at-other ops s q own (λ same. absurd (omega arith))) ∙ e))
   | inr ge ↦ elim (cases_lt s.0 q.replica.0) [
@@ -79,30 +79,30 @@ own_dot ops s q o own e = elim (cases_lt q.replica.0 s.0) [
 
 -- ---- one step at one dot
 
-nothing : (x y : Option Operation) → or_else x y ≡ None → (x ≡ None) × (y ≡ None)
+nothing : (x y : Option Op) → or_else x y ≡ None → (x ≡ None) × (y ≡ None)
 nothing None y e = (refl, e)
 nothing (Some o) y e = absurd (none-some o (sym e))
 
-swap_left : (lt rt x : Option Operation) → ((o : Operation) → x ≡ Some o → (lt ≡ None) × (rt ≡ None)) → or_else (or_else lt rt) x ≡ or_else (or_else lt x) rt
-swap_left lt rt None h = or_none (or_else lt rt) ∙ ap (λ (y : Option Operation). or_else y rt) (sym (or_none lt))
+swap_left : (lt rt x : Option Op) → ((o : Op) → x ≡ Some o → (lt ≡ None) × (rt ≡ None)) → or_else (or_else lt rt) x ≡ or_else (or_else lt x) rt
+swap_left lt rt None h = or_none (or_else lt rt) ∙ ap (λ (y : Option Op). or_else y rt) (sym (or_none lt))
 swap_left lt rt (Some o) h = let none = h o refl in rw (none.0, none.1) refl
 
-swap_both : (lt rt x y : Option Operation) → ((o : Operation) → x ≡ Some o → (lt ≡ None) × (rt ≡ None)) → ((o : Operation) → y ≡ Some o → (lt ≡ None) × (rt ≡ None)) → or_else (or_else lt rt) (or_else x y) ≡ or_else (or_else lt x) (or_else rt y)
-swap_both lt rt None None h k = or_none (or_else lt rt) ∙ ap (λ (z : Option Operation). or_else z rt) (sym (or_none lt)) ∙ ap (or_else (or_else lt None)) (sym (or_none rt))
+swap_both : (lt rt x y : Option Op) → ((o : Op) → x ≡ Some o → (lt ≡ None) × (rt ≡ None)) → ((o : Op) → y ≡ Some o → (lt ≡ None) × (rt ≡ None)) → or_else (or_else lt rt) (or_else x y) ≡ or_else (or_else lt x) (or_else rt y)
+swap_both lt rt None None h k = or_none (or_else lt rt) ∙ ap (λ (z : Option Op). or_else z rt) (sym (or_none lt)) ∙ ap (or_else (or_else lt None)) (sym (or_none rt))
 swap_both lt rt (Some o) y h k = let none = h o refl in rw (none.0, none.1) refl
 swap_both lt rt None (Some o) h k = let none = k o refl in rw (none.0, none.1) refl
 
 -- what both have after a step is one operation
-agree_left : (lt rt x : Option Operation) (o p : Operation) → ((o p : Operation) → lt ≡ Some o → rt ≡ Some p → o ≡ p) → ((o : Operation) → x ≡ Some o → (lt ≡ None) × (rt ≡ None)) → or_else lt x ≡ Some o → rt ≡ Some p → o ≡ p
+agree_left : (lt rt x : Option Op) (o p : Op) → ((o p : Op) → lt ≡ Some o → rt ≡ Some p → o ≡ p) → ((o : Op) → x ≡ Some o → (lt ≡ None) × (rt ≡ None)) → or_else lt x ≡ Some o → rt ≡ Some p → o ≡ p
 agree_left (Some a) rt x o p agree h e f = agree o p e f
 agree_left None rt x o p agree h e f = let none = h o e in absurd (none-some p (sym none.1 ∙ f))
 
-agree_right : (lt rt y : Option Operation) (o p : Operation) → ((o p : Operation) → lt ≡ Some o → rt ≡ Some p → o ≡ p) → ((o : Operation) → y ≡ Some o → (lt ≡ None) × (rt ≡ None)) → lt ≡ Some o → or_else rt y ≡ Some p → o ≡ p
+agree_right : (lt rt y : Option Op) (o p : Op) → ((o p : Op) → lt ≡ Some o → rt ≡ Some p → o ≡ p) → ((o : Op) → y ≡ Some o → (lt ≡ None) × (rt ≡ None)) → lt ≡ Some o → or_else rt y ≡ Some p → o ≡ p
 agree_right lt (Some a) y o p agree h e f = agree o p e f
 agree_right lt None y o p agree h e f = let none = h p f in absurd (none-some o (sym none.0 ∙ e))
 
-agree_both : (lt rt x y : Option Operation) (o p : Operation) → ((o p : Operation) → lt ≡ Some o → rt ≡ Some p → o ≡ p) → ((o p : Operation) → x ≡ Some o → y ≡ Some p → o ≡ p)
-    → ((o : Operation) → x ≡ Some o → (lt ≡ None) × (rt ≡ None)) → ((o : Operation) → y ≡ Some o → (lt ≡ None) × (rt ≡ None)) → or_else lt x ≡ Some o → or_else rt y ≡ Some p → o ≡ p
+agree_both : (lt rt x y : Option Op) (o p : Op) → ((o p : Op) → lt ≡ Some o → rt ≡ Some p → o ≡ p) → ((o p : Op) → x ≡ Some o → y ≡ Some p → o ≡ p)
+    → ((o : Op) → x ≡ Some o → (lt ≡ None) × (rt ≡ None)) → ((o : Op) → y ≡ Some o → (lt ≡ None) × (rt ≡ None)) → or_else lt x ≡ Some o → or_else rt y ≡ Some p → o ≡ p
 agree_both (Some a) (Some b) x y o p agree both h k e f = agree o p e f
 agree_both (Some a) None x y o p agree both h k e f = let none = k p f in absurd (none-some a (sym none.0))
 agree_both None (Some b) x y o p agree both h k e f = let none = h o e in absurd (none-some b (sym none.1))
@@ -121,7 +121,7 @@ pub record IsJoining (left right from_left from_right out : List RunOf) : Type 0
   pub below_left : (r : RunOf) → slice_get from_left 0 ≡ Some r → AreBelow out r.replica
   pub below_right : (r : RunOf) → slice_get from_right 0 ≡ Some r → AreBelow out r.replica
   pub has : (q : Dot) → at (run_ops out) q ≡ or_else (at (run_ops lt) q) (at (run_ops rt) q)
-  pub agree : (q : Dot) (o p : Operation) → at (run_ops lt) q ≡ Some o → at (run_ops rt) q ≡ Some p → o ≡ p
+  pub agree : (q : Dot) (o p : Op) → at (run_ops lt) q ≡ Some o → at (run_ops rt) q ≡ Some p → o ≡ p
 
 pub joining_start : (left right : List RunOf) → AreRuns left → AreRuns right → IsJoining left right left right []
 joining_start left right left_runs right_runs = record {
@@ -166,7 +166,7 @@ none_joined left right from_left from_right out h x q e is = nothing _ _ (sym (h
 
 module _ (left right from_left from_right out : List RunOf) (h : IsJoining left right from_left from_right out) where
   -- nothing of what is joined stands under a dot of the next run
-  fresh : (x : RunOf) → AreBelow out x.replica → IsRun x → (q : Dot) (o : Operation) → at x.ops q ≡ Some o → (at (run_ops h.lt) q ≡ None) × (at (run_ops h.rt) q ≡ None)
+  fresh : (x : RunOf) → AreBelow out x.replica → IsRun x → (q : Dot) (o : Op) → at x.ops q ≡ Some o → (at (run_ops h.lt) q ≡ None) × (at (run_ops h.rt) q ≡ None)
   fresh x below run q o e = nothing _ _ (sym (h.has q) ∙ at-below out x.replica q h.runs.each below (own_dot x.ops x.replica q o run.own e))
 
   pub join_left : (comes : RunComes (slice_get from_left 0) (slice_get from_right 0) next.Left) → (rest after : List RunOf) → rest ≡ drop 1 from_left → ((r : RunOf) → slice_get from_left 0 ≡ Some r → after ≡ out ++ (r ∷ [])) → IsJoining left right rest from_right after
@@ -187,9 +187,9 @@ module _ (left right from_left from_right out : List RunOf) (h : IsJoining left 
         below_right = λ y e. below_more out x y below (comes.1.1 y e);
         has = λ q.
             at-more out x q
-            ∙ ap (λ (z : Option Operation). or_else z (at x.ops q)) (h.has q)
+            ∙ ap (λ (z : Option Op). or_else z (at x.ops q)) (h.has q)
             ∙ swap_left (at (run_ops h.lt) q) (at (run_ops h.rt) q) (at x.ops q) (fresh x below own.each.0 q)
-            ∙ ap (λ (z : Option Operation). or_else z (at (run_ops h.rt) q)) (sym (at-more h.lt x q));
+            ∙ ap (λ (z : Option Op). or_else z (at (run_ops h.rt) q)) (sym (at-more h.lt x q));
         agree = λ q o p e f. agree_left (at (run_ops h.lt) q) (at (run_ops h.rt) q) (at x.ops q) o p (h.agree q) (fresh x below own.each.0 q) (sym (at-more h.lt x q) ∙ e) f;
       })
 
@@ -211,7 +211,7 @@ module _ (left right from_left from_right out : List RunOf) (h : IsJoining left 
         below_right = λ y e. below_more out x y below (next_above rest x.replica y own.rise.0 e);
         has = λ q.
             at-more out x q
-            ∙ ap (λ (z : Option Operation). or_else z (at x.ops q)) (h.has q)
+            ∙ ap (λ (z : Option Op). or_else z (at x.ops q)) (h.has q)
             ∙ grouped (at (run_ops h.lt) q) (at (run_ops h.rt) q) (at x.ops q)
             ∙ ap (or_else (at (run_ops h.lt) q)) (sym (at-more h.rt x q));
         agree = λ q o p e f. agree_right (at (run_ops h.lt) q) (at (run_ops h.rt) q) (at x.ops q) o p (h.agree q) (fresh x below own.each.0 q) e (sym (at-more h.rt x q) ∙ f);
@@ -223,7 +223,7 @@ module _ (left right from_left from_right out : List RunOf) (h : IsJoining left 
       sym (get-log_of t.ops q j.run.logged.rise)
       ∙ ap (λ (m : LogMap). fin.get m q) j.is
       ∙ get-union (log_of r.ops) (log_of s.ops) q
-      ∙ ap (λ (x : Option Operation). or_else x (fin.get (log_of s.ops) q)) (get-log_of r.ops q run_r.logged.rise)
+      ∙ ap (λ (x : Option Op). or_else x (fin.get (log_of s.ops) q)) (get-log_of r.ops q run_r.logged.rise)
       ∙ ap (or_else (at r.ops q)) (get-log_of s.ops q run_s.logged.rise)
 
   pub join_both : (comes : RunComes (slice_get from_left 0) (slice_get from_right 0) next.Both) → (rest_left rest_right after : List RunOf) → rest_left ≡ drop 1 from_left → rest_right ≡ drop 1 from_right
@@ -251,10 +251,10 @@ module _ (left right from_left from_right out : List RunOf) (h : IsJoining left 
         below_right = λ z e. below_more out t z below_t (subst (λ (s : Replica). s.0 < z.replica.0) (sym facts.2 ∙ sym j.replica) (next_above rest_right y.replica z own_right.rise.0 e));
         has = λ q.
             at-more out t q
-            ∙ ap (λ (z : Option Operation). or_else z (at t.ops q)) (h.has q)
+            ∙ ap (λ (z : Option Op). or_else z (at t.ops q)) (h.has q)
             ∙ ap (or_else (or_else (at (run_ops h.lt) q) (at (run_ops h.rt) q))) (joined_at x y t own_left.each.0 own_right.each.0 j q)
             ∙ swap_both (at (run_ops h.lt) q) (at (run_ops h.rt) q) (at x.ops q) (at y.ops q) (fresh x below_x own_left.each.0 q) (fresh y below_y own_right.each.0 q)
-            ∙ ap (λ (z : Option Operation). or_else z (or_else (at (run_ops h.rt) q) (at y.ops q))) (sym (at-more h.lt x q))
+            ∙ ap (λ (z : Option Op). or_else z (or_else (at (run_ops h.rt) q) (at y.ops q))) (sym (at-more h.lt x q))
             ∙ ap (or_else (at (run_ops (h.lt ++ (x ∷ []))) q)) (sym (at-more h.rt y q));
         agree = λ q o p e f. agree_both (at (run_ops h.lt) q) (at (run_ops h.rt) q) (at x.ops q) (at y.ops q) o p (h.agree q)
             (λ o p e f. j.agree q o p (get-log_of x.ops q own_left.each.0.logged.rise ∙ e) (get-log_of y.ops q own_right.each.0.logged.rise ∙ f))
@@ -271,7 +271,7 @@ module _ (left right from_left from_right out : List RunOf) (h : IsJoining left 
     same_log _ _ (λ q.
         get-runs out q h.runs
         ∙ h.has q
-        ∙ ap (λ (z : Option Operation). or_else z (at (run_ops h.rt) q)) (sym (all_taken left h.lt from_left h.in_left comes.0 q) ∙ sym (get-runs left q left_runs))
+        ∙ ap (λ (z : Option Op). or_else z (at (run_ops h.rt) q)) (sym (all_taken left h.lt from_left h.in_left comes.0 q) ∙ sym (get-runs left q left_runs))
         ∙ ap (or_else (fin.get (log_of (run_ops left)) q)) (sym (all_taken right h.rt from_right h.in_right comes.1 q) ∙ sym (get-runs right q right_runs))
         ∙ sym (get-union (log_of (run_ops left)) (log_of (run_ops right)) q)),
   )

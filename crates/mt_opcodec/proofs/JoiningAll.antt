@@ -5,10 +5,10 @@ use Rattle.std.specs.List.{AllByRecursion}
 use Rattle.std.specs.FinMap as fin
 use Rattle.mt_stamp.specs.declared.name.Dot.{Dot}
 use Rattle.mt_opcodec.specs.LogValue.{LogMap}
-use Rattle.mt_opcodec.specs.Union.{Agree, union, union_from, union_all, AgreeFrom, AllAgree, FirstClashFrom, FirstClash}
+use Rattle.mt_opcodec.specs.Union.{Agree, union, union_from, union_all, AgreeFrom, AllAgree, FirstConflictFrom, FirstConflict}
 use Rattle.std.proofs.lemmas.Option.{none-some}
-use Rattle.mt_stamp.specs.Moment.{dot_cmp}
-use Rattle.mt_op.specs.Operation.{Operation}
+use Rattle.mt_stamp.specs.StampOrder.{dot_cmp}
+use Rattle.mt_op.specs.OpValue.{Op}
 use Rattle.mt_opcodec.proofs.Union.{get-union, same_log, union_is_union}
 use Rattle.mt_opcodec.proofs.Agreements.{flip, of_both}
 
@@ -18,29 +18,29 @@ use Rattle.mt_opcodec.proofs.Agreements.{flip, of_both}
 pub record HasJoined (all : LogMap) (rest logs : List LogMap) : Type 0 where
   pub agree : AgreeFrom all rest → AllAgree logs
   pub is : union_from all rest ≡ union_all logs
-  pub clash : (dot : Dot) → FirstClashFrom all rest dot → FirstClash logs dot
+  pub conflict : (dot : Dot) → FirstConflictFrom all rest dot → FirstConflict logs dot
 
 pub none_joined : (logs : List LogMap) → HasJoined fin.empty logs logs
-none_joined logs = record { agree = λ a. a; is = refl; clash = λ dot h. h }
+none_joined logs = record { agree = λ a. a; is = refl; conflict = λ dot h. h }
 
 pub one_joined : (all log after : LogMap) (rest logs : List LogMap) → Agree all log → after ≡ union all log → HasJoined all (log ∷ rest) logs → HasJoined after rest logs
 one_joined all log after rest logs agrees is h = record {
   agree = λ a. h.agree (agrees, subst (λ (m : LogMap). AgreeFrom m rest) is a);
   is = ap (λ (m : LogMap). union_from m rest) is ∙ h.is;
-  clash = λ dot c. h.clash dot (inr (agrees, subst (λ (m : LogMap). FirstClashFrom m rest dot) is c));
+  conflict = λ dot c. h.conflict dot (inr (agrees, subst (λ (m : LogMap). FirstConflictFrom m rest dot) is c));
 }
 
 -- ---- some of them first
 
 pub none_first : (a : LogMap) → union fin.empty a ≡ a
-none_first a = same_log (union fin.empty a) a (λ dot. get-union fin.empty a dot ∙ ap (λ (x : Option Operation). cond (is_some x) x (fin.get a dot)) (fin.get-empty dot_cmp dot))
+none_first a = same_log (union fin.empty a) a (λ dot. get-union fin.empty a dot ∙ ap (λ (x : Option Op). cond (is_some x) x (fin.get a dot)) (fin.get-empty dot_cmp dot))
 
-or_none : (x : Option Operation) → cond (is_some x) x None ≡ x
+or_none : (x : Option Op) → cond (is_some x) x None ≡ x
 or_none None = refl
 or_none (Some o) = refl
 
 none_last : (a : LogMap) → union a fin.empty ≡ a
-none_last a = same_log (union a fin.empty) a (λ dot. get-union a fin.empty dot ∙ ap (λ (x : Option Operation). cond (is_some (fin.get a dot)) (fin.get a dot) x) (fin.get-empty dot_cmp dot) ∙ or_none (fin.get a dot))
+none_last a = same_log (union a fin.empty) a (λ dot. get-union a fin.empty dot ∙ ap (λ (x : Option Op). cond (is_some (fin.get a dot)) (fin.get a dot) x) (fin.get-empty dot_cmp dot) ∙ or_none (fin.get a dot))
 
 joined_from : (a : LogMap) (logs : List LogMap) → union_from a logs ≡ union a (union_all logs)
 joined_from a [] = sym (none_last a)

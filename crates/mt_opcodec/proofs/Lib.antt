@@ -30,7 +30,7 @@ pub mod MovedOps
 pub mod Appending
 pub mod JoinedRuns
 pub mod JoinedRun
-pub mod JoinedClash
+pub mod JoinedConflict
 pub mod RunLists
 pub mod Others
 pub mod RunLogs

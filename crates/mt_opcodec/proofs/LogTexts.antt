@@ -12,12 +12,12 @@ use Rattle.std.proofs.lemmas.List.{take_at, drop_at, take-append-drop, length-ap
 use Rattle.sha2.specs.Sha256.{sha256}
 use Rattle.sha2.proofs.Facts256.{length-sha256}
 use Rattle.mt_stamp.specs.declared.name.Dot.{Dot}
-use Rattle.mt_stamp.specs.Moment.{dot_cmp}
+use Rattle.mt_stamp.specs.StampOrder.{dot_cmp}
 use Rattle.mt_stamp.proofs.Order.{dot_cmp_total}
 use Rattle.mt_op.specs.Rising.{is_after}
-use Rattle.mt_op.specs.Operation.{Operation}
+use Rattle.mt_op.specs.OpValue.{Op}
 use Rattle.mt_op.specs.Dots.{op_dot, entry_of, dots_rise}
-use Rattle.mt_op.specs.Valid.{IsOperation}
+use Rattle.mt_op.specs.Valid.{IsOp}
 use Rattle.mt_op.proofs.Needs.{and_first, and_second}
 use Rattle.mt_op.proofs.Equal.{bytes_same, bytes_itself}
 use Rattle.mt_opcodec.specs.declared.fault.ReadFault.{ReadFault}
@@ -26,7 +26,7 @@ use Rattle.mt_opcodec.specs.declared.fault.LogFault.TheVariants.{BadMagic, BadVe
 use Rattle.mt_opcodec.specs.OpText.{op_text}
 use Rattle.mt_opcodec.specs.OpReading.{op_at}
 use Rattle.mt_opcodec.specs.Versions.{newest_version, is_version, version_of}
-use Rattle.mt_opcodec.specs.LogText.{magic, log_head, log_body, log_text}
+use Rattle.mt_opcodec.specs.LogText.{magic, log_head, log_body, log_bytes}
 use Rattle.mt_opcodec.specs.LogReading.{◌>>=◌, record_of, records_at, in_version, log_records_at, head_len, digest_len, version_byte, body_of, is_sealed, sealed_at, counted_at, log_at, LogGives}
 use Rattle.mt_opcodec.specs.LogValue.{AreLogged}
 use Rattle.mt_opcodec.proofs.Fields.{IsBytes, IsBytes-take, IsBytes-drop, wide64}
@@ -42,7 +42,7 @@ bind_ok (Err d) f y e = absurd cc
 
 -- ---- each dot after the one before
 
-abbrev pub Chain : Option Dot → List Operation → Type 0
+abbrev pub Chain : Option Dot → List Op → Type 0
 Chain last [] = Unit {0}
 Chain last (o ∷ ops) = IsTrue (is_after dot_cmp last (op_dot o)) × Chain (Some (op_dot o)) ops
 
@@ -52,56 +52,56 @@ less Equal e = absurd cc
 less Greater e = absurd cc
 
 -- what is below a dot is below all above it
-below_rest : (dot next : Dot) (rest : List Operation) → dot_cmp dot next ≡ Less → below_all dot_cmp next (map entry_of rest) ≡ true → below_all dot_cmp dot (map entry_of rest) ≡ true
+below_rest : (dot next : Dot) (rest : List Op) → dot_cmp dot next ≡ Less → below_all dot_cmp next (map entry_of rest) ≡ true → below_all dot_cmp dot (map entry_of rest) ≡ true
 below_rest dot next [] lt b = refl
 below_rest dot next (p ∷ rest) lt b =
     let here : dot_cmp dot (op_dot p) ≡ Less = dot_cmp_total.trans dot next (op_dot p) lt (less (dot_cmp next (op_dot p)) (and_first _ _ b)) in
     let others : below_all dot_cmp dot (map entry_of rest) ≡ true = below_rest dot next rest lt (and_second _ _ b) in
     rw (here, others) refl
 
-chain_above : (dot : Dot) (ops : List Operation) → Chain (Some dot) ops → below_all dot_cmp dot (map entry_of ops) ≡ true
+chain_above : (dot : Dot) (ops : List Op) → Chain (Some dot) ops → below_all dot_cmp dot (map entry_of ops) ≡ true
 chain_above dot [] h = refl
 chain_above dot (o ∷ ops) h =
     let here : dot_cmp dot (op_dot o) ≡ Less = less (dot_cmp dot (op_dot o)) h.0 in
     let others : below_all dot_cmp dot (map entry_of ops) ≡ true = below_rest dot (op_dot o) ops here (chain_above (op_dot o) ops h.1) in
     rw (here, others) refl
 
-pub chain_rises : (last : Option Dot) (ops : List Operation) → Chain last ops → IsTrue (dots_rise ops)
+pub chain_rises : (last : Option Dot) (ops : List Op) → Chain last ops → IsTrue (dots_rise ops)
 chain_rises last [] h = refl
 chain_rises last (o ∷ ops) h =
     let first : below_all dot_cmp (op_dot o) (map entry_of ops) ≡ true = chain_above (op_dot o) ops h.1 in
     let others : dots_rise ops ≡ true = chain_rises (Some (op_dot o)) ops h.1 in
     rw (first, others) refl
 
-pub rises_chain : (last : Option Dot) (ops : List Operation) → IsTrue (dots_rise ops) → ((o : Operation) (rest : List Operation) → ops ≡ o ∷ rest → IsTrue (is_after dot_cmp last (op_dot o))) → Chain last ops
+pub rises_chain : (last : Option Dot) (ops : List Op) → IsTrue (dots_rise ops) → ((o : Op) (rest : List Op) → ops ≡ o ∷ rest → IsTrue (is_after dot_cmp last (op_dot o))) → Chain last ops
 rises_chain last [] rise first = tt
 rises_chain last (o ∷ ops) rise first = (first o ops refl, rises_chain (Some (op_dot o)) ops (and_second _ _ rise) (next ops (and_first _ _ rise)))
   where
-    next : (ops : List Operation) → below_all dot_cmp (op_dot o) (map entry_of ops) ≡ true → (p : Operation) (rest : List Operation) → ops ≡ p ∷ rest → IsTrue (is_after dot_cmp (Some (op_dot o)) (op_dot p))
-    next ops b p rest is = and_first _ _ (subst (λ (l : List Operation). below_all dot_cmp (op_dot o) (map entry_of l) ≡ true) is b)
+    next : (ops : List Op) → below_all dot_cmp (op_dot o) (map entry_of ops) ≡ true → (p : Op) (rest : List Op) → ops ≡ p ∷ rest → IsTrue (is_after dot_cmp (Some (op_dot o)) (op_dot p))
+    next ops b p rest is = and_first _ _ (subst (λ (l : List Op). below_all dot_cmp (op_dot o) (map entry_of l) ≡ true) is b)
 
 -- ---- records
 
-pub record_ok : (index : ℕ) (last : Option Dot) (r : Result (Operation × List ℕ) ReadFault) (x : Operation × List ℕ) → record_of index last r ≡ Ok x → (r ≡ Ok x) × IsTrue (is_after dot_cmp last (op_dot x.0))
+pub record_ok : (index : ℕ) (last : Option Dot) (r : Result (Op × List ℕ) ReadFault) (x : Op × List ℕ) → record_of index last r ≡ Ok x → (r ≡ Ok x) × IsTrue (is_after dot_cmp last (op_dot x.0))
 record_ok index last (Ok y) x e = step (is_after dot_cmp last (op_dot y.0)) refl
   where
-    step : (b : Bool) → is_after dot_cmp last (op_dot y.0) ≡ b → ◌≡◌ {A = Result (Operation × List ℕ) ReadFault} (Ok y) (Ok x) × IsTrue (is_after dot_cmp last (op_dot x.0))
+    step : (b : Bool) → is_after dot_cmp last (op_dot y.0) ≡ b → ◌≡◌ {A = Result (Op × List ℕ) ReadFault} (Ok y) (Ok x) × IsTrue (is_after dot_cmp last (op_dot x.0))
     step true is =
-        let same : ◌≡◌ {A = Result (Operation × List ℕ) LogFault} (Ok y) (Ok x) = rw is at e in
+        let same : ◌≡◌ {A = Result (Op × List ℕ) LogFault} (Ok y) (Ok x) = rw is at e in
         let is_x : y ≡ x = cc in
-        (ap (λ (z : Operation × List ℕ). Ok z) is_x, subst (λ (z : Operation × List ℕ). IsTrue (is_after dot_cmp last (op_dot z.0))) is_x is)
-    step false is = let wrong : ◌≡◌ {A = Result (Operation × List ℕ) LogFault} (Err (OutOfOrder index)) (Ok x) = rw is at e in absurd cc
+        (ap (λ (z : Op × List ℕ). Ok z) is_x, subst (λ (z : Op × List ℕ). IsTrue (is_after dot_cmp last (op_dot z.0))) is_x is)
+    step false is = let wrong : ◌≡◌ {A = Result (Op × List ℕ) LogFault} (Err (OutOfOrder index)) (Ok x) = rw is at e in absurd cc
 record_ok index last (Err cause) x e = absurd cc
 
 -- what a list of records is
-pub record AreRead (version : ℕ) (last : Option Dot) (count : ℕ) (bytes : List ℕ) (ops : List Operation) : Type 0 where
+pub record AreRead (version : ℕ) (last : Option Dot) (count : ℕ) (bytes : List ℕ) (ops : List Op) : Type 0 where
   pub text : bytes ≡ flat_map op_text ops
   pub counted : length ops ≡ count
   pub chain : Chain last ops
-  pub valid : AllByRecursion IsOperation ops
+  pub valid : AllByRecursion IsOp ops
   pub asks : AskAtMost version ops
 
-pub records_take : (version count index : ℕ) (last : Option Dot) (bytes : List ℕ) (ops : List Operation) → IsBytes bytes → records_at version count index last bytes ≡ Ok ops → AreRead version last count bytes ops
+pub records_take : (version count index : ℕ) (last : Option Dot) (bytes : List ℕ) (ops : List Op) → IsBytes bytes → records_at version count index last bytes ≡ Ok ops → AreRead version last count bytes ops
 unfolding records_at
 records_take version zero index last [] ops fits e =
     let is : [] ≡ ops = cc in
@@ -113,7 +113,7 @@ records_take version (suc count) index last bytes ops fits e =
     let first = record_ok index last (op_at version bytes) a.0 a.1 in
     let taken = op_takes version bytes a.0 fits first.0 in
     let rest = records_take version count (index + 1) (Some (op_dot a.0.0)) a.0.1 b.0 taken.0.rest_fits b.1 in
-    let made : ◌≡◌ {A = Result (List Operation) LogFault} (Ok (a.0.0 ∷ b.0)) (Ok ops) = b.2 in
+    let made : ◌≡◌ {A = Result (List Op) LogFault} (Ok (a.0.0 ∷ b.0)) (Ok ops) = b.2 in
     let is : a.0.0 ∷ b.0 ≡ ops = cc in
     subst (AreRead version last (suc count) bytes) is (record {
       text = taken.0.parts ∙ ap (λ (l : List ℕ). op_text a.0.0 ++ l) rest.text;
@@ -123,17 +123,17 @@ records_take version (suc count) index last bytes ops fits e =
       asks = (taken.2, rest.asks);
     })
 
-pub records_again : (version : ℕ) (ops : List Operation) (index : ℕ) (last : Option Dot) → AllByRecursion IsOperation ops → AskAtMost version ops → Chain last ops → records_at version (length ops) index last (flat_map op_text ops) ≡ Ok ops
+pub records_again : (version : ℕ) (ops : List Op) (index : ℕ) (last : Option Dot) → AllByRecursion IsOp ops → AskAtMost version ops → Chain last ops → records_at version (length ops) index last (flat_map op_text ops) ≡ Ok ops
 unfolding records_at
 records_again version [] index last valid asks chain = refl
 records_again version (o ∷ ops) index last valid asks chain =
     let first : record_of index last (op_at version (op_text o ++ flat_map op_text ops)) ≡ Ok (o, flat_map op_text ops) = ap (record_of index last) (op_again version o (flat_map op_text ops) valid.0 asks.0) ∙ rw chain.0 refl in
     let rest = records_again version ops (index + 1) (Some (op_dot o)) valid.1 asks.1 chain.1 in
-    ap (λ (r : Result (Operation × List ℕ) LogFault). r >>= λ first. records_at version (length ops) (index + 1) (Some (op_dot first.0)) first.1 >>= λ others. Ok (first.0 ∷ others)) first
-    ∙ ap (λ (r : Result (List Operation) LogFault). r >>= λ others. Ok (o ∷ others)) rest
+    ap (λ (r : Result (Op × List ℕ) LogFault). r >>= λ first. records_at version (length ops) (index + 1) (Some (op_dot first.0)) first.1 >>= λ others. Ok (first.0 ∷ others)) first
+    ∙ ap (λ (r : Result (List Op) LogFault). r >>= λ others. Ok (o ∷ others)) rest
 
 -- the same in the newest version, which has all kinds
-pub any_records_again : (ops : List Operation) (index : ℕ) (last : Option Dot) → AllByRecursion IsOperation ops → Chain last ops → records_at newest_version (length ops) index last (flat_map op_text ops) ≡ Ok ops
+pub any_records_again : (ops : List Op) (index : ℕ) (last : Option Dot) → AllByRecursion IsOp ops → Chain last ops → records_at newest_version (length ops) index last (flat_map op_text ops) ≡ Ok ops
 any_records_again ops index last valid chain = records_again newest_version ops index last valid (all_newest ops) chain
 
 -- ---- the frame
@@ -179,38 +179,38 @@ sealed_takes bytes body e =
       front = refl;
     })
 
-sealed_again : (ops : List Operation) → sealed_at (log_text ops) ≡ Ok (log_body ops)
+sealed_again : (ops : List Op) → sealed_at (log_bytes ops) ≡ Ok (log_body ops)
 unfolding sealed_at
 sealed_again ops =
     let body = log_body ops in
     let digest-len : length (sha256 body) ≡ 32 = length-sha256 body in
-    let all : length (log_text ops) ≡ length body + 32 = length-append body (sha256 body) ∙ ap (λ (k : ℕ). length body + k) digest-len in
+    let all : length (log_bytes ops) ≡ length body + 32 = length-append body (sha256 body) ∙ ap (λ (k : ℕ). length body + k) digest-len in
     let body-len : 13 ≤ length body = omega arith in
-    let long : ltb (length (log_text ops)) (head_len + digest_len) ≡ false = le-ltb _ _ (omega arith) in
-    let front : take (length (log_text ops) - digest_len) (log_text ops) ≡ body = take_at body (sha256 body) (length (log_text ops) - digest_len) (omega arith) in
-    let back : drop (length (log_text ops) - digest_len) (log_text ops) ≡ sha256 body = drop_at body (sha256 body) (length (log_text ops) - digest_len) (omega arith) in
-    let same : is_sealed (log_text ops) ≡ true = rw (front, back) (bytes_itself (sha256 body)) in
+    let long : ltb (length (log_bytes ops)) (head_len + digest_len) ≡ false = le-ltb _ _ (omega arith) in
+    let front : take (length (log_bytes ops) - digest_len) (log_bytes ops) ≡ body = take_at body (sha256 body) (length (log_bytes ops) - digest_len) (omega arith) in
+    let back : drop (length (log_bytes ops) - digest_len) (log_bytes ops) ≡ sha256 body = drop_at body (sha256 body) (length (log_bytes ops) - digest_len) (omega arith) in
+    let same : is_sealed (log_bytes ops) ≡ true = rw (front, back) (bytes_itself (sha256 body)) in
     let version : is_version (version_of ops) ≡ true = rw (le-leb 1 (version_of ops) (version_from ops), le-leb (version_of ops) newest_version (version_to newest_version ops (omega arith) (all_newest ops))) refl in
     rw (version, long, same, front) refl
 
 -- ---- logs
 
-ok_same : (x y : List Operation) → done x ≡ done y → x ≡ y
+ok_same : (x y : List Op) → done x ≡ done y → x ≡ y
 ok_same x y e = cc
 
-in_version_is : (version : ℕ) (front ops : List Operation) → in_version version front ≡ Ok ops → (version ≤ version_of front) × (front ≡ ops)
+in_version_is : (version : ℕ) (front ops : List Op) → in_version version front ≡ Ok ops → (version ≤ version_of front) × (front ≡ ops)
 in_version_is version front ops e = let g = refuses_true (ltb (version_of front) version) VersionTooHigh (done front) ops e in (ltb-false _ _ g.0, ok_same front ops g.1)
 
 -- operations that are read in a version ask for it
-in_version_takes : (version count : ℕ) (bytes : List ℕ) (ops : List Operation) → is_version version ≡ true → IsBytes bytes → log_records_at version count bytes ≡ Ok ops → AreRead version None count bytes ops × (version_of ops ≡ version)
+in_version_takes : (version count : ℕ) (bytes : List ℕ) (ops : List Op) → is_version version ≡ true → IsBytes bytes → log_records_at version count bytes ≡ Ok ops → AreRead version None count bytes ops × (version_of ops ≡ version)
 in_version_takes version count bytes ops is fits e =
     let a = bind_ok (records_at version count 0 None bytes) (in_version version) ops e in
     let read = records_take version count 0 None bytes a.0 fits a.1 in
     let asked = in_version_is version a.0 ops a.2 in
     let most = version_to version a.0 (leb-true 1 version (and_first _ _ is)) read.asks in
-    subst (λ (l : List Operation). AreRead version None count bytes l × (version_of l ≡ version)) asked.1 (read, omega (arith, asked.0))
+    subst (λ (l : List Op). AreRead version None count bytes l × (version_of l ≡ version)) asked.1 (read, omega (arith, asked.0))
 
-counted_takes : (bytes body : List ℕ) (ops : List Operation) → IsBytes body → IsFramed bytes body → counted_at body ≡ Ok ops → AreLogged ops × (body ≡ log_body ops)
+counted_takes : (bytes body : List ℕ) (ops : List Op) → IsBytes body → IsFramed bytes body → counted_at body ≡ Ok ops → AreLogged ops × (body ≡ log_body ops)
 unfolding counted_at
 counted_takes bytes body ops fits framed e =
     let word = take 8 (drop 5 body) in
@@ -227,19 +227,19 @@ counted_takes bytes body ops fits framed e =
       parts ∙ ap (λ (l : List ℕ). l ++ rest) (sym head) ∙ ap (λ (l : List ℕ). log_head (version_of ops) (length ops) ++ l) read.text,
     )
 
-in_version_again : (ops : List Operation) → in_version (version_of ops) ops ≡ Ok ops
+in_version_again : (ops : List Op) → in_version (version_of ops) ops ≡ Ok ops
 in_version_again ops = rw (le-ltb (version_of ops) (version_of ops) (omega arith)) refl
 
-counted_again : (ops : List Operation) → AreLogged ops → length ops < 2 ^ 64 → counted_at (log_body ops) ≡ Ok ops
+counted_again : (ops : List Op) → AreLogged ops → length ops < 2 ^ 64 → counted_at (log_body ops) ≡ Ok ops
 unfolding counted_at
 counted_again ops logged short =
     let count : from_be_bytes w64 (to_be_bytes w64 (length ops)) ≡ length ops = wide64.again (length ops) short in
     ap (λ (n : ℕ). log_records_at (version_of ops) n (flat_map op_text ops)) count
-    ∙ ap (λ (r : Result (List Operation) LogFault). r >>= in_version (version_of ops)) (records_again (version_of ops) ops 0 None logged.valid (all_to (version_of ops) ops (omega arith)) (rises_chain None ops logged.rise (λ o rest e. refl)))
+    ∙ ap (λ (r : Result (List Op) LogFault). r >>= in_version (version_of ops)) (records_again (version_of ops) ops 0 None logged.valid (all_to (version_of ops) ops (omega arith)) (rises_chain None ops logged.rise (λ o rest e. refl)))
     ∙ in_version_again ops
 
 -- what is read is the log text of its operations
-pub log_takes : (bytes : List ℕ) (ops : List Operation) → IsBytes bytes → log_at bytes ≡ Ok ops → AreLogged ops × (bytes ≡ log_text ops)
+pub log_takes : (bytes : List ℕ) (ops : List Op) → IsBytes bytes → log_at bytes ≡ Ok ops → AreLogged ops × (bytes ≡ log_bytes ops)
 log_takes bytes ops fits e =
     let a = bind_ok (sealed_at bytes) counted_at ops e in
     let framed = sealed_takes bytes a.0 a.1 in
@@ -248,19 +248,19 @@ log_takes bytes ops fits e =
     (counted.0, framed.text ∙ ap (λ (b : List ℕ). b ++ sha256 b) counted.1)
 
 -- the log text of operations is read as them
-pub log_again : (ops : List Operation) → AreLogged ops → length ops < 2 ^ 64 → log_at (log_text ops) ≡ Ok ops
+pub log_again : (ops : List Op) → AreLogged ops → length ops < 2 ^ 64 → log_at (log_bytes ops) ≡ Ok ops
 log_again ops logged short = ap (λ (r : Result (List ℕ) LogFault). r >>= counted_at) (sealed_again ops) ∙ counted_again ops logged short
 
 -- a log's text determines its operations
-pub log_text-apart : (a b : List Operation) → AreLogged a → AreLogged b → length a < 2 ^ 64 → length b < 2 ^ 64 → log_text a ≡ log_text b → a ≡ b
-log_text-apart a b a-logged b-logged a-short b-short same =
+pub log_bytes-apart : (a b : List Op) → AreLogged a → AreLogged b → length a < 2 ^ 64 → length b < 2 ^ 64 → log_bytes a ≡ log_bytes b → a ≡ b
+log_bytes-apart a b a-logged b-logged a-short b-short same =
     let both : done a ≡ done b = sym (log_again a a-logged a-short) ∙ ap log_at same ∙ log_again b b-logged b-short in
     ok_same a b both
 
 -- the same, of what a function returned
-pub read_found : {X : Type 0} (view : X → List Operation) (bytes : List ℕ) → IsBytes bytes → (r : Result X LogFault) → LogGives view r (log_at bytes) → IfOk r (λ x. bytes ≡ log_text (view x))
+pub read_found : {X : Type 0} (view : X → List Op) (bytes : List ℕ) → IsBytes bytes → (r : Result X LogFault) → LogGives view r (log_at bytes) → IfOk r (λ x. bytes ≡ log_bytes (view x))
 read_found view bytes fits (Ok x) h = (log_takes bytes (view x) fits h).1
 read_found view bytes fits (Err e) h = tt
 
-pub read_only : {X : Type 0} (view : X → List Operation) (bytes : List ℕ) (r : Result X LogFault) → LogGives view r (log_at bytes) → (ops : List Operation) → AreLogged ops → length ops < 2 ^ 64 → bytes ≡ log_text ops → LogGives view r (done ops)
+pub read_only : {X : Type 0} (view : X → List Op) (bytes : List ℕ) (r : Result X LogFault) → LogGives view r (log_at bytes) → (ops : List Op) → AreLogged ops → length ops < 2 ^ 64 → bytes ≡ log_bytes ops → LogGives view r (done ops)
 read_only view bytes r h ops logged short text = subst (LogGives view r) (ap log_at text ∙ log_again ops logged short) h

@@ -2,8 +2,8 @@
 use Rattle.std.proofs.Common.{◌≡◌, ℕ, Bool, true, false, ltb, eqb, ◌&&◌, List, [], ◌∷◌, ◌++◌, Ok, ◌≤◌, refl, sym, subst, ◌∙◌}
 use Rattle.std.specs.List.{AllByRecursion}
 use Rattle.std.proofs.lemmas.Bool.{eqb-true, le-ltb}
-use Rattle.mt_stamp.specs.Moment.{Moment}
-use Rattle.mt_op.specs.Operation.{Act, AddTrack, MoveTrack, AddClip, MoveClip, TrimClip, SetGain, SetMute, Remove, Restore, AddMarker, MoveMarker, Retitle, SetFade, SetMarkerLength}
+use Rattle.mt_stamp.specs.StampOrder.{Stamp}
+use Rattle.mt_op.specs.OpValue.{Body, AddTrack, MoveTrack, AddClip, MoveClip, TrimClip, SetGain, SetMute, Remove, Restore, AddMarker, MoveMarker, Retitle, SetFade, SetMarkerLength}
 use Rattle.mt_op.specs.Valid.{AreFields, length_is_good, fades_are_good, tags_are_good}
 use Rattle.mt_op.proofs.Needs.{and_first, and_second}
 use Rattle.mt_opcodec.specs.OpText.{act_bytes}
@@ -21,10 +21,10 @@ use Rattle.mt_opcodec.proofs.Items.{remove_is_older, remove_takes, remove_again,
 use Rattle.mt_opcodec.proofs.Markers.{add_marker_takes, add_marker_again, move_marker_takes, move_marker_again, set_marker_length_takes, set_marker_length_again}
 
 -- what a reader of the table reads is spelled so
-abbrev ReadsWell : Moment → Reader → Type 0
-ReadsWell stamp reader = (bytes : List ℕ) (x : Act × List ℕ) → IsBytes bytes → reader.1 stamp.clock bytes ≡ Ok x → Found stamp reader.0 bytes x
+abbrev ReadsWell : Stamp → Reader → Type 0
+ReadsWell stamp reader = (bytes : List ℕ) (x : Body × List ℕ) → IsBytes bytes → reader.1 stamp.clock bytes ≡ Ok x → Found stamp reader.0 bytes x
 
-all_read_well : (stamp : Moment) → AllByRecursion (ReadsWell stamp) readers
+all_read_well : (stamp : Stamp) → AllByRecursion (ReadsWell stamp) readers
 all_read_well stamp = (
   add_track_takes stamp,
   (
@@ -69,7 +69,7 @@ all_read_well stamp = (
   ),
 )
 
-fields_take : (stamp : Moment) (table : List Reader) → AllByRecursion (ReadsWell stamp) table → (kind : ℕ) (bytes : List ℕ) (x : Act × List ℕ) → IsBytes bytes → fields_at table kind stamp.clock bytes ≡ Ok x → Found stamp kind bytes x
+fields_take : (stamp : Stamp) (table : List Reader) → AllByRecursion (ReadsWell stamp) table → (kind : ℕ) (bytes : List ℕ) (x : Body × List ℕ) → IsBytes bytes → fields_at table kind stamp.clock bytes ≡ Ok x → Found stamp kind bytes x
 fields_take stamp [] well kind bytes x fits e = absurd cc
 fields_take stamp (reader ∷ others) well kind bytes x fits e = by (eqb kind reader.0) refl (λ later. fields_take stamp others well.1 kind bytes x fits later)
   where
@@ -79,12 +79,12 @@ fields_take stamp (reader ∷ others) well kind bytes x fits e = by (eqb kind re
         subst (λ (t : ℕ). Found stamp t bytes x) (sym (eqb-true kind reader.0 is)) (well.0 bytes x fits read)
     by false is later = later (rw is at e)
 
-pub act_takes : (stamp : Moment) (bytes : List ℕ) (x : Act × List ℕ) → IsBytes bytes → act_at stamp.clock bytes ≡ Ok x → Read stamp bytes x
+pub act_takes : (stamp : Stamp) (bytes : List ℕ) (x : Body × List ℕ) → IsBytes bytes → act_at stamp.clock bytes ≡ Ok x → Read stamp bytes x
 unfolding act_at
 act_takes stamp [] x fits e = absurd cc
 act_takes stamp (kind ∷ bytes) x fits e = fields_take stamp readers (all_read_well stamp) kind bytes x (IsBytes-rest kind bytes fits) e
 
-pub act_again : (stamp : Moment) (act : Act) (rest : List ℕ) → AreFields act → act_is_older stamp act ≡ true → length_is_good act ≡ true → fades_are_good act ≡ true → tags_are_good act ≡ true → act_at stamp.clock (act_bytes act ++ rest) ≡ Ok (act, rest)
+pub act_again : (stamp : Stamp) (act : Body) (rest : List ℕ) → AreFields act → act_is_older stamp act ≡ true → length_is_good act ≡ true → fades_are_good act ≡ true → tags_are_good act ≡ true → act_at stamp.clock (act_bytes act ++ rest) ≡ Ok (act, rest)
 unfolding act_at
 act_again stamp (AddTrack after title) rest fits older length fades tags = add_track_again stamp.clock after title rest fits.0 older fits.1
 act_again stamp (MoveTrack track after) rest fits older length fades tags = move_track_again stamp.clock track after rest fits.0 (and_first _ _ older) fits.1 (and_second _ _ older)
@@ -105,24 +105,24 @@ act_again stamp (SetFade clip fade_in fade_out) rest fits older length fades tag
 act_again stamp (SetMarkerLength marker len) rest fits older length fades tags = set_marker_length_again stamp.clock marker len rest fits.0 (and_first _ _ older) fits.1
 
 -- an act that is read names older stamps, and its length, its fades and its tags are good
-pub act_at-older : (stamp : Moment) (bytes : List ℕ) (x : Act × List ℕ) → IsBytes bytes → act_at stamp.clock bytes ≡ Ok x → act_is_older stamp x.0 ≡ true
+pub act_at-older : (stamp : Stamp) (bytes : List ℕ) (x : Body × List ℕ) → IsBytes bytes → act_at stamp.clock bytes ≡ Ok x → act_is_older stamp x.0 ≡ true
 act_at-older stamp bytes x fits e = (act_takes stamp bytes x fits e).older
 
-pub act_at-length : (stamp : Moment) (bytes : List ℕ) (x : Act × List ℕ) → IsBytes bytes → act_at stamp.clock bytes ≡ Ok x → length_is_good x.0 ≡ true
+pub act_at-length : (stamp : Stamp) (bytes : List ℕ) (x : Body × List ℕ) → IsBytes bytes → act_at stamp.clock bytes ≡ Ok x → length_is_good x.0 ≡ true
 act_at-length stamp bytes x fits e = (act_takes stamp bytes x fits e).length
 
-pub act_at-fades : (stamp : Moment) (bytes : List ℕ) (x : Act × List ℕ) → IsBytes bytes → act_at stamp.clock bytes ≡ Ok x → fades_are_good x.0 ≡ true
+pub act_at-fades : (stamp : Stamp) (bytes : List ℕ) (x : Body × List ℕ) → IsBytes bytes → act_at stamp.clock bytes ≡ Ok x → fades_are_good x.0 ≡ true
 act_at-fades stamp bytes x fits e = (act_takes stamp bytes x fits e).fades
 
-pub act_at-tags : (stamp : Moment) (bytes : List ℕ) (x : Act × List ℕ) → IsBytes bytes → act_at stamp.clock bytes ≡ Ok x → tags_are_good x.0 ≡ true
+pub act_at-tags : (stamp : Stamp) (bytes : List ℕ) (x : Body × List ℕ) → IsBytes bytes → act_at stamp.clock bytes ≡ Ok x → tags_are_good x.0 ≡ true
 act_at-tags stamp bytes x fits e = (act_takes stamp bytes x fits e).tags
 
 -- ---- in a log of a version
 
-pub act_in-at : (version clock : ℕ) (bytes : List ℕ) (x : Act × List ℕ) → act_in version clock bytes ≡ Ok x → (is_newer version bytes ≡ false) × (act_at clock bytes ≡ Ok x)
+pub act_in-at : (version clock : ℕ) (bytes : List ℕ) (x : Body × List ℕ) → act_in version clock bytes ≡ Ok x → (is_newer version bytes ≡ false) × (act_at clock bytes ≡ Ok x)
 unfolding act_in
 act_in-at version clock bytes x e = refuses_true_then (is_newer version bytes) BadTag (act_at clock bytes) x e
 
-pub act_in-again : (version clock : ℕ) (act : Act) (rest : List ℕ) → version_of_act act ≤ version → act_at clock (act_bytes act ++ rest) ≡ Ok (act, rest) → act_in version clock (act_bytes act ++ rest) ≡ Ok (act, rest)
+pub act_in-again : (version clock : ℕ) (act : Body) (rest : List ℕ) → version_of_act act ≤ version → act_at clock (act_bytes act ++ rest) ≡ Ok (act, rest) → act_in version clock (act_bytes act ++ rest) ≡ Ok (act, rest)
 unfolding act_in
 act_in-again version clock act rest le read = rw (newer_act version act rest, le-ltb version (version_of_act act) le) read

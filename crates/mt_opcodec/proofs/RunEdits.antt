@@ -8,9 +8,9 @@ use Rattle.std.specs.Cmp.{Equal-is}
 use Rattle.std.proofs.lemmas.Option.{same_Some, none-some}
 use Rattle.mt_stamp.specs.declared.name.Replica.{Replica}
 use Rattle.mt_stamp.specs.declared.name.Dot.{Dot}
-use Rattle.mt_stamp.specs.Moment.{dot_cmp}
+use Rattle.mt_stamp.specs.StampOrder.{dot_cmp}
 use Rattle.mt_stamp.proofs.Order.{dot_cmp_total, dot_cmp-IsAntisymmetric}
-use Rattle.mt_op.specs.Operation.{Operation}
+use Rattle.mt_op.specs.OpValue.{Op}
 use Rattle.mt_op.specs.Dots.{op_dot}
 use Rattle.mt_opcodec.specs.LogValue.{LogMap, log_of}
 use Rattle.mt_opcodec.proofs.Logs.{get-log_of}
@@ -22,33 +22,33 @@ use Rattle.mt_opcodec.proofs.Runs.{at, or_else, at-append, at-other, get-runs}
 -- ---- what is under a dot
 
 -- one more before the others
-more_first : (b : Bool) (o : Operation) (x y : Option Operation) → or_else (cond b (Some o) x) y ≡ cond b (Some o) (or_else x y)
+more_first : (b : Bool) (o : Op) (x y : Option Op) → or_else (cond b (Some o) x) y ≡ cond b (Some o) (or_else x y)
 more_first true o x y = refl
 more_first false o x y = refl
 
 -- one more after what has none there
-more_later : (b : Bool) (o : Operation) (x y : Option Operation) → (b ≡ true → x ≡ None) → or_else x (cond b (Some o) y) ≡ cond b (Some o) (or_else x y)
+more_later : (b : Bool) (o : Op) (x y : Option Op) → (b ≡ true → x ≡ None) → or_else x (cond b (Some o) y) ≡ cond b (Some o) (or_else x y)
 more_later true o x y h = rw (h refl) refl
 more_later false o x y h = refl
 
 -- whether a dot is that of an operation
-abbrev is_of : Dot → Operation → Bool
+abbrev is_of : Dot → Op → Bool
 is_of q o = eq_by_cmp dot_cmp q (op_dot o)
 
-replica_is : (q : Dot) (o : Operation) → is_of q o ≡ true → q.replica.0 ≡ o.stamp.replica.0
+replica_is : (q : Dot) (o : Op) → is_of q o ≡ true → q.replica.0 ≡ o.stamp.replica.0
 replica_is q o e = ap (λ (d : Dot). d.replica.0) (dot_cmp-IsAntisymmetric q (op_dot o) ((Equal-is (dot_cmp q (op_dot o))).0 e))
 
 -- nothing in a smaller replica's run
-none_before : (x : RunOf) (o : Operation) (q : Dot) → IsRun x → x.replica.0 < o.stamp.replica.0 → is_of q o ≡ true → at x.ops q ≡ None
+none_before : (x : RunOf) (o : Op) (q : Dot) → IsRun x → x.replica.0 < o.stamp.replica.0 → is_of q o ≡ true → at x.ops q ≡ None
 none_before x o q run lt e = at-other x.ops x.replica q run.own (λ same. let own = replica_is q o e in absurd (omega arith))
 
 -- an operation more under its dot, in a run that stands there
-at-set : (runs : List RunOf) (i : ℕ) (r s : RunOf) (o : Operation) (q : Dot) → RunsRise runs → AllByRecursion IsRun runs → slice_get runs i ≡ Some r → o.stamp.replica ≡ r.replica
+at-set : (runs : List RunOf) (i : ℕ) (r s : RunOf) (o : Op) (q : Dot) → RunsRise runs → AllByRecursion IsRun runs → slice_get runs i ≡ Some r → o.stamp.replica ≡ r.replica
     → at s.ops q ≡ cond (is_of q o) (Some o) (at r.ops q) → at (run_ops (slice_set runs i s)) q ≡ cond (is_of q o) (Some o) (at (run_ops runs) q)
 at-set [] i r s o q rise each e own h = absurd (none-some r e)
 at-set (x ∷ runs) zero r s o q rise each e own h =
     at-append s.ops (run_ops runs) q
-    ∙ ap (λ (y : Option Operation). or_else y (at (run_ops runs) q)) (h ∙ ap (λ (y : RunOf). cond (is_of q o) (Some o) (at y.ops q)) (sym (same_Some x r e)))
+    ∙ ap (λ (y : Option Op). or_else y (at (run_ops runs) q)) (h ∙ ap (λ (y : RunOf). cond (is_of q o) (Some o) (at y.ops q)) (sym (same_Some x r e)))
     ∙ more_first (is_of q o) o (at x.ops q) (at (run_ops runs) q)
     ∙ ap (cond (is_of q o) (Some o)) (sym (at-append x.ops (run_ops runs) q))
 at-set (x ∷ runs) (suc i) r s o q rise each e own h =
@@ -65,11 +65,11 @@ gap_rest x runs s i gap = record {
   greater_after = λ k r le e. gap.greater_after (suc k) r (omega arith) e;
 }
 
-abbrev only : Operation → RunOf
+abbrev only : Op → RunOf
 only o = record { replica = o.stamp.replica; ops = o ∷ [] }
 
 -- an operation more under its dot, in a run of its own
-at-insert : (runs : List RunOf) (i : ℕ) (o : Operation) (q : Dot) → AllByRecursion IsRun runs → IsRunGap runs o.stamp.replica i → at (run_ops (insert runs i (only o))) q ≡ cond (is_of q o) (Some o) (at (run_ops runs) q)
+at-insert : (runs : List RunOf) (i : ℕ) (o : Op) (q : Dot) → AllByRecursion IsRun runs → IsRunGap runs o.stamp.replica i → at (run_ops (insert runs i (only o))) q ≡ cond (is_of q o) (Some o) (at (run_ops runs) q)
 at-insert [] zero o q each gap = refl
 at-insert [] (suc i) o q each gap = absurd (omega (arith, gap.in_range))
 at-insert (x ∷ runs) zero o q each gap = refl
@@ -128,7 +128,7 @@ AreRuns-insert runs i s h gap run = record { rise = rise-insert runs i s h.rise 
 
 -- ---- the log with one more operation
 
-more : (runs after : List RunOf) (o : Operation) → AreRuns runs → AreRuns after → ((q : Dot) → at (run_ops after) q ≡ cond (is_of q o) (Some o) (at (run_ops runs) q)) → log_of (run_ops after) ≡ fin.insert (log_of (run_ops runs)) (op_dot o) o
+more : (runs after : List RunOf) (o : Op) → AreRuns runs → AreRuns after → ((q : Dot) → at (run_ops after) q ≡ cond (is_of q o) (Some o) (at (run_ops runs) q)) → log_of (run_ops after) ≡ fin.insert (log_of (run_ops runs)) (op_dot o) o
 more runs after o was is h = same_log _ _ (λ q.
     get-runs after q is
     ∙ h q
@@ -136,17 +136,17 @@ more runs after o was is h = same_log _ _ (λ q.
     ∙ sym (fin.get-insert dot_cmp_total (log_of (run_ops runs)) (op_dot o) o q))
 
 -- what an insertion into a run's map says of its operations
-run_more : (r s : RunOf) (o : Operation) (q : Dot) → IsRun r → IsRun s → log_of s.ops ≡ fin.insert (log_of r.ops) (op_dot o) o → at s.ops q ≡ cond (is_of q o) (Some o) (at r.ops q)
+run_more : (r s : RunOf) (o : Op) (q : Dot) → IsRun r → IsRun s → log_of s.ops ≡ fin.insert (log_of r.ops) (op_dot o) o → at s.ops q ≡ cond (is_of q o) (Some o) (at r.ops q)
 run_more r s o q was is h =
     sym (get-log_of s.ops q is.logged.rise)
     ∙ ap (λ (m : LogMap). fin.get m q) h
     ∙ fin.get-insert dot_cmp_total (log_of r.ops) (op_dot o) o q
     ∙ ap (cond (is_of q o) (Some o)) (get-log_of r.ops q was.logged.rise)
 
-pub log_of-set : (runs : List RunOf) (i : ℕ) (r s : RunOf) (o : Operation) → AreRuns runs → slice_get runs i ≡ Some r → o.stamp.replica ≡ r.replica → s.replica ≡ r.replica → IsRun r → IsRun s
+pub log_of-set : (runs : List RunOf) (i : ℕ) (r s : RunOf) (o : Op) → AreRuns runs → slice_get runs i ≡ Some r → o.stamp.replica ≡ r.replica → s.replica ≡ r.replica → IsRun r → IsRun s
     → log_of s.ops ≡ fin.insert (log_of r.ops) (op_dot o) o → log_of (run_ops (slice_set runs i s)) ≡ fin.insert (log_of (run_ops runs)) (op_dot o) o
 log_of-set runs i r s o h e own is was run inserted =
     more runs (slice_set runs i s) o h (AreRuns-set runs i r s h e is run) (λ q. at-set runs i r s o q h.rise h.each e own (run_more r s o q was run inserted))
 
-pub log_of-only : (runs : List RunOf) (i : ℕ) (o : Operation) → AreRuns runs → IsRunGap runs o.stamp.replica i → IsRun (only o) → log_of (run_ops (insert runs i (only o))) ≡ fin.insert (log_of (run_ops runs)) (op_dot o) o
+pub log_of-only : (runs : List RunOf) (i : ℕ) (o : Op) → AreRuns runs → IsRunGap runs o.stamp.replica i → IsRun (only o) → log_of (run_ops (insert runs i (only o))) ≡ fin.insert (log_of (run_ops runs)) (op_dot o) o
 log_of-only runs i o h gap run = more runs (insert runs i (only o)) o h (AreRuns-insert runs i (only o) h gap run) (λ q. at-insert runs i o q h.each gap)

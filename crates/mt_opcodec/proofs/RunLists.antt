@@ -3,7 +3,7 @@ use Rattle.std.proofs.Common.{◌≡◌, ℕ, zero, suc, ◌+◌, ◌-◌, ◌<�
 use Rattle.std.specs.Prelude.{slice_get}
 use Rattle.std.proofs.lemmas.List.{take_more, drop_more, flat_map_more, length-append, map-append}
 use Rattle.std.proofs.lemmas.Grind.{flat_map-append}
-use Rattle.mt_op.specs.Operation.{Operation}
+use Rattle.mt_op.specs.OpValue.{Op}
 use Rattle.mt_opcodec.specs.OpText.{op_text}
 use Rattle.mt_opcodec.specs.LogText.{op_texts}
 use Rattle.mt_opcodec.specs.Runs.{RunOf, run_ops}
@@ -23,32 +23,32 @@ drop_past (x ∷ xs) (suc i) le = drop_past xs i (omega arith)
 
 -- ---- how many they are
 
-pub count_more : (runs : List RunOf) (i : ℕ) (r : RunOf) (ops : List Operation) (count new : ℕ) → i < length runs → r ≡ get_or runs i r → ops ≡ r.ops → count ≡ length (run_ops (take i runs)) → new ≡ count + length ops → new ≡ length (run_ops (take (i + 1) runs))
+pub count_more : (runs : List RunOf) (i : ℕ) (r : RunOf) (ops : List Op) (count new : ℕ) → i < length runs → r ≡ get_or runs i r → ops ≡ r.ops → count ≡ length (run_ops (take i runs)) → new ≡ count + length ops → new ≡ length (run_ops (take (i + 1) runs))
 count_more runs i r ops count new lt is same so_far more =
-    more ∙ ap (λ (n : ℕ). n + length ops) so_far ∙ ap (λ (l : List Operation). length (run_ops (take i runs)) + length l) same
+    more ∙ ap (λ (n : ℕ). n + length ops) so_far ∙ ap (λ (l : List Op). length (run_ops (take i runs)) + length l) same
     ∙ sym (length-append (run_ops (take i runs)) r.ops) ∙ ap length (sym (ops_more runs i r lt is))
 
 -- ---- what stands at a place
 
-pub get-front : (a b : List Operation) (i : ℕ) → i < length a → slice_get (a ++ b) i ≡ slice_get a i
+pub get-front : (a b : List Op) (i : ℕ) → i < length a → slice_get (a ++ b) i ≡ slice_get a i
 get-front [] b i lt = absurd (omega arith)
 get-front (x ∷ a) b zero lt = refl
 get-front (x ∷ a) b (suc i) lt = get-front a b i (omega arith)
 
-get-back : (a b : List Operation) (i : ℕ) → length a ≤ i → slice_get (a ++ b) i ≡ slice_get b (i - length a)
+get-back : (a b : List Op) (i : ℕ) → length a ≤ i → slice_get (a ++ b) i ≡ slice_get b (i - length a)
 get-back [] b i le = ap (slice_get b) (omega arith)
 get-back (x ∷ a) b zero le = absurd (omega arith)
 get-back (x ∷ a) b (suc i) le = get-back a b i (omega arith) ∙ ap (slice_get b) (omega arith)
 
-module _ (runs : List RunOf) (i k : ℕ) (r : RunOf) (place : ℕ) (ops : List Operation) (lt : k < length runs) (is : r ≡ get_or runs k r) (same : ops ≡ r.ops) (so_far : slice_get (run_ops runs) i ≡ slice_get (run_ops (drop k runs)) place) where
+module _ (runs : List RunOf) (i k : ℕ) (r : RunOf) (place : ℕ) (ops : List Op) (lt : k < length runs) (is : r ≡ get_or runs k r) (same : ops ≡ r.ops) (so_far : slice_get (run_ops runs) i ≡ slice_get (run_ops (drop k runs)) place) where
   pub place_here : place < length ops → slice_get (run_ops runs) i ≡ slice_get ops place
   place_here within =
-      so_far ∙ ap (λ (l : List Operation). slice_get l place) (ops_left runs k r lt is ∙ ap (λ (l : List Operation). l ++ run_ops (drop (k + 1) runs)) (sym same))
+      so_far ∙ ap (λ (l : List Op). slice_get l place) (ops_left runs k r lt is ∙ ap (λ (l : List Op). l ++ run_ops (drop (k + 1) runs)) (sym same))
       ∙ get-front ops (run_ops (drop (k + 1) runs)) place within
 
   pub place_later : length ops ≤ place → slice_get (run_ops runs) i ≡ slice_get (run_ops (drop (k + 1) runs)) (place - length ops)
   place_later past =
-      so_far ∙ ap (λ (l : List Operation). slice_get l place) (ops_left runs k r lt is ∙ ap (λ (l : List Operation). l ++ run_ops (drop (k + 1) runs)) (sym same))
+      so_far ∙ ap (λ (l : List Op). slice_get l place) (ops_left runs k r lt is ∙ ap (λ (l : List Op). l ++ run_ops (drop (k + 1) runs)) (sym same))
       ∙ get-back ops (run_ops (drop (k + 1) runs)) place past
 
 -- what two lists have at a place is the same
@@ -62,14 +62,14 @@ same_at xs ys i x y in_left in_right lt lt_too same = sym in_left ∙ same ∙ i
 
 -- ---- references to them
 
-pub refs_more : {R : Type 0} (f : R → Operation) (old new : List R) (r : R) (front ops : List Operation) (i : ℕ) → new ≡ old ++ r ∷ [] → map f old ≡ front ++ take i ops → i < length ops → f r ≡ get_or ops i (f r) → map f new ≡ front ++ take (i + 1) ops
+pub refs_more : {R : Type 0} (f : R → Op) (old new : List R) (r : R) (front ops : List Op) (i : ℕ) → new ≡ old ++ r ∷ [] → map f old ≡ front ++ take i ops → i < length ops → f r ≡ get_or ops i (f r) → map f new ≡ front ++ take (i + 1) ops
 refs_more f old new r front ops i more so_far lt is =
     ap (map f) more
     ∙ map-append f old (r ∷ [])
-    ∙ ap (λ (l : List Operation). l ++ f r ∷ []) so_far
+    ∙ ap (λ (l : List Op). l ++ f r ∷ []) so_far
     ∙ append_assoc front (take i ops) (f r ∷ [])
-    ∙ ap (λ (o : Operation). front ++ (take i ops ++ o ∷ [])) is
-    ∙ ap (λ (l : List Operation). front ++ l) (sym (take_more ops i (f r) lt))
+    ∙ ap (λ (o : Op). front ++ (take i ops ++ o ∷ [])) is
+    ∙ ap (λ (l : List Op). front ++ l) (sym (take_more ops i (f r) lt))
 
 -- a list that is its own rest is empty
 pub nothing_left : {X : Type 0} (xs : List X) → xs ≡ drop 1 xs → xs ≡ []
@@ -78,13 +78,13 @@ nothing_left (x ∷ xs) e = let same = ap length e in absurd (omega (arith, same
 
 -- ---- their texts
 
-texts-append : (a b : List Operation) → op_texts (a ++ b) ≡ op_texts a ++ op_texts b
+texts-append : (a b : List Op) → op_texts (a ++ b) ≡ op_texts a ++ op_texts b
 texts-append a b = flat_map-append op_text a b
 
-pub texts_more : (runs : List RunOf) (i : ℕ) (r : RunOf) (ops : List Operation) (head out new : List ℕ) → i < length runs → r ≡ get_or runs i r → ops ≡ r.ops → out ≡ head ++ op_texts (run_ops (take i runs)) → new ≡ out ++ op_texts ops → new ≡ head ++ op_texts (run_ops (take (i + 1) runs))
+pub texts_more : (runs : List RunOf) (i : ℕ) (r : RunOf) (ops : List Op) (head out new : List ℕ) → i < length runs → r ≡ get_or runs i r → ops ≡ r.ops → out ≡ head ++ op_texts (run_ops (take i runs)) → new ≡ out ++ op_texts ops → new ≡ head ++ op_texts (run_ops (take (i + 1) runs))
 texts_more runs i r ops head out new lt is same so_far more =
     more
     ∙ ap (λ (l : List ℕ). l ++ op_texts ops) so_far
     ∙ append_assoc head (op_texts (run_ops (take i runs))) (op_texts ops)
-    ∙ ap (λ (l : List Operation). head ++ (op_texts (run_ops (take i runs)) ++ op_texts l)) same
+    ∙ ap (λ (l : List Op). head ++ (op_texts (run_ops (take i runs)) ++ op_texts l)) same
     ∙ ap (λ (l : List ℕ). head ++ l) (sym (texts-append (run_ops (take i runs)) r.ops) ∙ ap op_texts (sym (ops_more runs i r lt is)))

@@ -11,11 +11,11 @@ use Rattle.std.proofs.lemmas.Option.{same_Some, none-some}
 use Rattle.std.proofs.lemmas.Bool.{cases_lt}
 use Rattle.mt_stamp.specs.declared.name.Replica.{Replica}
 use Rattle.mt_stamp.specs.declared.name.Dot.{Dot}
-use Rattle.mt_stamp.specs.Moment.{dot_cmp}
+use Rattle.mt_stamp.specs.StampOrder.{dot_cmp}
 use Rattle.mt_stamp.proofs.Order.{dot_cmp-IsAntisymmetric}
-use Rattle.mt_op.specs.Operation.{Operation}
+use Rattle.mt_op.specs.OpValue.{Op}
 use Rattle.mt_op.specs.Dots.{op_dot, entry_of, dots_rise}
-use Rattle.mt_op.specs.Valid.{IsOperation}
+use Rattle.mt_op.specs.Valid.{IsOp}
 use Rattle.mt_op.proofs.Needs.{and_first, and_second}
 use Rattle.mt_opcodec.specs.LogValue.{log_of, AreLogged}
 use Rattle.mt_opcodec.proofs.Logs.{get-log_of}
@@ -24,17 +24,17 @@ use Rattle.mt_opcodec.proofs.Narrowing.{above_at}
 
 -- ---- what a list of operations has under a dot
 
-abbrev pub at : List Operation → Dot → Option Operation
+abbrev pub at : List Op → Dot → Option Op
 at ops q = find dot_cmp q (map entry_of ops)
 
-abbrev pub or_else : Option Operation → Option Operation → Option Operation
+abbrev pub or_else : Option Op → Option Op → Option Op
 or_else x y = cond (is_some x) x y
 
-pub or_none : (x : Option Operation) → or_else x None ≡ x
+pub or_none : (x : Option Op) → or_else x None ≡ x
 or_none None = refl
 or_none (Some o) = refl
 
-pub at-append : (a b : List Operation) (q : Dot) → at (a ++ b) q ≡ or_else (at a q) (at b q)
+pub at-append : (a b : List Op) (q : Dot) → at (a ++ b) q ≡ or_else (at a q) (at b q)
 at-append [] b q = refl
 at-append (o ∷ a) b q = step (is_eq (dot_cmp q (op_dot o))) (at-append a b q)
   where
@@ -50,7 +50,7 @@ apart q d h = step (is_eq (dot_cmp q d)) refl
     step true e = absurd (h (ap (λ (x : Dot). x.replica.0) (dot_cmp-IsAntisymmetric q d ((Equal-is (dot_cmp q d)).0 e))))
 
 -- nothing under a dot of another replica
-pub at-other : (ops : List Operation) (s : Replica) (q : Dot) → AllByRecursion (λ (o : Operation). o.stamp.replica ≡ s) ops → (q.replica.0 ≡ s.0 → ⊥) → at ops q ≡ None
+pub at-other : (ops : List Op) (s : Replica) (q : Dot) → AllByRecursion (λ (o : Op). o.stamp.replica ≡ s) ops → (q.replica.0 ≡ s.0 → ⊥) → at ops q ≡ None
 at-other [] s q own h = refl
 at-other (o ∷ ops) s q own h = rw (apart q (op_dot o) (λ e. h (e ∙ ap (λ (x : Replica). x.0) own.0))) (at-other ops s q own.1 h)
 
@@ -59,7 +59,7 @@ pub at-none : (runs : List RunOf) (q : Dot) → AllByRecursion IsRun runs → ((
 at-none [] q each h = refl
 at-none (x ∷ runs) q each h =
     at-append x.ops (run_ops runs) q
-    ∙ ap (λ (y : Option Operation). or_else y (at (run_ops runs) q)) (at-other x.ops x.replica q each.0.own (h 0 x refl))
+    ∙ ap (λ (y : Option Op). or_else y (at (run_ops runs) q)) (at-other x.ops x.replica q each.0.own (h 0 x refl))
     ∙ at-none runs q each.1 (λ k r e. h (suc k) r e)
 
 pub at-above : (s : Replica) (runs : List RunOf) (q : Dot) → AreAbove s runs → AllByRecursion IsRun runs → q.replica.0 ≡ s.0 → at (run_ops runs) q ≡ None
@@ -77,7 +77,7 @@ at-run (x ∷ runs) rise each zero r q e is =
 at-run (x ∷ runs) rise each (suc i) r q e is =
     let more = above_at x.replica runs rise.0 i r e in
     at-append x.ops (run_ops runs) q
-    ∙ ap (λ (y : Option Operation). or_else y (at (run_ops runs) q)) (at-other x.ops x.replica q each.0.own (λ same. absurd (omega arith)))
+    ∙ ap (λ (y : Option Op). or_else y (at (run_ops runs) q)) (at-other x.ops x.replica q each.0.own (λ same. absurd (omega arith)))
     ∙ at-run runs rise.1 each.1 i r q e is
 
 -- ---- the dots of all runs rise
@@ -85,14 +85,14 @@ at-run (x ∷ runs) rise each (suc i) r q e is =
 pub less_replica : (d e : Dot) → d.replica.0 < e.replica.0 → dot_cmp d e ≡ Less
 less_replica d e lt = let less : Less ≡ nat_cmp d.replica.0 e.replica.0 = nat_cmp_is d.replica.0 e.replica.0 Less lt in rw (sym less) refl
 
-pub below-append : (d : Dot) (a b : List Operation) → below_all dot_cmp d (map entry_of a) ≡ true → below_all dot_cmp d (map entry_of b) ≡ true → below_all dot_cmp d (map entry_of (a ++ b)) ≡ true
+pub below-append : (d : Dot) (a b : List Op) → below_all dot_cmp d (map entry_of a) ≡ true → below_all dot_cmp d (map entry_of b) ≡ true → below_all dot_cmp d (map entry_of (a ++ b)) ≡ true
 below-append d [] b in_a in_b = in_b
 below-append d (o ∷ a) b in_a in_b =
     let first : is_lt (dot_cmp d (op_dot o)) ≡ true = and_first _ _ in_a in
     let rest : below_all dot_cmp d (map entry_of (a ++ b)) ≡ true = below-append d a b (and_second _ _ in_a) in_b in
     rw (first, rest) refl
 
-below-run : (d : Dot) (s : Replica) (ops : List Operation) → AllByRecursion (λ (o : Operation). o.stamp.replica ≡ s) ops → d.replica.0 < s.0 → below_all dot_cmp d (map entry_of ops) ≡ true
+below-run : (d : Dot) (s : Replica) (ops : List Op) → AllByRecursion (λ (o : Op). o.stamp.replica ≡ s) ops → d.replica.0 < s.0 → below_all dot_cmp d (map entry_of ops) ≡ true
 below-run d s [] own lt = refl
 below-run d s (o ∷ ops) own lt =
     let less : dot_cmp d (op_dot o) ≡ Less = less_replica d (op_dot o) (subst (λ (x : Replica). d.replica.0 < x.0) (sym own.0) lt) in
@@ -103,7 +103,7 @@ below-runs : (d : Dot) (runs : List RunOf) → AllByRecursion IsRun runs → Are
 below-runs d [] each above = refl
 below-runs d (x ∷ runs) each above = below-append d x.ops (run_ops runs) (below-run d x.replica x.ops each.0.own above.0) (below-runs d runs each.1 above.1)
 
-rise-append : (s : Replica) (ops : List Operation) (runs : List RunOf) → AllByRecursion (λ (o : Operation). o.stamp.replica ≡ s) ops → AllByRecursion IsRun runs → AreAbove s runs
+rise-append : (s : Replica) (ops : List Op) (runs : List RunOf) → AllByRecursion (λ (o : Op). o.stamp.replica ≡ s) ops → AllByRecursion IsRun runs → AreAbove s runs
     → dots_rise ops ≡ true → dots_rise (run_ops runs) ≡ true → dots_rise (ops ++ run_ops runs) ≡ true
 rise-append s [] runs own each above in_ops in_runs = in_runs
 rise-append s (o ∷ ops) runs own each above in_ops in_runs =
@@ -112,7 +112,7 @@ rise-append s (o ∷ ops) runs own each above in_ops in_runs =
     let rest : dots_rise (ops ++ run_ops runs) ≡ true = rise-append s ops runs own.1 each above (and_second _ _ in_ops) in_runs in
     rw (first, rest) refl
 
-pub valid-append : (a b : List Operation) → AllByRecursion IsOperation a → AllByRecursion IsOperation b → AllByRecursion IsOperation (a ++ b)
+pub valid-append : (a b : List Op) → AllByRecursion IsOp a → AllByRecursion IsOp b → AllByRecursion IsOp (a ++ b)
 valid-append [] b in_a in_b = in_b
 valid-append (o ∷ a) b in_a in_b = (in_a.0, valid-append a b in_a.1 in_b)
 
@@ -120,7 +120,7 @@ runs-rise : (runs : List RunOf) → RunsRise runs → AllByRecursion IsRun runs 
 runs-rise [] rise each = refl
 runs-rise (x ∷ runs) rise each = rise-append x.replica x.ops runs each.0.own each.1 rise.0 each.0.logged.rise (runs-rise runs rise.1 each.1)
 
-runs-valid : (runs : List RunOf) → AllByRecursion IsRun runs → AllByRecursion IsOperation (run_ops runs)
+runs-valid : (runs : List RunOf) → AllByRecursion IsRun runs → AllByRecursion IsOp (run_ops runs)
 runs-valid [] each = tt
 runs-valid (x ∷ runs) each = valid-append x.ops (run_ops runs) each.0.logged.valid (runs-valid runs each.1)
 

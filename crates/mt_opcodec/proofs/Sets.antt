@@ -11,14 +11,14 @@ use Rattle.std.proofs.lemmas.Option.{none-some, same_Some}
 use Rattle.std.proofs.lemmas.Cmp.{tied_itself}
 use lib.Dec.{T}
 use Rattle.mt_stamp.specs.declared.name.Dot.{Dot}
-use Rattle.mt_stamp.specs.Moment.{dot_cmp}
+use Rattle.mt_stamp.specs.StampOrder.{dot_cmp}
 use Rattle.mt_stamp.proofs.Order.{dot_cmp_total, dot_cmp-IsAntisymmetric}
 use Rattle.mt_stamp.proofs.Members.{IsMember}
 use Rattle.mt_stamp.proofs.Listed.{is_member, is_contained}
-use Rattle.mt_op.specs.Operation.{Operation}
+use Rattle.mt_op.specs.OpValue.{Op}
 use Rattle.mt_op.specs.Dots.{op_dot, entry_of}
 use Rattle.mt_op.specs.Needs.{needs, meets, clock_of, names_are_older}
-use Rattle.mt_op.specs.Valid.{IsOperation}
+use Rattle.mt_op.specs.Valid.{IsOp}
 use Rattle.mt_op.proofs.Needs.{and_first, and_second}
 use Rattle.mt_op.proofs.Readier.{ready_more}
 use Rattle.mt_opcodec.specs.LogValue.{LogMap, operations, log_of, AreLogged}
@@ -44,16 +44,16 @@ less_of Less h = refl
 less_of Equal h = absurd cc
 less_of Greater h = absurd cc
 
-found_member : (q : Dot) (v : Operation) (es : List (Dot × Operation)) → find dot_cmp q es ≡ Some v → IsMember v (map (λ (e : Dot × Operation). e.1) es)
+found_member : (q : Dot) (v : Op) (es : List (Dot × Op)) → find dot_cmp q es ≡ Some v → IsMember v (map (λ (e : Dot × Op). e.1) es)
 found_member q v [] is = absurd (none-some v is)
 found_member q v (e ∷ es) is = by (is_eq (dot_cmp q e.0)) (found_member q v es) is
   where
-    by : (b : Bool) → (find dot_cmp q es ≡ Some v → IsMember v (map (λ (e : Dot × Operation). e.1) es)) → cond b (Some e.1) (find dot_cmp q es) ≡ Some v → IsMember v (map (λ (e : Dot × Operation). e.1) (e ∷ es))
+    by : (b : Bool) → (find dot_cmp q es ≡ Some v → IsMember v (map (λ (e : Dot × Op). e.1) es)) → cond b (Some e.1) (find dot_cmp q es) ≡ Some v → IsMember v (map (λ (e : Dot × Op). e.1) (e ∷ es))
     by true rest h = inl (same_Some e.1 v h)
     by false rest h = inr (rest h)
 
 -- what is found among greater dots is under another dot
-found_later : (d q : Dot) (v : Operation) (es : List (Dot × Operation)) → below_all dot_cmp d es ≡ true → find dot_cmp q es ≡ Some v → is_eq (dot_cmp q d) ≡ false
+found_later : (d q : Dot) (v : Op) (es : List (Dot × Op)) → below_all dot_cmp d es ≡ true → find dot_cmp q es ≡ Some v → is_eq (dot_cmp q d) ≡ false
 found_later d q v [] below is = absurd (none-some v is)
 found_later d q v (e ∷ es) below is = by (is_eq (dot_cmp q e.0)) refl (found_later d q v es (and_second _ _ below)) is
   where
@@ -65,49 +65,49 @@ found_later d q v (e ∷ es) below is = by (is_eq (dot_cmp q e.0)) refl (found_l
     by false tie later h = later h
 
 -- what holds of all that is found holds of all entries
-pub entries_all : (Q : Dot → Operation → Type 0) (es : List (Dot × Operation)) → is_sorted dot_cmp es ≡ true → ((q : Dot) (v : Operation) → find dot_cmp q es ≡ Some v → Q q v) → AllByRecursion (λ (e : Dot × Operation). Q e.0 e.1) es
+pub entries_all : (Q : Dot → Op → Type 0) (es : List (Dot × Op)) → is_sorted dot_cmp es ≡ true → ((q : Dot) (v : Op) → find dot_cmp q es ≡ Some v → Q q v) → AllByRecursion (λ (e : Dot × Op). Q e.0 e.1) es
 entries_all Q [] sorted h = tt
 entries_all Q (e ∷ es) sorted h = (
   h e.0 e.1 (ap (λ (b : Bool). cond b (Some e.1) (find dot_cmp e.0 es)) (ap is_eq (tied_itself dot_cmp_total e.0))),
   entries_all Q es (and_second _ _ sorted) (λ q v is. h q v (ap (λ (b : Bool). cond b (Some e.1) (find dot_cmp q es)) (found_later e.0 q v es (and_first _ _ sorted) is) ∙ is)),
 )
 
-pub get_member : (log : LogMap) (dot : Dot) (o : Operation) → fin.get log dot ≡ Some o → IsMember o (operations log)
+pub get_member : (log : LogMap) (dot : Dot) (o : Op) → fin.get log dot ≡ Some o → IsMember o (operations log)
 get_member log dot o at = found_member dot o (fin.entries log) (sym (fin.get-entries log dot) ∙ at)
 
 -- where an operation stands
-record StandsAt (log : LogMap) (o : Operation) : Type 0 where
+record StandsAt (log : LogMap) (o : Op) : Type 0 where
   pub dot : Dot
   pub at : fin.get log dot ≡ Some o
 
-member_get : (log : LogMap) (o : Operation) → IsMember o (operations log) → StandsAt log o
+member_get : (log : LogMap) (o : Op) → IsMember o (operations log) → StandsAt log o
 member_get log o m = each (fin.entries log) (entries_all (λ d v. fin.get log d ≡ Some v) (fin.entries log) (from_holds _ (fin.entries_sorted log)) (λ q v found. fin.get-entries log q ∙ found)) m
   where
-    each : (es : List (Dot × Operation)) → AllByRecursion (λ (e : Dot × Operation). fin.get log e.0 ≡ Some e.1) es → IsMember o (map (λ (e : Dot × Operation). e.1) es) → StandsAt log o
+    each : (es : List (Dot × Op)) → AllByRecursion (λ (e : Dot × Op). fin.get log e.0 ≡ Some e.1) es → IsMember o (map (λ (e : Dot × Op). e.1) es) → StandsAt log o
     each [] all m = absurd m
     each (e ∷ es) all (inl same) = record { dot = e.0; at = all.0 ∙ ap Some same }
     each (e ∷ es) all (inr later) = each es all.1 later
 
-pub has_member : (log : LogMap) (o : Operation) → Has log o → IsMember o (operations log)
+pub has_member : (log : LogMap) (o : Op) → Has log o → IsMember o (operations log)
 has_member log o has = get_member log (op_dot o) o has
 
-pub member_has : (log : LogMap) → IsSet log → (o : Operation) → IsMember o (operations log) → Has log o
+pub member_has : (log : LogMap) → IsSet log → (o : Op) → IsMember o (operations log) → Has log o
 member_has log is o m = let s = member_get log o m in ap (fin.get log) (sym (is.own_dot s.dot o s.at)) ∙ s.at
 
 -- what is ready in a log is ready in one that has at each dot what the log has there
-grows : (log more : LogMap) → ((dot : Dot) (o : Operation) → fin.get log dot ≡ Some o → fin.get more dot ≡ Some o) → (o : Operation) → IsReadyIn log o → IsReadyIn more o
+grows : (log more : LogMap) → ((dot : Dot) (o : Op) → fin.get log dot ≡ Some o → fin.get more dot ≡ Some o) → (o : Op) → IsReadyIn log o → IsReadyIn more o
 grows log more still = ready_more clock_of needs meets (operations log) (operations more) (λ o m. let s = member_get log o m in get_member more s.dot o (still s.dot o s.at))
 
 -- ---- one operation more
 
-pub get_with : (log : LogMap) (o : Operation) (d : Dot) → fin.get (fin.insert log (op_dot o) o) d ≡ cond (is_eq (dot_cmp d (op_dot o))) (Some o) (fin.get log d)
+pub get_with : (log : LogMap) (o : Op) (d : Dot) → fin.get (fin.insert log (op_dot o) o) d ≡ cond (is_eq (dot_cmp d (op_dot o))) (Some o) (fin.get log d)
 get_with log o d = fin.get-insert dot_cmp_total log (op_dot o) o d
 
-get_new : (log : LogMap) (o : Operation) → Has (fin.insert log (op_dot o) o) o
+get_new : (log : LogMap) (o : Op) → Has (fin.insert log (op_dot o) o) o
 get_new log o = get_with log o (op_dot o) ∙ ap (λ (r : Ordering). cond (is_eq r) (Some o) (fin.get log (op_dot o))) (tied_itself dot_cmp_total (op_dot o))
 
 -- what stands under any dot then is the new operation under its own, or stood there
-pub with_was : (log : LogMap) (o : Operation) (d : Dot) (p : Operation) → fin.get (fin.insert log (op_dot o) o) d ≡ Some p → ((d ≡ op_dot o) × (o ≡ p)) ⊎ (fin.get log d ≡ Some p)
+pub with_was : (log : LogMap) (o : Op) (d : Dot) (p : Op) → fin.get (fin.insert log (op_dot o) o) d ≡ Some p → ((d ≡ op_dot o) × (o ≡ p)) ⊎ (fin.get log d ≡ Some p)
 with_was log o d p at = by (is_eq (dot_cmp d (op_dot o))) refl (sym (get_with log o d) ∙ at)
   where
     by : (b : Bool) → is_eq (dot_cmp d (op_dot o)) ≡ b → cond b (Some o) (fin.get log d) ≡ Some p → ((d ≡ op_dot o) × (o ≡ p)) ⊎ (fin.get log d ≡ Some p)
@@ -115,26 +115,26 @@ with_was log o d p at = by (is_eq (dot_cmp d (op_dot o))) refl (sym (get_with lo
     by false tie h = inr h
 
 -- what stood under any dot stands there, if nothing stood under the new one
-pub with_still : (log : LogMap) (o : Operation) → fin.get log (op_dot o) ≡ None → (d : Dot) (p : Operation) → fin.get log d ≡ Some p → fin.get (fin.insert log (op_dot o) o) d ≡ Some p
+pub with_still : (log : LogMap) (o : Op) → fin.get log (op_dot o) ≡ None → (d : Dot) (p : Op) → fin.get log d ≡ Some p → fin.get (fin.insert log (op_dot o) o) d ≡ Some p
 with_still log o absent d p at = by (is_eq (dot_cmp d (op_dot o))) refl
   where
     by : (b : Bool) → is_eq (dot_cmp d (op_dot o)) ≡ b → fin.get (fin.insert log (op_dot o) o) d ≡ Some p
     by true tie = absurd (none-some p (sym absent ∙ ap (fin.get log) (sym (dot_cmp-IsAntisymmetric d (op_dot o) (equal_of _ tie))) ∙ at))
     by false tie = get_with log o d ∙ ap (λ (b : Bool). cond b (Some o) (fin.get log d)) tie ∙ at
 
-module _ (log : LogMap) (o : Operation) (is : IsSet log) (older : IsTrue (names_are_older o)) (absent : fin.get log (op_dot o) ≡ None) where
+module _ (log : LogMap) (o : Op) (is : IsSet log) (older : IsTrue (names_are_older o)) (absent : fin.get log (op_dot o) ≡ None) where
   abbrev with_it : LogMap
   with_it = fin.insert log (op_dot o) o
 
-  stands : (d : Dot) (p : Operation) → ((d ≡ op_dot o) × (o ≡ p)) ⊎ (fin.get log d ≡ Some p) → d ≡ op_dot p
+  stands : (d : Dot) (p : Op) → ((d ≡ op_dot o) × (o ≡ p)) ⊎ (fin.get log d ≡ Some p) → d ≡ op_dot p
   stands d p (inl new) = new.0 ∙ ap op_dot new.1
   stands d p (inr old) = is.own_dot d p old
 
-  are_older : (p : Operation) → ((op_dot p ≡ op_dot o) × (o ≡ p)) ⊎ (fin.get log (op_dot p) ≡ Some p) → IsTrue (names_are_older p)
-  are_older p (inl new) = subst (λ (q : Operation). IsTrue (names_are_older q)) new.1 older
+  are_older : (p : Op) → ((op_dot p ≡ op_dot o) × (o ≡ p)) ⊎ (fin.get log (op_dot p) ≡ Some p) → IsTrue (names_are_older p)
+  are_older p (inl new) = subst (λ (q : Op). IsTrue (names_are_older q)) new.1 older
   are_older p (inr old) = is.older p old
 
-  was : (p : Operation) → ((op_dot p ≡ op_dot o) × (o ≡ p)) ⊎ (fin.get log (op_dot p) ≡ Some p) → (p ≡ o) ⊎ Has log p
+  was : (p : Op) → ((op_dot p ≡ op_dot o) × (o ≡ p)) ⊎ (fin.get log (op_dot p) ≡ Some p) → (p ≡ o) ⊎ Has log p
   was p (inl new) = inl (sym new.1)
   was p (inr old) = inr old
 
@@ -148,55 +148,55 @@ module _ (log : LogMap) (o : Operation) (is : IsSet log) (older : IsTrue (names_
 
 -- ---- the empty log, unions, and logs in memory
 
-pub none_there : (o : Operation) → Has fin.empty o → ⊥
+pub none_there : (o : Op) → Has fin.empty o → ⊥
 none_there o has = none-some o (sym (fin.get-empty dot_cmp (op_dot o)) ∙ has)
 
 pub empty_set : IsSet fin.empty
 empty_set = record { own_dot = λ d o at. absurd (none-some o (sym (fin.get-empty dot_cmp d) ∙ at)); older = λ o has. absurd (none_there o has) }
 
 -- what a union has at a dot one of both has there
-pub get_either : (a b : LogMap) (d : Dot) (o : Operation) → fin.get (union a b) d ≡ Some o → (fin.get a d ≡ Some o) ⊎ (fin.get b d ≡ Some o)
+pub get_either : (a b : LogMap) (d : Dot) (o : Op) → fin.get (union a b) d ≡ Some o → (fin.get a d ≡ Some o) ⊎ (fin.get b d ≡ Some o)
 get_either a b d o at = by (fin.get a d) refl (sym (get-union a b d) ∙ at)
   where
-    by : (x : Option Operation) → fin.get a d ≡ x → cond (is_some x) x (fin.get b d) ≡ Some o → (fin.get a d ≡ Some o) ⊎ (fin.get b d ≡ Some o)
+    by : (x : Option Op) → fin.get a d ≡ x → cond (is_some x) x (fin.get b d) ≡ Some o → (fin.get a d ≡ Some o) ⊎ (fin.get b d ≡ Some o)
     by (Some p) is h = inl (is ∙ h)
     by None is h = inr h
 
 pub union_set : (a b : LogMap) → IsSet a → IsSet b → IsSet (union a b)
 union_set a b is also = record { own_dot = λ d o at. own d o (get_either a b d o at); older = λ o has. old o (get_either a b (op_dot o) o has) }
   where
-    own : (d : Dot) (o : Operation) → (fin.get a d ≡ Some o) ⊎ (fin.get b d ≡ Some o) → d ≡ op_dot o
+    own : (d : Dot) (o : Op) → (fin.get a d ≡ Some o) ⊎ (fin.get b d ≡ Some o) → d ≡ op_dot o
     own d o (inl at) = is.own_dot d o at
     own d o (inr at) = also.own_dot d o at
 
-    old : (o : Operation) → Has a o ⊎ Has b o → IsTrue (names_are_older o)
+    old : (o : Op) → Has a o ⊎ Has b o → IsTrue (names_are_older o)
     old o (inl has) = is.older o has
     old o (inr has) = also.older o has
 
-union_first : (a b : LogMap) (d : Dot) (o : Operation) → fin.get a d ≡ Some o → fin.get (union a b) d ≡ Some o
-union_first a b d o at = get-union a b d ∙ ap (λ (x : Option Operation). cond (is_some x) x (fin.get b d)) at
+union_first : (a b : LogMap) (d : Dot) (o : Op) → fin.get a d ≡ Some o → fin.get (union a b) d ≡ Some o
+union_first a b d o at = get-union a b d ∙ ap (λ (x : Option Op). cond (is_some x) x (fin.get b d)) at
 
-union_second : (a b : LogMap) → Agree a b → (d : Dot) (o : Operation) → fin.get b d ≡ Some o → fin.get (union a b) d ≡ Some o
+union_second : (a b : LogMap) → Agree a b → (d : Dot) (o : Op) → fin.get b d ≡ Some o → fin.get (union a b) d ≡ Some o
 union_second a b agree d o at = get-union a b d ∙ by (fin.get a d) refl
   where
-    by : (x : Option Operation) → fin.get a d ≡ x → cond (is_some x) x (fin.get b d) ≡ Some o
+    by : (x : Option Op) → fin.get a d ≡ x → cond (is_some x) x (fin.get b d) ≡ Some o
     by (Some p) is = ap Some (agree d p o is at)
     by None is = at
 
 -- what is found under a dot stands under it, and what holds of all operations holds of it
-pub found_in : (P : Operation → Type 0) (d : Dot) (o : Operation) (ops : List Operation) → AllByRecursion P ops → find dot_cmp d (map entry_of ops) ≡ Some o → (d ≡ op_dot o) × P o
+pub found_in : (P : Op → Type 0) (d : Dot) (o : Op) (ops : List Op) → AllByRecursion P ops → find dot_cmp d (map entry_of ops) ≡ Some o → (d ≡ op_dot o) × P o
 found_in P d o [] all is = absurd (none-some o is)
 found_in P d o (x ∷ ops) all is = by (is_eq (dot_cmp d (op_dot x))) refl (found_in P d o ops all.1) is
   where
     by : (b : Bool) → is_eq (dot_cmp d (op_dot x)) ≡ b → (find dot_cmp d (map entry_of ops) ≡ Some o → (d ≡ op_dot o) × P o) → cond b (Some x) (find dot_cmp d (map entry_of ops)) ≡ Some o → (d ≡ op_dot o) × P o
-    by true tie later h = subst (λ (y : Operation). (d ≡ op_dot y) × P y) (same_Some x o h) (dot_cmp-IsAntisymmetric d (op_dot x) (equal_of _ tie), all.0)
+    by true tie later h = subst (λ (y : Op). (d ≡ op_dot y) × P y) (same_Some x o h) (dot_cmp-IsAntisymmetric d (op_dot x) (equal_of _ tie), all.0)
     by false tie later h = later h
 
 pub logged_set : (log : LogMap) → AreLogged (operations log) → log_of (operations log) ≡ log → IsSet log
 logged_set log logged whole = record { own_dot = λ d o at. (stands d o at).0; older = λ o has. (stands (op_dot o) o has).1.older }
   where
-    stands : (d : Dot) (o : Operation) → fin.get log d ≡ Some o → (d ≡ op_dot o) × IsOperation o
-    stands d o at = found_in IsOperation d o (operations log) logged.valid (sym (get-log_of (operations log) d logged.rise) ∙ ap (λ (n : LogMap). fin.get n d) whole ∙ at)
+    stands : (d : Dot) (o : Op) → fin.get log d ≡ Some o → (d ≡ op_dot o) × IsOp o
+    stands d o at = found_in IsOp d o (operations log) logged.valid (sym (get-log_of (operations log) d logged.rise) ∙ ap (λ (n : LogMap). fin.get n d) whole ∙ at)
 
 -- ---- the laws
 

@@ -2,16 +2,16 @@
 use Rattle.std.specs.Prelude.{◌≡◌, ◌≢◌, List, [], ◌∷◌, Bool, true, false, Option, Some, None, ◌⊎◌}
 use Rattle.std.specs.FinMap as map
 use Rattle.mt_stamp.specs.declared.name.Dot.{Dot}
-use Rattle.mt_op.specs.Operation.{Operation}
+use Rattle.mt_op.specs.OpValue.{Op}
 use Rattle.mt_op.specs.Dots.{op_dot}
 use Rattle.mt_opcodec.specs.LogValue.{LogMap}
 
 -- whether a log has another operation under this one's dot
-abbrev pub HasAnother : LogMap → Operation → Bool → Type 0
-HasAnother log o true = (p : Operation) × ((map.get log (op_dot o) ≡ Some p) × (p ≢ o))
-HasAnother log o false = (p : Operation) → map.get log (op_dot o) ≡ Some p → p ≡ o
+abbrev pub HasAnother : LogMap → Op → Bool → Type 0
+HasAnother log o true = (p : Op) × ((map.get log (op_dot o) ≡ Some p) × (p ≢ o))
+HasAnother log o false = (p : Op) → map.get log (op_dot o) ≡ Some p → p ≡ o
 
 -- the dot of the first operation of a list that the log has another one for, or none (working predicate)
-abbrev pub FirstOther : LogMap → List Operation → Option Dot → Type 0
+abbrev pub FirstOther : LogMap → List Op → Option Dot → Type 0
 FirstOther log [] r = r ≡ None
 FirstOther log (o ∷ ops) r = (HasAnother log o true × (r ≡ Some (op_dot o))) ⊎ (HasAnother log o false × FirstOther log ops r)

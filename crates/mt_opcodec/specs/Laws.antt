@@ -3,13 +3,13 @@ use Rattle.std.specs.Prelude.{◌≡◌, ℕ, ◌<◌, ◌^◌, List, [], ◌∷
 use Rattle.std.specs.List.{AllByRecursion, Contains}
 use Rattle.std.specs.FinMap as map
 use Rattle.mt_stamp.specs.declared.name.Dot.{Dot}
-use Rattle.mt_op.specs.Operation.{Operation}
+use Rattle.mt_op.specs.OpValue.{Op}
 use Rattle.mt_op.specs.Dots.{op_dot}
 use Rattle.mt_op.specs.Needs.{names_are_older}
-use Rattle.mt_op.specs.Valid.{IsOperation}
+use Rattle.mt_op.specs.Valid.{IsOp}
 use Rattle.mt_opcodec.specs.OpText.{op_text}
 use Rattle.mt_opcodec.specs.Versions.{version_of_act, version_of}
-use Rattle.mt_opcodec.specs.LogText.{log_text}
+use Rattle.mt_opcodec.specs.LogText.{log_bytes}
 use Rattle.mt_opcodec.specs.LogValue.{LogMap, operations, log_of, AreLogged}
 use Rattle.mt_opcodec.specs.IsLog.{IsLog}
 use Rattle.mt_opcodec.specs.Sets.{Has, IsSet, HasJoined, IsReadyIn}
@@ -17,21 +17,21 @@ use Rattle.mt_opcodec.specs.Union.{Agree, union, AllAgree}
 
 -- An operation has one text, and no operation's text begins another's: what stands at the front of bytes is determined.
 abbrev pub OpTextsAreApart : Type 0
-OpTextsAreApart = (o p : Operation) (rest after : List ℕ) → IsOperation o → IsOperation p → op_text o ++ rest ≡ op_text p ++ after → (o ≡ p) × (rest ≡ after)
+OpTextsAreApart = (o p : Op) (rest after : List ℕ) → IsOp o → IsOp p → op_text o ++ rest ≡ op_text p ++ after → (o ≡ p) × (rest ≡ after)
 
 -- A log's text determines its operations.
 abbrev pub LogTextsAreApart : Type 0
-LogTextsAreApart = (a b : List Operation) → AreLogged a → AreLogged b → length a < 2 ^ 64 → length b < 2 ^ 64 → log_text a ≡ log_text b → a ≡ b
+LogTextsAreApart = (a b : List Op) → AreLogged a → AreLogged b → length a < 2 ^ 64 → length b < 2 ^ 64 → log_bytes a ≡ log_bytes b → a ≡ b
 
 -- Two logs with the same text are the same log.
 abbrev pub OneLogOfEachText : Type 0
-OneLogOfEachText = (a b : LogMap) → IsLog a → IsLog b → log_text (operations a) ≡ log_text (operations b) → a ≡ b
+OneLogOfEachText = (a b : LogMap) → IsLog a → IsLog b → log_bytes (operations a) ≡ log_bytes (operations b) → a ≡ b
 
 -- The version of a log is the greatest that one of its operations asks for: none asks for a later one, and where it is not 1, some
 -- operation asks for it.
 pub record VersionIsGreatest : Type 0 where
-  pub none_later : (ops : List Operation) (o : Operation) → Contains ops o → version_of_act o.act ≤ version_of ops
-  pub asked_for : (ops : List Operation) → (version_of ops ≡ 1) ⊎ ((o : Operation) × (Contains ops o × (version_of_act o.act ≡ version_of ops)))
+  pub none_later : (ops : List Op) (o : Op) → Contains ops o → version_of_act o.act ≤ version_of ops
+  pub asked_for : (ops : List Op) → (version_of ops ≡ 1) ⊎ ((o : Op) × (Contains ops o × (version_of_act o.act ≡ version_of ops)))
 
 -- Union joins sets: it has what either log has, and where the logs agree it is commutative, associative and idempotent.
 pub record IsUnion : Type 0 where
@@ -56,14 +56,14 @@ AgreeGrouped = (a b c : LogMap) → (Agree a b × Agree (union a b) c) ↔ (Agre
 -- A log is the set of the operations that it lists. The empty one has none, one more joins where nothing stands under its dot, and
 -- unions and the logs in memory are sets.
 pub record LogsAreSets : Type 0 where
-  pub listed : (log : LogMap) → IsSet log → (o : Operation) → Contains (operations log) o ↔ Has log o
-  pub empty : IsSet map.empty × ((o : Operation) → Has map.empty o → ⊥)
-  pub one_more : (log : LogMap) (o : Operation) → IsSet log → IsTrue (names_are_older o) → map.get log (op_dot o) ≡ None → HasJoined log o (map.insert log (op_dot o) o)
+  pub listed : (log : LogMap) → IsSet log → (o : Op) → Contains (operations log) o ↔ Has log o
+  pub empty : IsSet map.empty × ((o : Op) → Has map.empty o → ⊥)
+  pub one_more : (log : LogMap) (o : Op) → IsSet log → IsTrue (names_are_older o) → map.get log (op_dot o) ≡ None → HasJoined log o (map.insert log (op_dot o) o)
   pub unions : (a b : LogMap) → IsSet a → IsSet b → IsSet (union a b)
   pub logged : (log : LogMap) → AreLogged (operations log) → log_of (operations log) ≡ log → IsSet log
 
 -- What is ready in a log stays ready as the log grows: by one operation more, and in its union with another log.
 pub record ReadyStays : Type 0 where
-  pub one_more : (log : LogMap) (o p : Operation) → map.get log (op_dot o) ≡ None → IsReadyIn log p → IsReadyIn (map.insert log (op_dot o) o) p
-  pub first : (a b : LogMap) (o : Operation) → IsReadyIn a o → IsReadyIn (union a b) o
-  pub second : (a b : LogMap) (o : Operation) → Agree a b → IsReadyIn b o → IsReadyIn (union a b) o
+  pub one_more : (log : LogMap) (o p : Op) → map.get log (op_dot o) ≡ None → IsReadyIn log p → IsReadyIn (map.insert log (op_dot o) o) p
+  pub first : (a b : LogMap) (o : Op) → IsReadyIn a o → IsReadyIn (union a b) o
+  pub second : (a b : LogMap) (o : Op) → Agree a b → IsReadyIn b o → IsReadyIn (union a b) o

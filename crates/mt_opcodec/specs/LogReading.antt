@@ -5,8 +5,8 @@ use Rattle.std.specs.Cmp.Lexicographic.{pointwise}
 use Rattle.std.specs.List.{starts_with}
 use Rattle.sha2.specs.Sha256.{sha256}
 use Rattle.mt_stamp.specs.declared.name.Dot.{Dot}
-use Rattle.mt_stamp.specs.Moment.{dot_cmp}
-use Rattle.mt_op.specs.Operation.{Operation}
+use Rattle.mt_stamp.specs.StampOrder.{dot_cmp}
+use Rattle.mt_op.specs.OpValue.{Op}
 use Rattle.mt_op.specs.Rising.{is_after}
 use Rattle.mt_op.specs.Dots.{op_dot}
 use Rattle.mt_opcodec.specs.declared.fault.ReadFault.{ReadFault}
@@ -23,10 +23,10 @@ abbrev pub ◌>>=◌ : {A B : Type 0} → Result A LogFault → (A → Result B 
 (Err e) >>= f = Err e
 
 -- one operation after the dot `last`, as record `index`
-abbrev pub in_order : ℕ → Option Dot → Operation × List ℕ → Result (Operation × List ℕ) LogFault
+abbrev pub in_order : ℕ → Option Dot → Op × List ℕ → Result (Op × List ℕ) LogFault
 in_order index last x = if is_after dot_cmp last (op_dot x.0) then Ok x else Err (OutOfOrder index)
 
-abbrev pub record_of : ℕ → Option Dot → Result (Operation × List ℕ) ReadFault → Result (Operation × List ℕ) LogFault
+abbrev pub record_of : ℕ → Option Dot → Result (Op × List ℕ) ReadFault → Result (Op × List ℕ) LogFault
 record_of index last (Ok x) = in_order index last x
 record_of index last (Err cause) = Err (BadRecord index cause)
 
@@ -38,7 +38,7 @@ fault_of index read.BadTag = BadRecord index read.BadTag
 fault_of index read.BadField = BadRecord index read.BadField
 
 -- this many operations of a version, from record `index` on, after the dot `last`, and then nothing
-unfoldable pub records_at : (version count index : ℕ) → Option Dot → List ℕ → Result (List Operation) LogFault
+unfoldable pub records_at : (version count index : ℕ) → Option Dot → List ℕ → Result (List Op) LogFault
 records_at version zero index last [] = Ok []
 records_at version zero index last (b ∷ bytes) = Err Trailing
 records_at version (suc count) index last bytes = do
@@ -47,11 +47,11 @@ records_at version (suc count) index last bytes = do
   Ok (first.0 ∷ others)
 
 -- operations, where they ask for no earlier version than this one
-abbrev pub in_version : ℕ → List Operation → Result (List Operation) LogFault
+abbrev pub in_version : ℕ → List Op → Result (List Op) LogFault
 in_version version ops = if nat_lt (version_of ops) version then Err VersionTooHigh else Ok ops
 
 -- this many operations of a version that they ask for, and then nothing
-abbrev pub log_records_at : (version count : ℕ) → List ℕ → Result (List Operation) LogFault
+abbrev pub log_records_at : (version count : ℕ) → List ℕ → Result (List Op) LogFault
 log_records_at version count bytes = records_at version count 0 None bytes >>= in_version version
 
 -- how many bytes stand before the records, and how many the digest has
@@ -83,10 +83,10 @@ sealed_at bytes =
     else Err Damaged
 
 -- the count says how many operations stand between it and the digest
-unfoldable pub counted_at : List ℕ → Result (List Operation) LogFault
+unfoldable pub counted_at : List ℕ → Result (List Op) LogFault
 counted_at body = log_records_at (version_byte body) (from_be_bytes w64 (take 8 (drop 5 body))) (drop head_len body)
 
-abbrev pub log_at : List ℕ → Result (List Operation) LogFault
+abbrev pub log_at : List ℕ → Result (List Op) LogFault
 log_at bytes = sealed_at bytes >>= counted_at
 
 -- What a function returned, seen by view, is what reading gives, unless memory ran out.

@@ -1,12 +1,12 @@
 -- Reading an operation from left to right, field by field, with the first fault that is met (profile).
 use Rattle.std.specs.Prelude.{◌≡◌, ℕ, zero, suc, Bool, true, false, List, [], ◌∷◌, Option, Some, None, length, take, drop, Result, Ok, Err, nat_lt, nat_le, ◌==◌, ◌&&◌, if◌then◌else◌}
 use Rattle.std.specs.Int.{Width, w16, w32, w64, w128, byte_len, from_be_bytes}
-use Rattle.mt_stamp.specs.Moment.{Moment, stamp_cmp, greatest}
+use Rattle.mt_stamp.specs.StampOrder.{Stamp, stamp_cmp, greatest}
 use Rattle.mt_op.specs.Title.{is_title}
 use Rattle.mt_op.specs.Rising.{is_after}
-use Rattle.mt_op.specs.Gain.{Ratio}
+use Rattle.mt_op.specs.Gain.{Gain}
 use Rattle.mt_op.specs.declared.digest.Digest.{Digest}
-use Rattle.mt_op.specs.Operation.{Act, AddTrack, MoveTrack, AddClip, MoveClip, TrimClip, SetGain, SetMute, Remove, Restore, AddMarker, MoveMarker, Retitle, SetFade, SetMarkerLength, Operation}
+use Rattle.mt_op.specs.OpValue.{Body, AddTrack, MoveTrack, AddClip, MoveClip, TrimClip, SetGain, SetMute, Remove, Restore, AddMarker, MoveMarker, Retitle, SetFade, SetMarkerLength, Op}
 use Rattle.mt_op.specs.Valid.{longest_fade}
 use Rattle.mt_opcodec.specs.declared.fault.ReadFault.{ReadFault}
 use Rattle.mt_opcodec.specs.declared.fault.ReadFault.TheVariants.{Truncated, BadTag, BadField, Memory}
@@ -41,7 +41,7 @@ flag_at (byte ∷ rest) =
     else Err BadField
 
 -- the three numbers of a stamp, in range or not
-unfoldable pub moment_at : List ℕ → Reads Moment
+unfoldable pub moment_at : List ℕ → Reads Stamp
 moment_at bytes = do
   clock ← number_at w64 bytes
   replica ← number_at w128 clock.1
@@ -52,30 +52,30 @@ moment_at bytes = do
 abbrev pub is_in_range : ℕ → Bool
 is_in_range n = nat_le 1 n && nat_le n greatest
 
-abbrev pub is_stamp : Moment → Bool
+abbrev pub is_stamp : Stamp → Bool
 is_stamp m = is_in_range m.clock && is_in_range m.seq
 
 -- a stamp is one field: its numbers are looked at once all are there
-unfoldable pub stamp_at : List ℕ → Reads Moment
+unfoldable pub stamp_at : List ℕ → Reads Stamp
 stamp_at bytes = do
   stamp ← moment_at bytes
   if is_stamp stamp.0 then Ok stamp else Err BadField
 
 -- a stamp that an operation of this clock names
-unfoldable pub older_stamp_at : ℕ → List ℕ → Reads Moment
+unfoldable pub older_stamp_at : ℕ → List ℕ → Reads Stamp
 older_stamp_at clock bytes = do
   name ← stamp_at bytes
   if nat_lt name.0.clock clock then Ok name else Err BadField
 
 -- the place that a track is put after, where a flag says that there is one
-unfoldable pub after_at : ℕ → Bool → List ℕ → Reads (Option Moment)
+unfoldable pub after_at : ℕ → Bool → List ℕ → Reads (Option Stamp)
 after_at clock false bytes = Ok (None, bytes)
 after_at clock true bytes = do
   after ← older_stamp_at clock bytes
   Ok (Some after.0, after.1)
 
 -- a flag, and the place where it is 1
-unfoldable pub place_at : ℕ → List ℕ → Reads (Option Moment)
+unfoldable pub place_at : ℕ → List ℕ → Reads (Option Stamp)
 place_at clock bytes = do
   there ← flag_at bytes
   after_at clock there.0 there.1
@@ -115,20 +115,20 @@ fades_at bytes = do
   Ok ((fade_in.0, fade_out.0), fade_out.1)
 
 -- what is multiplied by, and then what is divided by
-unfoldable pub gain_at : List ℕ → Reads Ratio
+unfoldable pub gain_at : List ℕ → Reads Gain
 gain_at bytes = do
   num ← number_at w16 bytes
   den ← positive_at w16 num.1
   Ok (record { num = num.0; den = den.0 }, den.1)
 
 -- a tag of a Remove, after the one before
-unfoldable pub tag_at : ℕ → Option Moment → List ℕ → Reads Moment
+unfoldable pub tag_at : ℕ → Option Stamp → List ℕ → Reads Stamp
 tag_at clock last bytes = do
   tag ← older_stamp_at clock bytes
   if is_after stamp_cmp last tag.0 then Ok tag else Err BadField
 
 -- this many tags, after the one before
-unfoldable pub stamps_at : ℕ → ℕ → Option Moment → List ℕ → Reads (List Moment)
+unfoldable pub stamps_at : ℕ → ℕ → Option Stamp → List ℕ → Reads (List Stamp)
 stamps_at zero clock last bytes = Ok ([], bytes)
 stamps_at (suc count) clock last bytes = do
   tag ← tag_at clock last bytes
@@ -136,26 +136,26 @@ stamps_at (suc count) clock last bytes = do
   Ok (tag.0 ∷ tags.0, tags.1)
 
 -- a count that is not 0, and that many tags, each a field
-unfoldable pub tags_at : ℕ → List ℕ → Reads (List Moment)
+unfoldable pub tags_at : ℕ → List ℕ → Reads (List Stamp)
 tags_at clock bytes = do
   count ← number_at w16 bytes
   if count.0 == 0 then Err BadField else stamps_at count.0 clock None count.1
 
 -- ---- the fields of each act, where the operation has this clock
 
-unfoldable pub add_track_at : ℕ → List ℕ → Reads Act
+unfoldable pub add_track_at : ℕ → List ℕ → Reads Body
 add_track_at clock bytes = do
   after ← place_at clock bytes
   title ← title_at after.1
   Ok (AddTrack after.0 title.0, title.1)
 
-unfoldable pub move_track_at : ℕ → List ℕ → Reads Act
+unfoldable pub move_track_at : ℕ → List ℕ → Reads Body
 move_track_at clock bytes = do
   track ← older_stamp_at clock bytes
   after ← place_at clock track.1
   Ok (MoveTrack track.0 after.0, after.1)
 
-unfoldable pub add_clip_at : ℕ → List ℕ → Reads Act
+unfoldable pub add_clip_at : ℕ → List ℕ → Reads Body
 add_clip_at clock bytes = do
   source ← digest_at bytes
   track ← older_stamp_at clock source.1
@@ -163,67 +163,67 @@ add_clip_at clock bytes = do
   trim ← trim_at at.1
   Ok (AddClip source.0 track.0 at.0 trim.0.0 trim.0.1, trim.1)
 
-unfoldable pub move_clip_at : ℕ → List ℕ → Reads Act
+unfoldable pub move_clip_at : ℕ → List ℕ → Reads Body
 move_clip_at clock bytes = do
   clip ← older_stamp_at clock bytes
   track ← older_stamp_at clock clip.1
   at ← number_at w32 track.1
   Ok (MoveClip clip.0 track.0 at.0, at.1)
 
-unfoldable pub trim_clip_at : ℕ → List ℕ → Reads Act
+unfoldable pub trim_clip_at : ℕ → List ℕ → Reads Body
 trim_clip_at clock bytes = do
   clip ← older_stamp_at clock bytes
   trim ← trim_at clip.1
   Ok (TrimClip clip.0 trim.0.0 trim.0.1, trim.1)
 
-unfoldable pub set_gain_at : ℕ → List ℕ → Reads Act
+unfoldable pub set_gain_at : ℕ → List ℕ → Reads Body
 set_gain_at clock bytes = do
   item ← older_stamp_at clock bytes
   gain ← gain_at item.1
   Ok (SetGain item.0 gain.0, gain.1)
 
-unfoldable pub set_mute_at : ℕ → List ℕ → Reads Act
+unfoldable pub set_mute_at : ℕ → List ℕ → Reads Body
 set_mute_at clock bytes = do
   item ← older_stamp_at clock bytes
   on ← flag_at item.1
   Ok (SetMute item.0 on.0, on.1)
 
-unfoldable pub remove_at : ℕ → List ℕ → Reads Act
+unfoldable pub remove_at : ℕ → List ℕ → Reads Body
 remove_at clock bytes = do
   item ← older_stamp_at clock bytes
   tags ← tags_at clock item.1
   Ok (Remove item.0 tags.0, tags.1)
 
-unfoldable pub restore_at : ℕ → List ℕ → Reads Act
+unfoldable pub restore_at : ℕ → List ℕ → Reads Body
 restore_at clock bytes = do
   item ← older_stamp_at clock bytes
   Ok (Restore item.0, item.1)
 
-unfoldable pub add_marker_at : List ℕ → Reads Act
+unfoldable pub add_marker_at : List ℕ → Reads Body
 add_marker_at bytes = do
   at ← number_at w32 bytes
   title ← title_at at.1
   Ok (AddMarker at.0 title.0, title.1)
 
-unfoldable pub move_marker_at : ℕ → List ℕ → Reads Act
+unfoldable pub move_marker_at : ℕ → List ℕ → Reads Body
 move_marker_at clock bytes = do
   marker ← older_stamp_at clock bytes
   at ← number_at w32 marker.1
   Ok (MoveMarker marker.0 at.0, at.1)
 
-unfoldable pub retitle_at : ℕ → List ℕ → Reads Act
+unfoldable pub retitle_at : ℕ → List ℕ → Reads Body
 retitle_at clock bytes = do
   item ← older_stamp_at clock bytes
   title ← title_at item.1
   Ok (Retitle item.0 title.0, title.1)
 
-unfoldable pub set_fade_at : ℕ → List ℕ → Reads Act
+unfoldable pub set_fade_at : ℕ → List ℕ → Reads Body
 set_fade_at clock bytes = do
   clip ← older_stamp_at clock bytes
   fades ← fades_at clip.1
   Ok (SetFade clip.0 fades.0.0 fades.0.1, fades.1)
 
-unfoldable pub set_marker_length_at : ℕ → List ℕ → Reads Act
+unfoldable pub set_marker_length_at : ℕ → List ℕ → Reads Body
 set_marker_length_at clock bytes = do
   marker ← older_stamp_at clock bytes
   len ← number_at w32 marker.1
@@ -231,7 +231,7 @@ set_marker_length_at clock bytes = do
 
 -- a kind byte, and what reads the fields that it calls for, given the operation's clock
 abbrev pub Reader : Type 0
-Reader = ℕ × (ℕ → List ℕ → Reads Act)
+Reader = ℕ × (ℕ → List ℕ → Reads Body)
 
 abbrev pub readers : List Reader
 readers =
@@ -251,12 +251,12 @@ readers =
     (set_marker_length_kind, set_marker_length_at) ∷ []
 
 -- the fields that the first of these readers with this kind byte reads
-abbrev pub fields_at : List Reader → ℕ → ℕ → List ℕ → Reads Act
+abbrev pub fields_at : List Reader → ℕ → ℕ → List ℕ → Reads Body
 fields_at [] kind clock bytes = Err BadTag
 fields_at (reader ∷ others) kind clock bytes = if kind == reader.0 then reader.1 clock bytes else fields_at others kind clock bytes
 
 -- a kind byte, and the fields that it calls for
-unfoldable pub act_at : ℕ → List ℕ → Reads Act
+unfoldable pub act_at : ℕ → List ℕ → Reads Body
 act_at clock [] = Err Truncated
 act_at clock (kind ∷ rest) = fields_at readers kind clock rest
 
@@ -266,17 +266,17 @@ is_newer version [] = false
 is_newer version (kind ∷ rest) = nat_lt version (version_of_kind kind)
 
 -- the same in a log of this version, where a kind byte that came later is none of an operation
-unfoldable pub act_in : (version clock : ℕ) → List ℕ → Reads Act
+unfoldable pub act_in : (version clock : ℕ) → List ℕ → Reads Body
 act_in version clock bytes = if is_newer version bytes then Err BadTag else act_at clock bytes
 
 -- what stands after a stamp, with that stamp
-abbrev pub op_after : ℕ → Moment → List ℕ → Reads Operation
+abbrev pub op_after : ℕ → Stamp → List ℕ → Reads Op
 op_after version stamp bytes = do
   act ← act_in version stamp.clock bytes
   Ok (record { stamp = stamp; act = act.0 }, act.1)
 
 -- an operation in a log of this version; the newest has all kinds of them
-unfoldable pub op_at : ℕ → List ℕ → Reads Operation
+unfoldable pub op_at : ℕ → List ℕ → Reads Op
 op_at version bytes = do
   stamp ← stamp_at bytes
   op_after version stamp.0 stamp.1

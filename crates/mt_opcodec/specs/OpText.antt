@@ -2,12 +2,12 @@
 use Rattle.std.specs.Prelude.{ℕ, Bool, true, false, List, [], ◌∷◌, ◌++◌, Option, Some, None, length}
 use Rattle.std.specs.Int.{w16, w32, w64, w128, to_be_bytes}
 use Rattle.std.specs.List.{flat_map}
-use Rattle.mt_stamp.specs.Moment.{Moment}
-use Rattle.mt_op.specs.Gain.{Ratio}
-use Rattle.mt_op.specs.Operation.{Act, AddTrack, MoveTrack, AddClip, MoveClip, TrimClip, SetGain, SetMute, Remove, Restore, AddMarker, MoveMarker, Retitle, SetFade, SetMarkerLength, Operation}
+use Rattle.mt_stamp.specs.StampOrder.{Stamp}
+use Rattle.mt_op.specs.Gain.{Gain}
+use Rattle.mt_op.specs.OpValue.{Body, AddTrack, MoveTrack, AddClip, MoveClip, TrimClip, SetGain, SetMute, Remove, Restore, AddMarker, MoveMarker, Retitle, SetFade, SetMarkerLength, Op}
 
 -- clock in 8 bytes, replica in 16, sequence number in 8
-abbrev pub stamp_bytes : Moment → List ℕ
+abbrev pub stamp_bytes : Stamp → List ℕ
 stamp_bytes m = to_be_bytes w64 m.clock ++ (to_be_bytes w128 m.replica.0 ++ to_be_bytes w64 m.seq)
 
 -- one byte, 0 or 1
@@ -16,7 +16,7 @@ flag_bytes false = 0 ∷ []
 flag_bytes true = 1 ∷ []
 
 -- the place that a track is put after: 0 for the head, or 1 and a stamp
-abbrev pub place_bytes : Option Moment → List ℕ
+abbrev pub place_bytes : Option Stamp → List ℕ
 place_bytes None = 0 ∷ []
 place_bytes (Some after) = 1 ∷ stamp_bytes after
 
@@ -37,11 +37,11 @@ abbrev pub fades_bytes : (fade_in fade_out : ℕ) → List ℕ
 fades_bytes fade_in fade_out = frame_bytes fade_in ++ frame_bytes fade_out
 
 -- two numbers of two bytes
-abbrev pub gain_bytes : Ratio → List ℕ
+abbrev pub gain_bytes : Gain → List ℕ
 gain_bytes gain = to_be_bytes w16 gain.num ++ to_be_bytes w16 gain.den
 
 -- two bytes of count, and that many stamps
-abbrev pub tags_bytes : List Moment → List ℕ
+abbrev pub tags_bytes : List Stamp → List ℕ
 tags_bytes tags = to_be_bytes w16 (length tags) ++ flat_map stamp_bytes tags
 
 -- the kind byte of each act
@@ -88,7 +88,7 @@ abbrev pub set_marker_length_kind : ℕ
 set_marker_length_kind = 14
 
 -- the kind byte, and the fields in their order; a digest stands as its bytes
-abbrev pub act_bytes : Act → List ℕ
+abbrev pub act_bytes : Body → List ℕ
 act_bytes (AddTrack after title) = add_track_kind ∷ (place_bytes after ++ title_bytes title)
 act_bytes (MoveTrack track after) = move_track_kind ∷ (stamp_bytes track ++ place_bytes after)
 act_bytes (AddClip source track at offset len) = add_clip_kind ∷ (source.0 ++ (stamp_bytes track ++ (frame_bytes at ++ trim_bytes offset len)))
@@ -104,5 +104,5 @@ act_bytes (Retitle item title) = retitle_kind ∷ (stamp_bytes item ++ title_byt
 act_bytes (SetFade clip fade_in fade_out) = set_fade_kind ∷ (stamp_bytes clip ++ fades_bytes fade_in fade_out)
 act_bytes (SetMarkerLength marker len) = set_marker_length_kind ∷ (stamp_bytes marker ++ frame_bytes len)
 
-abbrev pub op_text : Operation → List ℕ
+abbrev pub op_text : Op → List ℕ
 op_text o = stamp_bytes o.stamp ++ act_bytes o.act

@@ -2,7 +2,7 @@
 use Rattle.std.specs.Prelude.{◌≡◌, ◌<◌, ◌≤◌, ℕ, List, [], ◌∷◌, Option, Some, None, slice_get, length}
 use Rattle.std.specs.List.{AllByRecursion, flat_map}
 use Rattle.mt_stamp.specs.declared.name.Replica.{Replica}
-use Rattle.mt_op.specs.Operation.{Operation}
+use Rattle.mt_op.specs.OpValue.{Op}
 use Rattle.mt_opcodec.specs.LogValue.{AreLogged, log_of}
 use Rattle.mt_opcodec.specs.Union.{Agree, union}
 use Rattle.mt_opcodec.specs.declared.join.NextRun.{NextRun}
@@ -11,12 +11,12 @@ use Rattle.mt_opcodec.specs.declared.join.NextRun.TheVariants as next
 -- the operations of one replica
 pub record RunOf : Type 0 where
   pub replica : Replica
-  pub ops : List Operation
+  pub ops : List Op
 
 -- its dots rise, each is an operation, all are of its replica, and there is one
 pub record IsRun (r : RunOf) : Type 0 where
   pub logged : AreLogged r.ops
-  pub own : AllByRecursion (λ (o : Operation). o.stamp.replica ≡ r.replica) r.ops
+  pub own : AllByRecursion (λ (o : Op). o.stamp.replica ≡ r.replica) r.ops
   pub some : 0 < length r.ops
 
 -- every run is of a greater replica
@@ -34,7 +34,7 @@ pub record AreRuns (runs : List RunOf) : Type 0 where
   pub each : AllByRecursion IsRun runs
 
 -- the operations of all runs, one run after another: by rising dot
-abbrev pub run_ops : List RunOf → List Operation
+abbrev pub run_ops : List RunOf → List Op
 run_ops runs = flat_map (λ (r : RunOf). r.ops) runs
 
 -- runs that a log can have, and how many operations they have

@@ -3,62 +3,62 @@ use Rattle.std.specs.Prelude.{◌≡◌, ◌⊎◌, ◌↔◌, ℕ, zero, suc, L
 use Rattle.std.specs.FinMap as map
 use Rattle.std.specs.declared.cmp.Ordering.TheVariants.{Less}
 use Rattle.mt_stamp.specs.declared.name.Dot.{Dot}
-use Rattle.mt_stamp.specs.Moment.{dot_cmp}
-use Rattle.mt_op.specs.Operation.{Operation}
+use Rattle.mt_stamp.specs.StampOrder.{dot_cmp}
+use Rattle.mt_op.specs.OpValue.{Op}
 use Rattle.mt_op.specs.Dots.{op_dot}
 use Rattle.mt_opcodec.specs.LogValue.{LogMap}
 
-abbrev pub IsIn : List Operation → Operation → Type 0
+abbrev pub IsIn : List Op → Op → Type 0
 IsIn [] o = ⊥
 IsIn (p ∷ ops) o = (p ≡ o) ⊎ IsIn ops o
 
 -- one of the lists has it
-abbrev pub IsInOne : List (List Operation) → Operation → Type 0
+abbrev pub IsInOne : List (List Op) → Op → Type 0
 IsInOne [] o = ⊥
 IsInOne (ops ∷ lists) o = IsIn ops o ⊎ IsInOne lists o
 
 -- under a dot one of the lists has it
-abbrev pub IsListed : List (List Operation) → Dot → Operation → Type 0
+abbrev pub IsListed : List (List Op) → Dot → Op → Type 0
 IsListed lists dot o = IsInOne lists o × (op_dot o ≡ dot)
 
 -- under a dot one of the logs has it
-abbrev pub IsLogged : List LogMap → Dot → Operation → Type 0
+abbrev pub IsLogged : List LogMap → Dot → Op → Type 0
 IsLogged [] dot o = ⊥
 IsLogged (log ∷ logs) dot o = (map.get log dot ≡ Some o) ⊎ IsLogged logs dot o
 
 -- the lists have what the logs have
-abbrev pub AreOpsOf : List LogMap → List (List Operation) → Type 0
-AreOpsOf logs lists = (dot : Dot) (o : Operation) → IsListed lists dot o ↔ IsLogged logs dot o
+abbrev pub AreOpsOf : List LogMap → List (List Op) → Type 0
+AreOpsOf logs lists = (dot : Dot) (o : Op) → IsListed lists dot o ↔ IsLogged logs dot o
 
 -- the first operation of the list at an index
-abbrev pub first_at : List (List Operation) → ℕ → Option Operation
+abbrev pub first_at : List (List Op) → ℕ → Option Op
 first_at [] i = None
 first_at (ops ∷ lists) zero = slice_get ops 0
 first_at (ops ∷ lists) (suc i) = first_at lists i
 
 -- the lists without it
-abbrev pub without_first : List (List Operation) → ℕ → List (List Operation)
+abbrev pub without_first : List (List Op) → ℕ → List (List Op)
 without_first [] i = []
 without_first (ops ∷ lists) zero = drop 1 ops ∷ lists
 without_first (ops ∷ lists) (suc i) = ops ∷ without_first lists i
 
 -- under a dot, the log or one of the lists has an operation
-abbrev pub Has : LogMap → List (List Operation) → Dot → Operation → Type 0
+abbrev pub Has : LogMap → List (List Op) → Dot → Op → Type 0
 Has log lists dot o = (map.get log dot ≡ Some o) ⊎ IsListed lists dot o
 
 -- under each dot they have one operation at most
-abbrev pub HaveOneEach : LogMap → List (List Operation) → Type 0
-HaveOneEach log lists = (dot : Dot) (o p : Operation) → Has log lists dot o → Has log lists dot p → o ≡ p
+abbrev pub HaveOneEach : LogMap → List (List Op) → Type 0
+HaveOneEach log lists = (dot : Dot) (o p : Op) → Has log lists dot o → Has log lists dot p → o ≡ p
 
 -- they have the same after as before
-abbrev pub HaveTheSame : LogMap → List (List Operation) → LogMap → List (List Operation) → Type 0
-HaveTheSame old old_lists new new_lists = (dot : Dot) (o : Operation) → Has old old_lists dot o ↔ Has new new_lists dot o
+abbrev pub HaveTheSame : LogMap → List (List Op) → LogMap → List (List Op) → Type 0
+HaveTheSame old old_lists new new_lists = (dot : Dot) (o : Op) → Has old old_lists dot o ↔ Has new new_lists dot o
 
 -- two operations of one dot are one
-abbrev pub AreOneEach : List (List Operation) → Type 0
-AreOneEach lists = (o p : Operation) → IsInOne lists o → IsInOne lists p → op_dot o ≡ op_dot p → o ≡ p
+abbrev pub AreOneEach : List (List Op) → Type 0
+AreOneEach lists = (o p : Op) → IsInOne lists o → IsInOne lists p → op_dot o ≡ op_dot p → o ≡ p
 
 -- an operation may stand behind the last one: its dot is greater, or it is the same
-abbrev pub MayStandBehind : Option Operation → Operation → Type 0
+abbrev pub MayStandBehind : Option Op → Op → Type 0
 MayStandBehind None o = Unit {0}
 MayStandBehind (Some last) o = (dot_cmp (op_dot last) (op_dot o) ≡ Less) ⊎ (last ≡ o)

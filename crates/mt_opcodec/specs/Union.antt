@@ -4,24 +4,24 @@ use Rattle.std.specs.Prelude.{◌≡◌, ◌≢◌, List, [], ◌∷◌, ◌++�
 use Rattle.std.specs.FinMap as map
 use Rattle.std.specs.declared.cmp.Ordering.TheVariants.{Less}
 use Rattle.mt_stamp.specs.declared.name.Dot.{Dot}
-use Rattle.mt_stamp.specs.Moment.{dot_cmp}
-use Rattle.mt_op.specs.Operation.{Operation}
+use Rattle.mt_stamp.specs.StampOrder.{dot_cmp}
+use Rattle.mt_op.specs.OpValue.{Op}
 use Rattle.mt_opcodec.specs.LogValue.{LogMap}
 use Rattle.mt_opcodec.specs.declared.fault.LogFault.{LogFault}
 use Rattle.mt_opcodec.specs.declared.fault.LogFault.TheVariants.{Memory, Conflict}
 
 -- Two logs clash at a dot that names an operation in one and another operation in the other.
-abbrev pub ClashesAt : LogMap → LogMap → Dot → Type 0
-ClashesAt a b dot = (o : Operation) × ((p : Operation) × ((map.get a dot ≡ Some o) × (map.get b dot ≡ Some p) × (o ≢ p)))
+abbrev pub ConflictsAt : LogMap → LogMap → Dot → Type 0
+ConflictsAt a b dot = (o : Op) × ((p : Op) × ((map.get a dot ≡ Some o) × (map.get b dot ≡ Some p) × (o ≢ p)))
 
 -- Two logs agree where every dot that both have names one operation: then the union of their sets is a log.
 abbrev pub Agree : LogMap → LogMap → Type 0
-Agree a b = (dot : Dot) (o p : Operation) → map.get a dot ≡ Some o → map.get b dot ≡ Some p → o ≡ p
+Agree a b = (dot : Dot) (o p : Op) → map.get a dot ≡ Some o → map.get b dot ≡ Some p → o ≡ p
 
 -- the least dot at which they clash
-pub record IsFirstClash (a b : LogMap) (dot : Dot) : Type 0 where
-  pub clashes : ClashesAt a b dot
-  pub first : (other : Dot) → dot_cmp other dot ≡ Less → ClashesAt a b other → ⊥
+pub record IsFirstConflict (a b : LogMap) (dot : Dot) : Type 0 where
+  pub conflicts : ConflictsAt a b dot
+  pub first : (other : Dot) → dot_cmp other dot ≡ Less → ConflictsAt a b other → ⊥
 
 -- the operations of both (where they do not agree, those of the first)
 abbrev pub union : LogMap → LogMap → LogMap
@@ -30,7 +30,7 @@ union a b = map.from_entries {R = dot_cmp} (map.entries a ++ map.entries b)
 -- what refuses the union of two logs: memory, or the first dot at which they clash
 abbrev pub MergeFails : LogMap → LogMap → LogFault → Type 0
 MergeFails a b Memory = Unit {0}
-MergeFails a b (Conflict dot) = IsFirstClash a b dot
+MergeFails a b (Conflict dot) = IsFirstConflict a b dot
 MergeFails a b _ = ⊥
 
 -- the operations of a log and of the logs that follow it
@@ -50,15 +50,15 @@ abbrev pub AllAgree : List LogMap → Type 0
 AllAgree logs = AgreeFrom map.empty logs
 
 -- The first log that does not agree with the union of those before it clashes with that union, first at this dot.
-abbrev pub FirstClashFrom : LogMap → List LogMap → Dot → Type 0
-FirstClashFrom a [] dot = ⊥
-FirstClashFrom a (b ∷ logs) dot = IsFirstClash a b dot ⊎ (Agree a b × FirstClashFrom (union a b) logs dot)
+abbrev pub FirstConflictFrom : LogMap → List LogMap → Dot → Type 0
+FirstConflictFrom a [] dot = ⊥
+FirstConflictFrom a (b ∷ logs) dot = IsFirstConflict a b dot ⊎ (Agree a b × FirstConflictFrom (union a b) logs dot)
 
-abbrev pub FirstClash : List LogMap → Dot → Type 0
-FirstClash logs dot = FirstClashFrom map.empty logs dot
+abbrev pub FirstConflict : List LogMap → Dot → Type 0
+FirstConflict logs dot = FirstConflictFrom map.empty logs dot
 
 -- what refuses the union of logs: memory, or the first dot at which a log clashes with those before it
 abbrev pub JoinAllFails : List LogMap → LogFault → Type 0
 JoinAllFails logs Memory = Unit {0}
-JoinAllFails logs (Conflict dot) = FirstClash logs dot
+JoinAllFails logs (Conflict dot) = FirstConflict logs dot
 JoinAllFails logs _ = ⊥

@@ -1,6 +1,6 @@
 -- The versions of the text of a log (profile): what came with a later one is known from it on.
 use Rattle.std.specs.Prelude.{ℕ, max, Bool, List, [], ◌∷◌, nat_le, ◌==◌, ◌&&◌, if◌then◌else◌}
-use Rattle.mt_op.specs.Operation.{Act, SetFade, SetMarkerLength, Operation}
+use Rattle.mt_op.specs.OpValue.{Body, SetFade, SetMarkerLength, Op}
 use Rattle.mt_opcodec.specs.OpText.{set_fade_kind, set_marker_length_kind}
 
 abbrev pub newest_version : ℕ
@@ -18,12 +18,12 @@ version_of_kind kind =
     else 1
 
 -- the version that an act asks for, which its kind byte came with
-abbrev pub version_of_act : Act → ℕ
+abbrev pub version_of_act : Body → ℕ
 version_of_act (SetFade clip fade_in fade_out) = 2
 version_of_act (SetMarkerLength marker len) = 3
 version_of_act _ = 1
 
 -- the version of a log of these operations: the greatest that one of them asks for, and 1 where there is none
-abbrev pub version_of : List Operation → ℕ
+abbrev pub version_of : List Op → ℕ
 version_of [] = 1
 version_of (o ∷ ops) = max (version_of_act o.act) (version_of ops)

@@ -2,12 +2,12 @@
 
 ghost use Rattle.std.specs.Prelude.{◌≡◌, drop, IfOk, IsTrue, map as list_map};
 ghost use Rattle.std.specs.Option.{option_copied};
-ghost use Rattle.mt_op.specs.Operation.{Operation};
+ghost use Rattle.mt_op.specs.OpValue.{Op};
 ghost use Rattle.mt_opcodec.specs.Turns.{IsInOne, AreOneEach, MayStandBehind, first_at, without_first};
 ghost use Rattle.mt_opcodec.specs.Union.{AllAgree};
 
 use crate::log::Log;
-use crate::turns::run_slices;
+use crate::merge_order::run_slices;
 use mt_op::Op;
 use mt_op::laws::equal_ops;
 use std::alloc::{AllocError, Allocator};
@@ -55,7 +55,7 @@ fn may_stand_behind<A: Allocator>(last: Option<&Op<A>>, op: &Op<A>) -> bool
 
 // Whether nothing is left of any list.
 fn none_left<A: Allocator>(lists: &[&[Op<A>]]) -> bool
-    ensures { IsTrue result → (o : Operation) → IsInOne (list_map (λ l. l.now) lists.now) o → ⊥ }
+    ensures { IsTrue result → (o : Op) → IsInOne (list_map (λ l. l.now) lists.now) o → ⊥ }
 {
     for ops in lists {
         if !ops.is_empty() {
@@ -67,12 +67,12 @@ fn none_left<A: Allocator>(lists: &[&[Op<A>]]) -> bool
 
 // Whether operations that are taken in these turns, each the first that is left of the list at an index, are all of them and rise, but
 // for the same one again.
-fn rise_in_turns<A: Allocator, B: Allocator>(lists: Vec<&[Op<A>], B>, turns: &[usize]) -> bool
+fn rise_in_turns<A: Allocator, B: Allocator>(lists: Vec<&[Op<A>], B>, merge_order: &[usize]) -> bool
     ensures { IsTrue result → AreOneEach (list_map (λ l. l.now) lists.entry.items) }
 {
     let mut lists = lists;
     let mut last: Option<&Op<A>> = None;
-    for turn in turns {
+    for turn in merge_order {
         if let Some(op) = take_ref(&mut lists, *turn) {
             if may_stand_behind(last, op) {
                 last = Some(op);
@@ -88,10 +88,10 @@ fn rise_in_turns<A: Allocator, B: Allocator>(lists: Vec<&[Op<A>], B>, turns: &[u
 pub(crate) fn all_agree<A: Allocator, B: Allocator>(
     alloc: B,
     logs: &[Log<A>],
-    turns: &[usize],
+    merge_order: &[usize],
 ) -> Result<bool, AllocError>
     ensures { IfOk result (λ agree. IsTrue agree → AllAgree logs.now) }
 {
     let lists = run_slices(alloc, logs)?;
-    Ok(rise_in_turns(lists, turns))
+    Ok(rise_in_turns(lists, merge_order))
 }

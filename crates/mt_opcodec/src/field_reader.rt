@@ -2,7 +2,7 @@
 
 ghost use Rattle.std.specs.Prelude.{◌≡◌, IfErr, Some, None, ◌==◌, if◌then◌else◌};
 ghost use Rattle.std.specs.Int.{w16, w32, w64, w128};
-ghost use Rattle.mt_stamp.specs.Moment.{stamp_cmp};
+ghost use Rattle.mt_stamp.specs.StampOrder.{stamp_cmp};
 ghost use Rattle.mt_op.specs.Rising.{is_after};
 ghost use Rattle.mt_opcodec.specs.OpReading.{Gives, number_at, positive_at, flag_at, moment_at, is_stamp, stamp_at, older_stamp_at, after_at, place_at, title_of_bytes, title_at, digest_at, trim_at, fade_at, fades_at, gain_at, tag_at, stamps_at, tags_at};
 

@@ -5,10 +5,10 @@ ghost use Rattle.mt_opcodec.specs.Laws.{PairsAgree};
 ghost use Rattle.mt_opcodec.specs.Union.{Agree, union, union_all, AllAgree, JoinAllFails};
 
 use crate::fault::LogFault;
+use crate::kway_merge::join_in_turns;
 use crate::log::Log;
-use crate::merging_in_turns::join_in_turns;
-use crate::seen::first_clash;
-use crate::turns::{is_often, turns_of};
+use crate::merge_order::{is_often, turns_of};
+use crate::seen::first_conflict;
 use std::alloc::Allocator;
 use std::collections::VecDeque;
 
@@ -60,14 +60,14 @@ fn join_halves<A: Allocator + Clone>(alloc: A, logs: Vec<Log<A>, A>) -> Result<L
 fn join_agreed<A: Allocator + Clone>(
     alloc: A,
     logs: Vec<Log<A>, A>,
-    turns: &[usize],
+    merge_order: &[usize],
 ) -> Result<Log<A>, LogFault>
     requires agree { PairsAgree logs.items }
     ensures ok { IfOk result (λ all. all ≡ union_all logs.items) }
     ensures err { IfErr result (λ fault. fault ≡ LogFault.Memory) }
 {
-    if logs.len() > MANY && is_often(turns) {
-        return join_in_turns(alloc, logs, turns);
+    if logs.len() > MANY && is_often(merge_order) {
+        return join_in_turns(alloc, logs, merge_order);
     }
     join_halves(alloc, logs)
 }
@@ -101,10 +101,10 @@ impl<A: Allocator + Clone> Log<A> {
         if logs.len() <= FEW {
             return join_from_left(alloc, logs);
         }
-        let turns = turns_of(&alloc, &logs)?;
-        match first_clash(alloc.clone()?, &logs, &turns)? {
+        let merge_order = turns_of(&alloc, &logs)?;
+        match first_conflict(alloc.clone()?, &logs, &merge_order)? {
             Some(dot) => Err(LogFault::Conflict(dot)),
-            None => Ok(join_agreed(alloc, logs, &turns)?),
+            None => Ok(join_agreed(alloc, logs, &merge_order)?),
         }
     }
 }

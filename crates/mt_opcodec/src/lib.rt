@@ -26,7 +26,7 @@
 //! }
 //! ```
 //!
-//! Two logs *agree* where no dot has another operation in each, and else they *clash* there (`Log::clash`, `Log::has_another`). `Log::join` makes
+//! Two logs *agree* where no dot has another operation in each, and else they *clash* there (`Log::conflict`, `Log::has_another`). `Log::join` makes
 //! the *union* of two logs that agree, which it takes by value, and `Log::merge` of two that it copies; `Log::join_all` joins any number from
 //! left to right. For many logs it walks all operations by rising dot, in *turns*: which log has the next one. Where they do not agree, it notes those
 //! that it has *seen*, log by log, to tell the first that clashes with those before it.
@@ -58,7 +58,7 @@
 #![tactic(auto)]
 
 mod agreeing;
-mod clash;
+mod conflict;
 mod copy;
 mod fault;
 mod field_reader;
@@ -66,23 +66,23 @@ mod find;
 mod join;
 mod join_all;
 mod joining;
+mod kway_merge;
 pub mod laws;
 mod log;
 mod log_reader;
-mod merging_in_turns;
+mod merge_order;
 mod op_reader;
 mod op_writer;
 mod run;
 mod run_list;
 mod seen;
-mod turns;
 mod version;
 
+pub use base_io::{BufferedLatch, Latch, LatchFault};
 pub use fault::{LogFault, ReadFault};
 pub use field_reader::{u32_at, u64_at, u128_at};
 pub use log::Log;
 pub use log_reader::read_ops;
-pub use mt_latch::{BufferedLatch, Latch, LatchFault};
 pub use op_reader::read_op;
 pub use op_writer::write_op;
 pub use run::Run;

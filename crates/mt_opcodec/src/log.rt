@@ -6,11 +6,11 @@ ghost use Rattle.std.specs.FinMap as map;
 ghost use Rattle.mt_op.specs.Dots.{op_dot, IsGapFor};
 ghost use Rattle.mt_opcodec.specs.Clashing.{HasAnother};
 ghost use Rattle.mt_opcodec.specs.LogValue.{Adds, AreLogged, log_of, operations};
-ghost use Rattle.mt_opcodec.specs.LogText.{log_body, log_text, op_texts};
+ghost use Rattle.mt_opcodec.specs.LogText.{log_body, log_bytes, op_texts};
 ghost use Rattle.mt_opcodec.specs.Versions.{version_of};
 ghost use Rattle.mt_opcodec.specs.Runs.{AreRuns, run_ops};
 
-use crate::clash::{first_other, is_another};
+use crate::conflict::{first_other, is_another};
 use crate::fault::LogFault;
 use crate::find::find_run;
 use crate::join::joined_runs;
@@ -19,7 +19,7 @@ use crate::op_writer::put_op;
 use crate::run::Run;
 use crate::run_list::{add_to_runs, copied_runs, count_of, equal_runs, op_of_runs, refs_of_runs};
 use crate::version::version_of_body;
-use mt_digests::sha256_of;
+use base_sha256::sha256_of;
 use mt_op::Op;
 use mt_op::laws::equal_ops;
 use mt_stamp::Dot;
@@ -52,8 +52,8 @@ impl<A: Allocator> Model for Log<A> {
 }
 
 impl<A: Allocator> Log<A> {
-    ghost use Rattle.mt_op.specs.Operation.{Operation};
-    ghost use Rattle.mt_opcodec.specs.Union.{Agree, union, IsFirstClash, MergeFails};
+    ghost use Rattle.mt_op.specs.OpValue.{Op};
+    ghost use Rattle.mt_opcodec.specs.Union.{Agree, union, IsFirstConflict, MergeFails};
 
     /// The log of no operation. Takes no memory.
     pub fn new(alloc: A) -> Self
@@ -137,8 +137,8 @@ impl<A: Allocator> Log<A> {
 
     /// The least dot that names one operation in this log and another in the other one, or `None` where they agree. Takes no
     /// memory. Looks up each operation of the other log in this one.
-    pub fn clash(&self, other: &Self) -> Option<Dot>
-        ensures clash { IfSome result (IsFirstClash self.now other.now) }
+    pub fn conflict(&self, other: &Self) -> Option<Dot>
+        ensures conflict { IfSome result (IsFirstConflict self.now other.now) }
         ensures none { result ≡ None → Agree self.now other.now }
     {
         first_other(self, other.runs())
@@ -170,7 +170,7 @@ impl<A: Allocator> Log<A> {
 }
 
 impl<A: Allocator + Clone> Log<A> {
-    ghost use Rattle.mt_op.specs.Operation.{Operation};
+    ghost use Rattle.mt_op.specs.OpValue.{Op};
     ghost use Rattle.mt_opcodec.specs.LogReading.{LogGives, log_at};
     ghost use Rattle.mt_opcodec.specs.Union.{Agree, union, MergeFails};
 
@@ -183,9 +183,9 @@ impl<A: Allocator + Clone> Log<A> {
     /// failed. Memory is taken record by record, never for the number of them that the text gives.
     pub fn read(alloc: A, bytes: &[u8]) -> Result<Self, LogFault>
         // What is read is the log text of its operations.
-        ensures found { IfOk result (λ log. bytes.now ≡ log_text (operations log)) }
+        ensures found { IfOk result (λ log. bytes.now ≡ log_bytes (operations log)) }
         // The log text of operations is read as them, unless memory ran out.
-        ensures only { (ops : List Operation) → AreLogged ops → length ops < 2 ^ 64 → bytes.now ≡ log_text ops
+        ensures only { (ops : List Op) → AreLogged ops → length ops < 2 ^ 64 → bytes.now ≡ log_bytes ops
             → LogGives operations result (Ok ops) }
         // Which fault it is.
         ensures exact { LogGives operations result (log_at bytes.now) }
@@ -196,7 +196,7 @@ impl<A: Allocator + Clone> Log<A> {
     /// The log's text: 45 bytes and those of its operations, in the least version that has them. Refused only as `Memory` (0), where an allocation
     /// failed.
     pub fn write(&self) -> Result<Vec<u8, A>, LogFault>
-        ensures ok { IfOk result (λ text. text.items ≡ log_text (operations self.now)) }
+        ensures ok { IfOk result (λ text. text.items ≡ log_bytes (operations self.now)) }
         ensures err { IfErr result (λ fault. fault ≡ LogFault.Memory) }
     {
         let mut text = Vec::new(self.allocator().clone()?);

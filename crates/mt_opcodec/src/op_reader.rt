@@ -2,8 +2,8 @@
 
 ghost use Rattle.std.specs.Prelude.{◌≡◌, ℕ, ◌++◌, List, length, drop, Ok, IfOk};
 ghost use Rattle.mt_op.specs.Bodies.{act_of};
-ghost use Rattle.mt_op.specs.Operation.{Operation};
-ghost use Rattle.mt_op.specs.Valid.{IsOperation};
+ghost use Rattle.mt_op.specs.OpValue.{Op};
+ghost use Rattle.mt_op.specs.Valid.{IsOp};
 ghost use Rattle.mt_opcodec.specs.OpReading.{Gives, add_track_at, move_track_at, add_clip_at, move_clip_at, trim_clip_at, set_gain_at, set_mute_at, remove_at, restore_at, add_marker_at, move_marker_at, retitle_at, set_fade_at, set_marker_length_at, act_at, is_newer, act_in, op_after, op_at};
 ghost use Rattle.mt_opcodec.specs.OpText.{op_text};
 ghost use Rattle.mt_opcodec.specs.Versions.{newest_version};
@@ -314,10 +314,10 @@ pub(crate) fn op_of<A: Allocator>(
 /// them that the bytes give.
 pub fn read_op<A: Allocator>(alloc: A, bytes: &[u8]) -> Result<(Op<A>, usize), ReadFault>
     // What is read stands at the front.
-    ensures found { IfOk result (λ x. IsOperation x.0 × (x.1 ≡ length (op_text x.0))
+    ensures found { IfOk result (λ x. IsOp x.0 × (x.1 ≡ length (op_text x.0))
         × (bytes.now ≡ op_text x.0 ++ drop x.1 bytes.now)) }
     // What stands at the front is read, unless memory ran out.
-    ensures only { (o : Operation) (rest : List ℕ) → IsOperation o → bytes.now ≡ op_text o ++ rest
+    ensures only { (o : Op) (rest : List ℕ) → IsOp o → bytes.now ≡ op_text o ++ rest
         → Gives (λ x. x) result (Ok (o, length (op_text o))) }
     // Which fault it is.
     ensures exact { Gives (λ x. (x.0, drop x.1 bytes.now)) result (op_at newest_version bytes.now) }

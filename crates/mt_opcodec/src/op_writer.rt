@@ -2,7 +2,7 @@
 
 ghost use Rattle.std.specs.Prelude.{◌≡◌, ◌<◌, ◌^◌, ◌++◌, length, OnOk, OnErr, IsTrue};
 ghost use Rattle.mt_op.specs.Bodies.{act_of};
-ghost use Rattle.mt_op.specs.Operation.{AddTrack, MoveTrack, AddClip, MoveClip, TrimClip, SetGain, SetMute, Remove, Restore, AddMarker, MoveMarker, Retitle, SetFade, SetMarkerLength};
+ghost use Rattle.mt_op.specs.OpValue.{AddTrack, MoveTrack, AddClip, MoveClip, TrimClip, SetGain, SetMute, Remove, Restore, AddMarker, MoveMarker, Retitle, SetFade, SetMarkerLength};
 ghost use Rattle.mt_op.specs.Valid.{tags_are_good};
 ghost use Rattle.mt_opcodec.specs.OpText.{stamp_bytes, flag_bytes, place_bytes, title_bytes, frame_bytes, trim_bytes, fades_bytes, gain_bytes, tags_bytes, act_bytes, op_text};
 

@@ -64,7 +64,7 @@ fn put_at<A: Allocator>(ops: &mut Vec<Op<A>, A>, place: usize, op: Op<A>) -> Res
 }
 
 impl<A: Allocator> Run<A> {
-    ghost use Rattle.mt_op.specs.Operation.{Operation};
+    ghost use Rattle.mt_op.specs.OpValue.{Op};
     ghost use Rattle.mt_op.specs.Dots.{op_dot};
     ghost use Rattle.mt_opcodec.specs.LogValue.{Adds, log_of};
     ghost use Rattle.mt_opcodec.specs.Union.{MergeFails};

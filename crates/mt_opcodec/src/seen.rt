@@ -4,15 +4,15 @@ ghost use Rattle.std.specs.Prelude.{◌≡◌, IfOk, OnOk, MatchOption};
 ghost use Rattle.std.specs.Option.{option_copied};
 ghost use Rattle.std.specs.BTreeMap.{get};
 ghost use Rattle.mt_stamp.specs.declared.name.Dot.{Dot as DotOf};
-ghost use Rattle.mt_stamp.specs.Moment.{dot_cmp};
+ghost use Rattle.mt_stamp.specs.StampOrder.{dot_cmp};
 ghost use Rattle.mt_opcodec.specs.LogValue.{LogMap};
 ghost use Rattle.mt_opcodec.specs.Clashing.{HasAnother, FirstOther};
 ghost use Rattle.mt_opcodec.specs.Runs.{run_ops};
 ghost use Rattle.mt_opcodec.specs.Seen.{AreSeen, seen_after};
-ghost use Rattle.mt_opcodec.specs.Union.{AllAgree, FirstClash};
+ghost use Rattle.mt_opcodec.specs.Union.{AllAgree, FirstConflict};
 
 use crate::agreeing::all_agree;
-use crate::clash::is_another;
+use crate::conflict::is_another;
 use crate::log::Log;
 use crate::run::Run;
 use mt_op::Op;
@@ -90,14 +90,14 @@ fn note_runs<'a, A: Allocator, B: Allocator + Clone>(
 
 // The first dot at which one of the logs clashes with those before it, or none where all agree, which is seen first, by a walk in these turns. Only where
 // they do not, it takes a map of references to all operations, to see which clash is the first: n log n for n of them.
-pub(crate) fn first_clash<A: Allocator, B: Allocator + Clone>(
+pub(crate) fn first_conflict<A: Allocator, B: Allocator + Clone>(
     alloc: B,
     logs: &[Log<A>],
-    turns: &[usize],
+    merge_order: &[usize],
 ) -> Result<Option<Dot>, AllocError>
-    ensures { IfOk result (λ dot. MatchOption dot (AllAgree logs.now) (FirstClash logs.now)) }
+    ensures { IfOk result (λ dot. MatchOption dot (AllAgree logs.now) (FirstConflict logs.now)) }
 {
-    if all_agree(alloc.clone()?, logs, turns)? {
+    if all_agree(alloc.clone()?, logs, merge_order)? {
         return Ok(None);
     }
     let mut seen = BTreeMap::new(alloc);

@@ -8,9 +8,9 @@ use Rattle.std.specs.declared.cmp.Ordering.TheVariants.{Less, Equal, Greater}
 use Rattle.mt_overlap.specs.declared.span.Span.{Span}
 use Rattle.mt_overlap.specs.declared.span.Segment.{Segment}
 use Rattle.mt_overlap.specs.declared.sweep.Cover.{Cover}
-use Rattle.mt_overlap.specs.Overlap.{span_at, end_of, segment_at, Says, AreTidy, PlacesDiffer, AreSegments}
+use Rattle.mt_overlap.specs.Overlap.{span_at, end_of, segment_at, SegmentIs, AreSortedDisjoint, PlacesDiffer, AreSegments}
 use Rattle.mt_overlap.specs.Sweep.{IsLast, EndBy, Swept, IsOrder, Begun, order_at}
-use Rattle.mt_stamp.specs.Moment.{Moment, stamp_cmp}
+use Rattle.mt_stamp.specs.StampOrder.{Stamp, stamp_cmp}
 use Rattle.mt_stamp.proofs.Order.{stamp_cmp-IsAntisymmetric}
 
 some_apart : {X : Type 0} (x : X) (o : Option X) → o ≡ Some x → o ≡ None → ⊥
@@ -34,14 +34,14 @@ equal_of Less h = absurd (false≢true h)
 equal_of Equal h = refl
 equal_of Greater h = absurd (false≢true h)
 
-place_cases : (q r : Moment) → (q ≡ r) ⊎ (is_eq (stamp_cmp q r) ≡ false)
+place_cases : (q r : Stamp) → (q ≡ r) ⊎ (is_eq (stamp_cmp q r) ≡ false)
 place_cases q r =
     elim (cases_Bool (is_eq (stamp_cmp q r))) [
       | inl tie ↦ inl (stamp_cmp-IsAntisymmetric q r (equal_of _ tie))
       | inr apart ↦ inr apart
     ]
 
-apart_by : (q r : Moment) → q ≢ r → is_eq (stamp_cmp q r) ≡ false
+apart_by : (q r : Stamp) → q ≢ r → is_eq (stamp_cmp q r) ≡ false
 apart_by q r differ =
     elim (place_cases q r) [
       | inl same ↦ absurd (differ same)
@@ -49,8 +49,8 @@ apart_by q r differ =
     ]
 
 -- the last segment, made longer
-pub told_longer : (segs : List Segment) (start end which f i : ℕ) (x : Segment) → AreTidy segs → IsLast segs start which → i ≡ length segs - 1 → x ≡ get_or segs i x
-    → start ≤ f → f < end → Says (set segs i (record { start = x.start; end = end; which = x.which })) f which
+pub told_longer : (segs : List Segment) (start end which f i : ℕ) (x : Segment) → AreSortedDisjoint segs → IsLast segs start which → i ≡ length segs - 1 → x ≡ get_or segs i x
+    → start ≤ f → f < end → SegmentIs (set segs i (record { start = x.start; end = end; which = x.which })) f which
 told_longer segs start end which f i x tidy last place read from to =
     let within : i < length segs = let some = last.0 in omega arith in
     let is : x ≡ segment_at segs i = get_or_read segs i x within read _ in
@@ -67,8 +67,8 @@ told_longer segs start end which f i x tidy last place read from to =
 
 module _ (spans : List Span) (segs : List Segment) where
   -- one that has ended is taken out
-  pub taken_out : (n : ℕ → Type 0) (now : ℕ) (q : Moment) (top : Cover) (active after : Moment → Option Cover) → Swept spans n now active segs → active q ≡ Some top → top.end ≤ now
-      → after q ≡ None → ((r : Moment) → is_eq (stamp_cmp q r) ≡ false → after r ≡ active r) → Swept spans n now after segs
+  pub taken_out : (n : ℕ → Type 0) (now : ℕ) (q : Stamp) (top : Cover) (active after : Stamp → Option Cover) → Swept spans n now active segs → active q ≡ Some top → top.end ≤ now
+      → after q ≡ None → ((r : Stamp) → is_eq (stamp_cmp q r) ≡ false → after r ≡ active r) → Swept spans n now after segs
   taken_out n now q top active after s there over out others = record {
     known = λ r d h. elim (place_cases q r) [
       | inl same ↦ absurd (some_apart d (after r) h (rw (← same) out))
@@ -85,7 +85,7 @@ module _ (spans : List Span) (segs : List Segment) where
   }
 
   -- nothing sounds up to the limit
-  pub idle : (n : ℕ → Type 0) (now limit : ℕ) (active : Moment → Option Cover) → Swept spans n now active segs → now ≤ limit → ((q : Moment) → active q ≡ None) → Swept spans n limit active segs
+  pub idle : (n : ℕ → Type 0) (now limit : ℕ) (active : Stamp → Option Cover) → Swept spans n now active segs → now ≤ limit → ((q : Stamp) → active q ≡ None) → Swept spans n limit active segs
   idle n now limit active s order none = record {
     known = λ r d h. absurd (some_apart d (active r) h (none r));
     alive = λ i below ahead. s.alive i below (omega arith);
@@ -99,9 +99,9 @@ module _ (spans : List Span) (segs : List Segment) where
   }
 
   -- one more span begins
-  pub begun : (some more : ℕ → Type 0) (n now : ℕ) (active after : Moment → Option Cover) → Swept spans some now active segs
+  pub begun : (some more : ℕ → Type 0) (n now : ℕ) (active after : Stamp → Option Cover) → Swept spans some now active segs
       → ((i : ℕ) → some i → more i) → ((i : ℕ) → more i → some i ⊎ (i ≡ n)) → more n → ((i : ℕ) → more i → i < length spans) → PlacesDiffer spans → (span_at spans n).start ≡ now
-      → after (span_at spans n).place ≡ Some (cover (end_of (span_at spans n)) n) → ((r : Moment) → is_eq (stamp_cmp (span_at spans n).place r) ≡ false → after r ≡ active r) → Swept spans more now after segs
+      → after (span_at spans n).place ≡ Some (cover (end_of (span_at spans n)) n) → ((r : Stamp) → is_eq (stamp_cmp (span_at spans n).place r) ≡ false → after r ≡ active r) → Swept spans more now after segs
   begun some more n now active after s into out one within differ start «in» others = record {
     known = λ r d h. elim (place_cases (span_at spans n).place r) [
       | inl same ↦ let both = same_cover d (cover (end_of (span_at spans n)) n) (sym h ∙ ap after (sym same) ∙ «in») in
@@ -137,7 +137,7 @@ module _ (spans : List Span) (segs : List Segment) where
   }
 
   -- all frames are settled
-  pub finished : (limit : ℕ) (some : ℕ → Type 0) (active : Moment → Option Cover) → Swept spans some limit active segs → ((i : ℕ) → i < length spans → some i) → ((i : ℕ) → some i → i < length spans)
+  pub finished : (limit : ℕ) (some : ℕ → Type 0) (active : Stamp → Option Cover) → Swept spans some limit active segs → ((i : ℕ) → i < length spans → some i) → ((i : ℕ) → some i → i < length spans)
       → ((i : ℕ) → some i → end_of (span_at spans i) ≤ limit) → AreSegments spans segs
   finished limit some active s all within ends = record {
     tidy = s.tidy;
@@ -147,10 +147,10 @@ module _ (spans : List Span) (segs : List Segment) where
 
 module _ (spans : List Span) (old new : List Segment) where
   -- the span on top sounds up to its end or the limit
-  pub sounded : (n : ℕ → Type 0) (now to : ℕ) (q : Moment) (top : Cover) (active : Moment → Option Cover) → Swept spans n now active old → active q ≡ Some top
-      → ((r : Moment) → IsSome (active r) → is_lt (stamp_cmp q r) ≡ false) → now < to → to ≤ top.end → AreTidy new → EndBy new to
-      → ((f v : ℕ) → Says new f v → Says old f v ⊎ ((now ≤ f) × (f < to) × (v ≡ top.which)))
-      → ((f v : ℕ) → Says old f v → Says new f v) → ((f : ℕ) → now ≤ f → f < to → Says new f top.which) → Swept spans n to active new
+  pub sounded : (n : ℕ → Type 0) (now to : ℕ) (q : Stamp) (top : Cover) (active : Stamp → Option Cover) → Swept spans n now active old → active q ≡ Some top
+      → ((r : Stamp) → IsSome (active r) → is_lt (stamp_cmp q r) ≡ false) → now < to → to ≤ top.end → AreSortedDisjoint new → EndBy new to
+      → ((f v : ℕ) → SegmentIs new f v → SegmentIs old f v ⊎ ((now ≤ f) × (f < to) × (v ≡ top.which)))
+      → ((f v : ℕ) → SegmentIs old f v → SegmentIs new f v) → ((f : ℕ) → now ≤ f → f < to → SegmentIs new f top.which) → Swept spans n to active new
   sounded n now to q top active s there greatest ahead within tidy ended said kept told =
       let k = s.known q top there in
       record {

@@ -1,7 +1,7 @@
 -- Spans that lie over one another, and the segments in which one of them is on top (profile).
 use Rattle.std.specs.Prelude.{◌≡◌, ◌≢◌, ℕ, ◌+◌, ◌<◌, ◌≤◌, false, List, length, slice_index_or}
 use Rattle.std.specs.Ordering.{is_lt}
-use Rattle.mt_stamp.specs.Moment.{stamp_cmp}
+use Rattle.mt_stamp.specs.StampOrder.{stamp_cmp}
 use Rattle.mt_overlap.specs.declared.span.Span.{Span}
 use Rattle.mt_overlap.specs.declared.span.Segment.{Segment}
 
@@ -27,7 +27,7 @@ pub record IsTop (spans : List Span) (f w : ℕ) : Type 0 where
   pub greatest : (i : ℕ) → i < length spans → Covers (span_at spans i) f → is_lt (stamp_cmp (span_at spans w).place (span_at spans i).place) ≡ false
 
 -- A segment of the span w holds the frame f.
-pub record Says (segments : List Segment) (f w : ℕ) : Type 0 where
+pub record SegmentIs (segments : List Segment) (f w : ℕ) : Type 0 where
   pub index : ℕ
   pub within : index < length segments
   pub from : (segment_at segments index).start ≤ f
@@ -35,7 +35,7 @@ pub record Says (segments : List Segment) (f w : ℕ) : Type 0 where
   pub which : (segment_at segments index).which ≡ w
 
 -- None is empty, each begins where the one before ends or later, and two that touch are of different spans.
-pub record AreTidy (segments : List Segment) : Type 0 where
+pub record AreSortedDisjoint (segments : List Segment) : Type 0 where
   pub some : (k : ℕ) → k < length segments → (segment_at segments k).start < (segment_at segments k).end
   pub rise : (k : ℕ) → k + 1 < length segments → (segment_at segments k).end ≤ (segment_at segments (k + 1)).start
   pub maximal : (k : ℕ) → k + 1 < length segments → (segment_at segments k).end ≡ (segment_at segments (k + 1)).start
@@ -43,9 +43,9 @@ pub record AreTidy (segments : List Segment) : Type 0 where
 
 -- The segments of spans: a frame lies in one exactly where a span covers it, and the segment names the span on top.
 pub record AreSegments (spans : List Span) (segments : List Segment) : Type 0 where
-  pub tidy : AreTidy segments
-  pub top : (f w : ℕ) → Says segments f w → IsTop spans f w
-  pub all : (i f : ℕ) → i < length spans → Covers (span_at spans i) f → (w : ℕ) × Says segments f w
+  pub tidy : AreSortedDisjoint segments
+  pub top : (f w : ℕ) → SegmentIs segments f w → IsTop spans f w
+  pub all : (i f : ℕ) → i < length spans → Covers (span_at spans i) f → (w : ℕ) × SegmentIs segments f w
 
 -- No two spans have one place stamp.
 abbrev pub PlacesDiffer : List Span → Type 0

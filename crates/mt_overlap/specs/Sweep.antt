@@ -1,11 +1,11 @@
 -- How the walk stands: what its functions keep, and no definition of the subject.
 use Rattle.std.specs.Prelude.{◌≡◌, ℕ, ◌-◌, ◌<◌, ◌≤◌, false, List, length, slice_index_or, Option, Some}
 use Rattle.std.specs.Ordering.{is_lt}
-use Rattle.mt_stamp.specs.Moment.{Moment, stamp_cmp}
+use Rattle.mt_stamp.specs.StampOrder.{Stamp, stamp_cmp}
 use Rattle.mt_overlap.specs.declared.span.Span.{Span}
 use Rattle.mt_overlap.specs.declared.span.Segment.{Segment}
 use Rattle.mt_overlap.specs.declared.sweep.Cover.{Cover}
-use Rattle.mt_overlap.specs.Overlap.{span_at, segment_at, end_of, Covers, Says, AreTidy}
+use Rattle.mt_overlap.specs.Overlap.{span_at, segment_at, end_of, Covers, SegmentIs, AreSortedDisjoint}
 
 -- starts and indexes of spans, by start
 abbrev pub order_at : List (ℕ × ℕ) → ℕ → ℕ × ℕ
@@ -37,10 +37,10 @@ pub record IsTopAmong (spans : List Span) (some : ℕ → Type 0) (f w : ℕ) : 
 
 -- Some spans have begun and all frames before `now` are settled. `active` has, by their places, ends and indexes of spans
 -- that have begun, those that end after `now` among them.
-pub record Swept (spans : List Span) (begun : ℕ → Type 0) (now : ℕ) (active : Moment → Option Cover) (segments : List Segment) : Type 0 where
-  pub known : (q : Moment) (c : Cover) → active q ≡ Some c → (begun c.which) × ((span_at spans c.which).place ≡ q) × (end_of (span_at spans c.which) ≡ c.end) × ((span_at spans c.which).start ≤ now)
+pub record Swept (spans : List Span) (begun : ℕ → Type 0) (now : ℕ) (active : Stamp → Option Cover) (segments : List Segment) : Type 0 where
+  pub known : (q : Stamp) (c : Cover) → active q ≡ Some c → (begun c.which) × ((span_at spans c.which).place ≡ q) × (end_of (span_at spans c.which) ≡ c.end) × ((span_at spans c.which).start ≤ now)
   pub alive : (i : ℕ) → begun i → now < end_of (span_at spans i) → active (span_at spans i).place ≡ Some (record { end = end_of (span_at spans i); which = i })
-  pub said : (f w : ℕ) → Says segments f w → (f < now) × IsTopAmong spans begun f w
-  pub told : (i f : ℕ) → begun i → Covers (span_at spans i) f → f < now → (w : ℕ) × Says segments f w
-  pub tidy : AreTidy segments
+  pub said : (f w : ℕ) → SegmentIs segments f w → (f < now) × IsTopAmong spans begun f w
+  pub told : (i f : ℕ) → begun i → Covers (span_at spans i) f → f < now → (w : ℕ) × SegmentIs segments f w
+  pub tidy : AreSortedDisjoint segments
   pub ended : EndBy segments now

@@ -36,8 +36,8 @@
 //! sound again.
 #![tactic(auto)]
 
+mod allocation;
 mod fault;
-mod growth;
 mod span;
 mod sweep;
 

@@ -3,12 +3,12 @@
 ghost use Rattle.std.specs.Prelude.{◌≡◌, ℕ, ◌+◌, ◌^◌, ◌<◌, ◌≤◌, length, OnOk, IfOk, IfErr, IfSome, IfNone, IsSome, Some, None, false};
 ghost use Rattle.std.specs.Ordering.{is_lt};
 ghost use Rattle.std.specs.BTreeMap.{get};
-ghost use Rattle.mt_stamp.specs.Moment.{Moment, stamp_cmp};
+ghost use Rattle.mt_stamp.specs.StampOrder.{Stamp, stamp_cmp};
 ghost use Rattle.mt_overlap.specs.Overlap.{span_at, end_of, PlacesDiffer, AreSegments};
 ghost use Rattle.mt_overlap.specs.Sweep.{Swept, IsOrder, Begun};
 
+use crate::allocation::emit;
 use crate::fault::OverlapFault;
-use crate::growth::emit;
 use crate::span::{Segment, Span};
 use mt_stamp::Stamp;
 use std::alloc::{AllocError, Allocator};
@@ -32,9 +32,9 @@ struct Top {
 }
 
 fn top_of<A: Allocator>(active: &BTreeMap<Stamp, Cover, A>) -> Option<Top>
-    ensures none { IfNone result ((q : Moment) → get stamp_cmp active.now q ≡ None) }
+    ensures none { IfNone result ((q : Stamp) → get stamp_cmp active.now q ≡ None) }
     ensures there { IfSome result (λ t. get stamp_cmp active.now t.place ≡ Some t.cover) }
-    ensures greatest { IfSome result (λ t. (q : Moment) → IsSome (get stamp_cmp active.now q) → is_lt (stamp_cmp t.place q) ≡ false) }
+    ensures greatest { IfSome result (λ t. (q : Stamp) → IsSome (get stamp_cmp active.now q) → is_lt (stamp_cmp t.place q) ≡ false) }
 {
     match active.last_key_value() {
         Some((place, cover)) => Some(Top {

@@ -5,8 +5,8 @@ use Rattle.std.proofs.lemmas.List.{take_more}
 use Rattle.std.specs.Int.{w64, w128}
 use Rattle.std.proofs.lemmas.Int.{to_z-of_z, fits_signed_from_abs}
 use borrow.Author.Differences.{up, down, same_in, sum_is_lem}
-use Rattle.mt_op.specs.Gain.{Ratio}
-use Rattle.mt_sessionview.specs.Content.{Clip}
+use Rattle.mt_op.specs.Gain.{Gain}
+use Rattle.mt_sessionview.specs.SessionValue.{Clip}
 use Rattle.mt_overlap.specs.declared.span.Segment.{Segment}
 use Rattle.mt_overlap.specs.Overlap.{segment_at}
 use Rattle.mt_render.specs.declared.part.Part.{Part}
@@ -32,13 +32,13 @@ lane_push value (r ∷ rs) s f =
     ap (λ z. h +ℤ z) (lane_push value rs s f) ∙ sym (grouped h (lane_sum value rs f) g)
 
 -- what the part of a clip gives
-pub part_gives : (s : Segment) (clip : Clip) (gain : Ratio) (p : Part) (text : List ℕ) (f c : ℕ) → p.start ≡ s.start → p.end ≡ s.end → p.at ≡ clip.at → p.offset ≡ clip.offset → p.wave.now ≡ text
+pub part_gives : (s : Segment) (clip : Clip) (gain : Gain) (p : Part) (text : List ℕ) (f c : ℕ) → p.start ≡ s.start → p.end ≡ s.end → p.at ≡ clip.at → p.offset ≡ clip.offset → p.wave.now ≡ text
     → ((x : ℤ) (i : ℕ) → rounded (x *ℤ pos (p.scale.num * loudness p.fades i)) (p.scale.den * most p.fades) ≡ contribution clip gain i x)
     → gives f c p ≡ (if is_in s f then contribution clip gain (f - clip.at) (heard text clip f c) else pos 0)
 part_gives s clip gain p text f c start end at offset wave scaled = rw (start, end, at, offset, wave) (ap (λ z. if is_in s f then z else pos 0) (scaled (heard text clip f c) (f - clip.at)))
 
 -- one segment more
-pub lane_step : (sources : Sources) (gain : Ratio) (clips : List Clip) (segs : List Segment) (i f c : ℕ) (before after : ℤ) (s : Segment) (clip : Clip) → i < length segs → s ≡ segment_at segs i
+pub lane_step : (sources : Sources) (gain : Gain) (clips : List Clip) (segs : List Segment) (i f c : ℕ) (before after : ℤ) (s : Segment) (clip : Clip) → i < length segs → s ≡ segment_at segs i
     → clip ≡ clip_at clips s.which → before ≡ lane_sum (clip_value sources gain clips f c) (take i segs) f
     → after ≡ before +ℤ (if is_in s f then contribution clip gain (f - clip.at) (heard (source_of sources clip.source) clip f c) else pos 0)
     → after ≡ lane_sum (clip_value sources gain clips f c) (take (i + 1) segs) f

@@ -4,13 +4,13 @@ use Rattle.std.specs.Prelude.{if◌then◌else◌, unwrap_or}
 use Rattle.std.specs.Ordering.{is_lt}
 use Rattle.std.proofs.lemmas.Bool.{cases_Bool, false≢true}
 use Rattle.std.proofs.lemmas.Option.{none-some, same_Some}
-use Rattle.mt_stamp.specs.Moment.{stamp_cmp}
-use Rattle.mt_op.specs.Gain.{Ratio}
+use Rattle.mt_stamp.specs.StampOrder.{stamp_cmp}
+use Rattle.mt_op.specs.Gain.{Gain}
 use Rattle.mt_op.specs.declared.digest.Digest.{Digest}
-use Rattle.mt_sessionview.specs.Content.{Clip, Track}
+use Rattle.mt_sessionview.specs.SessionValue.{Clip, Track}
 use Rattle.mt_render.specs.declared.fault.MixFault.{MixFault}
 use Rattle.mt_render.specs.declared.fault.MixFault.TheVariants.{Memory, MissingSource, RateDiffers, TooLong}
-use Rattle.mt_render.specs.Layout.{Layout}
+use Rattle.mt_render.specs.FormatValue.{Format}
 use Rattle.mt_render.specs.Sources.{Sources, found}
 use Rattle.mt_render.specs.Mix.{sounds, upper, sounding, clip_sample, track_sample, mixed, mixed_sample, output, contribution, heard}
 use Rattle.mt_render.specs.Refusals.{IsMixable, IsMixFault, IsLeast, PassAll, IsAmong, unmuted, audible, is_missing, rate_differs, missing_from, differs_from}
@@ -56,7 +56,7 @@ sounds_among (c ∷ cs) f d e =
 -- ---- samples
 
 module _ (a b : Sources) where
-  clip_alike : (gain : Ratio) (f c : ℕ) (o : Option Clip) → ((d : Clip) → o ≡ Some d → found a d.source ≡ found b d.source) → clip_sample a gain f c o ≡ clip_sample b gain f c o
+  clip_alike : (gain : Gain) (f c : ℕ) (o : Option Clip) → ((d : Clip) → o ≡ Some d → found a d.source ≡ found b d.source) → clip_sample a gain f c o ≡ clip_sample b gain f c o
   clip_alike gain f c None same = refl
   clip_alike gain f c (Some clip) same = ap (λ (o : Option (List ℕ)). contribution clip gain (f - clip.at) (heard (unwrap_or o []) clip f c)) (same clip refl)
 
@@ -90,7 +90,7 @@ least_alike clips f g d same least = record {
 pub turned : (tracks : List Track) (a b : Sources) → FindAlike tracks a b → FindAlike tracks b a
 turned tracks a b same = λ c among. sym (same c among)
 
-module _ (tracks : List Track) (layout : Layout) (a b : Sources) (same : FindAlike tracks a b) where
+module _ (tracks : List Track) (layout : Format) (a b : Sources) (same : FindAlike tracks a b) where
   missing_alike : (c : Clip) → IsAmong c (audible tracks) → is_missing a c.source ≡ is_missing b c.source
   missing_alike c among = ap missing_from (same c among)
 

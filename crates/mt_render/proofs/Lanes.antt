@@ -8,14 +8,14 @@ use Rattle.std.specs.declared.cmp.Ordering.TheVariants.{Less, Equal, Greater}
 use Rattle.std.proofs.lemmas.Bool.{cases_Bool, cases_lt, false≢true}
 use Rattle.std.proofs.lemmas.Bool.Decides.{nat_tests}
 use borrow.Author.Differences.{same_in, sum_is_lem}
-use Rattle.mt_stamp.specs.Moment.{Moment, stamp_cmp}
+use Rattle.mt_stamp.specs.StampOrder.{Stamp, stamp_cmp}
 use Rattle.mt_stamp.proofs.Order.{stamp_cmp-IsAntisymmetric, stamp_cmp_total}
-use Rattle.mt_sessionview.specs.Content.{Clip}
+use Rattle.mt_sessionview.specs.SessionValue.{Clip}
 use Rattle.mt_stamp.specs.Sorting.{DifferBy}
 use Rattle.mt_overlap.specs.declared.span.Segment.{Segment}
 use Rattle.mt_overlap.specs.declared.span.Span.{Span}
-use Rattle.mt_overlap.specs.Overlap.{span_at, segment_at, Covers, IsTop, Says, AreTidy, AreSegments, PlacesDiffer}
-use Rattle.mt_op.specs.Gain.{Ratio}
+use Rattle.mt_overlap.specs.Overlap.{span_at, segment_at, Covers, IsTop, SegmentIs, AreSortedDisjoint, AreSegments, PlacesDiffer}
+use Rattle.mt_op.specs.Gain.{Gain}
 use Rattle.mt_render.specs.Sources.{Sources}
 use Rattle.mt_render.specs.Mix.{sounds, upper, sounding, clip_sample}
 use Rattle.mt_render.specs.Lanes.{clip_at, span_of, AreSpans, is_in, lane_sum, clip_value}
@@ -28,7 +28,7 @@ nothing_and z = same_in (pos 0 +ℤ z) z (omega (arith, sum_is_lem (pos 0) z))
 
 -- ---- segments
 
-tidy_tail : (s : Segment) (ss : List Segment) → AreTidy (s ∷ ss) → AreTidy ss
+tidy_tail : (s : Segment) (ss : List Segment) → AreSortedDisjoint (s ∷ ss) → AreSortedDisjoint ss
 tidy_tail s ss t = record {
   some = λ k h. t.some (suc k) (omega arith);
   rise = λ k h. let r = t.rise (suc k) (omega arith) in rw (next k) at r;
@@ -38,7 +38,7 @@ tidy_tail s ss t = record {
     next : (k : ℕ) → suc k + 1 ≡ suc (k + 1)
     next k = omega arith
 
-later : (s : Segment) (ss : List Segment) (k : ℕ) → AreTidy (s ∷ ss) → k < length ss → s.end ≤ (segment_at ss k).start
+later : (s : Segment) (ss : List Segment) (k : ℕ) → AreSortedDisjoint (s ∷ ss) → k < length ss → s.end ≤ (segment_at ss k).start
 later s ss zero t h = t.rise 0 (omega arith)
 later s (r ∷ ss) (suc k) t h =
     let first : s.end ≤ r.start = t.rise 0 (omega arith) in
@@ -54,7 +54,7 @@ silent_before value (s ∷ ss) f h =
     let out : nat_le s.start f ≡ false = grind (arith, nat_tests) in
     rw out (nothing_and (lane_sum value ss f) ∙ silent_before value ss f (λ k below. h (suc k) (omega arith)))
 
-held_sum : (value : ℕ → ℤ) (segs : List Segment) (f k : ℕ) → AreTidy segs → k < length segs → (segment_at segs k).start ≤ f → f < (segment_at segs k).end
+held_sum : (value : ℕ → ℤ) (segs : List Segment) (f k : ℕ) → AreSortedDisjoint segs → k < length segs → (segment_at segs k).start ≤ f → f < (segment_at segs k).end
     → lane_sum value segs f ≡ value (segment_at segs k).which
 held_sum value [] f k t below from to = absurd (omega arith)
 held_sum value (s ∷ ss) f zero t below from to =
@@ -67,7 +67,7 @@ held_sum value (s ∷ ss) f (suc k) t below from to =
     let gone : is_in s f ≡ false = (elim (cases_Bool (nat_le s.start f)) [ inl y ↦ rw (y, out) refl | inr n ↦ rw n refl ]) in
     rw gone (nothing_and (lane_sum value ss f) ∙ held_sum value ss f k (tidy_tail s ss t) (omega arith) from to)
 
-pub says_sum : (value : ℕ → ℤ) (segs : List Segment) (f w : ℕ) → AreTidy segs → Says segs f w → lane_sum value segs f ≡ value w
+pub says_sum : (value : ℕ → ℤ) (segs : List Segment) (f w : ℕ) → AreSortedDisjoint segs → SegmentIs segs f w → lane_sum value segs f ≡ value w
 says_sum value segs f w t says = held_sum value segs f says.index t says.within says.from says.to ∙ ap value says.which
 
 pub silent_sum : (value : ℕ → ℤ) (segs : List Segment) (f : ℕ) → ((k : ℕ) → k < length segs → is_in (segment_at segs k) f ≡ false) → lane_sum value segs f ≡ pos 0
@@ -122,7 +122,7 @@ turned o Less e h differ = absurd (false≢true (sym h))
 turned o Equal e h differ = absurd (differ refl)
 turned o Greater e h differ = rw e refl
 
-smaller : (a b : Moment) → a ≢ b → is_lt (stamp_cmp a b) ≡ false → is_lt (stamp_cmp b a) ≡ true
+smaller : (a b : Stamp) → a ≢ b → is_lt (stamp_cmp a b) ≡ false → is_lt (stamp_cmp b a) ≡ true
 smaller a b differ h = turned (stamp_cmp b a) (stamp_cmp a b) (stamp_cmp_total.antisymm b a) h (λ e. differ (stamp_cmp-IsAntisymmetric a b e))
 
 -- clips of which no two have one place
@@ -268,7 +268,7 @@ segment_of clips spans segs k are s below =
 -- ---- the clip of a segment is the one that sounds
 
 module _ (clips : List Clip) (spans : List Span) (segs : List Segment) (apart : PlacesApart clips) (are : AreSpans clips spans) (s : AreSegments spans segs) where
-  pub in_clips : (f w : ℕ) → Says segs f w → w < length clips
+  pub in_clips : (f w : ℕ) → SegmentIs segs f w → w < length clips
   in_clips f w says = let n = are.count in let w = (s.top f w says).within in omega arith
 
   greatest : (f i w : ℕ) → i < length clips → w < length clips → sounds (clip_at clips i) f ≡ true → IsTop spans f w → is_lt (stamp_cmp (clip_at clips w).place (clip_at clips i).place) ≡ false
@@ -277,7 +277,7 @@ module _ (clips : List Clip) (spans : List Span) (segs : List Segment) (apart : 
       rw (are.each w within, are.each i below) at g
 
   -- the clip of a segment sounds at each frame of it
-  pub says_sounds : (f w : ℕ) → Says segs f w → sounding clips f ≡ Some (clip_at clips w)
+  pub says_sounds : (f w : ℕ) → SegmentIs segs f w → sounding clips f ≡ Some (clip_at clips w)
   says_sounds f w says =
       let top = s.top f w says in
       let within : w < length clips = in_clips f w says in
@@ -286,7 +286,7 @@ module _ (clips : List Clip) (spans : List Span) (segs : List Segment) (apart : 
       top_sounds clips f w apart within (covers_by c.mute c.at c.len f here.0 here.1) (λ i below sound. greatest f i w below within sound top)
 
   -- where no segment holds a frame, no clip sounds
-  pub none_says : (f : ℕ) → ((w : ℕ) → Says segs f w → ⊥) → sounding clips f ≡ None
+  pub none_says : (f : ℕ) → ((w : ℕ) → SegmentIs segs f w → ⊥) → sounding clips f ≡ None
   none_says f none = none_sounds clips f silent
     where
       silent : (i : ℕ) → i < length clips → sounds (clip_at clips i) f ≡ false
@@ -297,18 +297,18 @@ module _ (clips : List Clip) (spans : List Span) (segs : List Segment) (apart : 
           ]
 
 -- the segments of a track's clips add up to what the clip that sounds contributes
-pub lane_is : (sources : Sources) (gain : Ratio) (clips : List Clip) (spans : List Span) (segs : List Segment) (f c : ℕ) → PlacesApart clips → AreSpans clips spans → AreSegments spans segs
+pub lane_is : (sources : Sources) (gain : Gain) (clips : List Clip) (spans : List Span) (segs : List Segment) (f c : ℕ) → PlacesApart clips → AreSpans clips spans → AreSegments spans segs
     → lane_sum (clip_value sources gain clips f c) segs f ≡ clip_sample sources gain f c (sounding clips f)
 lane_is sources gain clips spans segs f c apart are s =
     elim (find segs f) [
       | inl there ↦
           let w = (segment_at segs there.index).which in
-          let says : Says segs f w = record { index = there.index; within = there.within; from = there.from; to = there.to; which = refl } in
+          let says : SegmentIs segs f w = record { index = there.index; within = there.within; from = there.from; to = there.to; which = refl } in
           says_sum (clip_value sources gain clips f c) segs f w s.tidy says ∙ rw (says_sounds clips spans segs apart are s f w says) refl
       | inr out ↦ silent_sum (clip_value sources gain clips f c) segs f out ∙ rw (none_says clips spans segs apart are s f (λ w says. not_in w says out)) refl
     ]
   where
-    not_in : (w : ℕ) → Says segs f w → ((k : ℕ) → k < length segs → is_in (segment_at segs k) f ≡ false) → ⊥
+    not_in : (w : ℕ) → SegmentIs segs f w → ((k : ℕ) → k < length segs → is_in (segment_at segs k) f ≡ false) → ⊥
     not_in w says out =
         let from : nat_le (segment_at segs says.index).start f ≡ true = let a = says.from in grind (arith, nat_tests) in
         let to : nat_lt f (segment_at segs says.index).end ≡ true = let a = says.to in grind (arith, nat_tests) in

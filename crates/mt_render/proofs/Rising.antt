@@ -13,7 +13,7 @@ use borrow.Author.Differences.{up, down, sum_is_lem}
 use Rattle.mt_bwfread.proofs.Sizes.{abs_is, abs_times, gap_small}
 use Rattle.mt_bwfread.specs.Fill.{sample_or_silence}
 use Rattle.mt_overlap.specs.declared.span.Segment.{Segment}
-use Rattle.mt_overlap.specs.Overlap.{segment_at, AreTidy}
+use Rattle.mt_overlap.specs.Overlap.{segment_at, AreSortedDisjoint}
 use Rattle.mt_render.specs.declared.part.Part.{Part}
 use Rattle.mt_render.specs.Fading.{loudness, most}
 use Rattle.mt_render.specs.Mix.{floored, rounded}
@@ -118,19 +118,19 @@ none_held ps i f c all before = sym (silent_to ps i f c before) ∙ ap (all_give
 
 -- ---- how great that is
 
-pub rounded_small : (x : ℤ) (num den reach top : ℕ) → 0 < den → num ≤ reach * den → unsigned_abs x ≤ top → unsigned_abs (rounded (x *ℤ pos num) den) ≤ top * reach
-rounded_small x num den reach top some enough small =
+pub rounded_small : (x : ℤ) (num den max_gain top : ℕ) → 0 < den → num ≤ max_gain * den → unsigned_abs x ≤ top → unsigned_abs (rounded (x *ℤ pos num) den) ≤ top * max_gain
+rounded_small x num den max_gain top some enough small =
     let p = x *ℤ pos num in
     let s = p +ℤ pos (den / 2) in
     let c = floored s den in
     let product : unsigned_abs p ≤ top * num = abs_times x num top small in
-    let wide : top * num ≤ top * (reach * den) = mul-le-mul_left top enough in
+    let wide : top * num ≤ top * (max_gain * den) = mul-le-mul_left top enough in
     let is = floored_is s den some in
     let half = sum_is_lem p (pos (den / 2)) in
     let size = abs_is p in
-    let above : up c ≤ down c + top * reach = below_next (up c) (down c + top * reach) den (omega (arith, is.least, half, size, product, wide)) in
-    let below : down c ≤ up c + top * reach = below_next (down c) (up c + top * reach) den (omega (arith, is.most, half, size, product, wide)) in
-    rw (← by_division p den some) (gap_small c (up c) (down c) (top * reach) (omega arith) above below)
+    let above : up c ≤ down c + top * max_gain = below_next (up c) (down c + top * max_gain) den (omega (arith, is.least, half, size, product, wide)) in
+    let below : down c ≤ up c + top * max_gain = below_next (down c) (up c + top * max_gain) den (omega (arith, is.most, half, size, product, wide)) in
+    rw (← by_division p den some) (gap_small c (up c) (down c) (top * max_gain) (omega arith) above below)
 
 sample_small : (x : ℤ) → FitsSigned w32 x → unsigned_abs x ≤ 2 ^ 31
 sample_small (pos n) h = omega arith
@@ -145,9 +145,9 @@ given_fits x num den level full fits small some one within =
     let e = rounded_small x (num * level) (den * full) num (2 ^ 31) (omega arith) (omega arith) (sample_small x fits) in
     fits_signed_from_abs w64 (rounded (x *ℤ pos (num * level)) (den * full)) (omega (arith, e))
 
-pub gives_small : (f c : ℕ) (p : Part) (reach : ℕ) → p.scale.num ≤ reach * p.scale.den → ((frame channel : ℕ) → unsigned_abs (sample_or_silence p.wave.now frame channel) ≤ 2 ^ 31)
-    → unsigned_abs (gives f c p) ≤ 2 ^ 31 * reach
-gives_small f c p reach enough small =
+pub gives_small : (f c : ℕ) (p : Part) (max_gain : ℕ) → p.scale.num ≤ max_gain * p.scale.den → ((frame channel : ℕ) → unsigned_abs (sample_or_silence p.wave.now frame channel) ≤ 2 ^ 31)
+    → unsigned_abs (gives f c p) ≤ 2 ^ 31 * max_gain
+gives_small f c p max_gain enough small =
     elim (cases_lt f p.start) [
       | inl low ↦ rw (early p f c low) (omega arith)
       | inr from ↦ elim (cases_lt f p.end) [
@@ -155,9 +155,9 @@ gives_small f c p reach enough small =
         | inl to ↦
             let a : nat_le p.start f ≡ true = grind (arith, nat_tests) in
             let b : nat_lt f p.end ≡ true = grind (arith, nat_tests) in
-            let loud : p.scale.num * loudness p.fades (f - p.at) ≤ (reach * p.scale.den) * most p.fades = mul-le p.scale.num (loudness p.fades (f - p.at)) (reach * p.scale.den) (most p.fades) enough (loud_most p.fades (f - p.at)) in
+            let loud : p.scale.num * loudness p.fades (f - p.at) ≤ (max_gain * p.scale.den) * most p.fades = mul-le p.scale.num (loudness p.fades (f - p.at)) (max_gain * p.scale.den) (most p.fades) enough (loud_most p.fades (f - p.at)) in
             let some : 1 * 1 ≤ p.scale.den * most p.fades = mul-le 1 1 p.scale.den (most p.fades) p.scale.den_from (most_from p.fades) in
-            rw (a, b) (rounded_small _ (p.scale.num * loudness p.fades (f - p.at)) (p.scale.den * most p.fades) reach (2 ^ 31) (omega arith) (omega arith) (small _ _))
+            rw (a, b) (rounded_small _ (p.scale.num * loudness p.fades (f - p.at)) (p.scale.den * most p.fades) max_gain (2 ^ 31) (omega arith) (omega arith) (small _ _))
       ]
     ]
 
@@ -198,7 +198,7 @@ parts_push segs ps new i s p are count is start end push k q at =
           (subst (λ (n : ℕ). (p.start ≡ (segment_at segs n).start) × (p.end ≡ (segment_at segs n).end)) same (rw (← is) (start, end)))
     ]
 
-tidy_rise : (segs : List Segment) (j k : ℕ) → AreTidy segs → j < k → k < length segs → (segment_at segs j).end ≤ (segment_at segs k).start
+tidy_rise : (segs : List Segment) (j k : ℕ) → AreSortedDisjoint segs → j < k → k < length segs → (segment_at segs j).end ≤ (segment_at segs k).start
 tidy_rise segs j zero tidy low below = absurd (omega arith)
 tidy_rise segs j (suc k) tidy low below =
     let next : k + 1 ≡ suc k = omega arith in
@@ -208,7 +208,7 @@ tidy_rise segs j (suc k) tidy low below =
       | inr same ↦ let is : j ≡ k = omega arith in rw is last
     ]
 
-pub parts_rise : (segs : List Segment) (ps : List Part) → AreTidy segs → length ps ≤ length segs → AreParts segs ps → AreRising ps
+pub parts_rise : (segs : List Segment) (ps : List Part) → AreSortedDisjoint segs → length ps ≤ length segs → AreParts segs ps → AreRising ps
 parts_rise segs ps tidy few are = record {
   some = λ k p at. let w = within ps k p at in let s = tidy.some k (omega arith) in let e = are k p at in omega (arith, e.0, e.1, s);
   rise = λ j k p q low a b. let w = within ps k q b in let r = tidy_rise segs j k tidy low (omega arith) in let e = are j p a in let g = are k q b in omega (arith, e.1, g.0, r);

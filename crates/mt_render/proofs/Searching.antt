@@ -8,7 +8,7 @@ use Rattle.std.specs.Cmp.{IsTotalOrder}
 use Rattle.std.proofs.lemmas.Bool.{cases_Bool, false≢true}
 use Rattle.std.proofs.lemmas.Cmp.{on_total, nat_list_cmp_total}
 use Rattle.mt_op.specs.declared.digest.Digest.{Digest}
-use Rattle.mt_sessionview.specs.Content.{Clip, Track}
+use Rattle.mt_sessionview.specs.SessionValue.{Clip, Track}
 use Rattle.mt_render.specs.Sources.{digest_cmp}
 use Rattle.mt_render.specs.Mix.{clips_end, length_of}
 use Rattle.mt_render.specs.Refusals.{unmuted, audible, IsAmong, LeastOf}

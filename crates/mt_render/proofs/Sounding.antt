@@ -1,9 +1,9 @@
 -- The clip that sounds, whatever the order of the clips.
 use Rattle.std.proofs.Common.{◌≡◌, ℕ, zero, suc, ◌<◌, inl, inr, true, false, List, [], ◌∷◌, length, Some, None, refl, sym, ◌∙◌, ap, subst, arith}
 use Rattle.std.specs.Ordering.{is_lt}
-use Rattle.mt_stamp.specs.Moment.{stamp_cmp}
+use Rattle.mt_stamp.specs.StampOrder.{stamp_cmp}
 use Rattle.mt_stamp.specs.Sorting.{DifferBy}
-use Rattle.mt_sessionview.specs.Content.{Clip}
+use Rattle.mt_sessionview.specs.SessionValue.{Clip}
 use Rattle.mt_render.specs.Mix.{sounds, sounding}
 use Rattle.mt_render.specs.Lanes.{clip_at}
 use Rattle.mt_render.specs.Refusals.{IsAmong}

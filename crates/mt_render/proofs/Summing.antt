@@ -16,8 +16,8 @@ lane_more ls i f c l within is =
     let more : take (i + 1) ls ≡ take i ls ++ l ∷ [] = take_more ls i l within ∙ ap (λ x. take i ls ++ x ∷ []) (sym is) in
     sym (lanes_push f c (take i ls) l) ∙ ap (lanes_give f c) (sym more)
 
-pub lanes_small : (ls : List (List Part)) (i f c : ℕ) (l : List Part) (reach more : ℕ) → i < length ls → l ≡ get_or ls i l → unsigned_abs (lanes_give f c (take i ls)) ≤ 2 ^ 31 * reach → unsigned_abs (all_give f c l) ≤ 2 ^ 31 * more
-    → unsigned_abs (lanes_give f c (take (i + 1) ls)) ≤ 2 ^ 31 * (reach + more)
-lanes_small ls i f c l reach more within is had this =
+pub lanes_small : (ls : List (List Part)) (i f c : ℕ) (l : List Part) (max_gain more : ℕ) → i < length ls → l ≡ get_or ls i l → unsigned_abs (lanes_give f c (take i ls)) ≤ 2 ^ 31 * max_gain → unsigned_abs (all_give f c l) ≤ 2 ^ 31 * more
+    → unsigned_abs (lanes_give f c (take (i + 1) ls)) ≤ 2 ^ 31 * (max_gain + more)
+lanes_small ls i f c l max_gain more within is had this =
     let s = abs_sum (lanes_give f c (take i ls)) (all_give f c l) in
     rw (← lane_more ls i f c l within is) (omega (arith, s, had, this))

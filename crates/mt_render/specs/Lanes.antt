@@ -1,8 +1,8 @@
 -- The spans of a track's clips, and what their segments add up to: what the code keeps, and no definition of the subject.
 use Rattle.std.specs.Prelude.{◌≡◌, ℕ, ◌-◌, ◌<◌, Bool, ◌&&◌, nat_le, nat_lt, if◌then◌else◌, List, [], ◌∷◌, length, slice_index_or, false, ℤ, pos, ◌+ℤ◌}
-use Rattle.mt_stamp.specs.Moment.{Moment}
-use Rattle.mt_op.specs.Gain.{Ratio}
-use Rattle.mt_sessionview.specs.Content.{Clip}
+use Rattle.mt_stamp.specs.StampOrder.{Stamp}
+use Rattle.mt_op.specs.Gain.{Gain}
+use Rattle.mt_sessionview.specs.SessionValue.{Clip}
 use Rattle.mt_overlap.specs.declared.span.Span.{Span}
 use Rattle.mt_overlap.specs.declared.span.Segment.{Segment}
 use Rattle.mt_overlap.specs.Overlap.{span_at}
@@ -10,7 +10,7 @@ use Rattle.mt_render.specs.Sources.{Sources, source_of}
 use Rattle.mt_render.specs.Mix.{contribution, heard}
 
 -- the clip of an index that is there
-abbrev pub nowhere : Moment
+abbrev pub nowhere : Stamp
 nowhere = record { clock = 0; replica = record { 0 = 0 }; seq = 0 }
 
 abbrev pub clip_at : List Clip → ℕ → Clip
@@ -35,5 +35,5 @@ lane_sum value [] f = pos 0
 lane_sum value (s ∷ ss) f = (if is_in s f then value s.which else pos 0) +ℤ lane_sum value ss f
 
 -- what the clip of an index contributes at a frame
-abbrev pub clip_value : Sources → Ratio → List Clip → ℕ → ℕ → ℕ → ℤ
+abbrev pub clip_value : Sources → Gain → List Clip → ℕ → ℕ → ℕ → ℤ
 clip_value sources gain clips f c w = contribution (clip_at clips w) gain (f - (clip_at clips w).at) (heard (source_of sources (clip_at clips w).source) (clip_at clips w) f c)

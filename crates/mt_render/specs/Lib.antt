@@ -1,5 +1,5 @@
 pub mod Faults
-pub mod Layout
+pub mod FormatValue
 pub mod Sources
 pub mod Mix
 pub mod Blocks

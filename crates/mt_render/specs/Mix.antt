@@ -2,19 +2,19 @@
 use Rattle.std.specs.Prelude.{ℕ, ◌+◌, ◌*◌, ◌-◌, ◌^◌, min, max, not, ◌&&◌, ◌==◌, nat_lt, nat_le, Bool, if◌then◌else◌, List, [], ◌∷◌, Option, Some, None, ℤ, pos, negsuc, ◌+ℤ◌, ◌*ℤ◌}
 use Rattle.std.specs.Int.{int_div_euclid, int_max, int_min}
 use Rattle.std.specs.Ordering.{is_lt}
-use Rattle.mt_stamp.specs.Moment.{stamp_cmp}
-use Rattle.mt_op.specs.Gain.{Ratio}
-use Rattle.mt_sessionview.specs.Content.{Clip, Track}
+use Rattle.mt_stamp.specs.StampOrder.{stamp_cmp}
+use Rattle.mt_op.specs.Gain.{Gain}
+use Rattle.mt_sessionview.specs.SessionValue.{Clip, Track}
 use Rattle.mt_bwfread.specs.Wave.{channels_of}
 use Rattle.mt_bwfread.specs.Fill.{sample_or_silence}
-use Rattle.mt_render.specs.Layout.{Layout}
+use Rattle.mt_render.specs.FormatValue.{Format}
 use Rattle.mt_render.specs.Sources.{Sources, source_of}
 
 -- what is rendered: the tracks of a session, the recordings, and the format
 pub record Programme : Type 0 where
   pub tracks : List Track
   pub sources : Sources
-  pub layout : Layout
+  pub layout : Format
 
 -- ---- which clip sounds
 
@@ -56,12 +56,12 @@ full fade = if fade == 0 then 1 else fade
 
 -- A sample of a clip's frame i, counted from its first, under the gains of the clip and of its track and under its fades: it fades in from its first
 -- frame on, which is silent, and out to the frame behind its last, which would be.
-abbrev pub contribution : Clip → Ratio → ℕ → ℤ → ℤ
+abbrev pub contribution : Clip → Gain → ℕ → ℤ → ℤ
 contribution clip track i x =
     rounded (x *ℤ pos ((clip.gain.num * track.num) * (level clip.fade_in i * level clip.fade_out (clip.len - i))))
     ((clip.gain.den * track.den) * (full clip.fade_in * full clip.fade_out))
 
-abbrev pub clip_sample : Sources → Ratio → ℕ → ℕ → Option Clip → ℤ
+abbrev pub clip_sample : Sources → Gain → ℕ → ℕ → Option Clip → ℤ
 clip_sample sources gain f c None = pos 0
 clip_sample sources gain f c (Some clip) = contribution clip gain (f - clip.at) (heard (source_of sources clip.source) clip f c)
 

@@ -2,7 +2,7 @@
 use Rattle.std.specs.Prelude.{◌≡◌, ℕ, ◌*◌, ◌/◌, ◌<◌, ◌≤◌, ◌⊎◌, Bool, true, false, not, ◌==◌, if◌then◌else◌, List, [], ◌∷◌, ◌++◌, Option, Some, None}
 use Rattle.std.specs.Ordering.{is_lt}
 use Rattle.mt_op.specs.declared.digest.Digest.{Digest}
-use Rattle.mt_sessionview.specs.Content.{Clip, Track}
+use Rattle.mt_sessionview.specs.SessionValue.{Clip, Track}
 use Rattle.mt_bwfread.specs.Wave.{rate_of}
 use Rattle.mt_render.specs.declared.fault.MixFault.{MixFault}
 use Rattle.mt_render.specs.declared.fault.MixFault.TheVariants.{Memory, MissingSource, RateDiffers, TooLong}

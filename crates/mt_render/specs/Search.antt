@@ -2,7 +2,7 @@
 use Rattle.std.specs.Prelude.{Bool, if◌then◌else◌, Option, Some, None}
 use Rattle.std.specs.Ordering.{is_lt}
 use Rattle.mt_op.specs.declared.digest.Digest.{Digest}
-use Rattle.mt_sessionview.specs.Content.{Clip}
+use Rattle.mt_sessionview.specs.SessionValue.{Clip}
 use Rattle.mt_render.specs.Sources.{digest_cmp}
 
 abbrev pub lesser : Digest → Option Digest → Digest

@@ -9,8 +9,8 @@ ghost use Rattle.mt_render.specs.Faults.{IsSourceFault};
 
 use crate::fault::SourceFault;
 use crate::hashed::HashedFile;
+use base_sha256::digests_of;
 use mt_bwfread::Wave;
-use mt_digests::digests_of;
 use mt_op::Digest;
 use std::alloc::{AllocError, Allocator, Global};
 use std::collections::BTreeMap;

@@ -1,7 +1,7 @@
 //! The format of what is rendered.
 
 ghost use Rattle.std.specs.Prelude.{◌≡◌, ◌↔◌, false, IsTrue, IfOk, IsErrOf};
-ghost use Rattle.mt_render.specs.Layout.{is_layout};
+ghost use Rattle.mt_render.specs.FormatValue.{is_layout};
 
 use crate::fault::FormatFault;
 use std::marker::Model;
@@ -15,10 +15,10 @@ pub struct Format {
 }
 
 impl Model for Format {
-    ghost use Rattle.mt_render.specs.Layout.{Layout, is_layout};
+    ghost use Rattle.mt_render.specs.FormatValue.{Format, is_layout};
     ghost use Rattle.std.specs.Prelude.{IsTrue};
 
-    ghost Value = { Layout };
+    ghost Value = { Format };
 
     ghost view = { λ f. record { rate = f.rate; bits = f.bits; channels = f.channels } };
 

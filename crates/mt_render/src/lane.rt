@@ -54,12 +54,12 @@ fn reach_of(parts: &[Part]) -> u64
     ensures enough { (f c : ℕ) → unsigned_abs (all_give f c parts.now) ≤ 2 ^ 31 * result }
     ensures small { result ≤ 2 ^ 32 }
 {
-    let mut reach: u64 = 0;
+    let mut max_gain: u64 = 0;
     for part in parts {
         small_samples(part.wave);
-        reach = reach.max(part.scale.reach());
+        max_gain = max_gain.max(part.scale.max_gain());
     }
-    reach
+    max_gain
 }
 
 // Adds what the parts contribute to the sums of the frames from `first` on.
@@ -117,7 +117,7 @@ impl<'c, 'a, A: Allocator> Lane<'c, 'a, A> {
     }
 
     /// The greatest gain, rounded up: no contribution passes 2^31 times this.
-    pub(crate) fn reach(&self) -> u64
+    pub(crate) fn max_gain(&self) -> u64
         ensures enough { (f c : ℕ) → unsigned_abs (all_give f c self.now) ≤ 2 ^ 31 * result }
         ensures small { result ≤ 2 ^ 32 }
     {

@@ -2,9 +2,9 @@
 
 ghost use Rattle.std.specs.Prelude.{◌≡◌, ◌↔◌, IsTrue, ℕ, List, None, Some, true, false};
 ghost use Rattle.std.specs.Ordering.{is_lt};
-ghost use Rattle.mt_stamp.specs.Moment.{stamp_cmp};
+ghost use Rattle.mt_stamp.specs.StampOrder.{stamp_cmp};
 ghost use Rattle.mt_stamp.specs.Sorting.{DifferBy};
-ghost use Rattle.mt_sessionview.specs.Content.{Clip};
+ghost use Rattle.mt_sessionview.specs.SessionValue.{Clip};
 ghost use Rattle.mt_render.specs.Mix.{Programme, sounds, sounding};
 ghost use Rattle.mt_render.specs.Alike.{OnlyAudibleCount, HasOneAnswer};
 ghost use Rattle.mt_render.specs.Blocks.{BlocksAreSamples};

@@ -6,7 +6,7 @@
 //! ```rust
 //! use mt_render::{Catalogue, Format, Mix};
 //! use mt_sessionview::from_scratch;
-//! use mt_testkit::{RECORDING, log_of_a_clip};
+//! use test_kit::{RECORDING, log_of_a_clip};
 //! use std::test::Fail;
 //!
 //! fn mixes_a_clip(rt: HostRuntime) -> Result<(), Fail> {

@@ -4,21 +4,21 @@ ghost use Rattle.std.specs.Prelude.{◌≡◌, ◌+◌, ◌-◌, ◌*◌, ◌/�
 ghost use Rattle.mt_render.specs.Mix.{rounded};
 
 use crate::divisor::{Divisor, Quotients};
-use crate::step::lowered;
+use crate::step::unbiased;
 
 /// A divisor, and how often it is added so that no product is below zero.
 #[derive(Clone, Copy)]
 pub(crate) struct Ramp {
     pub(crate) divisor: Divisor,
     pub(crate) most: u32,
-    turns: u64,
-    lift: u64,
+    bias: u64,
+    bias_quotients: u64,
     ghost most_to: { most ≤ 2 ^ 32 - 2 ^ 22 },
-    ghost turns_to: { turns < 2 ^ 63 },
-    ghost lift_to: { lift < 2 ^ 63 + 2 ^ 54 },
-    ghost lift_is: { lift ≡ divisor.den / 2 + divisor.den * turns },
-    ghost enough: { 2 ^ 31 * most ≤ divisor.den * turns },
-    ghost small: { divisor.den * turns < 2 ^ 31 * most + divisor.den },
+    ghost turns_to: { bias < 2 ^ 63 },
+    ghost lift_to: { bias_quotients < 2 ^ 63 + 2 ^ 54 },
+    ghost lift_is: { bias_quotients ≡ divisor.den / 2 + divisor.den * bias },
+    ghost enough: { 2 ^ 31 * most ≤ divisor.den * bias },
+    ghost small: { divisor.den * bias < 2 ^ 31 * most + divisor.den },
 }
 
 impl Ramp {
@@ -28,12 +28,12 @@ impl Ramp {
         ensures divisor { result.divisor ≡ divisor }
         ensures most { result.most ≡ most }
     {
-        let turns = (u64::from(most) * 2147483648 + (divisor.den - 1)) / divisor.den;
+        let bias = (u64::from(most) * 2147483648 + (divisor.den - 1)) / divisor.den;
         Ramp {
             divisor,
             most,
-            turns,
-            lift: divisor.den / 2 + divisor.den * turns,
+            bias,
+            bias_quotients: divisor.den / 2 + divisor.den * bias,
         }
     }
 
@@ -44,7 +44,7 @@ impl Ramp {
         requires below { 2 ^ 32 * self.now.most + 2 ^ 54 ≤ Q.below }
         ensures { result ≡ rounded (x *ℤ pos num) self.now.divisor.den }
     {
-        lowered(Q::quotient(&self.divisor, lifted(x, num, self)), self.turns)
+        unbiased(Q::quotient(&self.divisor, lifted(x, num, self)), self.bias)
     }
 }
 
@@ -52,9 +52,9 @@ impl Ramp {
 #[inline]
 fn lifted(x: i32, num: u32, ramp: &Ramp) -> u64
     requires { num ≤ ramp.now.most }
-    ensures value { pos result ≡ (x *ℤ pos num +ℤ pos (ramp.now.divisor.den / 2)) +ℤ pos (ramp.now.divisor.den * ramp.now.turns) }
+    ensures value { pos result ≡ (x *ℤ pos num +ℤ pos (ramp.now.divisor.den / 2)) +ℤ pos (ramp.now.divisor.den * ramp.now.bias) }
     ensures small { result < 2 ^ 32 * ramp.now.most + 2 ^ 54 }
 {
     let from_zero = (i64::from(x) + 2147483648) as u32;
-    u64::from(from_zero) * u64::from(num) + (ramp.lift - u64::from(num) * 2147483648)
+    u64::from(from_zero) * u64::from(num) + (ramp.bias_quotients - u64::from(num) * 2147483648)
 }

@@ -7,7 +7,7 @@ ghost use Rattle.mt_render.specs.Mix.{rounded};
 ghost use Rattle.mt_render.specs.Sums.{HaveGained};
 
 use crate::divisor::Divisor;
-use crate::step::{Far, Multiplied, Near, Same, Shifted, Whole, add_each};
+use crate::step::{Integer, MulHigh, MulShift, MulShift65, Shift, Unity, add_each};
 use mt_op::Gain;
 
 // A number that divides both: the greatest that does.
@@ -33,8 +33,8 @@ fn divisor(a: u32, b: u32) -> u32
 pub(crate) struct Scale {
     pub(crate) num: u32,
     pub(crate) den: u32,
-    pub(crate) lift: u64,
-    pub(crate) turns: u64,
+    pub(crate) bias_quotients: u64,
+    pub(crate) bias: u64,
     // `den` is two to the power of this, or this is 0
     pub(crate) bits: u32,
     // some 2^64 / `den`, where that is near enough for each sample, or 0
@@ -42,12 +42,12 @@ pub(crate) struct Scale {
     ghost num_to: { num ≤ 4294836225 },
     ghost den_from: { 1 ≤ den },
     ghost den_to: { den ≤ 4294836225 },
-    ghost lift_to: { lift < 2 ^ 33 },
-    ghost turns_to: { turns ≤ 2 ^ 63 },
-    ghost lifted: { lift + 2 ^ 31 * num ≡ den / 2 + den * turns },
+    ghost lift_to: { bias_quotients < 2 ^ 33 },
+    ghost turns_to: { bias ≤ 2 ^ 63 },
+    ghost lifted: { bias_quotients + 2 ^ 31 * num ≡ den / 2 + den * bias },
     ghost bits_to: { bits < 32 },
     ghost power: { 0 < bits → 2 ^ bits ≡ den },
-    ghost near: { 0 < inverse → Inverts num den lift inverse },
+    ghost near: { 0 < inverse → Inverts num den bias_quotients inverse },
 }
 
 // A product and half a divisor, which stay below 2^63.
@@ -83,13 +83,13 @@ fn bits_of(den: u32) -> u32
 }
 
 // 2^64 / `den`, rounded up, where a product with it is exact enough for each sample, or 0.
-fn inverse_of(num: u32, den: u32, lift: u64) -> u64
+fn inverse_of(num: u32, den: u32, bias_quotients: u64) -> u64
     requires num_to { num ≤ 4294836225 }
-    requires lift_to { lift < 2 ^ 33 }
+    requires lift_to { bias_quotients < 2 ^ 33 }
     requires den_from { 2 ≤ den }
-    ensures { 0 < result → Inverts num den lift result }
+    ensures { 0 < result → Inverts num den bias_quotients result }
 {
-    let greatest = u128::from(num) * 4294967295 + u128::from(lift);
+    let greatest = u128::from(num) * 4294967295 + u128::from(bias_quotients);
     if greatest * u128::from(den) < 18446744073709551616 {
         18446744073709551615 / u64::from(den) + 1
     } else {
@@ -105,18 +105,18 @@ fn scale_of(num: u32, den: u32) -> Scale
     ensures num { result.num ≡ num }
     ensures den { result.den ≡ den }
 {
-    let turns = turns_of(num, den);
-    let lift = u64::from(den / 2) + u64::from(den) * turns - u64::from(num) * 2147483648;
+    let bias = turns_of(num, den);
+    let bias_quotients = u64::from(den / 2) + u64::from(den) * bias - u64::from(num) * 2147483648;
     let inverse = if den == 1 {
         0
     } else {
-        inverse_of(num, den, lift)
+        inverse_of(num, den, bias_quotients)
     };
     Scale {
         num,
         den,
-        lift,
-        turns,
+        bias_quotients,
+        bias,
         bits: bits_of(den),
         inverse,
     }
@@ -148,23 +148,23 @@ impl Scale {
         ensures { HaveGained sums.old sums.new (λ k. rounded (at samples.now k *ℤ pos self.now.num) self.now.den) }
     {
         if self.den == 1 && self.num == 1 {
-            add_each(sums, samples, &Same);
+            add_each(sums, samples, &Unity);
         } else if self.den == 1 {
-            add_each(sums, samples, &Whole { num: self.num });
+            add_each(sums, samples, &Integer { num: self.num });
         } else if self.bits > 0 {
-            add_each(sums, samples, &Shifted { scale: *self });
+            add_each(sums, samples, &Shift { scale: *self });
         } else if self.inverse > 0 {
-            add_each(sums, samples, &Multiplied { scale: *self });
+            add_each(sums, samples, &MulHigh { scale: *self });
         } else if self.num <= 1 << 30 {
             let divisor = Divisor::new(u64::from(self.den));
-            let step = Near {
+            let step = MulShift {
                 scale: *self,
                 divisor,
             };
             add_each(sums, samples, &step);
         } else {
             let divisor = Divisor::new(u64::from(self.den));
-            let step = Far {
+            let step = MulShift65 {
                 scale: *self,
                 divisor,
             };
@@ -173,7 +173,7 @@ impl Scale {
     }
 
     /// The gain, rounded up: no sample contributes more than 2^31 times this.
-    pub(crate) fn reach(&self) -> u64
+    pub(crate) fn max_gain(&self) -> u64
         ensures enough { self.now.num ≤ result * self.now.den }
         ensures small { result ≤ 2 ^ 32 }
     {

@@ -2,7 +2,7 @@
 
 ghost use Rattle.std.specs.Prelude.{◌≡◌, ◌+◌, ◌<◌, ◌^◌, ◌++◌, List, [], Bool, if◌then◌else◌};
 ghost use Rattle.mt_op.specs.declared.digest.Digest.{Digest as DigestOf};
-ghost use Rattle.mt_sessionview.specs.Content.{Clip};
+ghost use Rattle.mt_sessionview.specs.SessionValue.{Clip};
 ghost use Rattle.mt_render.specs.Mix.{clips_end, length_of};
 ghost use Rattle.mt_render.specs.Refusals.{unmuted, audible, LeastOf, is_missing, rate_differs};
 ghost use Rattle.mt_render.specs.Search.{lesser, least_with};

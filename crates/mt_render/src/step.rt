@@ -9,7 +9,7 @@ use crate::divisor::{Divisor, upper};
 use crate::scale::Scale;
 
 /// A way from a sample to what it adds to a sum.
-pub(crate) trait Step {
+pub(crate) trait GainKernel {
     ghost gives: { Self → ℤ → ℤ };
 
     fn of(&self, x: i32) -> i64
@@ -18,9 +18,9 @@ pub(crate) trait Step {
 
 /// The sample itself.
 #[derive(Drop)]
-pub(crate) struct Same;
+pub(crate) struct Unity;
 
-impl Step for Same {
+impl GainKernel for Unity {
     ghost gives = { λ _ x. x };
 
     #[inline]
@@ -31,12 +31,12 @@ impl Step for Same {
 
 /// The sample times a whole number.
 #[derive(Drop)]
-pub(crate) struct Whole {
+pub(crate) struct Integer {
     pub(crate) num: u32,
     ghost num_to: { num ≤ 4294836225 },
 }
 
-impl Step for Whole {
+impl GainKernel for Integer {
     ghost gives = { λ s x. x *ℤ pos s.num };
 
     #[inline]
@@ -48,103 +48,103 @@ impl Step for Whole {
 // A product with half a divisor and `turns` divisors added, which is not below zero.
 #[inline]
 fn lifted(x: i32, scale: &Scale) -> u64
-    ensures value { pos result ≡ (x *ℤ pos scale.now.num +ℤ pos (scale.now.den / 2)) +ℤ pos (scale.now.den * scale.now.turns) }
-    ensures small { result ≤ 4294967295 * scale.now.num + scale.now.lift }
+    ensures value { pos result ≡ (x *ℤ pos scale.now.num +ℤ pos (scale.now.den / 2)) +ℤ pos (scale.now.den * scale.now.bias) }
+    ensures small { result ≤ 4294967295 * scale.now.num + scale.now.bias_quotients }
 {
     let from_zero = (i64::from(x) + 2147483648) as u32;
-    u64::from(from_zero) * u64::from(scale.num) + scale.lift
+    u64::from(from_zero) * u64::from(scale.num) + scale.bias_quotients
 }
 
 /// A quotient without the turns that were added.
 #[inline]
-pub(crate) fn lowered(quotient: u64, turns: u64) -> i64
+pub(crate) fn unbiased(quotient: u64, bias: u64) -> i64
     requires quotient_to { quotient < 2 ^ 63 }
-    requires turns_to { turns < 2 ^ 63 }
-    ensures { result ≡ pos quotient -ℤ pos turns }
+    requires turns_to { bias < 2 ^ 63 }
+    ensures { result ≡ pos quotient -ℤ pos bias }
 {
-    quotient as i64 - turns as i64
+    quotient as i64 - bias as i64
 }
 
 /// The sample times a fraction over a power of two.
 #[derive(Drop)]
-pub(crate) struct Shifted {
+pub(crate) struct Shift {
     pub(crate) scale: Scale,
     ghost some: { 0 < scale.bits },
     ghost den_from: { 2 ≤ scale.den },
 }
 
-impl Step for Shifted {
+impl GainKernel for Shift {
     ghost gives = { λ s x. rounded (x *ℤ pos s.scale.num) s.scale.den };
 
     #[inline]
     fn of(&self, x: i32) -> i64 {
-        lowered(lifted(x, &self.scale) >> self.scale.bits, self.scale.turns)
+        unbiased(lifted(x, &self.scale) >> self.scale.bits, self.scale.bias)
     }
 }
 
 /// The sample times a fraction, its divisor taken as a product.
 #[derive(Drop)]
-pub(crate) struct Multiplied {
+pub(crate) struct MulHigh {
     pub(crate) scale: Scale,
     ghost some: { 0 < scale.inverse },
     ghost den_from: { 2 ≤ scale.den },
 }
 
-impl Step for Multiplied {
+impl GainKernel for MulHigh {
     ghost gives = { λ s x. rounded (x *ℤ pos s.scale.num) s.scale.den };
 
     #[inline]
     fn of(&self, x: i32) -> i64 {
-        lowered(
+        unbiased(
             upper(lifted(x, &self.scale), self.scale.inverse),
-            self.scale.turns,
+            self.scale.bias,
         )
     }
 }
 
 /// The sample times a fraction, its divisor taken as a product and a shift.
 #[derive(Drop)]
-pub(crate) struct Near {
+pub(crate) struct MulShift {
     pub(crate) scale: Scale,
     pub(crate) divisor: Divisor,
     ghost num_to: { scale.num ≤ 2 ^ 30 },
     ghost same: { divisor.den ≡ scale.den },
 }
 
-impl Step for Near {
+impl GainKernel for MulShift {
     ghost gives = { λ s x. rounded (x *ℤ pos s.scale.num) s.scale.den };
 
     #[inline]
     fn of(&self, x: i32) -> i64 {
-        lowered(
+        unbiased(
             self.divisor.quotient(lifted(x, &self.scale)),
-            self.scale.turns,
+            self.scale.bias,
         )
     }
 }
 
 /// The sample times any fraction, its divisor taken as a product, a sum and a shift.
 #[derive(Drop)]
-pub(crate) struct Far {
+pub(crate) struct MulShift65 {
     pub(crate) scale: Scale,
     pub(crate) divisor: Divisor,
     ghost same: { divisor.den ≡ scale.den },
 }
 
-impl Step for Far {
+impl GainKernel for MulShift65 {
     ghost gives = { λ s x. rounded (x *ℤ pos s.scale.num) s.scale.den };
 
     #[inline]
     fn of(&self, x: i32) -> i64 {
-        lowered(
+        unbiased(
             self.divisor.quotient_of_any(lifted(x, &self.scale)),
-            self.scale.turns,
+            self.scale.bias,
         )
     }
 }
 
 /// Adds what each sample gives to the sum at its place, modulo 2^64.
-pub(crate) fn add_each<S: Step>(sums: &mut [i64], samples: &[i32], step: &S)
+pub(crate) fn add_each<S: GainKernel>(sums: &mut [i64], samples: &[i32], step: &S)
     requires { length sums.old ≤ length samples.now }
     ensures { HaveGained sums.old sums.new (λ k. S.gives step.now (at samples.now k)) }
 {

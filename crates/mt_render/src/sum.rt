@@ -44,10 +44,10 @@ pub(crate) fn add_lanes<A: Allocator>(
 pub(crate) fn are_narrow<A: Allocator>(lanes: &[Lane<'_, '_, A>]) -> bool
     ensures { IsTrue result → (f c : ℕ) → IsNarrow (lanes_give f c lanes.now) }
 {
-    let mut reach = 0;
+    let mut max_gain = 0;
     for lane in lanes {
-        reach += lane.reach();
-        if reach >= 1073741824 {
+        max_gain += lane.max_gain();
+        if max_gain >= 1073741824 {
             return false;
         }
     }

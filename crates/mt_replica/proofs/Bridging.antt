@@ -7,7 +7,7 @@ use Rattle.std.specs.declared.cmp.Ordering.{Ordering}
 use Rattle.std.specs.declared.cmp.Ordering.TheVariants.{Less, Equal, Greater}
 use Rattle.std.specs.List.Sorted.{IsStrictlySortedBy}
 use Rattle.std.proofs.lemmas.Bool.{true≢false}
-use Rattle.mt_stamp.specs.Moment.{Moment, stamp_cmp, stamp_eq}
+use Rattle.mt_stamp.specs.StampOrder.{Stamp, stamp_cmp, stamp_eq}
 use Rattle.mt_stamp.specs.Sorting.{DifferBy, RisesStrictly}
 use Rattle.mt_stamp.proofs.Order.{stamp_cmp_total, stamp_cmp-IsAntisymmetric}
 use Rattle.mt_stamp.proofs.Sorting.{sort_same}
@@ -16,17 +16,17 @@ use Rattle.mt_stamp.proofs.SameItems.{SameItems, same_any, same_filter, same_map
 use Rattle.mt_stamp.specs.Written.{Written}
 use Rattle.mt_stamp.specs.Presence.{is_left}
 use Rattle.mt_op.specs.declared.need.Need.{Need}
-use Rattle.mt_op.specs.Operation as act
-use Rattle.mt_op.specs.Operation.{Operation}
+use Rattle.mt_op.specs.OpValue as act
+use Rattle.mt_op.specs.OpValue.{Op}
 use Rattle.mt_op.specs.Needs.{meets, is_tag_of}
 use Rattle.mt_op.specs.Presence.{tags, live_tags, tags_removed, removed_tags, is_listed}
 use Rattle.mt_op.specs.Writes.{track_place_written, written_by, latest}
 use Rattle.mt_op.proofs.LastWrite.{latest_is_greatest}
 use Rattle.mt_op.specs.ByStamp.{stamp_of}
 use Rattle.mt_op.proofs.Needs.{stamp_eq-true}
-use Rattle.mt_items.specs.Noting.{AreNoted, is_noted}
-use Rattle.mt_items.proofs.Noting.{first_false, rest_false}
-use Rattle.mt_sessionview.proofs.Items.{stamp_eq_same}
+use Rattle.session_state.specs.Applying.{AreApplied, is_applied}
+use Rattle.session_state.proofs.Applying.{first_false, rest_false}
+use Rattle.mt_sessionview.proofs.ItemStates.{stamp_eq_same}
 use Rattle.mt_stamp.proofs.Listed.{any_member, member_any}
 use Rattle.mt_replica.proofs.Making.{member_all, all_members}
 use Rattle.mt_replica.proofs.Valid.{apart_stamps, live_differ}
@@ -38,7 +38,7 @@ use Rattle.mt_sessionview.specs.Session.{ready_ops}
 use Rattle.mt_replica.specs.declared.fault.EditorFault.{EditorFault}
 use Rattle.mt_replica.specs.declared.fault.EditorFault.TheVariants.{NoSuchItem, Absent, TooManyTags}
 
-module _ (items ready : List Operation) (same : SameItems items ready) where
+module _ (items ready : List Op) (same : SameItems items ready) where
   name_same : (present : Bool) (need : Need) → name_refused items present need ≡ name_refused ready present need
   name_same present need = λ i. or_else (unless (same_any items ready same (meets need) i) (NoSuchItem need.stamp)) (unless (not present || present_same items ready same need.stamp i) (Absent need.stamp))
 
@@ -49,39 +49,39 @@ module _ (items ready : List Operation) (same : SameItems items ready) where
 -- ---- live tags
 
 -- noted operations have stamps of their own
-pub noted_differ : (ops : List Operation) → AreNoted ops → DifferBy stamp_of ops
-noted_differ [] noted = tt
-noted_differ (o ∷ ops) noted = (each ops noted.0.fresh, noted_differ ops noted.1)
+pub applied_differ : (ops : List Op) → AreApplied ops → DifferBy stamp_of ops
+applied_differ [] applied = tt
+applied_differ (o ∷ ops) applied = (each ops applied.0.fresh, applied_differ ops applied.1)
   where
-    each : (xs : List Operation) → is_noted xs o.stamp ≡ false → AllByRecursion (λ x. stamp_of o ≢ stamp_of x) xs
+    each : (xs : List Op) → is_applied xs o.stamp ≡ false → AllByRecursion (λ x. stamp_of o ≢ stamp_of x) xs
     each [] fresh = tt
-    each (x ∷ xs) fresh = ((λ same. true≢false (sym (stamp_eq_same o.stamp x.stamp same) ∙ first_false (stamp_eq o.stamp x.stamp) (is_noted xs o.stamp) fresh)), each xs (rest_false (stamp_eq o.stamp x.stamp) (is_noted xs o.stamp) fresh))
+    each (x ∷ xs) fresh = ((λ same. true≢false (sym (stamp_eq_same o.stamp x.stamp same) ∙ first_false (stamp_eq o.stamp x.stamp) (is_applied xs o.stamp) fresh)), each xs (rest_false (stamp_eq o.stamp x.stamp) (is_applied xs o.stamp) fresh))
 
-pub listed_member : (xs : List Moment) (t : Moment) → is_listed xs t ≡ true → IsMember t xs
-listed_member xs t found = let one = any_member (stamp_eq t) xs found in subst (λ (m : Moment). IsMember m xs) (sym (stamp_eq-true t one.0 one.1.1)) one.1.0
+pub listed_member : (xs : List Stamp) (t : Stamp) → is_listed xs t ≡ true → IsMember t xs
+listed_member xs t found = let one = any_member (stamp_eq t) xs found in subst (λ (m : Stamp). IsMember m xs) (sym (stamp_eq-true t one.0 one.1.1)) one.1.0
 
-pub member_listed : (xs : List Moment) (t : Moment) → IsMember t xs → is_listed xs t ≡ true
+pub member_listed : (xs : List Stamp) (t : Stamp) → IsMember t xs → is_listed xs t ≡ true
 member_listed xs t m = member_any (stamp_eq t) xs t m (stamp_eq_same t t refl)
 
-strictly : (xs : List Moment) → IsStrictlySortedBy stamp_cmp xs → RisesStrictly stamp_cmp xs
+strictly : (xs : List Stamp) → IsStrictlySortedBy stamp_cmp xs → RisesStrictly stamp_cmp xs
 unfolding IsStrictlySortedBy
 strictly [] rise = tt
 strictly (x ∷ xs) rise = (rise.0, strictly xs rise.1)
 
 -- stamps that rise and are the live tags are the live tags in order
-pub live_in_order : (ops : List Operation) (item : Moment) (xs : List Moment) → AreNoted ops → IsStrictlySortedBy stamp_cmp xs → ((t : Moment) → is_listed xs t ≡ is_listed (live_tags item ops) t) → xs ≡ rising_tags ops item
-live_in_order ops item xs noted rise alike =
+pub live_in_order : (ops : List Op) (item : Stamp) (xs : List Stamp) → AreApplied ops → IsStrictlySortedBy stamp_cmp xs → ((t : Stamp) → is_listed xs t ≡ is_listed (live_tags item ops) t) → xs ≡ rising_tags ops item
+live_in_order ops item xs applied rise alike =
     one_list stamp_cmp stamp_cmp_total xs (rising_tags ops item) (strictly xs rise)
-    (sort_strict stamp_cmp stamp_cmp_total (live_tags item ops) (apart_stamps (live_tags item ops) (live_differ ops (noted_differ ops noted) item)))
+    (sort_strict stamp_cmp stamp_cmp_total (live_tags item ops) (apart_stamps (live_tags item ops) (live_differ ops (applied_differ ops applied) item)))
     (λ t m. member_sorted stamp_cmp stamp_cmp_total t (live_tags item ops) (listed_member (live_tags item ops) t (sym (alike t) ∙ member_listed xs t m)))
     (λ t m. listed_member xs t (alike t ∙ member_listed (live_tags item ops) t (member_unsorted stamp_cmp stamp_cmp_total t (live_tags item ops) m)))
 
-live_same : (r u : List Operation) → SameItems r u → (item : Moment) → SameItems (live_tags item r) (live_tags item u)
+live_same : (r u : List Op) → SameItems r u → (item : Stamp) → SameItems (live_tags item r) (live_tags item u)
 live_same r u same item =
-    let tagged = same_map (filter (λ (o : Operation). is_tag_of item o.stamp o.act) r) (filter (λ (o : Operation). is_tag_of item o.stamp o.act) u) (same_filter r u same (λ o. is_tag_of item o.stamp o.act)) (λ (o : Operation). o.stamp) in
-    let removed = same_flat_map r u same (λ (o : Operation). tags_removed item o.act) in
-    let listed : (t : Moment) → is_listed (removed_tags item r) t ≡ is_listed (removed_tags item u) t = λ t. same_any (removed_tags item r) (removed_tags item u) removed (stamp_eq t) in
-    let live : Moment → Bool = is_left (is_listed (removed_tags item r)) in
+    let tagged = same_map (filter (λ (o : Op). is_tag_of item o.stamp o.act) r) (filter (λ (o : Op). is_tag_of item o.stamp o.act) u) (same_filter r u same (λ o. is_tag_of item o.stamp o.act)) (λ (o : Op). o.stamp) in
+    let removed = same_flat_map r u same (λ (o : Op). tags_removed item o.act) in
+    let listed : (t : Stamp) → is_listed (removed_tags item r) t ≡ is_listed (removed_tags item u) t = λ t. same_any (removed_tags item r) (removed_tags item u) removed (stamp_eq t) in
+    let live : Stamp → Bool = is_left (is_listed (removed_tags item r)) in
     λ f. same_filter (tags item r) (tags item u) tagged live f ∙ (λ i. sum_by f (filter (is_left (λ t. listed t i)) (tags item u)))
 
 -- ---- the last writer
@@ -98,7 +98,7 @@ not_true true no_way = absurd (no_way refl)
 not_true false no_way = refl
 
 module _ {X : Type 0} where
-  abbrev writer_of : Option (Written X) → Option Moment
+  abbrev writer_of : Option (Written X) → Option Stamp
   writer_of l = option_map (λ (w : Written X). w.writer) l
 
   not_below : (xs ys : List (Written X)) → SameItems xs ys → (v w : Written X) → latest xs ≡ Some v → latest ys ≡ Some w → is_lt (stamp_cmp w.writer v.writer) ≡ false
@@ -129,24 +129,24 @@ module _ {X : Type 0} where
 
 -- ---- what a change makes
 
-module _ (items ready : List Operation) (same : SameItems items ready) where
-  place_same : (track : Moment) → current_place items track ≡ current_place ready track
+module _ (items ready : List Op) (same : SameItems items ready) where
+  place_same : (track : Stamp) → current_place items track ≡ current_place ready track
   place_same track =
-      ap (λ (l : Option Moment). unwrap_or l track)
+      ap (λ (l : Option Stamp). unwrap_or l track)
       (latest_writer (filter_map (written_by track_place_written track) items) (filter_map (written_by track_place_written track) ready) (same_filter_map items ready same (written_by track_place_written track)))
 
-  after_same : (after : Option Moment) → option_map (current_place items) after ≡ option_map (current_place ready) after
+  after_same : (after : Option Stamp) → option_map (current_place items) after ≡ option_map (current_place ready) after
   after_same None = refl
   after_same (Some track) = ap Some (place_same track)
 
-  tags_same : (item : Moment) → rising_tags items item ≡ rising_tags ready item
+  tags_same : (item : Stamp) → rising_tags items item ≡ rising_tags ready item
   tags_same item =
-      let any : Moment → Type 0 = λ t. Unit {0} in
+      let any : Stamp → Type 0 = λ t. Unit {0} in
       sort_same stamp_cmp stamp_cmp_total any (λ a b of_a of_b tied. stamp_cmp-IsAntisymmetric a b tied) (live_tags item items) (live_tags item ready)
       (all_members any (live_tags item items) (λ t m. tt)) (all_members any (live_tags item ready) (λ t m. tt)) (live_same items ready same item)
 
   pub act_same : (edit : Edit) → made_act items edit ≡ made_act ready edit
-  act_same (AddTrack after title) = ap (λ (a : Option Moment). act.AddTrack a title) (after_same after)
+  act_same (AddTrack after title) = ap (λ (a : Option Stamp). act.AddTrack a title) (after_same after)
   act_same (MoveTrack track after) = ap (act.MoveTrack track) (after_same after)
   act_same (Remove item) = ap (act.Remove item) (tags_same item)
   act_same (AddClip source track at offset len) = refl
@@ -162,7 +162,7 @@ module _ (items ready : List Operation) (same : SameItems items ready) where
   act_same (SetMarkerLength marker len) = refl
 
 -- a Remove lists as many tags as there are
-pub few_fit : (ready : List Operation) (edit : Edit) → lists_few (made_act ready edit) ≡ tags_fit ready edit
+pub few_fit : (ready : List Op) (edit : Edit) → lists_few (made_act ready edit) ≡ tags_fit ready edit
 few_fit ready (AddTrack after title) = refl
 few_fit ready (MoveTrack track after) = refl
 few_fit ready (AddClip source track at offset len) = refl
@@ -183,7 +183,7 @@ few_fit ready (SetMarkerLength marker len) = refl
 pub numbers_pass : (edit : Edit) → true ≡ plays edit → true ≡ fades_fit edit → numbers_refused edit ≡ None
 numbers_pass edit it_plays it_fades = rw (sym it_plays, sym it_fades) refl
 
-module _ (ops : List Operation) (edit : Edit) (numbers : numbers_refused edit ≡ None) where
+module _ (ops : List Op) (edit : Edit) (numbers : numbers_refused edit ≡ None) where
   pub stopped_by_name : (fault : EditorFault) → names_refused (ready_ops ops) (names_present edit) (names_of edit) ≡ Some fault → body_refused ops edit ≡ Some fault
   stopped_by_name fault is = rw (numbers, is) refl
 

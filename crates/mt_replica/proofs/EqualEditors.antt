@@ -8,7 +8,7 @@ use Rattle.mt_op.proofs.Equal.{bytes_itself}
 use Rattle.mt_opcodec.specs.LogText.{op_texts}
 use Rattle.mt_opcodec.specs.LogValue.{LogMap, AreLogged, operations, log_of}
 use Rattle.mt_opcodec.proofs.EqualLogs.{logs_decided}
-use Rattle.mt_replica.specs.Kept.{Kept}
+use Rattle.mt_replica.specs.EditorValue.{Editor}
 use Rattle.mt_replica.specs.Equal.{log_word, kept_word}
 
 logs_same : (a b : Option LogMap) → IfSome a (λ log. AreLogged (operations log) × (log_of (operations log) ≡ log)) → IfSome b (λ log. AreLogged (operations log) × (log_of (operations log) ≡ log))
@@ -19,7 +19,7 @@ logs_same (Some a) None whole_a whole_b h = absurd (false≢true h)
 logs_same (Some a) (Some b) whole_a whole_b h =
     ap Some ((logs_decided a b (pointwise nat_eq (op_texts (operations a)) (op_texts (operations b))) whole_a.0 whole_b.0 whole_a.1 whole_b.1 refl).0 h)
 
-pub kept_decided : (a b : Kept) (r : Bool) → IfSome a.log (λ log. AreLogged (operations log) × (log_of (operations log) ≡ log)) → IfSome b.log (λ log. AreLogged (operations log) × (log_of (operations log) ≡ log))
+pub kept_decided : (a b : Editor) (r : Bool) → IfSome a.log (λ log. AreLogged (operations log) × (log_of (operations log) ≡ log)) → IfSome b.log (λ log. AreLogged (operations log) × (log_of (operations log) ≡ log))
     → r ≡ pointwise nat_eq (kept_word a) (kept_word b) → IsTrue r ↔ ((a.name ≡ b.name) × (a.log ≡ b.log))
 kept_decided a b r whole_a whole_b is = (
   λ h.

@@ -6,13 +6,13 @@ use Rattle.std.specs.Cmp.Lexicographic.{pointwise}
 use Rattle.std.proofs.lemmas.Bool.{false≢true}
 use Rattle.std.proofs.lemmas.Slice.Eq.{slice_eq-Decides}
 use Rattle.std.specs.declared.alloc.Allocator.{Ghosts}
-use Rattle.mt_stamp.specs.Moment.{Moment, stamp_eq}
+use Rattle.mt_stamp.specs.StampOrder.{Stamp, stamp_eq}
 use Rattle.mt_stamp.proofs.Order.{stamp_eq-true, stamp_eq-itself}
 use Rattle.mt_replica.specs.declared.taken.Taken.{Taken}
 use Rattle.mt_replica.specs.declared.taken.Taken.TheVariants.{Already, Held, Applied}
 use Rattle.mt_replica.specs.contracts.taken.TakenPartialEq.TheImpl as taken_eq
 
-stamps_decided : (a b : List Moment) → Decides (pointwise stamp_eq a b) (a ≡ b)
+stamps_decided : (a b : List Stamp) → Decides (pointwise stamp_eq a b) (a ≡ b)
 stamps_decided a b = slice_eq-Decides (λ s t. (stamp_eq-true s t, λ e. ap (stamp_eq s) (sym e) ∙ stamp_eq-itself s)) a b (pointwise stamp_eq a b) refl
 
 module _ (A : denote.RattleType.RattleType) (alloc : Ghosts A.Denot) (d e : mir.Syntax.Dict) where

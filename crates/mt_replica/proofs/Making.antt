@@ -5,7 +5,7 @@ use Rattle.std.specs.List.{AllByRecursion, filter, filter_map, list_any}
 use Rattle.std.proofs.lemmas.Option.{none-some}
 use Rattle.std.proofs.lemmas.Bool.{lt-ltb}
 use Rattle.std.proofs.Math.Nat.{le-max_left, le-max_right}
-use Rattle.mt_stamp.specs.Moment.{Moment, stamp_cmp, stamp_eq}
+use Rattle.mt_stamp.specs.StampOrder.{Stamp, stamp_cmp, stamp_eq}
 use Rattle.mt_stamp.specs.Written.{Written}
 use Rattle.mt_stamp.specs.Presence.{is_left}
 use Rattle.mt_op.specs.declared.need.Role.TheVariants.{Track, Place, TagOf}
@@ -14,9 +14,9 @@ use Rattle.mt_op.specs.Needs.{need_of, place_needs, needs_of, needs, meets, cloc
 use Rattle.mt_op.specs.Ready.{is_ready}
 use Rattle.mt_stamp.proofs.Order.{stamp_cmp_total}
 use Rattle.mt_op.proofs.WriteOf.{is_write_of}
-use Rattle.mt_sessionview.proofs.Items.{stamp_eq_same}
-use Rattle.mt_op.specs.Operation as act
-use Rattle.mt_op.specs.Operation.{Act, Operation}
+use Rattle.mt_sessionview.proofs.ItemStates.{stamp_eq_same}
+use Rattle.mt_op.specs.OpValue as act
+use Rattle.mt_op.specs.OpValue.{Body, Op}
 use Rattle.mt_op.specs.Presence.{is_present, live_tags, tags, is_listed, removed_tags}
 use Rattle.mt_op.specs.Writes.{Write, track_place_written, written_by, last_write}
 use Rattle.mt_op.proofs.LastWrite.{latest_is_greatest}
@@ -63,7 +63,7 @@ mapped_below f (y ∷ xs) x (inr later) = let rest = mapped_below f xs x later i
 
 -- ---- the items that an edit names
 
-module _ (ops : List Operation) where
+module _ (ops : List Op) where
   -- one of the ready operations meets the need
   abbrev pub Met : Need → Type 0
   Met need = list_any (meets need) (ready_ops ops) ≡ true
@@ -76,52 +76,52 @@ module _ (ops : List Operation) where
       (passed (list_any (meets need) (ready_ops ops)) (EditorFault.NoSuchItem need.stamp) first.0, names_met present ns both.1)
 
   -- what adds a track adds a place
-  track_is_place : (own : Moment) (a : Act) → act_fits Track own a ≡ true → act_fits Place own a ≡ true
+  track_is_place : (own : Stamp) (a : Body) → act_fits Track own a ≡ true → act_fits Place own a ≡ true
   track_is_place own (act.AddTrack after title) h = refl
   track_is_place own (act.MoveTrack track after) h = refl
   track_is_place own _ h = h
 
   -- what writes the place of a track adds one
-  writes_place : (own : Moment) (a : Act) (w : Write (Option Moment)) → track_place_written own a ≡ Some w → adds_place a ≡ true
+  writes_place : (own : Stamp) (a : Body) (w : Write (Option Stamp)) → track_place_written own a ≡ Some w → adds_place a ≡ true
   writes_place own (act.AddTrack after title) w h = refl
   writes_place own (act.MoveTrack track after) w h = refl
   writes_place own _ w h = absurd (none-some w h)
 
-  place_met : (t : Moment) → Met (need_of Track t) → Met (need_of Place (current_place (ready_ops ops) t))
+  place_met : (t : Stamp) → Met (need_of Track t) → Met (need_of Place (current_place (ready_ops ops) t))
   place_met t met = by (last_write track_place_written t (ready_ops ops)) refl
     where
-      by : (l : Option (Written (Option Moment))) → last_write track_place_written t (ready_ops ops) ≡ l → Met (need_of Place (unwrap_or (option_map (λ (w : Written (Option Moment)). w.writer) l) t))
+      by : (l : Option (Written (Option Stamp))) → last_write track_place_written t (ready_ops ops) ≡ l → Met (need_of Place (unwrap_or (option_map (λ (w : Written (Option Stamp)). w.writer) l) t))
       by None none =
           let found = any_member (meets (need_of Track t)) (ready_ops ops) met in
-          let o : Operation = found.0 in
+          let o : Op = found.0 in
           let fits : act_fits Place o.stamp o.act ≡ true = track_is_place o.stamp o.act (and_second (stamp_eq t o.stamp) (act_fits Track o.stamp o.act) found.1.1) in
           member_any (meets (need_of Place t)) (ready_ops ops) o found.1.0 (rw (fits, and_first (stamp_eq t o.stamp) (act_fits Track o.stamp o.act) found.1.1) refl)
       by (Some w) some =
-          let last = (latest_is_greatest (Option Moment)).0 (filter_map (written_by track_place_written t) (ready_ops ops)) w some in
-          let among : Operation → Type 0 = λ o. IsMember o (ready_ops ops) in
+          let last = (latest_is_greatest (Option Stamp)).0 (filter_map (written_by track_place_written t) (ready_ops ops)) w some in
+          let among : Op → Type 0 = λ o. IsMember o (ready_ops ops) in
           let given : GivenBy among (written_by track_place_written t) w =
           all_here (GivenBy among (written_by track_place_written t)) (filter_map (written_by track_place_written t) (ready_ops ops))
           (all_filter_map among (written_by track_place_written t) (ready_ops ops) (all_members among (ready_ops ops) (λ o m. m))) last.place w last.is in
-          let o : Operation = given.0 in
+          let o : Op = given.0 in
           let is = is_write_of track_place_written t o w given.2 in
-          let same : stamp_eq w.writer o.stamp ≡ true = stamp_eq_same w.writer o.stamp (ap (λ (x : Written (Option Moment)). x.writer) is.value_is) in
+          let same : stamp_eq w.writer o.stamp ≡ true = stamp_eq_same w.writer o.stamp (ap (λ (x : Written (Option Stamp)). x.writer) is.value_is) in
           member_any (meets (need_of Place w.writer)) (ready_ops ops) o given.1 (rw (same, writes_place o.stamp o.act is.write is.made) refl)
 
-  after_met : (after : Option Moment) → AllByRecursion Met (named_track after) → AllByRecursion Met (place_needs (option_map (current_place (ready_ops ops)) after))
+  after_met : (after : Option Stamp) → AllByRecursion Met (named_track after) → AllByRecursion Met (place_needs (option_map (current_place (ready_ops ops)) after))
   after_met None met = tt
   after_met (Some t) met = (place_met t met.0, tt)
 
-  tag_met : (item t : Moment) → IsMember t (rising_tags (ready_ops ops) item) → Met (need_of (TagOf item) t)
+  tag_met : (item t : Stamp) → IsMember t (rising_tags (ready_ops ops) item) → Met (need_of (TagOf item) t)
   tag_met item t m =
       let live = member_unsorted stamp_cmp stamp_cmp_total t (live_tags item (ready_ops ops)) m in
       let tag = member_of_kept (is_left (is_listed (removed_tags item (ready_ops ops)))) (tags item (ready_ops ops)) t live in
-      let given = mapped_member (λ (o : Operation). o.stamp) (filter (λ o. is_tag_of item o.stamp o.act) (ready_ops ops)) t tag.0 in
-      let o : Operation = given.0 in
-      let there = member_of_kept (λ (o : Operation). is_tag_of item o.stamp o.act) (ready_ops ops) o given.1.0 in
+      let given = mapped_member (λ (o : Op). o.stamp) (filter (λ o. is_tag_of item o.stamp o.act) (ready_ops ops)) t tag.0 in
+      let o : Op = given.0 in
+      let there = member_of_kept (λ (o : Op). is_tag_of item o.stamp o.act) (ready_ops ops) o given.1.0 in
       let same : stamp_eq t o.stamp ≡ true = stamp_eq_same t o.stamp (sym given.1.1) in
       member_any (meets (need_of (TagOf item) t)) (ready_ops ops) o there.0 (rw (same, there.1) refl)
 
-  tags_met : (item : Moment) → AllByRecursion Met (map (need_of (TagOf item)) (rising_tags (ready_ops ops) item))
+  tags_met : (item : Stamp) → AllByRecursion Met (map (need_of (TagOf item)) (rising_tags (ready_ops ops) item))
   tags_met item = all_map (λ t. IsMember t (rising_tags (ready_ops ops) item)) Met (need_of (TagOf item)) (tag_met item) (rising_tags (ready_ops ops) item) (all_members (λ t. IsMember t (rising_tags (ready_ops ops) item)) (rising_tags (ready_ops ops) item) (λ t m. m))
 
   -- the needs of what is made, from the names of the edit
@@ -146,9 +146,9 @@ module _ (ops : List Operation) where
   pub met_older : (need : Need) → Met need → nat_lt need.stamp.clock (suc (greatest_clock ops)) ≡ true
   met_older need met =
       let found = any_member (meets need) (ready_ops ops) met in
-      let o : Operation = found.0 in
+      let o : Op = found.0 in
       let there = member_of_kept (is_ready clock_of needs meets ops) ops o found.1.0 in
       let below : clock_of o ≤ greatest_clock ops = mapped_below clock_of ops o there.0 in
       let same : need.stamp ≡ o.stamp = stamp_eq-true need.stamp o.stamp (and_first (stamp_eq need.stamp o.stamp) (fits need.role o) found.1.1) in
-      let clock : need.stamp.clock ≡ clock_of o = ap (λ (m : Moment). m.clock) same in
+      let clock : need.stamp.clock ≡ clock_of o = ap (λ (m : Stamp). m.clock) same in
       lt-ltb need.stamp.clock (suc (greatest_clock ops)) (omega (arith, below, clock))

@@ -9,7 +9,7 @@ use Rattle.mt_stamp.specs.declared.name.Dot.{Dot}
 use Rattle.mt_stamp.specs.declared.name.Replica.{Replica}
 use Rattle.mt_stamp.proofs.Members.{IsMember, member_kept}
 use Rattle.mt_stamp.proofs.SameItems.{SameItems}
-use Rattle.mt_op.specs.Operation.{Operation}
+use Rattle.mt_op.specs.OpValue.{Op}
 use Rattle.mt_op.specs.Dots.{op_dot}
 use Rattle.mt_op.specs.Needs.{needs, meets, clock_of, names_are_older}
 use Rattle.mt_opcodec.specs.LogValue.{LogMap, operations}
@@ -18,7 +18,7 @@ use Rattle.mt_opcodec.proofs.Sets.{get_member, member_has}
 use Rattle.mt_sessionview.specs.Session.{ready_ops}
 use Rattle.mt_sessionview.proofs.SameReady.{is_ready_same, ready_same}
 use Rattle.mt_replica.specs.Edit.{Edit}
-use Rattle.mt_replica.specs.Kept.{with_op}
+use Rattle.mt_replica.specs.EditorValue.{with_op}
 use Rattle.mt_replica.specs.Made.{is_by, greatest_seq, made_op, refused}
 use Rattle.mt_replica.specs.Laws.{IsNext, MadeIsNext}
 use Rattle.mt_replica.proofs.Making.{mapped_below, all_members}
@@ -28,16 +28,16 @@ use Rattle.mt_replica.proofs.Inserted.{insert_same}
 use Rattle.mt_replica.proofs.Keeping.{unmade}
 
 module _ (log : LogMap) (is : IsSet log) (name : Replica) (edit : Edit) (none : refused (operations log) name edit ≡ None) where
-  abbrev it : Operation
+  abbrev it : Op
   it = made_op (operations log) name edit
 
-  seq_below : (x : Operation) → IsMember x (operations log) → x.stamp.replica ≡ name → x.stamp.seq < it.stamp.seq
+  seq_below : (x : Op) → IsMember x (operations log) → x.stamp.replica ≡ name → x.stamp.seq < it.stamp.seq
   seq_below x m by_it =
       let mine : is_by name x ≡ true = eq-eqb x.stamp.replica.0 name.0 (ap (λ (r : Replica). r.0) by_it) in
-      let below : x.stamp.seq ≤ greatest_seq name (operations log) = mapped_below (λ (y : Operation). y.stamp.seq) (filter (is_by name) (operations log)) x (member_kept (is_by name) (operations log) x m mine) in
+      let below : x.stamp.seq ≤ greatest_seq name (operations log) = mapped_below (λ (y : Op). y.stamp.seq) (filter (is_by name) (operations log)) x (member_kept (is_by name) (operations log) x m mine) in
       omega (arith, below)
 
-  other_dot : (x : Operation) → IsMember x (operations log) → op_dot x ≢ op_dot it
+  other_dot : (x : Op) → IsMember x (operations log) → op_dot x ≢ op_dot it
   other_dot x m same =
       let seq : x.stamp.seq ≡ it.stamp.seq = ap (λ (d : Dot). d.seq) same in
       let below : x.stamp.seq < it.stamp.seq = seq_below x m (ap (λ (d : Dot). d.replica) same) in
@@ -46,7 +46,7 @@ module _ (log : LogMap) (is : IsSet log) (name : Replica) (edit : Edit) (none : 
   no_other : fin.get log (op_dot it) ≡ None
   no_other = by (fin.get log (op_dot it)) refl
     where
-      by : (x : Option Operation) → fin.get log (op_dot it) ≡ x → x ≡ None
+      by : (x : Option Op) → fin.get log (op_dot it) ≡ x → x ≡ None
       by None at = refl
       by (Some x) at = absurd (other_dot x (get_member log (op_dot it) x at) (sym (is.own_dot (op_dot it) x at)))
 

@@ -8,7 +8,7 @@ use Rattle.std.proofs.Math.Nat.{le-max_left, le-max_right, max-le, max-eq_left, 
 use Rattle.mt_stamp.specs.declared.name.Replica.{Replica}
 use Rattle.mt_stamp.proofs.Members.{IsMember}
 use Rattle.mt_stamp.proofs.SameItems.{SameItems, same_any, same_filter}
-use Rattle.mt_op.specs.Operation.{Operation}
+use Rattle.mt_op.specs.OpValue.{Op}
 use Rattle.mt_op.specs.Needs.{clock_of}
 use Rattle.mt_opcodec.specs.Runs.{RunOf, run_ops}
 use Rattle.mt_opcodec.proofs.RunLists.{ops_left}
@@ -65,34 +65,34 @@ greatest_same f xs ys same =
     let other = at_most f ys (greatest_of (map f xs)) (no_greater f ys xs (λ g. sym (same g))) in
     omega (arith, one, other)
 
-pub clock_same : (xs ys : List Operation) → SameItems xs ys → greatest_clock xs ≡ greatest_clock ys
+pub clock_same : (xs ys : List Op) → SameItems xs ys → greatest_clock xs ≡ greatest_clock ys
 clock_same xs ys same = greatest_same clock_of xs ys same
 
-pub seq_same : (name : Replica) (xs ys : List Operation) → SameItems xs ys → greatest_seq name xs ≡ greatest_seq name ys
-seq_same name xs ys same = greatest_same (λ (o : Operation). o.stamp.seq) (filter (is_by name) xs) (filter (is_by name) ys) (same_filter xs ys same (is_by name))
+pub seq_same : (name : Replica) (xs ys : List Op) → SameItems xs ys → greatest_seq name xs ≡ greatest_seq name ys
+seq_same name xs ys same = greatest_same (λ (o : Op). o.stamp.seq) (filter (is_by name) xs) (filter (is_by name) ys) (same_filter xs ys same (is_by name))
 
 -- the numbers of the others do not count
-pub own_is : (name : Replica) (ops : List Operation) → greatest_of (map (own_seq name) ops) ≡ greatest_seq name ops
+pub own_is : (name : Replica) (ops : List Op) → greatest_of (map (own_seq name) ops) ≡ greatest_seq name ops
 unfolding own_seq
 own_is name [] = refl
 own_is name (o ∷ ops) = by (is_by name o) (own_is name ops)
   where
     by : (b : Bool) → greatest_of (map (own_seq name) ops) ≡ greatest_seq name ops
-        → max (cond b o.stamp.seq 0) (greatest_of (map (own_seq name) ops)) ≡ greatest_of (map (λ (x : Operation). x.stamp.seq) (cond b (o ∷ filter (is_by name) ops) (filter (is_by name) ops)))
+        → max (cond b o.stamp.seq 0) (greatest_of (map (own_seq name) ops)) ≡ greatest_of (map (λ (x : Op). x.stamp.seq) (cond b (o ∷ filter (is_by name) ops) (filter (is_by name) ops)))
     by true rest = ap (max o.stamp.seq) rest
     by false rest = none_max (greatest_of (map (own_seq name) ops)) ∙ rest
 
 -- ---- one operation more is looked at
 
-drop_at : (ops : List Operation) (i : ℕ) (x : Operation) → slice_get ops i ≡ Some x → drop i ops ≡ x ∷ drop (suc i) ops
+drop_at : (ops : List Op) (i : ℕ) (x : Op) → slice_get ops i ≡ Some x → drop i ops ≡ x ∷ drop (suc i) ops
 drop_at [] i x at = absurd (none-some x at)
-drop_at (y ∷ ops) zero x at = ap (λ (z : Operation). z ∷ ops) (same_Some y x at)
+drop_at (y ∷ ops) zero x at = ap (λ (z : Op). z ∷ ops) (same_Some y x at)
 drop_at (y ∷ ops) (suc i) x at = drop_at ops i x at
 
-pub next_greatest : (f : Operation → ℕ) (ops : List Operation) (i g k : ℕ) (x : Operation) → slice_get ops i ≡ Some x → max g (greatest_of (map f (drop i ops))) ≡ k → max (max g (f x)) (greatest_of (map f (drop (i + 1) ops))) ≡ k
+pub next_greatest : (f : Op → ℕ) (ops : List Op) (i g k : ℕ) (x : Op) → slice_get ops i ≡ Some x → max g (greatest_of (map f (drop i ops))) ≡ k → max (max g (f x)) (greatest_of (map f (drop (i + 1) ops))) ≡ k
 next_greatest f ops i g k x at is =
     ap (λ (j : ℕ). max (max g (f x)) (greatest_of (map f (drop j ops)))) (one_more i)
-    ∙ sym (max_grouped g (f x) (greatest_of (map f (drop (suc i) ops)))) ∙ ap (λ (rest : List Operation). max g (greatest_of (map f rest))) (sym (drop_at ops i x at)) ∙ is
+    ∙ sym (max_grouped g (f x) (greatest_of (map f (drop (suc i) ops)))) ∙ ap (λ (rest : List Op). max g (greatest_of (map f rest))) (sym (drop_at ops i x at)) ∙ is
   where
     one_more : (j : ℕ) → j + 1 ≡ suc j
     one_more j = omega arith
@@ -100,14 +100,14 @@ next_greatest f ops i g k x at is =
 -- ---- and one run more
 
 -- the greatest of both
-greatest-append : (f : Operation → ℕ) (a b : List Operation) → greatest_of (map f (a ++ b)) ≡ max (greatest_of (map f a)) (greatest_of (map f b))
+greatest-append : (f : Op → ℕ) (a b : List Op) → greatest_of (map f (a ++ b)) ≡ max (greatest_of (map f a)) (greatest_of (map f b))
 greatest-append f [] b = sym (none_max (greatest_of (map f b)))
 greatest-append f (o ∷ a) b = ap (max (f o)) (greatest-append f a b) ∙ max_grouped (f o) (greatest_of (map f a)) (greatest_of (map f b))
 
-pub next_run : (f : Operation → ℕ) (runs : List RunOf) (i g k : ℕ) (r : RunOf) (ops : List Operation) → i < length runs → r ≡ get_or runs i r → ops ≡ r.ops → max g (greatest_of (map f (run_ops (drop i runs)))) ≡ k
+pub next_run : (f : Op → ℕ) (runs : List RunOf) (i g k : ℕ) (r : RunOf) (ops : List Op) → i < length runs → r ≡ get_or runs i r → ops ≡ r.ops → max g (greatest_of (map f (run_ops (drop i runs)))) ≡ k
     → max (max g (greatest_of (map f ops))) (greatest_of (map f (run_ops (drop (i + 1) runs)))) ≡ k
 next_run f runs i g k r ops lt is same so_far =
     sym (max_grouped g (greatest_of (map f ops)) (greatest_of (map f (run_ops (drop (i + 1) runs)))))
     ∙ ap (max g) (sym (greatest-append f ops (run_ops (drop (i + 1) runs))))
-    ∙ ap (λ (l : List Operation). max g (greatest_of (map f l))) (ap (λ (l : List Operation). l ++ run_ops (drop (i + 1) runs)) same ∙ sym (ops_left runs i r lt is))
+    ∙ ap (λ (l : List Op). max g (greatest_of (map f l))) (ap (λ (l : List Op). l ++ run_ops (drop (i + 1) runs)) same ∙ sym (ops_left runs i r lt is))
     ∙ so_far

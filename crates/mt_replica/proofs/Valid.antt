@@ -5,14 +5,14 @@ use Rattle.std.specs.List.{AllByRecursion, filter, list_all, list_any}
 use Rattle.std.specs.declared.cmp.Ordering.TheVariants.{Less, Equal}
 use Rattle.std.proofs.lemmas.Bool.{false≢true, le-leb}
 use Rattle.mt_stamp.specs.declared.name.Replica.{Replica}
-use Rattle.mt_stamp.specs.Moment.{Moment, greatest, stamp_cmp}
+use Rattle.mt_stamp.specs.StampOrder.{Stamp, greatest, stamp_cmp}
 use Rattle.mt_stamp.proofs.Order.{stamp_cmp_total, stamp_cmp-IsAntisymmetric}
 use Rattle.mt_stamp.specs.Presence.{is_left}
 use Rattle.mt_op.specs.declared.need.Need.{Need}
 use Rattle.mt_op.specs.declared.need.Role.TheVariants.{Item}
 use Rattle.mt_op.specs.Needs.{need_of, needs, meets, clock_of, is_tag_of, names_are_older}
 use Rattle.mt_op.specs.Ready.{is_ready}
-use Rattle.mt_op.specs.Operation.{Operation}
+use Rattle.mt_op.specs.OpValue.{Op}
 use Rattle.mt_op.specs.Dots.{dots_rise}
 use Rattle.mt_op.specs.Presence.{is_present, is_any, is_listed, live_tags, removed_tags, tags}
 use Rattle.mt_op.specs.Rising.{rises_from}
@@ -31,28 +31,28 @@ use Rattle.mt_replica.proofs.Making.{Met, neither, passed, names_met, needs_met,
 
 -- ---- tags in order
 
-pub apart_stamps : (xs : List Moment) → DifferBy (λ (m : Moment). m) xs → AreApart stamp_cmp stamp_cmp_total xs
+pub apart_stamps : (xs : List Stamp) → DifferBy (λ (m : Stamp). m) xs → AreApart stamp_cmp stamp_cmp_total xs
 apart_stamps [] differ = tt
 apart_stamps (x ∷ xs) differ = (each xs differ.0, apart_stamps xs differ.1)
   where
-    each : (ys : List Moment) → AllByRecursion (λ y. x ≢ y) ys → AllByRecursion (λ y. stamp_cmp x y ≢ Equal) ys
+    each : (ys : List Stamp) → AllByRecursion (λ y. x ≢ y) ys → AllByRecursion (λ y. stamp_cmp x y ≢ Equal) ys
     each [] all = tt
     each (y ∷ ys) all = ((λ tied. all.0 (stamp_cmp-IsAntisymmetric x y tied)), each ys all.1)
 
-rises_on : (last : Moment) (xs : List Moment) → AllByRecursion (λ y. stamp_cmp last y ≡ Less) xs → RisesStrictly stamp_cmp xs → rises_from stamp_cmp (Some last) xs ≡ true
+rises_on : (last : Stamp) (xs : List Stamp) → AllByRecursion (λ y. stamp_cmp last y ≡ Less) xs → RisesStrictly stamp_cmp xs → rises_from stamp_cmp (Some last) xs ≡ true
 rises_on last [] above rise = refl
 rises_on last (x ∷ xs) above rise = rw (above.0) (rises_on x xs rise.0 rise.1)
 
-rising : (xs : List Moment) → RisesStrictly stamp_cmp xs → stamps_rise xs ≡ true
+rising : (xs : List Stamp) → RisesStrictly stamp_cmp xs → stamps_rise xs ≡ true
 rising [] rise = refl
 rising (x ∷ xs) rise = rises_on x xs rise.0 rise.1
 
 -- one item is at least one
-some_length : (xs : List Moment) (x : Moment) → IsMember x xs → nat_le 1 (length xs) ≡ true
+some_length : (xs : List Stamp) (x : Stamp) → IsMember x xs → nat_le 1 (length xs) ≡ true
 some_length [] x m = absurd m
 some_length (y ∷ xs) x m = le-leb 1 (length (y ∷ xs)) (omega arith)
 
-any_sorted : (xs : List Moment) → is_any xs ≡ true → nat_le 1 (length (sort_by stamp_cmp xs)) ≡ true
+any_sorted : (xs : List Stamp) → is_any xs ≡ true → nat_le 1 (length (sort_by stamp_cmp xs)) ≡ true
 any_sorted [] any = absurd (false≢true any)
 any_sorted (x ∷ xs) any = some_length (sort_by stamp_cmp (x ∷ xs)) x (member_sorted stamp_cmp stamp_cmp_total x (x ∷ xs) (inl refl))
 
@@ -61,17 +61,17 @@ fit_or_more true e = absurd (false≢true e)
 fit_or_more false e = refl
 
 -- no two live tags are one where no two operations have one stamp
-pub live_differ : (ops : List Operation) → DifferBy stamp_of ops → (item : Moment) → DifferBy (λ (m : Moment). m) (live_tags item ops)
+pub live_differ : (ops : List Op) → DifferBy stamp_of ops → (item : Stamp) → DifferBy (λ (m : Stamp). m) (live_tags item ops)
 live_differ ops differ item =
     let given : DifferBy stamp_of (filter (λ o. is_tag_of item o.stamp o.act) ops) = differ_kept stamp_of (λ o. is_tag_of item o.stamp o.act) ops differ in
-    differ_kept (λ (m : Moment). m) (is_left (is_listed (removed_tags item ops))) (tags item ops)
-    (differ_mapped (λ (o : Operation). o.stamp) (λ (m : Moment). m) (filter (λ o. is_tag_of item o.stamp o.act) ops) given)
+    differ_kept (λ (m : Stamp). m) (is_left (is_listed (removed_tags item ops))) (tags item ops)
+    (differ_mapped (λ (o : Op). o.stamp) (λ (m : Stamp). m) (filter (λ o. is_tag_of item o.stamp o.act) ops) given)
 
-module _ (ops : List Operation) where
-  tags_differ : dots_rise ops ≡ true → (item : Moment) → DifferBy (λ (m : Moment). m) (live_tags item (ready_ops ops))
+module _ (ops : List Op) where
+  tags_differ : dots_rise ops ≡ true → (item : Stamp) → DifferBy (λ (m : Stamp). m) (live_tags item (ready_ops ops))
   tags_differ rise item = live_differ (ready_ops ops) (differ_kept stamp_of (is_ready clock_of needs meets ops) ops (every_stamp ops rise)) item
 
-  tags_rise : dots_rise ops ≡ true → (item : Moment) → stamps_rise (rising_tags (ready_ops ops) item) ≡ true
+  tags_rise : dots_rise ops ≡ true → (item : Stamp) → stamps_rise (rising_tags (ready_ops ops) item) ≡ true
   tags_rise rise item = rising (rising_tags (ready_ops ops) item) (sort_strict stamp_cmp stamp_cmp_total (live_tags item (ready_ops ops)) (apart_stamps (live_tags item (ready_ops ops)) (tags_differ rise item)))
 
   -- every clock is smaller than the next one
@@ -122,7 +122,7 @@ module _ (ops : List Operation) where
         each (n ∷ ns) met = rw (met_older ops n met.0) (each ns met.1)
 
 -- the length that an act gives is that of its edit
-pub same_length : (ops : List Operation) (edit : Edit) → length_is_good (made_act (ready_ops ops) edit) ≡ plays edit
+pub same_length : (ops : List Op) (edit : Edit) → length_is_good (made_act (ready_ops ops) edit) ≡ plays edit
 same_length ops (AddTrack after title) = refl
 same_length ops (MoveTrack track after) = refl
 same_length ops (AddClip source track at offset len) = refl
@@ -139,13 +139,13 @@ same_length ops (SetFade clip fade_in fade_out) = refl
 same_length ops (SetMarkerLength marker len) = refl
 
 -- and its fades
-pub same_fades : (ops : List Operation) (edit : Edit) → fades_are_good (made_act (ready_ops ops) edit) ≡ fades_fit edit
+pub same_fades : (ops : List Op) (edit : Edit) → fades_are_good (made_act (ready_ops ops) edit) ≡ fades_fit edit
 same_fades ops (SetFade clip fade_in fade_out) = refl
 same_fades ops (AddTrack after title) = refl
 same_fades ops _ = refl
 
 -- the tags that an act lists are in order
-pub tags_good : (ops : List Operation) → dots_rise ops ≡ true → (name : Replica) (edit : Edit) → refused ops name edit ≡ None → tags_are_good (made_act (ready_ops ops) edit) ≡ true
+pub tags_good : (ops : List Op) → dots_rise ops ≡ true → (name : Replica) (edit : Edit) → refused ops name edit ≡ None → tags_are_good (made_act (ready_ops ops) edit) ≡ true
 tags_good ops rise name (Remove item) none =
     let first = neither (name_refused (ready_ops ops) true (need_of Item item)) None (names_pass ops name (Remove item) none) in
     let there = neither (unless (list_any (meets (need_of Item item)) (ready_ops ops)) (NoSuchItem item)) (unless (not true || is_present (ready_ops ops) item) (Absent item)) first.0 in

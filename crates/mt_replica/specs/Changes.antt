@@ -1,6 +1,6 @@
 -- What a change in memory asks for, and which change an act is that of.
-use Rattle.mt_op.specs.Operation.{Act}
-use Rattle.mt_op.specs.Operation as act
+use Rattle.mt_op.specs.OpValue.{Body}
+use Rattle.mt_op.specs.OpValue as act
 use Rattle.mt_replica.specs.declared.change.Change.{Change}
 use Rattle.mt_replica.specs.declared.change.Change.TheVariants as change
 use Rattle.mt_replica.specs.Edit.{Edit, AddTrack, MoveTrack, AddClip, MoveClip, TrimClip, SetGain, SetMute, Remove, Restore, AddMarker, MoveMarker, Retitle, SetFade, SetMarkerLength}
@@ -22,7 +22,7 @@ edit_of (change.SetFade clip fade_in fade_out) = SetFade clip fade_in fade_out
 edit_of (change.SetMarkerLength marker len) = SetMarkerLength marker len
 
 -- the change that asks for what an act does: a Remove lists its tags by itself
-abbrev pub same_edit : Act → Edit
+abbrev pub same_edit : Body → Edit
 same_edit (act.AddTrack after title) = AddTrack after title
 same_edit (act.MoveTrack track after) = MoveTrack track after
 same_edit (act.AddClip source track at offset len) = AddClip source track at offset len

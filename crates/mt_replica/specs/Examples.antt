@@ -2,19 +2,19 @@
 -- and how many cells each operation joins.
 use Rattle.std.specs.Prelude.{◌≡◌, ℕ, ◌^◌, ◌-◌, true, false, List, [], ◌∷◌, None, Some, Result, Ok, Err, map, refl, codes}
 use Rattle.mt_stamp.specs.declared.name.Replica.{Replica}
-use Rattle.mt_stamp.specs.Moment.{Moment, greatest}
+use Rattle.mt_stamp.specs.StampOrder.{Stamp, greatest}
 use Rattle.mt_op.specs.declared.need.Role.TheVariants.{Item}
 use Rattle.mt_op.specs.Needs.{need_of}
 use Rattle.mt_op.specs.Gain.{unchanged}
-use Rattle.mt_op.specs.Operation as act
-use Rattle.mt_op.specs.Operation.{Act, Operation}
+use Rattle.mt_op.specs.OpValue as act
+use Rattle.mt_op.specs.OpValue.{Body, Op}
 use Rattle.mt_opcodec.specs.LogValue.{LogMap, operations}
 use Rattle.mt_sessionview.specs.Session.{ready_ops}
 use Rattle.mt_sessionview.specs.Examples.{by, news, late, remove_by, restore_by, moves, none, clip_on, p_q, p_q_r}
 use Rattle.mt_replica.specs.Edit.{Edit, AddTrack, MoveTrack, AddClip, MoveClip, TrimClip, SetGain, SetMute, Remove, Restore, AddMarker, MoveMarker, Retitle, SetFade, SetMarkerLength}
 use Rattle.mt_replica.specs.Made.{made, refused, names_refused, tags_fit}
 use Rattle.mt_replica.specs.Joins.{joins_of, raised}
-use Rattle.mt_replica.specs.Kept.{edited, with_op, joins_by, newly_ready_stamps}
+use Rattle.mt_replica.specs.EditorValue.{edited, with_op, joins_by, newly_ready_stamps}
 use Rattle.mt_replica.specs.declared.fault.EditorFault.{EditorFault}
 use Rattle.mt_replica.specs.declared.fault.EditorFault.TheVariants.{Failed, ZeroLength, FadeTooLong, NoSuchItem, Absent, TooManyTags, ClockFull, SeqFull}
 
@@ -22,20 +22,20 @@ use Rattle.mt_replica.specs.declared.fault.EditorFault.TheVariants.{Failed, Zero
 abbrev home : Replica
 home = record { 0 = 11 }
 
-abbrev made_of : List Operation → Edit → Result Operation EditorFault
+abbrev made_of : List Op → Edit → Result Op EditorFault
 made_of ops edit = made ops home edit
 
-abbrev op_by : ℕ → ℕ → ℕ → Act → Result Operation EditorFault
+abbrev op_by : ℕ → ℕ → ℕ → Body → Result Op EditorFault
 op_by c r n a = Ok (record { stamp = by c r n; act = a })
 
-abbrev nowhere : Moment
+abbrev nowhere : Stamp
 nowhere = by 9 11 9
 
-abbrev marker : Moment
+abbrev marker : Stamp
 marker = by 1 10 1
 
 -- the marker, and its removal
-abbrev gone : List Operation
+abbrev gone : List Op
 gone = news ∷ remove_by 2 10 2 (marker ∷ []) ∷ []
 
 -- ---- what is refused
@@ -60,10 +60,10 @@ restored = refl
 pub restored_nowhere : made_of gone (Restore nowhere) ≡ Err (NoSuchItem nowhere)
 restored_nowhere = refl
 
-abbrev at_last_clock : Operation
+abbrev at_last_clock : Op
 at_last_clock = record { stamp = by greatest 10 3; act = act.AddMarker 0 (codes "Last") }
 
-abbrev at_last_number : Operation
+abbrev at_last_number : Op
 at_last_number = record { stamp = by 3 11 greatest; act = act.AddMarker 0 (codes "Last") }
 
 pub clock_full : made_of (at_last_clock ∷ []) (AddMarker 0 (codes "News")) ≡ Err ClockFull
@@ -109,7 +109,7 @@ pub length_of_a_marker : made_of (news ∷ []) (SetMarkerLength marker 0) ≡ op
 length_of_a_marker = refl
 
 -- by fields: what is wrong with the first comes first, be it 21 or 22
-abbrev p_removed : List Operation
+abbrev p_removed : List Op
 p_removed = remove_by 4 10 4 (by 1 10 1 ∷ []) ∷ p_q
 
 pub track_before_after : made_of p_q (MoveTrack nowhere (Some (by 8 11 8))) ≡ Err (NoSuchItem nowhere)
@@ -147,10 +147,10 @@ pub absent_before_number : made_of (at_last_number ∷ gone) (Retitle marker (co
 absent_before_number = refl
 
 -- 21 and 22 before 25, and 25 before 23 and 24: whatever the clocks and the numbers are, as soon as there is no refusal of the item
-pub item_before_tags : (ops : List Operation) (name : Replica) (item : Moment) (fault : EditorFault) → names_refused (ready_ops ops) true (need_of Item item ∷ []) ≡ Some fault → refused ops name (Remove item) ≡ Some fault
+pub item_before_tags : (ops : List Op) (name : Replica) (item : Stamp) (fault : EditorFault) → names_refused (ready_ops ops) true (need_of Item item ∷ []) ≡ Some fault → refused ops name (Remove item) ≡ Some fault
 item_before_tags ops name item fault is = rw is refl
 
-pub tags_before_clock : (ops : List Operation) (name : Replica) (item : Moment) → names_refused (ready_ops ops) true (need_of Item item ∷ []) ≡ None → tags_fit (ready_ops ops) (Remove item) ≡ false → refused ops name (Remove item) ≡ Some TooManyTags
+pub tags_before_clock : (ops : List Op) (name : Replica) (item : Stamp) → names_refused (ready_ops ops) true (need_of Item item ∷ []) ≡ None → tags_fit (ready_ops ops) (Remove item) ≡ false → refused ops name (Remove item) ≡ Some TooManyTags
 tags_before_clock ops name item there many = rw (there, many) refl
 
 -- 23 before 24
@@ -185,7 +185,7 @@ removes_live_tags_alone = refl
 
 -- ---- the place that a track is put after: the one that the other track has now
 
-abbrev p_moved : List Operation
+abbrev p_moved : List Op
 p_moved = moves 4 10 4 (by 1 10 1) (Some (by 2 10 2)) ∷ p_q_r
 
 pub after_the_head : made_of p_moved (AddTrack None (codes "s")) ≡ op_by 5 11 1 (act.AddTrack None (codes "s"))
@@ -221,7 +221,7 @@ nothing_becomes_ready log was is = rw (was, is) refl
 
 -- ---- how many cells are joined
 
-abbrev joins : Act → ℕ
+abbrev joins : Body → ℕ
 joins a = joins_of (record { stamp = by 5 11 5; act = a })
 
 pub joins_of_adds : map joins (act.AddTrack None (codes "a") ∷ act.AddClip none marker 1 2 3 ∷ act.AddMarker 1 (codes "a") ∷ []) ≡ 5 ∷ 7 ∷ 4 ∷ []

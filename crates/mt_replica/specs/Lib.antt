@@ -3,7 +3,7 @@ pub mod Changes
 pub mod Faults
 pub mod Made
 pub mod Joins
-pub mod Kept
+pub mod EditorValue
 pub mod Holding
 pub mod State
 pub mod Viewed

@@ -2,13 +2,13 @@
 use Rattle.std.specs.Prelude.{ℕ, suc, Bool, true, false, not, ◌==◌, ◌||◌, List, [], ◌∷◌, map, filter, length, Option, Some, None, option_map, unwrap_or, Result, Ok, Err, nat_le, max}
 use Rattle.std.specs.List.{list_any}
 use Rattle.mt_stamp.specs.declared.name.Replica.{Replica}
-use Rattle.mt_stamp.specs.Moment.{Moment, greatest, stamp_cmp}
+use Rattle.mt_stamp.specs.StampOrder.{Stamp, greatest, stamp_cmp}
 use Rattle.mt_stamp.specs.Written.{Written}
 use Rattle.mt_op.specs.declared.need.Role.TheVariants.{Track, Clip, Marker, Mixable, Titled, Item}
 use Rattle.mt_op.specs.declared.need.Need.{Need}
 use Rattle.mt_op.specs.Needs.{need_of, meets, clock_of}
-use Rattle.mt_op.specs.Operation as act
-use Rattle.mt_op.specs.Operation.{Act, Operation}
+use Rattle.mt_op.specs.OpValue as act
+use Rattle.mt_op.specs.OpValue.{Body, Op}
 use Rattle.mt_op.specs.Presence.{is_present, live_tags}
 use Rattle.mt_op.specs.Writes.{track_place_written, last_write}
 use Rattle.mt_op.specs.Tags.{greatest_tag_count}
@@ -27,36 +27,36 @@ greatest_of [] = 0
 greatest_of (n ∷ numbers) = max n (greatest_of numbers)
 
 -- the greatest clock in a set, held operations included
-abbrev pub greatest_clock : List Operation → ℕ
+abbrev pub greatest_clock : List Op → ℕ
 greatest_clock ops = greatest_of (map clock_of ops)
 
 -- whether a replica made an operation
-abbrev pub is_by : Replica → Operation → Bool
+abbrev pub is_by : Replica → Op → Bool
 is_by name o = o.stamp.replica.0 == name.0
 
 -- the greatest number of a replica's operations in a set
-abbrev pub greatest_seq : Replica → List Operation → ℕ
-greatest_seq name ops = greatest_of (map (λ (o : Operation). o.stamp.seq) (filter (is_by name) ops))
+abbrev pub greatest_seq : Replica → List Op → ℕ
+greatest_seq name ops = greatest_of (map (λ (o : Op). o.stamp.seq) (filter (is_by name) ops))
 
 -- The clock is greater than every clock of the set (Lamport: Communications of the ACM 21, 1978), and the number the next
 -- one of the replica.
-abbrev pub made_stamp : List Operation → Replica → Moment
+abbrev pub made_stamp : List Op → Replica → Stamp
 made_stamp ops name = record { clock = suc (greatest_clock ops); replica = name; seq = suc (greatest_seq name ops) }
 
 -- ---- what it does
 
-module _ (ready : List Operation) where
+module _ (ready : List Op) where
   -- The current place of a track: the last one that it was put at (the place of its track in a session).
-  abbrev pub current_place : Moment → Moment
-  current_place track = unwrap_or (option_map (λ (w : Written (Option Moment)). w.writer) (last_write track_place_written track ready)) track
+  abbrev pub current_place : Stamp → Stamp
+  current_place track = unwrap_or (option_map (λ (w : Written (Option Stamp)). w.writer) (last_write track_place_written track ready)) track
 
   -- the live tags of an item, rising
-  abbrev pub rising_tags : Moment → List Moment
+  abbrev pub rising_tags : Stamp → List Stamp
   rising_tags item = sort_by stamp_cmp (live_tags item ready)
 
   -- The act that an edit makes where these operations are ready: a Remove lists all live tags, and a track is put after
   -- another one's current place (profile).
-  abbrev pub made_act : Edit → Act
+  abbrev pub made_act : Edit → Body
   made_act (AddTrack after title) = act.AddTrack (option_map current_place after) title
   made_act (MoveTrack track after) = act.MoveTrack track (option_map current_place after)
   made_act (AddClip source track at offset len) = act.AddClip source track at offset len
@@ -88,7 +88,7 @@ abbrev pub fades_fit : Edit → Bool
 fades_fit edit = fades_are_good (made_act [] edit)
 
 -- a track that an edit may name
-abbrev pub named_track : Option Moment → List Need
+abbrev pub named_track : Option Stamp → List Need
 named_track None = []
 named_track (Some track) = need_of Track track ∷ []
 
@@ -129,21 +129,21 @@ abbrev pub numbers_refused : Edit → Option EditorFault
 numbers_refused edit = or_else (unless (plays edit) ZeroLength) (unless (fades_fit edit) FadeTooLong)
 
 -- A named item has to be added by one of the ready operations in its role, and to be present where the edit asks that.
-abbrev pub name_refused : List Operation → Bool → Need → Option EditorFault
+abbrev pub name_refused : List Op → Bool → Need → Option EditorFault
 name_refused ready present need =
     or_else (unless (list_any (meets need) ready) (NoSuchItem need.stamp)) (unless (not present || is_present ready need.stamp) (Absent need.stamp))
 
 -- the first refusal of the items that an edit names
-abbrev pub names_refused : List Operation → Bool → List Need → Option EditorFault
+abbrev pub names_refused : List Op → Bool → List Need → Option EditorFault
 names_refused ready present [] = None
 names_refused ready present (need ∷ needs) = or_else (name_refused ready present need) (names_refused ready present needs)
 
 -- whether there is room for another clock and another number
-abbrev pub stamp_refused : List Operation → Replica → Option EditorFault
+abbrev pub stamp_refused : List Op → Replica → Option EditorFault
 stamp_refused ops name = or_else (unless (not (nat_le greatest (greatest_clock ops))) ClockFull) (unless (not (nat_le greatest (greatest_seq name ops))) SeqFull)
 
 -- The first refusal of an edit of a set, in this order.
-abbrev pub refused : List Operation → Replica → Edit → Option EditorFault
+abbrev pub refused : List Op → Replica → Edit → Option EditorFault
 refused ops name edit =
     or_else (numbers_refused edit)
     (or_else (names_refused (ready_ops ops) (names_present edit) (names_of edit))
@@ -153,7 +153,7 @@ refused ops name edit =
 -- ---- the operation
 
 -- the operation of an edit that is not refused
-abbrev pub made_op : List Operation → Replica → Edit → Operation
+abbrev pub made_op : List Op → Replica → Edit → Op
 made_op ops name edit = record { stamp = made_stamp ops name; act = made_act (ready_ops ops) edit }
 
 -- a refusal, or what there is without one
@@ -162,5 +162,5 @@ or_made None x = Ok x
 or_made (Some fault) x = Err fault
 
 -- What an edit by a replica makes of a set: its first refusal, or one operation.
-abbrev pub made : List Operation → Replica → Edit → Result Operation EditorFault
+abbrev pub made : List Op → Replica → Edit → Result Op EditorFault
 made ops name edit = or_made (refused ops name edit) (made_op ops name edit)

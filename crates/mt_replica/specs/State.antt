@@ -4,14 +4,14 @@ use Rattle.std.specs.List.{sum_by}
 use Rattle.std.specs.FinMap as map
 use Rattle.mt_op.specs.Dots.{op_dot}
 use Rattle.mt_stamp.specs.declared.name.Replica.{Replica}
-use Rattle.mt_op.specs.Operation.{Act, Operation, Remove}
+use Rattle.mt_op.specs.OpValue.{Body, Op, Remove}
 use Rattle.mt_op.specs.Tags.{greatest_tag_count}
 use Rattle.mt_holdback.specs.Value as holding
 use Rattle.mt_opcodec.specs.LogValue.{LogMap, operations}
 use Rattle.mt_sessionview.specs.Session.{ready_ops, held_ops}
 use Rattle.mt_replica.specs.Edit.{Edit}
 use Rattle.mt_replica.specs.Holding.{all_offered}
-use Rattle.mt_replica.specs.Kept.{Kept}
+use Rattle.mt_replica.specs.EditorValue.{Editor}
 use Rattle.mt_replica.specs.Made.{is_by, greatest_clock, greatest_seq, numbers_refused, names_of, names_present, names_refused, tags_fit, unless, or_else, made}
 use Rattle.mt_replica.specs.declared.fault.EditorFault.{EditorFault}
 use Rattle.mt_replica.specs.declared.fault.EditorFault.TheVariants.{TooManyTags}
@@ -27,13 +27,13 @@ pub record StateValue : Type 0 where
   pub shown : Bool
 
 -- Each operation of a log was offered to what holds operations back, which has not failed.
-pub record HoldsBack (log : LogMap) (waiting : holding.HoldBackValue Operation) : Type 0 where
+pub record HoldsBack (log : LogMap) (waiting : holding.HoldBackValue Op) : Type 0 where
   pub whole : waiting.failed ≡ false
-  pub offered : (f : Operation → ℕ) → sum_by f (all_offered waiting.contents) ≡ sum_by f (operations log)
+  pub offered : (f : Op → ℕ) → sum_by f (all_offered waiting.contents) ≡ sum_by f (operations log)
 
 -- Noted are the ready operations of the log, and the greatest clock and number are known.
-pub record IsState (state : Named) (items : List Operation) (clock seq : ℕ) : Type 0 where
-  pub noted : (f : Operation → ℕ) → sum_by f items ≡ sum_by f (ready_ops (operations state.log))
+pub record IsState (state : Named) (items : List Op) (clock seq : ℕ) : Type 0 where
+  pub applied : (f : Op → ℕ) → sum_by f items ≡ sum_by f (ready_ops (operations state.log))
   pub clock_is : clock ≡ greatest_clock (operations state.log)
   pub seq_is : seq ≡ greatest_seq state.name (operations state.log)
 
@@ -43,40 +43,40 @@ IsHeldOf log None = Unit {0}
 IsHeldOf log (Some held) = held ≡ length (held_ops (operations log))
 
 -- a change made the operation of the log
-abbrev pub IsMade : Named → Operation → Type 0
+abbrev pub IsMade : Named → Op → Type 0
 IsMade state op = (edit : Edit) × (made (operations state.log) state.name edit ≡ Ok op)
 
 -- a change made it of what an editor holds
-abbrev pub IsMadeIn : Replica → Option LogMap → Operation → Type 0
+abbrev pub IsMadeIn : Replica → Option LogMap → Op → Type 0
 IsMadeIn name None op = ⊥
 IsMadeIn name (Some log) op = IsMade (record { name = name; log = log }) op
 
-abbrev pub IsMadeOf : Kept → Operation → Type 0
+abbrev pub IsMadeOf : Editor → Op → Type 0
 IsMadeOf kept op = IsMadeIn kept.name kept.log op
 
 -- why a change has no body
-abbrev pub body_refused : List Operation → Edit → Option EditorFault
+abbrev pub body_refused : List Op → Edit → Option EditorFault
 body_refused ops edit =
     or_else (numbers_refused edit)
     (or_else (names_refused (ready_ops ops) (names_present edit) (names_of edit))
     (unless (tags_fit (ready_ops ops) edit) TooManyTags))
 
 -- whether an act lists no more tags than it may
-abbrev pub lists_few : Act → Bool
+abbrev pub lists_few : Body → Bool
 lists_few (Remove item tags) = nat_le (length tags) greatest_tag_count
 lists_few _ = true
 
 -- the number of an operation of this replica, 0 of another's
-unfoldable pub own_seq : Replica → Operation → ℕ
+unfoldable pub own_seq : Replica → Op → ℕ
 own_seq name o = cond (is_by name o) o.stamp.seq 0
 
 -- what a log has under an operation's dot: nothing, the same operation, or another
-abbrev pub Found : LogMap → Operation → Option Bool → Type 0
+abbrev pub Found : LogMap → Op → Option Bool → Type 0
 Found log op None = map.get log (op_dot op) ≡ None
 Found log op (Some true) = map.get log (op_dot op) ≡ Some op
-Found log op (Some false) = (other : Operation) × ((map.get log (op_dot op) ≡ Some other) × (other ≢ op))
+Found log op (Some false) = (other : Op) × ((map.get log (op_dot op) ≡ Some other) × (other ≢ op))
 
 -- an editor has a log, and nothing under the operation's dot
-abbrev pub IsNewTo : Option LogMap → Operation → Type 0
+abbrev pub IsNewTo : Option LogMap → Op → Type 0
 IsNewTo None op = ⊥
 IsNewTo (Some log) op = map.get log (op_dot op) ≡ None

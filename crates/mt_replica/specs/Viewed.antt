@@ -1,17 +1,17 @@
 -- Working definitions: the session that is kept with what is noted.
 use Rattle.std.specs.Prelude.{◌≡◌, ℕ, List, Option}
 use Rattle.mt_tracklist.specs.declared.track_list.Placed.{Placed}
-use Rattle.mt_op.specs.Operation.{Operation}
-use Rattle.mt_sessionview.specs.Content.{Content}
-use Rattle.mt_mending.specs.Before.{ArePlacesOf}
-use Rattle.mt_mending.specs.Mending.{session_in}
+use Rattle.mt_op.specs.OpValue.{Op}
+use Rattle.mt_sessionview.specs.SessionValue.{Session}
+use Rattle.session_update.specs.Before.{ArePlacesOf}
+use Rattle.session_update.specs.Updating.{session_in}
 
 -- the operations noted, the last one first, and the number held that their session says, where it is kept
 pub record Viewed : Type 0 where
-  pub ops : List Operation
+  pub ops : List Op
   pub held : Option ℕ
 
 -- These are the places of tracks and the session that operations show.
-pub record AreShown (ops : List Operation) (places : List Placed) (session : Content) : Type 0 where
+pub record AreShown (ops : List Op) (places : List Placed) (session : Session) : Type 0 where
   pub places_are : ArePlacesOf places ops
   pub session_is : session ≡ session_in ops session.held

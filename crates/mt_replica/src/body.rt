@@ -7,9 +7,9 @@ ghost use Rattle.mt_replica.specs.Made.{plays, fades_fit, current_place, rising_
 ghost use Rattle.mt_replica.specs.State.{lists_few};
 
 use crate::change::Change;
-use mt_items::Items;
 use mt_op::{Body, LONGEST_FADE, Title};
 use mt_stamp::{List, Stamp};
+use session_state::ItemStates;
 use std::alloc::{AllocError, Allocator};
 
 /// Whether a clip that a change adds or trims would play at least one frame.
@@ -37,7 +37,7 @@ pub(crate) fn fades_fit<A: Allocator>(change: &Change<A>) -> bool
 }
 
 // The current place of a track; of what is no track, its own stamp.
-fn place_of<A: Allocator>(items: &Items<A>, track: Stamp) -> Stamp
+fn place_of<A: Allocator>(items: &ItemStates<A>, track: Stamp) -> Stamp
     ensures { result ≡ current_place items.now track }
 {
     match items.current_place(track) {
@@ -47,7 +47,7 @@ fn place_of<A: Allocator>(items: &Items<A>, track: Stamp) -> Stamp
 }
 
 // The current place of a track that another is put after.
-fn place_after<A: Allocator>(items: &Items<A>, after: Option<Stamp>) -> Option<Stamp>
+fn place_after<A: Allocator>(items: &ItemStates<A>, after: Option<Stamp>) -> Option<Stamp>
     ensures { result ≡ option_map (current_place items.now) after }
 {
     match after {
@@ -58,7 +58,7 @@ fn place_after<A: Allocator>(items: &Items<A>, after: Option<Stamp>) -> Option<S
 
 // The live tags of an item, rising.
 fn tags_of<A: Allocator + Clone>(
-    items: &Items<A>,
+    items: &ItemStates<A>,
     item: Stamp,
 ) -> Result<List<Stamp, A>, AllocError>
     ensures ok { IfOk result (λ tags. tags ≡ rising_tags items.now item) }
@@ -69,7 +69,7 @@ fn tags_of<A: Allocator + Clone>(
 
 /// What a change does where these operations are ready. `AllocError` where an allocation failed.
 pub(crate) fn body_of<A: Allocator + Clone>(
-    items: &Items<A>,
+    items: &ItemStates<A>,
     change: &Change<A>,
 ) -> Result<Body<A>, AllocError>
     ensures ok { IfOk result (λ body. act_of body ≡ made_act items.now (edit_of change.now)) }

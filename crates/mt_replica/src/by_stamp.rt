@@ -4,42 +4,42 @@ ghost use Rattle.std.specs.Prelude.{◌≡◌, ℕ, [], map, false, IfOk, IfSome
 ghost use Rattle.std.specs.List.{AllByRecursion, sum_by};
 ghost use Rattle.std.specs.declared.cmp.Ordering.TheVariants.{Less};
 ghost use Rattle.mt_stamp.specs.Sorting.{RisesStrictly};
-ghost use Rattle.mt_op.specs.Operation.{Operation};
+ghost use Rattle.mt_op.specs.OpValue.{Op};
 ghost use Rattle.mt_op.specs.ByStamp.{op_cmp};
 ghost use Rattle.mt_opcodec.specs.LogValue.{operations};
 ghost use Rattle.mt_replica.specs.State.{HoldsBack};
 ghost use Rattle.mt_replica.specs.Holding.{is_offered, with_offered, HaveOwnStamps, AreOffered};
 ghost use Rattle.mt_sessionview.specs.Session.{ready_ops};
 
-use crate::holding::{copied, offer_met, offer_new};
+use crate::holding::{copied, offer_new, offer_ready};
 use mt_holdback::HoldBack;
-use mt_items::{Items, items_of_ready};
 use mt_op::Op;
 use mt_opcodec::Log;
 use mt_sessionview::sorted_ops;
+use session_state::{ItemStates, items_of_ready};
 use std::alloc::{AllocError, Allocator};
 
 // Offers an operation of a greater stamp than those that wait, and notes it where its needs are met by what was released, which is
 // what was noted.
 fn take_next<A: Allocator + Clone>(
     waiting: &mut HoldBack<Op<A>, A>,
-    items: Items<A>,
+    items: ItemStates<A>,
     op: &Op<A>,
-) -> Result<Items<A>, AllocError>
+) -> Result<ItemStates<A>, AllocError>
     requires whole { waiting.old.failed ≡ false }
     requires unknown { is_offered waiting.old.contents op.now.stamp ≡ false }
     requires above { AllByRecursion (λ u. op_cmp u op.now ≡ Less) waiting.old.contents.waiting }
-    requires same { (f : Operation → ℕ) → sum_by f items ≡ sum_by f waiting.old.contents.released }
+    requires same { (f : Op → ℕ) → sum_by f items ≡ sum_by f waiting.old.contents.released }
     ensures kept { OnOk result (waiting.new
         ≡ record { contents = with_offered waiting.old.contents op.now; failed = false }) }
-    ensures same { IfOk result (λ after. (f : Operation → ℕ)
+    ensures same { IfOk result (λ after. (f : Op → ℕ)
         → sum_by f after ≡ sum_by f waiting.new.contents.released) }
 {
     // for the proof: that what was released is what is ready, and that the operation names older ones
     let (_released, _stamp) = (waiting.released(), op.stamp());
     if items.are_needs_met(op) {
-        let items = items.note(op)?;
-        offer_met(waiting, copied(op)?)?;
+        let items = items.apply(op)?;
+        offer_ready(waiting, copied(op)?)?;
         return Ok(items);
     }
     offer_new(waiting, copied(op)?)?;
@@ -50,14 +50,14 @@ fn take_next<A: Allocator + Clone>(
 fn all_taken<A: Allocator + Clone>(
     alloc: &A,
     ops: &[&Op<A>],
-) -> Result<(HoldBack<Op<A>, A>, Items<A>), AllocError>
+) -> Result<(HoldBack<Op<A>, A>, ItemStates<A>), AllocError>
     requires rising { RisesStrictly op_cmp (map (λ o. o.now) ops.now) }
     requires own { HaveOwnStamps (map (λ o. o.now) ops.now) }
     ensures offered { IfOk result (λ both. AreOffered both.0 [] (map (λ o. o.now) ops.now)) }
-    ensures noted { IfOk result (λ both. (f : Operation → ℕ) → sum_by f both.1 ≡ sum_by f both.0.contents.released) }
+    ensures applied { IfOk result (λ both. (f : Op → ℕ) → sum_by f both.1 ≡ sum_by f both.0.contents.released) }
 {
     let mut waiting = HoldBack::new(alloc.clone()?);
-    let mut items = Items::with_room_for(alloc.clone()?, ops)?;
+    let mut items = ItemStates::with_capacity_for(alloc.clone()?, ops)?;
     for op in ops {
         items = take_next(&mut waiting, items, op)?;
     }
@@ -69,8 +69,8 @@ fn all_taken<A: Allocator + Clone>(
 pub(crate) fn items_beside<A: Allocator + Clone>(
     alloc: &A,
     log: &Log<A>,
-) -> Result<Items<A>, AllocError>
-    ensures noted { IfOk result (λ items. (f : Operation → ℕ) → sum_by f items
+) -> Result<ItemStates<A>, AllocError>
+    ensures applied { IfOk result (λ items. (f : Op → ℕ) → sum_by f items
         ≡ sum_by f (ready_ops (operations log.now))) }
 {
     // for the proof: that the dots of a log's operations differ
@@ -84,9 +84,9 @@ pub(crate) fn items_beside<A: Allocator + Clone>(
 pub(crate) fn beside_log<A: Allocator + Clone>(
     alloc: &A,
     log: &Log<A>,
-) -> Result<(HoldBack<Op<A>, A>, Items<A>), AllocError>
+) -> Result<(HoldBack<Op<A>, A>, ItemStates<A>), AllocError>
     ensures waits { IfOk result (λ both. HoldsBack log.now both.0) }
-    ensures noted { IfOk result (λ both. (f : Operation → ℕ) → sum_by f both.1
+    ensures applied { IfOk result (λ both. (f : Op → ℕ) → sum_by f both.1
         ≡ sum_by f (ready_ops (operations log.now))) }
 {
     // for the proof: that the dots of a log's operations differ

@@ -49,7 +49,7 @@ impl Sessions for WithoutSession {
 /// and with these their sessions. Once an allocation failed in `take` or `edit` it has failed: it has neither log nor session any more, and
 /// every call that can be refused answers `Failed` (20).
 #[derive(Drop)]
-pub struct Desk<A: Allocator, S: Sessions> {
+pub struct EditorCore<A: Allocator, S: Sessions> {
     alloc: A,
     name: Replica,
     joins: u64,
@@ -58,19 +58,19 @@ pub struct Desk<A: Allocator, S: Sessions> {
 }
 
 /// An editor: a name, a log and the session of the log's operations.
-pub type Editor<A = Global> = Desk<A, WithSession>;
+pub type Editor<A = Global> = EditorCore<A, WithSession>;
 
 /// A log that is edited under a name, without its session: for many edits one after another between which nobody looks at the
 /// session. Each call answers as an editor's does and leaves the same log.
-pub type Draft<A = Global> = Desk<A, WithoutSession>;
+pub type Draft<A = Global> = EditorCore<A, WithoutSession>;
 
-impl<A: Allocator, S: Sessions> Model for Desk<A, S> {
+impl<A: Allocator, S: Sessions> Model for EditorCore<A, S> {
     ghost use Rattle.std.specs.Prelude.{◌≡◌, option_map, IfSome};
-    ghost use Rattle.mt_replica.specs.Kept.{Kept};
+    ghost use Rattle.mt_replica.specs.EditorValue.{Editor};
     ghost use Rattle.mt_replica.specs.State.{StateValue};
     ghost use Rattle.mt_replica.specs.Codes.{kept_code};
 
-    ghost Value = { Kept };
+    ghost Value = { Editor };
 
     ghost coded = { kept_code };
 
@@ -79,7 +79,7 @@ impl<A: Allocator, S: Sessions> Model for Desk<A, S> {
     ghost invariant = { λ d. IfSome d.state (λ (s : StateValue). (s.named.name ≡ d.name) × (s.shown ≡ S.SHOWN)) };
 }
 
-impl<A: Allocator, S: Sessions> Desk<A, S> {
+impl<A: Allocator, S: Sessions> EditorCore<A, S> {
     /// Its log: all operations that it has taken, those that are held too; `None` where it has failed.
     pub fn log(&self) -> Option<&Log<A>>
         ensures { option_copied result ≡ self.now.log }
@@ -92,26 +92,26 @@ impl<A: Allocator, S: Sessions> Desk<A, S> {
 }
 
 impl<A: Allocator + Clone> Draft<A> {
-    ghost use Rattle.mt_replica.specs.Kept.{Kept};
+    ghost use Rattle.mt_replica.specs.EditorValue.{Editor};
 
     /// A draft that has taken a log's operations. Refused only as `Memory` (0).
     pub fn new(alloc: A, name: Replica, log: Log<A>) -> Result<Self, EditorFault>
         ensures ok { IfOk result (λ draft. draft ≡ record { name = name; log = Some log; joins = 0 }) }
         ensures err { IfErr result (λ fault. fault ≡ EditorFault.Memory) }
     {
-        Ok(Desk::of_log(alloc, name, log)?)
+        Ok(EditorCore::of_log(alloc, name, log)?)
     }
 }
 
 impl<A: Allocator + Clone> Editor<A> {
-    ghost use Rattle.mt_replica.specs.Kept.{Kept, session_in};
+    ghost use Rattle.mt_replica.specs.EditorValue.{Editor, session_in};
 
     /// An editor of this name that has taken a log's operations. Refused only as `Memory` (0).
     pub fn from_log(alloc: A, name: Replica, log: Log<A>) -> Result<Self, EditorFault>
         ensures ok { IfOk result (λ editor. editor ≡ record { name = name; log = Some log; joins = 0 }) }
         ensures err { IfErr result (λ fault. fault ≡ EditorFault.Memory) }
     {
-        Ok(Desk::of_log(alloc, name, log)?)
+        Ok(EditorCore::of_log(alloc, name, log)?)
     }
 
     /// The editor of a draft, which has not failed. Refused only as `Memory` (0).
@@ -120,7 +120,7 @@ impl<A: Allocator + Clone> Editor<A> {
         ensures ok { IfOk result (λ editor. editor ≡ draft) }
         ensures err { IfErr result (λ fault. fault ≡ EditorFault.Memory) }
     {
-        let Desk {
+        let EditorCore {
             alloc,
             name,
             joins,
@@ -131,7 +131,7 @@ impl<A: Allocator + Clone> Editor<A> {
             Some(state) => Some(State::shown_of(&alloc, name, state.into_log())?),
             None => None,
         };
-        Ok(Desk {
+        Ok(EditorCore {
             alloc,
             name,
             joins,
@@ -151,8 +151,8 @@ impl<A: Allocator + Clone> Editor<A> {
     }
 }
 
-impl<A: Allocator + Clone, S: Sessions> Desk<A, S> {
-    ghost use Rattle.mt_replica.specs.Kept.{Kept, kept_with, failed, copied, EditGives, after_edit, TakeGives, after_take};
+impl<A: Allocator + Clone, S: Sessions> EditorCore<A, S> {
+    ghost use Rattle.mt_replica.specs.EditorValue.{Editor, kept_with, failed, copied, EditGives, after_edit, TakeGives, after_take};
     ghost use Rattle.mt_replica.specs.State.{IsMadeOf, IsNewTo};
 
     // A desk that has taken a log's operations. `AllocError` where an allocation failed.
@@ -164,7 +164,7 @@ impl<A: Allocator + Clone, S: Sessions> Desk<A, S> {
         } else {
             State::of(&alloc, name, log)?
         };
-        Ok(Desk {
+        Ok(EditorCore {
             alloc,
             name,
             joins: 0,
@@ -174,7 +174,7 @@ impl<A: Allocator + Clone, S: Sessions> Desk<A, S> {
     }
 
     // A desk of its name with a copy of its log. Refused as `Failed` (20) where it has failed, and as `Memory` (0).
-    fn copy<T: Sessions>(&self) -> Result<Desk<A, T>, EditorFault>
+    fn copy<T: Sessions>(&self) -> Result<EditorCore<A, T>, EditorFault>
         ensures ok { IfOk result (λ copy. copy ≡ copied self.now) }
         ensures failed { IsErrOf result EditorFault.Failed ↔ (self.now.log ≡ None) }
         ensures err { IfErr result (λ fault. fault ≢ EditorFault.Failed → fault ≡ EditorFault.Memory) }
@@ -183,7 +183,7 @@ impl<A: Allocator + Clone, S: Sessions> Desk<A, S> {
             return Err(EditorFault::Failed);
         };
         match state.log().try_clone() {
-            Ok(log) => Ok(Desk::of_log(self.alloc.clone()?, self.name, log)?),
+            Ok(log) => Ok(EditorCore::of_log(self.alloc.clone()?, self.name, log)?),
             Err(_) => Err(EditorFault::Memory),
         }
     }
@@ -212,7 +212,7 @@ impl<A: Allocator + Clone, S: Sessions> Desk<A, S> {
     pub fn into_log(self) -> Option<Log<A>>
         ensures { result ≡ self.log }
     {
-        let Desk { state, .. } = self;
+        let EditorCore { state, .. } = self;
         match state {
             Some(state) => Some(state.into_log()),
             None => None,
@@ -346,7 +346,7 @@ fn same_logs<A: Allocator>(a: Option<&Log<A>>, b: Option<&Log<A>>) -> bool
 }
 
 // By their names and logs: each editor has the session of its log.
-impl<A: Allocator, S: Sessions> PartialEq for Desk<A, S> {
+impl<A: Allocator, S: Sessions> PartialEq for EditorCore<A, S> {
     ghost use Rattle.std.specs.Prelude.{nat_eq};
     ghost use Rattle.std.specs.Cmp.{on_per, partial_equiv_from_equiv};
     ghost use Rattle.std.specs.Cmp.Lexicographic.{pointwise, nat_list_eq_equiv};
@@ -361,7 +361,7 @@ impl<A: Allocator, S: Sessions> PartialEq for Desk<A, S> {
     }
 }
 
-impl<A: Allocator, S: Sessions> Eq for Desk<A, S> {
+impl<A: Allocator, S: Sessions> Eq for EditorCore<A, S> {
     ghost use Rattle.std.specs.Cmp.{on_equiv};
     ghost use Rattle.std.specs.Cmp.Lexicographic.{nat_list_eq_equiv};
     ghost use Rattle.mt_replica.specs.Equal.{kept_word};

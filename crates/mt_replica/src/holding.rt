@@ -40,7 +40,7 @@ pub(crate) fn offer_new<A: Allocator + Clone>(
 }
 
 /// Offers an operation of a new stamp whose needs are met by what was released.
-pub(crate) fn offer_met<A: Allocator + Clone>(
+pub(crate) fn offer_ready<A: Allocator + Clone>(
     waiting: &mut HoldBack<Op<A>, A>,
     op: Op<A>,
 ) -> Result<(), AllocError>
@@ -50,7 +50,7 @@ pub(crate) fn offer_met<A: Allocator + Clone>(
     ensures kept { OnOk result (waiting.new
         ≡ record { contents = with_offered waiting.old.contents op; failed = false }) }
 {
-    match waiting.offer_met(op) {
+    match waiting.offer_ready(op) {
         Ok(_) => Ok(()),
         Err(HoldBackFault::Memory) => Err(AllocError),
         Err(HoldBackFault::Failed) => unreachable!(),

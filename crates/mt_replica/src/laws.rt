@@ -5,7 +5,7 @@ ghost use Rattle.std.specs.Prelude.{◌≡◌, ◌↔◌, IsTrue, IfSome};
 ghost use Rattle.mt_opcodec.specs.LogValue.{AreLogged, operations, log_of};
 ghost use Rattle.mt_replica.specs.Laws.{MadeIsNext};
 
-use crate::desk::{Desk, Draft, Editor, Sessions};
+use crate::desk::{Draft, Editor, EditorCore, Sessions};
 use crate::fault::EditorFault;
 use crate::taken::Taken;
 use std::alloc::Allocator;
@@ -27,7 +27,7 @@ pub fn equal_editors<A: Allocator>(a: &Editor<A>, b: &Editor<A>) -> bool
 }
 
 // What the log of either holds are operations by rising dot, each with a text of its own.
-fn holds_operations<A: Allocator, S: Sessions>(desk: &Desk<A, S>)
+fn holds_operations<A: Allocator, S: Sessions>(desk: &EditorCore<A, S>)
     ensures { IfSome desk.now.log (λ log. AreLogged (operations log) × (log_of (operations log) ≡ log)) }
 {
     if let Some(log) = desk.log() {

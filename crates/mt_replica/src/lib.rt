@@ -51,6 +51,6 @@ mod taken;
 mod view;
 
 pub use change::Change;
-pub use desk::{Desk, Draft, Editor, Sessions, WithSession, WithoutSession};
+pub use desk::{Draft, Editor, EditorCore, Sessions, WithSession, WithoutSession};
 pub use fault::EditorFault;
 pub use taken::Taken;

@@ -7,15 +7,15 @@ ghost use Rattle.mt_replica.specs.Made.{or_else, name_refused, names_refused, na
 
 use crate::change::Change;
 use crate::fault::EditorFault;
-use mt_items::Items;
 use mt_op::{Need, Role};
 use mt_stamp::Stamp;
+use session_state::ItemStates;
 use std::alloc::Allocator;
 
 // Why this stamp cannot be named in this role: none of the noted operations of this stamp adds such an item, or, where that
 // is asked, the item is not present.
 fn name_refused<A: Allocator>(
-    items: &Items<A>,
+    items: &ItemStates<A>,
     stamp: Stamp,
     role: Role,
     present: bool,
@@ -42,14 +42,18 @@ fn first_of(first: Option<EditorFault>, second: Option<EditorFault>) -> Option<E
 }
 
 // Why an item cannot be named that has to be present.
-fn item_refused<A: Allocator>(items: &Items<A>, stamp: Stamp, role: Role) -> Option<EditorFault>
+fn item_refused<A: Allocator>(
+    items: &ItemStates<A>,
+    stamp: Stamp,
+    role: Role,
+) -> Option<EditorFault>
     ensures { result ≡ names_refused items.now true (need_of role stamp ∷ []) }
 {
     name_refused(items, stamp, role, true)
 }
 
 // Why a track cannot be named that another is put after.
-fn after_refused<A: Allocator>(items: &Items<A>, after: Option<Stamp>) -> Option<EditorFault>
+fn after_refused<A: Allocator>(items: &ItemStates<A>, after: Option<Stamp>) -> Option<EditorFault>
     ensures { result ≡ names_refused items.now true (named_track after) }
 {
     match after {
@@ -60,7 +64,7 @@ fn after_refused<A: Allocator>(items: &Items<A>, after: Option<Stamp>) -> Option
 
 // Why a track cannot be moved after another, or to the head.
 fn move_refused<A: Allocator>(
-    items: &Items<A>,
+    items: &ItemStates<A>,
     track: Stamp,
     after: Option<Stamp>,
 ) -> Option<EditorFault>
@@ -74,7 +78,7 @@ fn move_refused<A: Allocator>(
 
 // Why a clip cannot be moved to a track.
 fn clip_move_refused<A: Allocator>(
-    items: &Items<A>,
+    items: &ItemStates<A>,
     clip: Stamp,
     track: Stamp,
 ) -> Option<EditorFault>
@@ -88,7 +92,7 @@ fn clip_move_refused<A: Allocator>(
 
 /// The first refusal of the items that a change names, in the order of its fields.
 pub(crate) fn names_refused<A: Allocator>(
-    items: &Items<A>,
+    items: &ItemStates<A>,
     change: &Change<A>,
 ) -> Option<EditorFault>
     ensures { result ≡ names_refused items.now (names_present (edit_of change.now)) (names_of (edit_of change.now)) }

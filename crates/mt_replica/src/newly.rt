@@ -4,13 +4,13 @@ ghost use Rattle.std.specs.Prelude.{◌≡◌, ◌≤◌, drop, length, option_m
 ghost use Rattle.std.specs.List.{sum_by};
 ghost use Rattle.std.specs.Io.Iter.{u64_saturate};
 ghost use Rattle.mt_sessionview.specs.Session.{stamps_of};
-ghost use Rattle.mt_replica.specs.Holding.{MayAllFollow, noted_after, TakenGives};
+ghost use Rattle.mt_replica.specs.Holding.{MayAllFollow, applied_after, TakenGives};
 ghost use Rattle.mt_replica.specs.Joins.{joins_of};
 
 use crate::holding::released_from;
 use crate::joins::joins_of_all;
 use crate::taken::Taken;
-use crate::view::View;
+use crate::view::EditorState;
 use mt_holdback::{HoldBack, Offered};
 use mt_op::Op;
 use mt_stamp::{List, Stamp};
@@ -19,23 +19,23 @@ use std::alloc::{AllocError, Allocator};
 /// What is kept beside a log after an offer, what became of the operation, and how many cells were joined, up to the greatest number.
 #[derive(Drop)]
 pub(crate) struct Outcome<A: Allocator> {
-    pub view: View<A>,
+    pub view: EditorState<A>,
     pub taken: Taken<A>,
     pub joins: u64,
 }
 
 // What is noted with these operations, one after another.
-fn all_noted<A: Allocator + Clone>(
+fn all_applied<A: Allocator + Clone>(
     alloc: &A,
-    view: View<A>,
+    view: EditorState<A>,
     ops: &[Op<A>],
-) -> Result<View<A>, AllocError>
+) -> Result<EditorState<A>, AllocError>
     requires follow { MayAllFollow view.ops ops.now }
-    ensures ok { IfOk result (λ after. after ≡ record { ops = noted_after view.ops ops.now; held = view.held }) }
+    ensures ok { IfOk result (λ after. after ≡ record { ops = applied_after view.ops ops.now; held = view.held }) }
 {
     let mut view = view;
     for op in ops {
-        view = view.note(alloc, op)?;
+        view = view.apply(alloc, op)?;
     }
     Ok(view)
 }
@@ -74,13 +74,13 @@ pub(crate) fn outcome_of<A: Allocator + Clone>(
     waiting: &HoldBack<Op<A>, A>,
     first: usize,
     offered: Offered,
-    view: View<A>,
+    view: EditorState<A>,
 ) -> Result<Outcome<A>, AllocError>
     requires bound { first ≤ length waiting.now.contents.released }
     requires follow { MayAllFollow view.ops (drop first waiting.now.contents.released) }
     ensures view { IfOk result (λ outcome. outcome.view
         ≡ record {
-          ops = noted_after view.ops (drop first waiting.now.contents.released);
+          ops = applied_after view.ops (drop first waiting.now.contents.released);
           held = option_map
               (λ h. length waiting.now.contents.waiting) view.held;
         }) }
@@ -91,7 +91,7 @@ pub(crate) fn outcome_of<A: Allocator + Clone>(
 {
     let newly = released_from(waiting, first);
     let joins = joins_of_all(newly);
-    let mut view = all_noted(alloc, view, newly)?;
+    let mut view = all_applied(alloc, view, newly)?;
     view.set_held(waiting.held());
     let taken = taken_as(alloc, offered, newly)?;
     Ok(Outcome { view, taken, joins })

@@ -6,22 +6,22 @@ ghost use Rattle.mt_stamp.specs.Sorting.{sort_by};
 ghost use Rattle.mt_stamp.specs.Tree.{IsTree};
 ghost use Rattle.mt_tracklist.specs.Ordered.{tree_of};
 ghost use Rattle.mt_op.specs.ByStamp.{op_cmp};
-ghost use Rattle.mt_op.specs.Operation.{Operation};
-ghost use Rattle.mt_items.specs.Noting.{AreNoted};
-ghost use Rattle.mt_sessionview.specs.Noted.{places_in, placed_in};
+ghost use Rattle.mt_op.specs.OpValue.{Op};
+ghost use Rattle.session_state.specs.Applying.{AreApplied};
+ghost use Rattle.mt_sessionview.specs.AppliedOps.{places_in, placed_in};
 ghost use Rattle.mt_sessionview.specs.Read.{tree_place};
 ghost use Rattle.mt_replica.specs.Holding.{HaveOwnStamps};
 ghost use Rattle.mt_replica.specs.Viewed.{AreShown};
 
-use mt_items::Items;
 use mt_op::Op;
-use mt_sessionview::{Session, placed_by, session_of_ready, sorted_by_stamp};
+use mt_sessionview::{Session, place_of_op, session_of_ready, sorted_by_stamp};
 use mt_tracklist::{Placed, TrackList};
+use session_state::ItemStates;
 use std::alloc::{AllocError, Allocator};
 
 /// The places of tracks in order, and the session.
 #[derive(Drop)]
-pub(crate) struct Shown<A: Allocator> {
+pub(crate) struct VisibleSession<A: Allocator> {
     pub places: TrackList<A>,
     pub session: Session<A>,
 }
@@ -50,7 +50,7 @@ fn places_of<A: Allocator, B: Allocator>(
 {
     let mut places = Vec::with_capacity(alloc, ops.len())?;
     for op in ops {
-        places.push(placed_by(op))?;
+        places.push(place_of_op(op))?;
     }
     Ok(places)
 }
@@ -60,11 +60,11 @@ fn places_of<A: Allocator, B: Allocator>(
 pub(crate) fn shown_of<A: Allocator + Clone>(
     alloc: &A,
     ready: &[Op<A>],
-    items: &Items<A>,
+    items: &ItemStates<A>,
     held: u64,
-) -> Result<Shown<A>, AllocError>
-    requires noted { AreNoted items.now }
-    requires same { (f : Operation → ℕ) → sum_by f items.now ≡ sum_by f ready.now }
+) -> Result<VisibleSession<A>, AllocError>
+    requires applied { AreApplied items.now }
+    requires same { (f : Op → ℕ) → sum_by f items.now ≡ sum_by f ready.now }
     requires tree { IsTree (places_in ready.now) }
     ensures shown { IfOk result (λ shown. AreShown items.now shown.places shown.session) }
     ensures held { IfOk result (λ shown. shown.session.held ≡ held) }
@@ -72,7 +72,7 @@ pub(crate) fn shown_of<A: Allocator + Clone>(
     let refs = refs_by_stamp(alloc.clone()?, ready)?;
     let (session, placed) = session_of_ready(alloc.clone()?, &refs, items, held)?;
     let places = places_of(alloc.clone()?, &placed)?;
-    Ok(Shown {
+    Ok(VisibleSession {
         places: TrackList::from_ordered(places),
         session,
     })

@@ -6,7 +6,7 @@ ghost use Rattle.std.specs.FinMap as map;
 ghost use Rattle.std.specs.List.{sum_by};
 ghost use Rattle.mt_holdback.specs.HoldBack.{IsHoldBack};
 ghost use Rattle.mt_holdback.specs.Ops.{op_rules};
-ghost use Rattle.mt_op.specs.Operation.{Operation};
+ghost use Rattle.mt_op.specs.OpValue.{Op};
 ghost use Rattle.mt_replica.specs.Holding.{newly_released, offer_gives, with_offered, StampsRise};
 ghost use Rattle.mt_op.specs.Dots.{op_dot};
 ghost use Rattle.mt_op.specs.Bodies.{act_of};
@@ -15,7 +15,7 @@ ghost use Rattle.mt_replica.specs.Changes.{edit_of};
 ghost use Rattle.mt_replica.specs.Made.{made, made_act, made_stamp, stamp_refused, or_made};
 ghost use Rattle.std.specs.Io.Iter.{u64_saturate};
 ghost use Rattle.mt_replica.specs.Joins.{joins_of};
-ghost use Rattle.mt_replica.specs.Kept.{with_op, joins_by, TakeOf};
+ghost use Rattle.mt_replica.specs.EditorValue.{with_op, joins_by, TakeOf};
 ghost use Rattle.mt_replica.specs.State.{IsMade, Found, HoldsBack, IsHeldOf, body_refused};
 ghost use Rattle.mt_sessionview.specs.Session.{ready_ops, session_of};
 
@@ -28,7 +28,7 @@ use crate::holding::{copied, offer_new};
 use crate::names::names_refused;
 use crate::newly::{Outcome, outcome_of};
 use crate::taken::Taken;
-use crate::view::View;
+use crate::view::EditorState;
 use mt_holdback::{HoldBack, Offered};
 use mt_op::laws::equal_ops;
 use mt_op::{Body, Op};
@@ -47,7 +47,7 @@ pub(crate) struct State<A: Allocator> {
     name: Replica,
     log: Log<A>,
     waiting: Option<HoldBack<Op<A>, A>>,
-    view: View<A>,
+    view: EditorState<A>,
     clock: u64,
     seq: u64,
 }
@@ -110,9 +110,9 @@ impl<A: Allocator + Clone> State<A> {
         name: Replica,
         log: Log<A>,
         waiting: Option<HoldBack<Op<A>, A>>,
-        view: View<A>,
+        view: EditorState<A>,
     ) -> Self
-        requires noted { (f : Operation → ℕ) → sum_by f view.ops ≡ sum_by f (ready_ops (operations log)) }
+        requires applied { (f : Op → ℕ) → sum_by f view.ops ≡ sum_by f (ready_ops (operations log)) }
         requires held { IsHeldOf log view.held }
         requires waits { IfSome waiting (HoldsBack log) }
         ensures { result ≡ record
@@ -136,7 +136,7 @@ impl<A: Allocator + Clone> State<A> {
             { named = record { name = name; log = log }; shown = false }) }
     {
         let items = items_beside(alloc, &log)?;
-        Ok(State::beside(name, log, None, View::without_session(items)))
+        Ok(State::beside(name, log, None, EditorState::without_session(items)))
     }
 
     /// The state of a log with its session. `AllocError` where an allocation failed.
@@ -147,7 +147,7 @@ impl<A: Allocator + Clone> State<A> {
         let (waiting, items) = beside_log(alloc, &log)?;
         // for the proof: that the log's operations rise by dot
         let _ = log.runs();
-        let items = View::without_session(items);
+        let items = EditorState::without_session(items);
         let view = items.show(alloc, waiting.released(), waiting.held())?;
         Ok(State::beside(name, log, Some(waiting), view))
     }
@@ -225,7 +225,7 @@ impl<A: Allocator + Clone> State<A> {
         } = self;
         // for the proof: that the log's operations rise by dot, and that the log is the one of them
         let _ = log.runs();
-        let view = view.note(alloc, op)?;
+        let view = view.apply(alloc, op)?;
         let waiting = made_in(&mut log, waiting, op)?;
         Ok(State {
             name,

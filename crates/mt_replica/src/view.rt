@@ -4,31 +4,31 @@ ghost use Rattle.std.specs.Prelude.{◌≡◌, ◌∷◌, ℕ, Some, None, Optio
 ghost use Rattle.std.specs.Option.{option_copied};
 ghost use Rattle.std.specs.List.{sum_by};
 ghost use Rattle.mt_stamp.specs.Tree.{IsTree};
-ghost use Rattle.mt_op.specs.Operation.{Operation};
-ghost use Rattle.mt_items.specs.Noting.{AreNoted, MayFollow};
-ghost use Rattle.mt_sessionview.specs.Noted.{places_in};
-ghost use Rattle.mt_mending.specs.Mending.{session_in};
+ghost use Rattle.mt_op.specs.OpValue.{Op};
+ghost use Rattle.session_state.specs.Applying.{AreApplied, CanApply};
+ghost use Rattle.mt_sessionview.specs.AppliedOps.{places_in};
+ghost use Rattle.session_update.specs.Updating.{session_in};
 ghost use Rattle.mt_replica.specs.Viewed.{AreShown};
 
-use crate::shown::{Shown, shown_of};
-use mt_items::Items;
-use mt_mending::{add_place, mend, stood};
+use crate::shown::{VisibleSession, shown_of};
 use mt_op::Op;
 use mt_sessionview::Session;
+use session_state::ItemStates;
+use session_update::{add_place, located, update};
 use std::alloc::{AllocError, Allocator};
 use std::marker::Model;
 
 /// The items that operations leave which were noted one after another, and beside them, where it is kept, the session that they
 /// show. Seen as the operations, the last one first, and the number held that the session says.
 #[derive(Drop)]
-pub(crate) struct View<A: Allocator> {
-    items: Items<A>,
-    shown: Option<Shown<A>>,
+pub(crate) struct EditorState<A: Allocator> {
+    items: ItemStates<A>,
+    shown: Option<VisibleSession<A>>,
 }
 
-impl<A: Allocator> Model for View<A> {
+impl<A: Allocator> Model for EditorState<A> {
     ghost use Rattle.std.specs.Prelude.{IfSome, option_map};
-    ghost use Rattle.mt_items.specs.Noting.{AreNoted};
+    ghost use Rattle.session_state.specs.Applying.{AreApplied};
     ghost use Rattle.mt_replica.specs.Viewed.{Viewed, AreShown};
     ghost use Rattle.mt_replica.specs.Codes.{viewed_code};
 
@@ -38,19 +38,19 @@ impl<A: Allocator> Model for View<A> {
 
     ghost view = { λ v. record { ops = v.items; held = option_map (λ s. s.session.held) v.shown } };
 
-    ghost invariant = { λ v. AreNoted v.items × IfSome v.shown (λ s. AreShown v.items s.places s.session) };
+    ghost invariant = { λ v. AreApplied v.items × IfSome v.shown (λ s. AreShown v.items s.places s.session) };
 }
 
-impl<A: Allocator> View<A> {
+impl<A: Allocator> EditorState<A> {
     /// The items alone.
-    pub(crate) fn without_session(items: Items<A>) -> Self
+    pub(crate) fn without_session(items: ItemStates<A>) -> Self
         ensures { result ≡ record { ops = items; held = None } }
     {
-        View { items, shown: None }
+        EditorState { items, shown: None }
     }
 
     /// The items.
-    pub(crate) fn items(&self) -> &Items<A>
+    pub(crate) fn items(&self) -> &ItemStates<A>
         ensures { result.now ≡ self.now.ops }
     {
         // for the proof: that the items are those of the view as a whole
@@ -61,7 +61,7 @@ impl<A: Allocator> View<A> {
     /// The session, where it is kept.
     pub(crate) fn session(&self) -> Option<&Session<A>>
         ensures value { option_copied result ≡ option_map (session_in self.now.ops) self.now.held }
-        ensures noted { AreNoted self.now.ops }
+        ensures applied { AreApplied self.now.ops }
     {
         // for the proof: that the session is the one of the items
         let _ = &self.items;
@@ -83,38 +83,38 @@ impl<A: Allocator> View<A> {
     }
 }
 
-impl<A: Allocator + Clone> View<A> {
+impl<A: Allocator + Clone> EditorState<A> {
     /// The same with the session kept, which is read off the items: of these operations, noted in whatever order, with this many
     /// others held. `AllocError` where an allocation failed.
     pub(crate) fn show(self, alloc: &A, ready: &[Op<A>], held: u64) -> Result<Self, AllocError>
-        requires same { (f : Operation → ℕ) → sum_by f self.ops ≡ sum_by f ready.now }
+        requires same { (f : Op → ℕ) → sum_by f self.ops ≡ sum_by f ready.now }
         requires tree { IsTree (places_in ready.now) }
         ensures ok { IfOk result (λ view. view ≡ record { ops = self.ops; held = Some held }) }
     {
         let items = self.items;
         let shown = shown_of(alloc, ready, &items, held)?;
-        Ok(View {
+        Ok(EditorState {
             items,
             shown: Some(shown),
         })
     }
 
     /// The same with an operation noted, and the session mended by it where it is kept. `AllocError` where an allocation failed.
-    pub(crate) fn note(self, alloc: &A, op: &Op<A>) -> Result<Self, AllocError>
-        requires follows { MayFollow self.ops op.now }
+    pub(crate) fn apply(self, alloc: &A, op: &Op<A>) -> Result<Self, AllocError>
+        requires follows { CanApply self.ops op.now }
         ensures ok { IfOk result (λ view. view ≡ record { ops = op.now ∷ self.ops; held = self.held }) }
     {
-        let View { items, shown } = self;
+        let EditorState { items, shown } = self;
         match shown {
             Some(shown) => {
-                let (items, shown) = note_shown(alloc, items, shown, op)?;
-                Ok(View {
+                let (items, shown) = apply_shown(alloc, items, shown, op)?;
+                Ok(EditorState {
                     items,
                     shown: Some(shown),
                 })
             }
-            None => Ok(View {
-                items: items.note(op)?,
+            None => Ok(EditorState {
+                items: items.apply(op)?,
                 shown: None,
             }),
         }
@@ -122,26 +122,26 @@ impl<A: Allocator + Clone> View<A> {
 }
 
 // The items with an operation noted, and what they show.
-fn note_shown<A: Allocator + Clone>(
+fn apply_shown<A: Allocator + Clone>(
     alloc: &A,
-    items: Items<A>,
-    shown: Shown<A>,
+    items: ItemStates<A>,
+    shown: VisibleSession<A>,
     op: &Op<A>,
-) -> Result<(Items<A>, Shown<A>), AllocError>
-    requires follows { MayFollow items op.now }
+) -> Result<(ItemStates<A>, VisibleSession<A>), AllocError>
+    requires follows { CanApply items op.now }
     requires shown { AreShown items shown.places shown.session }
     ensures items { IfOk result (λ both. both.0 ≡ op.now ∷ items) }
     ensures shown { IfOk result (λ both. AreShown both.0 both.1.places both.1.session) }
     ensures held { IfOk result (λ both. both.1.session.held ≡ shown.session.held) }
 {
     let item = op.item();
-    let stood = stood(&items, item);
-    let Shown {
+    let located = located(&items, item);
+    let VisibleSession {
         mut places,
         mut session,
     } = shown;
     add_place(&mut places, &items, op)?;
-    let items = items.note(op)?;
-    mend(alloc, &mut session, stood, &items, &places, item)?;
-    Ok((items, Shown { places, session }))
+    let items = items.apply(op)?;
+    update(alloc, &mut session, located, &items, &places, item)?;
+    Ok((items, VisibleSession { places, session }))
 }

@@ -13,7 +13,7 @@ use Rattle.hex.proofs.HexLemmas.{decode_sized-encode_lower}
 use Rattle.uuid.specs.Text.{by_index, hex_digit, hyphen, is_hyphen_place, nibble, digit_place, lower}
 use Rattle.uuid.proofs.TextLemmas.{by_index_at, by_index_length, nibble_small}
 use Rattle.mt_stamp.specs.declared.name.Replica.{Replica}
-use Rattle.mt_stamp.specs.Moment.{Moment, IsMoment}
+use Rattle.mt_stamp.specs.StampOrder.{Stamp, IsStamp}
 use Rattle.mt_stamp.specs.Texts.{point, replica_bytes, replica_text, stamp_text}
 use Rattle.mt_op.specs.declared.digest.Digest.{Digest}
 use Rattle.mt_op.specs.Digest.{IsDigest, digest_text, is_digest_text}
@@ -68,7 +68,7 @@ replica_word r =
     let under : i < 36 = omega (arith, by_index_length 36 f, within) in
     subst IsInk (sym (by_index_at 36 f i 0 under)) (one_ink (is_hyphen_place i) _ (nibble_small (replica_bytes r) (digit_place i))))
 
-pub stamp_word_of : (m : Moment) → IsMoment m → IsWord (stamp_text m)
+pub stamp_word_of : (m : Stamp) → IsStamp m → IsWord (stamp_text m)
 stamp_word_of m fits =
     let clock_fits : m.clock < 2 ^ 64 = omega (arith, fits.clock_to) in
     let seq_fits : m.seq < 2 ^ 64 = omega (arith, fits.seq_to) in

@@ -9,16 +9,16 @@ use Rattle.std.proofs.lemmas.Fmt.{decimal_is_IsNumeral}
 use Rattle.std.proofs.lemmas.Slice.Eq.{bytes_eq-Decides}
 use Rattle.std.proofs.lemmas.Str.Parse.{digit_at}
 use Rattle.hex.proofs.HexLemmas.{decode_of-encode_lower}
-use Rattle.mt_stamp.specs.Moment.{Moment, IsMoment}
+use Rattle.mt_stamp.specs.StampOrder.{Stamp, IsStamp}
 use Rattle.mt_stamp.specs.Texts.{replica_text, stamp_text}
 use Rattle.mt_op.specs.declared.digest.Digest.{Digest}
 use Rattle.mt_op.specs.Digest.{IsDigest, digest_text}
-use Rattle.mt_op.specs.Gain.{Ratio, IsRatio}
+use Rattle.mt_op.specs.Gain.{Gain, IsGain}
 use Rattle.mt_op.specs.Title.{is_title}
 use Rattle.mt_op.specs.Valid.{AreFields, fades_are_good, longest_fade}
-use Rattle.mt_op.specs.Operation as act
-use Rattle.mt_op.specs.Operation.{Act, Operation}
-use Rattle.mt_logtext.specs.LogText.{act_text, after_word, gain_word, switch_word, stamp_word}
+use Rattle.mt_op.specs.OpValue as act
+use Rattle.mt_op.specs.OpValue.{Body, Op}
+use Rattle.text_log.specs.LogText.{act_text, after_word, gain_word, switch_word, stamp_word}
 use Rattle.mt_script.specs.Words.{space, stroke, number, fade_length, gain, stamp, item, after, digest, title}
 use Rattle.mt_script.specs.Forms.{Items, field, said, add_track, move_track, add_clip, move_clip, trim_clip, set_gain, set_mute, remove, restore, add_marker, move_marker, retitle, set_fade, set_marker_length}
 use Rattle.mt_script.specs.Lines.{is_silent}
@@ -56,24 +56,24 @@ first_of [] rest some = absurd (omega arith)
 first_of (b ∷ front) rest some = refl
 
 -- a stamp's text begins with a digit
-some_text : (m : Moment) → IsMoment m → 0 < length (stamp_text m)
+some_text : (m : Stamp) → IsStamp m → 0 < length (stamp_text m)
 some_text m fits = some_of (decimal m.clock) _ (decimal_is_IsNumeral m.clock (omega (arith, fits.clock_to))).0.0
 
-first_digit : (m : Moment) → IsMoment m → (48 ≤ slice_index (stamp_text m) 0) × (slice_index (stamp_text m) 0 ≤ 57)
+first_digit : (m : Stamp) → IsStamp m → (48 ≤ slice_index (stamp_text m) 0) × (slice_index (stamp_text m) 0 ≤ 57)
 first_digit m fits =
     let numeral = (decimal_is_IsNumeral m.clock (omega (arith, fits.clock_to))).0 in
     let first = first_of (decimal m.clock) (46 ∷ (decimal m.seq ++ (46 ∷ replica_text m.replica))) numeral.0 in
     let digit = digit_at (decimal m.clock) 0 numeral.1 numeral.0 in
     (omega (arith, first, digit), omega (arith, first, digit))
 
-item_there : (items : Items) (m : Moment) → IsMoment m → item items (stamp_text m) ≡ Some m
+item_there : (items : Items) (m : Stamp) → IsStamp m → item items (stamp_text m) ≡ Some m
 unfolding item
 item_there items m fits =
     let digit = first_digit m fits in
     let other : (slice_index (stamp_text m) 0 == 36) ≡ false = grind (arith, digit.0) in
     rw (other, stamp_spelled m (stamp_text m) fits refl)
 
-after_there : (items : Items) (m : Moment) → IsMoment m → after items (stamp_text m) ≡ Some (Some m)
+after_there : (items : Items) (m : Stamp) → IsStamp m → after items (stamp_text m) ≡ Some (Some m)
 unfolding after
 after_there items m fits =
     let digit = first_digit m fits in
@@ -87,7 +87,7 @@ no_stroke n fits i within is =
     let digit = digit_at (decimal n) i (decimal_is_IsNumeral n fits).0.1 within in
     omega arith
 
-gain_there : (g : Ratio) → IsRatio g → gain (decimal g.num ++ (47 ∷ decimal g.den)) ≡ Some g
+gain_there : (g : Gain) → IsGain g → gain (decimal g.num ++ (47 ∷ decimal g.den)) ≡ Some g
 unfolding gain
 gain_there g fits =
     let num_wide : g.num < 2 ^ 64 = omega (arith, fits.num_fits) in
@@ -108,7 +108,7 @@ title_there : (name : List ℕ) → is_title name ≡ true → title name ≡ So
 title_there name is = rw is
 
 -- a stamp, a space and more name no item
-no_item : (items : Items) (m : Moment) (rest : List ℕ) → IsMoment m → item items (stamp_text m ++ (32 ∷ rest)) ≡ None
+no_item : (items : Items) (m : Stamp) (rest : List ℕ) → IsStamp m → item items (stamp_text m ++ (32 ∷ rest)) ≡ None
 unfolding item
 no_item items m rest fits =
     let digit = first_digit m fits in
@@ -124,10 +124,10 @@ no_item items m rest fits =
 -- ---- what each act says
 
 module _ (items : Items) where
-  item_field : (m : Moment) (rest : List ℕ) → IsMoment m → field (item items) (stamp_text m ++ (32 ∷ rest)) ≡ Some (m, rest)
+  item_field : (m : Stamp) (rest : List ℕ) → IsStamp m → field (item items) (stamp_text m ++ (32 ∷ rest)) ≡ Some (m, rest)
   item_field m rest fits = there (item items) (stamp_text m) rest m (stamp_word_of m fits) (item_there items m fits)
 
-  after_field : (m : Moment) (rest : List ℕ) → IsMoment m → field (after items) (stamp_text m ++ (32 ∷ rest)) ≡ Some (Some m, rest)
+  after_field : (m : Stamp) (rest : List ℕ) → IsStamp m → field (after items) (stamp_text m ++ (32 ∷ rest)) ≡ Some (Some m, rest)
   after_field m rest fits = there (after items) (stamp_text m) rest (Some m) (stamp_word_of m fits) (after_there items m fits)
 
   number_field : (n : ℕ) (rest : List ℕ) → n < 2 ^ 32 → field number (decimal n ++ (32 ∷ rest)) ≡ Some (n, rest)
@@ -139,7 +139,7 @@ module _ (items : Items) where
   digest_field : (d : Digest) (rest : List ℕ) → IsDigest d → field digest (digest_text d ++ (32 ∷ rest)) ≡ Some (d, rest)
   digest_field d rest is = there digest (digest_text d) rest d (digest_word d is) (digest_there d is)
 
-  said_back : (a : Act) → AreFields a → fades_are_good a ≡ true → said items (act_text a) ≡ edit_of_act a
+  said_back : (a : Body) → AreFields a → fades_are_good a ≡ true → said items (act_text a) ≡ edit_of_act a
   unfolding said add_track move_track add_clip move_clip trim_clip set_gain set_mute remove restore add_marker move_marker retitle set_fade set_marker_length after
   said_back (act.AddTrack None name) f short = rw f.1
   said_back (act.AddTrack (Some place) name) f short = rw (after_field place name f.0, f.1)
@@ -181,7 +181,7 @@ then word rest is one = in_line_append (32 ∷ word) rest (worded word is) one
 number_in : (n : ℕ) → n < 2 ^ 32 → IsWord (decimal n)
 number_in n small = decimal_word n (wide n small)
 
-after_in : (place : Option Moment) → IfSome place IsMoment → IsInLine (after_word place)
+after_in : (place : Option Stamp) → IfSome place IsStamp → IsInLine (after_word place)
 after_in None f = worded (codes "head") (tested (codes "head") refl)
 after_in (Some place) f = worded (stamp_text place) (stamp_word_of place f)
 
@@ -189,12 +189,12 @@ switch_in : (on : Bool) → IsInLine (switch_word on)
 switch_in true = worded (codes "on") (tested (codes "on") refl)
 switch_in false = worded (codes "off") (tested (codes "off") refl)
 
-gain_in : (g : Ratio) → IsRatio g → IsInLine (gain_word g)
+gain_in : (g : Gain) → IsGain g → IsInLine (gain_word g)
 gain_in g fits =
     in_line_append (32 ∷ decimal g.num) (codes "/" ++ decimal g.den) (worded (decimal g.num) (decimal_word g.num (omega (arith, fits.num_fits))))
     (in_line_append (codes "/") (decimal g.den) (word_in_line (codes "/") (tested (codes "/") refl)) (word_in_line (decimal g.den) (decimal_word g.den (omega (arith, fits.den_fits)))))
 
-stamps_in : (tags : List Moment) → AllByRecursion IsMoment tags → IsInLine (flat_map stamp_word tags)
+stamps_in : (tags : List Stamp) → AllByRecursion IsStamp tags → IsInLine (flat_map stamp_word tags)
 stamps_in [] all = word_in_line [] tt
 stamps_in (tag ∷ tags) all = then (stamp_text tag) (flat_map stamp_word tags) (stamp_word_of tag all.0) (stamps_in tags all.1)
 
@@ -213,7 +213,7 @@ spoken (b ∷ kind) rest is =
 begun : (kind rest : List ℕ) → list_all (λ b. nat_lt 32 b && nat_lt b 127) kind ≡ true → is_silent kind ≡ false → IsInLine rest → IsLine (kind ++ rest)
 begun kind rest is speaks one = (in_line_append kind rest (word_in_line kind (tested kind is)) one, spoken kind rest speaks)
 
-one_line : (a : Act) → AreFields a → IsLine (act_text a)
+one_line : (a : Body) → AreFields a → IsLine (act_text a)
 one_line (act.AddTrack place name) f = begun (codes "add-track") _ refl refl (in_line_append (after_word place) (32 ∷ name) (after_in place f.0) (space_then name (title_in_line name f.1)))
 one_line (act.MoveTrack track place) f = begun (codes "move-track") _ refl refl (then (stamp_text track) (after_word place) (stamp_word_of track f.0) (after_in place f.1))
 one_line (act.AddClip source track at offset len) f =

@@ -5,7 +5,7 @@ use Rattle.std.specs.Result.{result_ok}
 use Rattle.std.specs.Str.{bytes_eq}
 use Rattle.std.proofs.lemmas.Slice.Eq.{bytes_eq-Decides}
 use Rattle.std.proofs.lemmas.Fmt.{decimal_is_IsNumeral}
-use Rattle.mt_stamp.specs.Moment.{Moment, IsMoment, greatest}
+use Rattle.mt_stamp.specs.StampOrder.{Stamp, IsStamp, greatest}
 use Rattle.mt_stamp.specs.Texts.{point, replica_text, stamp_text}
 use Rattle.mt_stamp.proofs.Texts.{replica_text_parses, decimal_has_no_point}
 use Rattle.mt_stamp.proofs.Words.{from_be_bytes-to_be_bytes_16}
@@ -17,7 +17,7 @@ use Rattle.base_text.proofs.Cuts.{cut_there}
 use Rattle.mt_script.proofs.Options.{passed, nothing}
 
 -- the parts of a stamp's text are those of the stamp
-pub parts_of_text : (m : Moment) → IsMoment m → parts_of_stamp (stamp_text m) ≡ Some m
+pub parts_of_text : (m : Stamp) → IsStamp m → parts_of_stamp (stamp_text m) ≡ Some m
 parts_of_text m fits =
     let clock_fits : m.clock < 2 ^ 64 = omega (arith, fits.clock_to) in
     let seq_fits : m.seq < 2 ^ 64 = omega (arith, fits.seq_to) in
@@ -32,7 +32,7 @@ in_range n from to = grind arith
 from_range : (n : ℕ) → is_in_range n ≡ true → (1 ≤ n) × (n ≤ greatest)
 from_range n is = (grind arith, grind arith)
 
-pub is_moment_true : (m : Moment) → IsMoment m → is_moment m ≡ true
+pub is_moment_true : (m : Stamp) → IsStamp m → is_moment m ≡ true
 is_moment_true m fits =
     let clock = in_range m.clock fits.clock_from fits.clock_to in
     let seq = in_range m.seq fits.seq_from fits.seq_to in
@@ -44,7 +44,7 @@ both true true is = (refl, refl)
 both true false is = absurd cc
 both false b is = absurd cc
 
-pub from_is_moment : (m : Moment) → is_moment m ≡ true → IsMoment m
+pub from_is_moment : (m : Stamp) → is_moment m ≡ true → IsStamp m
 from_is_moment m is =
     let parts = both (nat_lt m.replica.0 (2 ^ 128)) (is_stamp m) is in
     let others = both (is_in_range m.clock) (is_in_range m.seq) parts.1 in
@@ -54,7 +54,7 @@ from_is_moment m is =
     record { clock_from = clock.0; clock_to = clock.1; replica_fits = grind arith; seq_from = seq.0; seq_to = seq.1 }
 
 -- a stamp's text is read as that stamp
-pub stamp_spelled : (m : Moment) (text : List ℕ) → IsMoment m → text ≡ stamp_text m → stamp text ≡ Some m
+pub stamp_spelled : (m : Stamp) (text : List ℕ) → IsStamp m → text ≡ stamp_text m → stamp text ≡ Some m
 unfolding stamp
 stamp_spelled m text fits is =
     let parts : parts_of_stamp text ≡ Some m = ap parts_of_stamp is ∙ parts_of_text m fits in
@@ -66,16 +66,16 @@ bound None f y is = absurd cc
 bound (Some x) f y is = (x, is)
 
 -- what is read is a stamp, and this is its text
-pub stamp_read : (m : Moment) (text : List ℕ) → stamp text ≡ Some m → IsMoment m × (text ≡ stamp_text m)
+pub stamp_read : (m : Stamp) (text : List ℕ) → stamp text ≡ Some m → IsStamp m × (text ≡ stamp_text m)
 unfolding stamp
 stamp_read m text is =
     let from = bound (parts_of_stamp text) (spelled_so text) m is in
     let tests = passed (is_moment from.0) (bytes_eq text (stamp_text from.0)) from.0 m from.1 in
-    (subst IsMoment tests.2 (from_is_moment from.0 tests.0), (bytes_eq-Decides text (stamp_text from.0)).0 tests.1 ∙ ap stamp_text tests.2)
+    (subst IsStamp tests.2 (from_is_moment from.0 tests.0), (bytes_eq-Decides text (stamp_text from.0)).0 tests.1 ∙ ap stamp_text tests.2)
 
 -- what a reader of stamps answers
-pub reader_answers : {F : Type 0} (text : List ℕ) (r : Result Moment F) → IfOk r (λ s. IsMoment s × (text ≡ stamp_text s))
-    → ((s : Moment) → IsMoment s → text ≡ stamp_text s → r ≡ Ok s) → result_ok r ≡ stamp text
+pub reader_answers : {F : Type 0} (text : List ℕ) (r : Result Stamp F) → IfOk r (λ s. IsStamp s × (text ≡ stamp_text s))
+    → ((s : Stamp) → IsStamp s → text ≡ stamp_text s → r ≡ Ok s) → result_ok r ≡ stamp text
 reader_answers text (Ok s) found only = sym (stamp_spelled s text found.0 found.1)
 reader_answers text (Err e) found only = sym (nothing (stamp text) (λ s is. let read = stamp_read s text is in let answered = only s read.0 read.1 in absurd cc))
 

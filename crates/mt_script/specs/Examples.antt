@@ -1,7 +1,7 @@
 -- Lines and what they ask for: what the definitions compute.
 use Rattle.std.specs.Prelude.{◌≡◌, [], ◌∷◌, ◌++◌, Some, None, refl, codes}
 use Rattle.std.specs.Fmt.{digits}
-use Rattle.mt_stamp.specs.Moment.{Moment}
+use Rattle.mt_stamp.specs.StampOrder.{Stamp}
 use Rattle.mt_replica.specs.Edit.{TrimClip, SetGain, SetFade, SetMarkerLength}
 use Rattle.base_text.specs.Cutting.{newline, lines}
 use Rattle.mt_script.specs.Words.{number_below, gain, stamp, item}
@@ -18,7 +18,7 @@ pub unended_line : lines (codes "a" ++ newline ∷ codes "b") ≡ codes "a" ∷ 
 unended_line = refl
 
 -- the second line made an item, the first none
-abbrev pub track : Moment
+abbrev pub track : Stamp
 track = record { clock = 1; replica = record { 0 = 10 }; seq = 1 }
 
 abbrev pub one_item : Items

@@ -3,7 +3,7 @@
 -- line.
 use Rattle.std.specs.Prelude.{ℕ, List, [], ◌∷◌, Option, Some, None, if◌then◌else◌, codes}
 use Rattle.std.specs.Str.{bytes_eq, is_utf8}
-use Rattle.mt_stamp.specs.Moment.{Moment}
+use Rattle.mt_stamp.specs.StampOrder.{Stamp}
 use Rattle.mt_replica.specs.Edit.{Edit, AddTrack, MoveTrack, AddClip, MoveClip, TrimClip, SetGain, SetMute, Remove, Restore, AddMarker, MoveMarker, Retitle, SetFade, SetMarkerLength}
 use Rattle.base_text.specs.Cutting.{◌>>=◌, cut}
 use Rattle.mt_script.specs.Words.{space, number, fade_length, gain, item, after, digest, switch, title}
@@ -17,7 +17,7 @@ field read text = do
 
 -- what each line so far made, if anything: the items that `$1`, `$2` and so on name
 abbrev pub Items : Type 0
-Items = List (Option Moment)
+Items = List (Option Stamp)
 
 -- AFTER TITLE
 unfoldable pub add_track : Items → List ℕ → Option Edit

@@ -2,7 +2,7 @@
 use Rattle.std.specs.Prelude.{◌≡◌, ◌≢◌, ◌<◌, ◌≤◌, ◌^◌, ◌↔◌, ◌==◌, ℕ, List, [], ◌∷◌, ◌++◌, length, Some, if◌then◌else◌}
 use Rattle.std.specs.List.{AllByRecursion, flat_map}
 use Rattle.std.specs.Fmt.{decimal}
-use Rattle.mt_stamp.specs.Moment.{Moment, IsMoment}
+use Rattle.mt_stamp.specs.StampOrder.{Stamp, IsStamp}
 use Rattle.mt_stamp.specs.Texts.{stamp_text}
 use Rattle.base_text.specs.Cutting.{newline, lines}
 use Rattle.mt_script.specs.Words.{number_below, stamp}
@@ -13,7 +13,7 @@ NumbersAreSpelled = (limit n : ℕ) (text : List ℕ) → limit ≤ 2 ^ 64 → (
 
 -- A stamp is read from its text and from no other.
 abbrev pub StampsAreSpelled : Type 0
-StampsAreSpelled = (m : Moment) (text : List ℕ) → (stamp text ≡ Some m) ↔ (IsMoment m × (text ≡ stamp_text m))
+StampsAreSpelled = (m : Stamp) (text : List ℕ) → (stamp text ≡ Some m) ↔ (IsStamp m × (text ≡ stamp_text m))
 
 abbrev pub IsOneLine : List ℕ → Type 0
 IsOneLine line = AllByRecursion (λ b. b ≢ newline) line

@@ -1,14 +1,14 @@
 -- What a script makes (profile).
 use Rattle.std.specs.Prelude.{◌≡◌, ◌≢◌, ℕ, suc, List, [], ◌∷◌, ◌++◌, length, Option, Some, None, Result, Ok, Err, if◌then◌else◌}
 use Rattle.mt_stamp.specs.declared.name.Replica.{Replica}
-use Rattle.mt_stamp.specs.Moment.{Moment}
-use Rattle.mt_op.specs.Operation.{Operation}
+use Rattle.mt_stamp.specs.StampOrder.{Stamp}
+use Rattle.mt_op.specs.OpValue.{Op}
 use Rattle.mt_op.specs.Needs.{adds_item}
 use Rattle.mt_opcodec.specs.LogValue.{LogMap, operations}
 use Rattle.mt_replica.specs.declared.fault.EditorFault.{EditorFault}
 use Rattle.mt_replica.specs.Edit.{Edit}
 use Rattle.mt_replica.specs.Made.{made}
-use Rattle.mt_replica.specs.Kept.{Kept, with_op, kept_with, copied}
+use Rattle.mt_replica.specs.EditorValue.{Editor, with_op, kept_with, copied}
 use Rattle.mt_script.specs.declared.fault.ScriptFault.{ScriptFault}
 use Rattle.mt_script.specs.declared.fault.ScriptFault.TheVariants.{Memory, Failed, BadLine, Refused}
 use Rattle.base_text.specs.Cutting.{lines}
@@ -24,32 +24,32 @@ abbrev pub ◌>>=◌ : {X Y : Type 0} → Result X ScriptFault → (X → Result
 -- ---- one line
 
 -- what an edit comes to at the line of this number: at most one operation
-abbrev pub made_at : ℕ → Result Operation EditorFault → Result (List Operation) ScriptFault
+abbrev pub made_at : ℕ → Result Op EditorFault → Result (List Op) ScriptFault
 made_at line (Ok op) = Ok (op ∷ [])
 made_at line (Err cause) = Err (Refused line cause)
 
-abbrev pub asked_at : ℕ → List Operation → Replica → Option Edit → Result (List Operation) ScriptFault
+abbrev pub asked_at : ℕ → List Op → Replica → Option Edit → Result (List Op) ScriptFault
 asked_at line ops name None = Err (BadLine line)
 asked_at line ops name (Some edit) = made_at line (made ops name edit)
 
 -- What a line makes of a set, where each line before it made what `items` says; it is the next line, counted from 1.
-abbrev pub made_by_line : List Operation → Replica → Items → List ℕ → Result (List Operation) ScriptFault
+abbrev pub made_by_line : List Op → Replica → Items → List ℕ → Result (List Op) ScriptFault
 made_by_line ops name items line = if is_silent line then Ok [] else asked_at (suc (length items)) ops name (asked items line)
 
 -- the item that a line made: an operation that adds an item makes it, under its own stamp
-abbrev pub item_made : List Operation → Option Moment
+abbrev pub item_made : List Op → Option Stamp
 item_made [] = None
 item_made (op ∷ ops) = if adds_item op.act then Some op.stamp else None
 
 -- ---- all lines
 
 -- a log with more operations
-abbrev pub with_ops : LogMap → List Operation → LogMap
+abbrev pub with_ops : LogMap → List Op → LogMap
 with_ops log [] = log
 with_ops log (op ∷ ops) = with_ops (with_op log op) ops
 
 -- what the lines make, each of the set with the operations before it, or the first refusal
-abbrev pub made_by_lines : LogMap → Replica → Items → List (List ℕ) → Result (List Operation) ScriptFault
+abbrev pub made_by_lines : LogMap → Replica → Items → List (List ℕ) → Result (List Op) ScriptFault
 made_by_lines log name items [] = Ok []
 made_by_lines log name items (line ∷ others) = do
   ops ← made_by_line (operations log) name items line
@@ -57,26 +57,26 @@ made_by_lines log name items (line ∷ others) = do
   Ok (ops ++ more)
 
 -- The operations that a script makes of a set, or the first line at fault with its cause.
-abbrev pub scripted : LogMap → Replica → List ℕ → Result (List Operation) ScriptFault
+abbrev pub scripted : LogMap → Replica → List ℕ → Result (List Op) ScriptFault
 scripted log name text = made_by_lines log name [] (lines text)
 
 -- ---- what a run answers and leaves
 
-abbrev pub scripted_from : Option LogMap → Replica → List ℕ → Result (List Operation) ScriptFault
+abbrev pub scripted_from : Option LogMap → Replica → List ℕ → Result (List Op) ScriptFault
 scripted_from None name text = Err Failed
 scripted_from (Some log) name text = scripted log name text
 
 -- what a script comes to in an editor, which may have failed
-abbrev pub scripted_in : Kept → List ℕ → Result (List Operation) ScriptFault
+abbrev pub scripted_in : Editor → List ℕ → Result (List Op) ScriptFault
 scripted_in kept text = scripted_from kept.log kept.name text
 
-abbrev pub counted : Result (List Operation) ScriptFault → Result ℕ ScriptFault
+abbrev pub counted : Result (List Op) ScriptFault → Result ℕ ScriptFault
 counted (Ok ops) = Ok (length ops)
 counted (Err fault) = Err fault
 
 -- A run answers how many operations the script makes, or its refusal; or that an allocation failed, which a failed editor does
 -- not try.
-abbrev pub RunGives : Kept → List ℕ → Result ℕ ScriptFault → Type 0
+abbrev pub RunGives : Editor → List ℕ → Result ℕ ScriptFault → Type 0
 RunGives kept text (Err Memory) = kept.log ≢ None
 RunGives kept text result = result ≡ counted (scripted_in kept text)
 
@@ -86,15 +86,15 @@ count_of (Ok made) = Ok made.1
 count_of (Err fault) = Err fault
 
 -- what an editor holds with more operations
-abbrev pub kept_with_ops : Kept → List Operation → Kept
+abbrev pub kept_with_ops : Editor → List Op → Editor
 kept_with_ops kept [] = kept
 kept_with_ops kept (op ∷ ops) = kept_with_ops (kept_with kept op) ops
 
-abbrev pub kept_with_all : Kept → Result (List Operation) ScriptFault → Kept
+abbrev pub kept_with_all : Editor → Result (List Op) ScriptFault → Editor
 kept_with_all kept (Ok ops) = kept_with_ops kept ops
 kept_with_all kept (Err fault) = kept
 
 -- What the editor holds after it: a copy with all that the script makes, or after a refusal what it held.
-abbrev pub after_run : Kept → List ℕ → Result ℕ ScriptFault → Kept
+abbrev pub after_run : Editor → List ℕ → Result ℕ ScriptFault → Editor
 after_run kept text (Ok count) = kept_with_all (copied kept) (scripted_in kept text)
 after_run kept text (Err fault) = kept

@@ -9,11 +9,11 @@ use Rattle.std.specs.Str.Parse.{digits_value}
 use Rattle.uuid.specs.Text.{parsed}
 use Rattle.hex.specs.Hex.{decode_of}
 use Rattle.base_text.specs.Cutting.{◌>>=◌, cut}
-use Rattle.mt_stamp.specs.Moment.{Moment}
+use Rattle.mt_stamp.specs.StampOrder.{Stamp}
 use Rattle.mt_stamp.specs.Texts.{point, stamp_text}
 use Rattle.mt_op.specs.declared.digest.Digest.{Digest}
 use Rattle.mt_op.specs.Digest.{is_digest_text}
-use Rattle.mt_op.specs.Gain.{Ratio}
+use Rattle.mt_op.specs.Gain.{Gain}
 use Rattle.mt_op.specs.Title.{is_title}
 use Rattle.mt_op.specs.Valid.{longest_fade}
 use Rattle.mt_opcodec.specs.OpReading.{is_stamp}
@@ -47,11 +47,11 @@ number text = number_below (2 ^ 32) text
 abbrev pub fade_length : List ℕ → Option ℕ
 fade_length text = number_below (longest_fade + 1) text
 
-abbrev pub ratio : ℕ → ℕ → Option Ratio
+abbrev pub ratio : ℕ → ℕ → Option Gain
 ratio num den = if den == 0 then None else Some (record { num = num; den = den })
 
 -- NUM/DEN, each below 2^16, the second not 0
-unfoldable pub gain : List ℕ → Option Ratio
+unfoldable pub gain : List ℕ → Option Gain
 gain text = do
   parts ← cut stroke text
   num ← number_below (2 ^ 16) parts.0
@@ -61,7 +61,7 @@ gain text = do
 -- ---- names
 
 -- the three parts of `clock.seq.replica`, be they spelled as they must or not
-abbrev pub parts_of_stamp : List ℕ → Option Moment
+abbrev pub parts_of_stamp : List ℕ → Option Stamp
 parts_of_stamp text = do
   clock ← cut point text
   seq ← cut point clock.1
@@ -69,29 +69,29 @@ parts_of_stamp text = do
   Some (record { clock = digits_value 10 clock.0; replica = record { 0 = from_be_bytes w128 replica }; seq = digits_value 10 seq.0 })
 
 -- whether a stamp has these parts
-abbrev pub is_moment : Moment → Bool
+abbrev pub is_moment : Stamp → Bool
 is_moment m = nat_lt m.replica.0 (2 ^ 128) && is_stamp m
 
-abbrev pub spelled_so : List ℕ → Moment → Option Moment
+abbrev pub spelled_so : List ℕ → Stamp → Option Stamp
 spelled_so text m = if is_moment m && bytes_eq text (stamp_text m) then Some m else None
 
 -- the stamp whose text this is
-unfoldable pub stamp : List ℕ → Option Moment
+unfoldable pub stamp : List ℕ → Option Stamp
 stamp text = parts_of_stamp text >>= spelled_so text
 
 -- the item that the line of this number made, from the items that each line so far made, if any
-abbrev pub item_of_line : List (Option Moment) → ℕ → Option Moment
+abbrev pub item_of_line : List (Option Stamp) → ℕ → Option Stamp
 item_of_line items line = if line == 0 then None else option_flatten (slice_get items (line - 1))
 
 -- ITEM: a stamp's text, or `$` and the number of an earlier line that made an item
-unfoldable pub item : List (Option Moment) → List ℕ → Option Moment
+unfoldable pub item : List (Option Stamp) → List ℕ → Option Stamp
 item items text =
     if slice_index text 0 == dollar
     then (number (drop 1 text) >>= item_of_line items)
     else stamp text
 
 -- AFTER: `head`, or a track
-unfoldable pub after : List (Option Moment) → List ℕ → Option (Option Moment)
+unfoldable pub after : List (Option Stamp) → List ℕ → Option (Option Stamp)
 after items text =
     if bytes_eq text (codes "head")
     then Some None

@@ -2,10 +2,10 @@
 use Rattle.std.proofs.Common.{◌≡◌, ℕ, Bool, true, false, Some, ◌&&◌, ◌==◌, List, refl, sym, ap, subst}
 use Rattle.std.specs.Prelude.{remove, slice_get, slice_set}
 use Rattle.std.specs.List.{AllByRecursion, list_any}
-use Rattle.mt_stamp.specs.Moment.{Moment}
+use Rattle.mt_stamp.specs.StampOrder.{Stamp}
 use Rattle.mt_stamp.proofs.Differing.{differ_insert}
 use Rattle.mt_stamp.specs.Sorting.{insert_by, RisesStrictly, DifferBy}
-use Rattle.mt_sessionview.specs.Content.{Clip, clip_cmp, AreClips}
+use Rattle.mt_sessionview.specs.SessionValue.{Clip, clip_cmp, AreClips}
 use Rattle.mt_sessionview.specs.Changing.{is_clip_at, is_placed_by, StandsAt}
 use Rattle.mt_sessionview.proofs.Lists.{all_also, none_passes}
 use Rattle.mt_sessionview.proofs.Orders.{clip_key, stamps_differ}
@@ -38,5 +38,5 @@ AreClips-taken p cs items left place clips same stands is = record {
 pub AreClips-rewritten : (c : Clip) (cs items : List Clip) (place : ℕ) (old : Clip) → AreClips cs → items ≡ cs → StandsAt (is_clip_at c.at c.place) items place → slice_get cs place ≡ Some old → AreClips (slice_set cs place c)
 AreClips-rewritten c cs items place old clips same stands at = record {
   rise = subst (RisesStrictly clip_cmp) (sym (rewritten clip_key c cs items place old clips.rise same stands at)) (rises_rewritten clip_key c cs clips.rise);
-  apart = differ_set (λ (d : Clip). d.place) cs place old c at (sym (ap (λ (k : ℕ × Moment). k.1) (here clip_key (clip_key c) old (stands_there (is_clip_at c.at c.place) cs items place old same stands at)))) clips.apart;
+  apart = differ_set (λ (d : Clip). d.place) cs place old c at (sym (ap (λ (k : ℕ × Stamp). k.1) (here clip_key (clip_key c) old (stands_there (is_clip_at c.at c.place) cs items place old same stands at)))) clips.apart;
 }

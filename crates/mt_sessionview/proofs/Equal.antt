@@ -10,7 +10,7 @@ use Rattle.mt_sessionview.specs.contracts.session.ClipViewPartialEq.TheImpl as c
 use Rattle.mt_sessionview.specs.contracts.session.TrackViewPartialEq.TheImpl as track_eq
 use Rattle.mt_sessionview.specs.contracts.session.MarkerViewPartialEq.TheImpl as marker_eq
 use Rattle.mt_sessionview.specs.contracts.session.SessionPartialEq.TheImpl as session_eq
-use Rattle.mt_sessionview.specs.Content.{Clip, Track, Marker, Content}
+use Rattle.mt_sessionview.specs.SessionValue.{Clip, Track, Marker, Session}
 
 clip_decides : (a b : Clip) → Decides (clip_eq.ghosts.eq a b) (a ≡ b)
 clip_decides a b = by (clip_eq.ghosts.eq a b) refl
@@ -32,7 +32,7 @@ module _ (A : denote.RattleType.RattleType) (alloc : Ghosts A.Denot) (d e : mir.
       by : (r : Bool) → r ≡ (marker_eq.ghosts A alloc d e).eq a b → Decides r (a ≡ b)
       by r is = let title = bytes_eq-Decides a.title b.title in grind (arith, common_steps)
 
-  pub session_decides : (a b : Content) (r : Bool) → r ≡ (session_eq.ghosts A alloc d e).eq a b → IsTrue r ↔ (a ≡ b)
+  pub session_decides : (a b : Session) (r : Bool) → r ≡ (session_eq.ghosts A alloc d e).eq a b → IsTrue r ↔ (a ≡ b)
   session_decides a b r is =
       let tracks = slice_eq-Decides (λ s t. track_decides s t ((track_eq.ghosts A alloc d e).eq s t) refl) a.tracks b.tracks (pointwise (track_eq.ghosts A alloc d e).eq a.tracks b.tracks) refl in
       let markers = slice_eq-Decides marker_decides a.markers b.markers (pointwise (marker_eq.ghosts A alloc d e).eq a.markers b.markers) refl in

@@ -4,31 +4,31 @@ use Rattle.std.specs.List.{AllByRecursion, filter}
 use Rattle.std.specs.Cmp.{IsTotalOrder}
 use Rattle.std.specs.declared.cmp.Ordering.{Ordering}
 use Rattle.std.specs.declared.cmp.Ordering.TheVariants.{Equal}
-use Rattle.mt_stamp.specs.Moment.{Moment}
+use Rattle.mt_stamp.specs.StampOrder.{Stamp}
 use Rattle.mt_stamp.specs.Sorting.{sort_by, RisesStrictly, DifferBy}
 use Rattle.mt_stamp.proofs.Differing.{differ_kept, differ_mapped, differ_also, differ_sorted}
 use Rattle.mt_stamp.proofs.Members.{IsMember, AreApart, sort_strict}
 use Rattle.mt_stamp.proofs.SameItems.{all_passing}
 use Rattle.mt_op.specs.ByStamp.{stamp_of}
-use Rattle.mt_op.specs.Operation.{Operation}
+use Rattle.mt_op.specs.OpValue.{Op}
 use Rattle.mt_op.specs.Needs.{adds_track, adds_clip, adds_marker}
 use Rattle.mt_op.specs.Writes.{clip_place_written}
 use Rattle.mt_op.proofs.Needs.{and_first}
 use Rattle.mt_op.proofs.SameWrites.{one_write}
-use Rattle.mt_items.specs.Noting.{AreNoted}
-use Rattle.mt_sessionview.specs.Content.{Clip, Track, Marker, clip_cmp, marker_cmp, AreClips}
-use Rattle.mt_sessionview.specs.Noted.{is_shown_in, marker_in, markers_in, clip_place_in, clip_in, is_clip_on_in, clips_in, track_cmp_in, track_in, tracks_in}
+use Rattle.session_state.specs.Applying.{AreApplied}
+use Rattle.mt_sessionview.specs.SessionValue.{Clip, Track, Marker, clip_cmp, marker_cmp, AreClips}
+use Rattle.mt_sessionview.specs.AppliedOps.{is_shown_in, marker_in, markers_in, clip_place_in, clip_in, is_clip_on_in, clips_in, track_cmp_in, track_in, tracks_in}
 use Rattle.mt_sessionview.proofs.Lists.{all_members, member_all, all_also, one_of}
 use Rattle.mt_sessionview.proofs.Orders.{marker_key, clip_key, tied_stamps, marker_cmp_total, clip_cmp_total, stamps_differ}
-use Rattle.mt_sessionview.proofs.Shown.{Among, clip_given, placed_by}
+use Rattle.mt_sessionview.proofs.Shown.{Among, clip_given, place_of_op}
 
 -- noted operations have stamps of their own
-pub noted_differ : (ops : List Operation) → AreNoted ops → DifferBy stamp_of ops
-noted_differ [] noted = tt
-noted_differ (o ∷ ops) noted = (stamps_differ stamp_of o.stamp ops noted.0.fresh, noted_differ ops noted.1)
+pub applied_differ : (ops : List Op) → AreApplied ops → DifferBy stamp_of ops
+applied_differ [] applied = tt
+applied_differ (o ∷ ops) applied = (stamps_differ stamp_of o.stamp ops applied.0.fresh, applied_differ ops applied.1)
 
-pub one_op : (r : List Operation) → AreNoted r → (a b : Operation) → IsMember a r → IsMember b r → a.stamp ≡ b.stamp → a ≡ b
-one_op r noted a b in_a in_b same = one_of stamp_of r a b (noted_differ r noted) in_a in_b same
+pub one_op : (r : List Op) → AreApplied r → (a b : Op) → IsMember a r → IsMember b r → a.stamp ≡ b.stamp → a ≡ b
+one_op r applied a b in_a in_b same = one_of stamp_of r a b (applied_differ r applied) in_a in_b same
 
 -- items that differ by a key that ties agree on do not tie
 pub apart_by : {X Y : Type 0} (cmp : X → X → Ordering) (order : IsTotalOrder cmp) (key : X → Y) (xs : List X) → ((a b : X) → IsMember a xs → IsMember b xs → cmp a b ≡ Equal → key a ≡ key b) → DifferBy key xs → AreApart cmp order xs
@@ -38,9 +38,9 @@ apart_by cmp order key (x ∷ xs) agree d = (
   apart_by cmp order key xs (λ a b m n. agree a b (inr m) (inr n)) d.1,
 )
 
-module _ (r : List Operation) (noted : AreNoted r) where
+module _ (r : List Op) (applied : AreApplied r) where
   differ : DifferBy stamp_of r
-  differ = noted_differ r noted
+  differ = applied_differ r applied
 
   pub markers_rise : RisesStrictly marker_cmp (markers_in r)
   markers_rise =
@@ -49,24 +49,24 @@ module _ (r : List Operation) (noted : AreNoted r) where
       (apart_by marker_cmp marker_cmp_total (λ (m : Marker). m.marker) (map (marker_in r) shown) (λ a b m n tied. tied_stamps (marker_key a) (marker_key b) tied)
       (differ_mapped (marker_in r) (λ (m : Marker). m.marker) shown (differ_kept stamp_of (is_shown_in r adds_marker) r differ)))
 
-  abbrev IsAdded : Operation → Type 0
+  abbrev IsAdded : Op → Type 0
   IsAdded o = IsMember o r × (adds_clip o.act ≡ true)
 
-  same_clip : (a b : Operation) → IsAdded a → IsAdded b → (clip_place_in r a.stamp).writer ≡ (clip_place_in r b.stamp).writer → a.stamp ≡ b.stamp
+  same_clip : (a b : Op) → IsAdded a → IsAdded b → (clip_place_in r a.stamp).writer ≡ (clip_place_in r b.stamp).writer → a.stamp ≡ b.stamp
   same_clip a b of_a of_b same =
-      let one = one_op r noted in
+      let one = one_op r applied in
       let given_a = clip_given r one a of_a.0 of_a.1 in
       let given_b = clip_given r one b of_b.0 of_b.1 in
-      (one_write (Among r one) one clip_place_written a.stamp b.stamp given_a.write given_b.write given_a.given given_b.given (sym (placed_by r one a given_a) ∙ same ∙ placed_by r one b given_b)).0
+      (one_write (Among r one) one clip_place_written a.stamp b.stamp given_a.write given_b.write given_a.given given_b.given (sym (place_of_op r one a given_a) ∙ same ∙ place_of_op r one b given_b)).0
 
   -- the clips of a track as a track keeps them
-  pub clips_are : (track : Moment) → AreClips (clips_in r track)
+  pub clips_are : (track : Stamp) → AreClips (clips_in r track)
   clips_are track =
       let mine = filter (is_clip_on_in r track) r in
       let all_mine : AllByRecursion IsAdded mine =
       all_also (λ o. IsMember o r × (is_clip_on_in r track o ≡ true)) IsAdded (λ o m. (m.0, and_first _ _ (and_first _ _ m.1))) mine (all_passing (λ o. IsMember o r) (is_clip_on_in r track) r (all_members (λ o. IsMember o r) r (λ o m. m))) in
-      let writers : DifferBy (λ (o : Operation). (clip_place_in r o.stamp).writer) mine =
-      differ_also stamp_of (λ (o : Operation). (clip_place_in r o.stamp).writer) IsAdded same_clip mine all_mine (differ_kept stamp_of (is_clip_on_in r track) r differ) in
+      let writers : DifferBy (λ (o : Op). (clip_place_in r o.stamp).writer) mine =
+      differ_also stamp_of (λ (o : Op). (clip_place_in r o.stamp).writer) IsAdded same_clip mine all_mine (differ_kept stamp_of (is_clip_on_in r track) r differ) in
       let places : DifferBy (λ (c : Clip). c.place) (map (clip_in r) mine) = differ_mapped (clip_in r) (λ (c : Clip). c.place) mine writers in
       record {
         rise = sort_strict clip_cmp clip_cmp_total (map (clip_in r) mine)

@@ -1,4 +1,4 @@
-pub mod Items
+pub mod ItemStates
 pub mod TrackSorting
 pub mod Lists
 pub mod Orders

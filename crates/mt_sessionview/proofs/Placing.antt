@@ -11,11 +11,11 @@ use Rattle.std.proofs.lemmas.Bool.{eqb-true, false_from_ne_true, not-true}
 use Rattle.std.proofs.lemmas.Grind.{common_steps}
 use Rattle.std.proofs.lemmas.List.Elements.{All-from_recursion}
 use Rattle.std.proofs.lemmas.Option.{same_Some, none-some, slice_get_past, slice_get_read}
-use Rattle.mt_stamp.specs.Moment.{Moment, stamp_eq}
+use Rattle.mt_stamp.specs.StampOrder.{Stamp, stamp_eq}
 use Rattle.mt_stamp.specs.Sorting.{insert_by, RisesStrictly, DifferBy}
 use Rattle.mt_stamp.proofs.Order.{stamp_eq-true, stamp_eq-itself}
 use Rattle.mt_stamp.proofs.Members.{IsMember, member_at, member_of_kept, strict_insert}
-use Rattle.mt_items.proofs.Fresh.{is_less}
+use Rattle.session_state.proofs.Fresh.{is_less}
 use Rattle.mt_op.proofs.Needs.{and_first, and_second}
 use Rattle.mt_sessionview.specs.Changing.{IsPlace, StandsAt, IsNowhere, changed_at}
 use Rattle.mt_sessionview.proofs.Lists.{all_members, all_also, any_member, member_all, rises_kept}
@@ -87,7 +87,7 @@ goes_behind cmp order x (y ∷ xs) (suc place) apart at =
 
 -- ---- beside a position and a stamp
 
-module _ {X : Type 0} (key : X → ℕ × Moment) (k : ℕ × Moment) where
+module _ {X : Type 0} (key : X → ℕ × Stamp) (k : ℕ × Stamp) where
   abbrev cmp : X → X → Ordering
   cmp x y = key_cmp (key x) (key y)
 
@@ -108,7 +108,7 @@ module _ {X : Type 0} (key : X → ℕ × Moment) (k : ℕ × Moment) where
   fails x apart = false_from_ne_true (p x) (λ passes. apart (here x passes))
 
   not_less : (x : X) → key x ≡ k → is_lt (beside x) ≡ false
-  not_less x same = ap is_lt (ap (λ (q : ℕ × Moment). key_cmp q k) same ∙ tied_itself key_total k)
+  not_less x same = ap is_lt (ap (λ (q : ℕ × Stamp). key_cmp q k) same ∙ tied_itself key_total k)
 
   fails_before : (x : X) → is_lt (beside x) ≡ true → p x ≡ false
   fails_before x less = fails x (λ same. true≢false (sym less ∙ not_less x same))
@@ -163,7 +163,7 @@ module _ {X : Type 0} (key : X → ℕ × Moment) (k : ℕ × Moment) where
 
 -- ---- an entry that is put in, or in the place of one that has its position and stamp
 
-module _ {X : Type 0} (key : X → ℕ × Moment) (x : X) where
+module _ {X : Type 0} (key : X → ℕ × Stamp) (x : X) where
   abbrev order : X → X → Ordering
   order y z = key_cmp (key y) (key z)
 
@@ -171,7 +171,7 @@ module _ {X : Type 0} (key : X → ℕ × Moment) (x : X) where
   alike y = ((key y).0 == (key x).0) && stamp_eq (key x).1 (key y).1
 
   unlike : (y : X) → alike y ≡ false → order y x ≢ Equal
-  unlike y none tied = true≢false (sym (ap (λ (q : ℕ × Moment). (q.0 == (key x).0) && stamp_eq (key x).1 q.1) (tied_keys (key y) (key x) tied) ∙ both) ∙ none)
+  unlike y none tied = true≢false (sym (ap (λ (q : ℕ × Stamp). (q.0 == (key x).0) && stamp_eq (key x).1 q.1) (tied_keys (key y) (key x) tied) ∙ both) ∙ none)
     where
       both : ((key x).0 == (key x).0) && stamp_eq (key x).1 (key x).1 ≡ true
       both = rw (eq-eqb (key x).0 (key x).0 refl) (stamp_eq-itself (key x).1)
@@ -194,7 +194,7 @@ module _ {X : Type 0} (key : X → ℕ × Moment) (x : X) where
       first : (zs : List X) → AllByRecursion (λ z. order y z ≡ Less) zs → x ∷ zs ≡ insert_by order x zs
       first [] all = refl
       first (z ∷ zs) all =
-          let less : order x z ≡ Less = ap (λ (q : ℕ × Moment). key_cmp q (key z)) (sym same ∙ ap key (sym (same_Some y old at))) ∙ all.0 in
+          let less : order x z ≡ Less = ap (λ (q : ℕ × Stamp). key_cmp q (key z)) (sym same ∙ ap key (sym (same_Some y old at))) ∙ all.0 in
           sym (ap (λ o. match_ordering o (x ∷ z ∷ zs) (x ∷ z ∷ zs) (z ∷ insert_by order x zs)) less)
   set_is old (y ∷ xs) (suc place) rise at same =
       let less : order y x ≡ Less = ap (key_cmp (key y)) (sym same) ∙ member_all (λ z. order y z ≡ Less) xs old rise.0 (member_at xs place old at) in

@@ -5,7 +5,7 @@ use Rattle.std.specs.List.{AllByRecursion}
 use Rattle.std.proofs.lemmas.Option.{same_Some}
 use Rattle.mt_stamp.specs.Sorting.{DifferBy}
 use Rattle.mt_stamp.proofs.Members.{member_at}
-use Rattle.mt_sessionview.specs.Content.{Content, IsContent, Track}
+use Rattle.mt_sessionview.specs.SessionValue.{Session, IsSession, Track}
 use Rattle.mt_sessionview.specs.Changing.{changed_at}
 use Rattle.mt_sessionview.proofs.Lists.{all_also, member_all}
 use Rattle.mt_sessionview.proofs.Placing.{changed_is, differ_with, differ_without}
@@ -31,19 +31,19 @@ differ_set key (z ∷ xs) (suc index) x y at same d = (
 )
 
 -- a session is one where a track has another of its stamp in its place
-pub IsContent-set : (a : Content) (index : ℕ) (t u : Track) → IsContent a → slice_get a.tracks index ≡ Some t → u.track ≡ t.track → IsContent (record a { tracks = slice_set a.tracks index u })
-IsContent-set a index t u content at same = record { once = differ_set (λ (t : Track). t.track) a.tracks index t u at same content.once; rise = content.rise }
+pub IsSession-set : (a : Session) (index : ℕ) (t u : Track) → IsSession a → slice_get a.tracks index ≡ Some t → u.track ≡ t.track → IsSession (record a { tracks = slice_set a.tracks index u })
+IsSession-set a index t u content at same = record { once = differ_set (λ (t : Track). t.track) a.tracks index t u at same content.once; rise = content.rise }
 
 -- a session with one track changed
-pub content_changed : (f : Track → Track) (a b : Content) (index : ℕ) (t u : Track) → a ≡ b → slice_get a.tracks index ≡ Some t → u ≡ f t → record a { tracks = slice_set a.tracks index u } ≡ record b { tracks = changed_at index f b.tracks }
+pub content_changed : (f : Track → Track) (a b : Session) (index : ℕ) (t u : Track) → a ≡ b → slice_get a.tracks index ≡ Some t → u ≡ f t → record a { tracks = slice_set a.tracks index u } ≡ record b { tracks = changed_at index f b.tracks }
 content_changed f a b index t u same at is =
-    let all : slice_set a.tracks index u ≡ changed_at index f b.tracks = changed_is f a.tracks index t u at is ∙ ap (λ (s : Content). changed_at index f s.tracks) same in
+    let all : slice_set a.tracks index u ≡ changed_at index f b.tracks = changed_is f a.tracks index t u at is ∙ ap (λ (s : Session). changed_at index f s.tracks) same in
     λ i. record (same i) { tracks = all i }
 
 -- a session with none
-pub content_kept : (a b : Content) (index : ℕ) (t u : Track) → a ≡ b → slice_get a.tracks index ≡ Some t → u ≡ t → record a { tracks = slice_set a.tracks index u } ≡ b
+pub content_kept : (a b : Session) (index : ℕ) (t u : Track) → a ≡ b → slice_get a.tracks index ≡ Some t → u ≡ t → record a { tracks = slice_set a.tracks index u } ≡ b
 content_kept a b index t u same at is =
-    let all : slice_set a.tracks index u ≡ b.tracks = set_same a.tracks index t u at is ∙ ap (λ (s : Content). s.tracks) same in
+    let all : slice_set a.tracks index u ≡ b.tracks = set_same a.tracks index t u at is ∙ ap (λ (s : Session). s.tracks) same in
     λ i. record (same i) { tracks = all i }
 
 -- a track that is changed or not keeps its stamp

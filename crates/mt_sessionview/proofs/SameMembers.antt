@@ -5,7 +5,7 @@ use Rattle.std.specs.List.{AllByRecursion}
 use Rattle.std.proofs.lemmas.Bool.{eqb-true}
 use Rattle.mt_stamp.proofs.Members.{IsMember}
 use Rattle.mt_stamp.proofs.SameItems.{SameItems, same_any}
-use Rattle.mt_op.specs.Operation.{Operation}
+use Rattle.mt_op.specs.OpValue.{Op}
 use Rattle.mt_op.specs.Codes.{operation_code}
 use Rattle.mt_op.proofs.Needs.{and_first, and_second}
 use Rattle.mt_sessionview.proofs.Lists.{all_members, any_member, any_of}
@@ -33,13 +33,13 @@ code_itself gnil = refl
 code_itself (gnum n) = eq-eqb n n refl
 code_itself (gcons a b) = rw (code_itself a, code_itself b) refl
 
-abbrev is_one : Operation → Operation → Bool
+abbrev is_one : Op → Op → Bool
 is_one a b = code_eq (operation_code.code a) (operation_code.code b)
 
-pub member_same : (xs ys : List Operation) → SameItems xs ys → (o : Operation) → IsMember o xs → IsMember o ys
+pub member_same : (xs ys : List Op) → SameItems xs ys → (o : Op) → IsMember o xs → IsMember o ys
 member_same xs ys same o m =
     let found = any_member (is_one o) ys (sym (same_any xs ys same (is_one o)) ∙ any_of (is_one o) xs o m (code_itself (operation_code.code o))) in
-    subst (λ (x : Operation). IsMember x ys) (sym (operation_code.inj o found.item (code_same _ _ found.passes))) found.member
+    subst (λ (x : Op). IsMember x ys) (sym (operation_code.inj o found.item (code_same _ _ found.passes))) found.member
 
-pub members_same : (xs ys : List Operation) → SameItems xs ys → AllByRecursion (λ o. IsMember o ys) xs
+pub members_same : (xs ys : List Op) → SameItems xs ys → AllByRecursion (λ o. IsMember o ys) xs
 members_same xs ys same = all_members (λ o. IsMember o ys) xs (member_same xs ys same)

@@ -3,9 +3,9 @@ use Rattle.std.proofs.Common.{◌≡◌, ℕ, ◌+◌, ◌<◌, List, ◌++◌, 
 use Rattle.std.specs.Prelude.{Option}
 use Rattle.std.specs.List.{flat_map}
 use Rattle.std.proofs.lemmas.Option.{slice_get-get_or}
-use Rattle.mt_latch.specs.declared.buffered.BufferedLatch.{BufferedLatch}
-use Rattle.mt_latch.specs.Buffered.{Handed}
-use Rattle.mt_latch.proofs.Putting.{one_more_handed}
+use Rattle.base_io.specs.declared.buffered.BufferedLatch.{BufferedLatch}
+use Rattle.base_io.specs.Buffered.{Handed}
+use Rattle.base_io.proofs.Putting.{one_more_handed}
 
 -- the parts of a clip's line
 pub clip_parts : (a b c d f h i j k l r : List ℕ) → (a ++ b) ++ ((c ++ d) ++ ((f ++ h) ++ ((i ++ j) ++ ((k ++ l) ++ r)))) ≡ a ++ (b ++ (c ++ (d ++ (f ++ (h ++ (i ++ (j ++ (k ++ (l ++ r)))))))))

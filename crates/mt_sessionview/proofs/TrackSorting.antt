@@ -3,14 +3,14 @@ use Rattle.std.proofs.Common.{◌≡◌, ◌≢◌, ℕ, zero, suc, ◌<◌, tru
 use Rattle.std.specs.Prelude.{slice_get}
 use Rattle.std.specs.Cmp.{tied_itself}
 use Rattle.std.proofs.lemmas.Option.{same_Some, none-some}
-use Rattle.mt_stamp.specs.Moment.{dot_of, dot_cmp}
+use Rattle.mt_stamp.specs.StampOrder.{dot_of, dot_cmp}
 use Rattle.mt_stamp.proofs.Order.{dot_cmp_total}
 use Rattle.mt_stamp.specs.Sorting.{DifferBy}
 use Rattle.mt_stamp.proofs.Members.{member_stands}
 use Rattle.mt_stamp.proofs.SameItems.{all_here}
 use Rattle.mt_sessionview.proofs.Lists.{all_members}
 use Rattle.mt_op.specs.ByStamp.{stamp_of}
-use Rattle.mt_op.specs.Operation.{Operation}
+use Rattle.mt_op.specs.OpValue.{Op}
 use Rattle.mt_op.specs.Dots.{op_dot, dots_rise}
 use Rattle.mt_op.proofs.Dots.{dots_rise-at}
 
@@ -23,7 +23,7 @@ differ_later key (x ∷ xs) apart = (
 )
 
 -- no stamp stands twice where dots rise
-pub every_stamp : (ops : List Operation) → dots_rise ops ≡ true → DifferBy stamp_of ops
+pub every_stamp : (ops : List Op) → dots_rise ops ≡ true → DifferBy stamp_of ops
 every_stamp ops rise = differ_later stamp_of ops (λ i j a b later at_i at_j same.
     let e = sym (dots_rise-at ops rise i j a b later at_i at_j) ∙ ap (dot_cmp (op_dot a)) (sym (ap dot_of same)) ∙ tied_itself dot_cmp_total (op_dot a) in cc e)
 

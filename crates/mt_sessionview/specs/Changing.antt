@@ -3,10 +3,10 @@ use Rattle.std.specs.Prelude.{◌≡◌, ℕ, zero, suc, ◌<◌, ◌≤◌, Boo
 use Rattle.std.specs.List.{AllWithin}
 use Rattle.std.specs.Ordering.{nat_cmp, ordering_then, is_lt}
 use Rattle.std.specs.declared.cmp.Ordering.{Ordering}
-use Rattle.mt_stamp.specs.Moment.{Moment, stamp_cmp, stamp_eq}
+use Rattle.mt_stamp.specs.StampOrder.{Stamp, stamp_cmp, stamp_eq}
 use Rattle.mt_stamp.specs.Sorting.{insert_by}
-use Rattle.mt_op.specs.Gain.{Ratio}
-use Rattle.mt_sessionview.specs.Content.{Clip, Track, Marker, clip_cmp}
+use Rattle.mt_op.specs.Gain.{Gain}
+use Rattle.mt_sessionview.specs.SessionValue.{Clip, Track, Marker, clip_cmp}
 
 -- an entry in its place in a list in order, where there is one
 abbrev pub put : {X : Type 0} → (X → X → Ordering) → Option X → List X → List X
@@ -14,15 +14,15 @@ put cmp None xs = xs
 put cmp (Some x) xs = insert_by cmp x xs
 
 -- the entries but those of a stamp
-abbrev pub without : {X : Type 0} → (X → Moment) → Moment → List X → List X
+abbrev pub without : {X : Type 0} → (X → Stamp) → Stamp → List X → List X
 without key stamp xs = filter (λ x. not (stamp_eq stamp (key x))) xs
 
 -- whether a marker stands at this position under this stamp
-abbrev pub is_marker_at : ℕ → Moment → Marker → Bool
+abbrev pub is_marker_at : ℕ → Stamp → Marker → Bool
 is_marker_at at stamp m = (m.at == at) && stamp_eq stamp m.marker
 
 -- whether a clip begins at this position, where the operation of this stamp put it
-abbrev pub is_clip_at : ℕ → Moment → Clip → Bool
+abbrev pub is_clip_at : ℕ → Stamp → Clip → Bool
 is_clip_at at place c = (c.at == at) && stamp_eq place c.place
 
 -- the list with the entry at an index changed
@@ -32,11 +32,11 @@ changed_at zero f (x ∷ xs) = f x ∷ xs
 changed_at (suc index) f (x ∷ xs) = x ∷ changed_at index f xs
 
 -- whether the operation of this stamp put a clip where it is
-abbrev pub is_placed_by : Moment → Clip → Bool
+abbrev pub is_placed_by : Stamp → Clip → Bool
 is_placed_by place c = stamp_eq place c.place
 
 -- whether this stamp names a track
-abbrev pub is_track_of : Moment → Track → Bool
+abbrev pub is_track_of : Stamp → Track → Bool
 is_track_of track t = stamp_eq track t.track
 
 -- a track with one more clip, in its place
@@ -44,21 +44,21 @@ abbrev pub with_clip : Clip → Track → Track
 with_clip c t = record t { clips = insert_by clip_cmp c t.clips }
 
 -- a track without the clip that begins at this position, where the operation of this stamp put it
-abbrev pub without_clip : ℕ → Moment → Track → Track
+abbrev pub without_clip : ℕ → Stamp → Track → Track
 without_clip at place t = record t { clips = filter (λ c. not (is_clip_at at place c)) t.clips }
 
 -- a track with other fields of its own, and the same clips
-abbrev pub with_fields : List ℕ → Ratio → Bool → Track → Track
+abbrev pub with_fields : List ℕ → Gain → Bool → Track → Track
 with_fields title gain mute t = record t { title = title; gain = gain; mute = mute }
 
 -- ---- working predicates, of which no public function speaks
 
 -- how a marker compares with a position and a stamp
-abbrev pub marker_beside : ℕ → Moment → Marker → Ordering
+abbrev pub marker_beside : ℕ → Stamp → Marker → Ordering
 marker_beside at stamp m = ordering_then (nat_cmp m.at at) (stamp_cmp m.marker stamp)
 
 -- how a clip compares with a position and the stamp of a place
-abbrev pub clip_beside : ℕ → Moment → Clip → Ordering
+abbrev pub clip_beside : ℕ → Stamp → Clip → Ordering
 clip_beside at place c = ordering_then (nat_cmp c.at at) (stamp_cmp c.place place)
 
 -- the entries before a place are smaller than what is compared with, and none from it on is

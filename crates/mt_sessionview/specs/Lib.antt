@@ -1,10 +1,10 @@
-pub mod Content
+pub mod SessionValue
 pub mod Session
 pub mod Examples
 pub mod Faults
 pub mod SessionText
 pub mod SessionLaws
-pub mod Noted
+pub mod AppliedOps
 pub mod Read
 pub mod Changing
 pub mod Parts

@@ -4,16 +4,16 @@ use Rattle.std.specs.Prelude.{ℕ, Bool, ◌==◌, ◌&&◌, List, [], ◌∷◌
 use Rattle.std.specs.Fmt.{decimal}
 use Rattle.std.specs.List.{flat_map}
 use Rattle.mt_stamp.specs.Texts.{stamp_text}
-use Rattle.mt_op.specs.Gain.{Ratio}
+use Rattle.mt_op.specs.Gain.{Gain}
 use Rattle.mt_op.specs.Digest.{digest_text}
-use Rattle.mt_sessionview.specs.Content.{Clip, Track, Marker, Content}
+use Rattle.mt_sessionview.specs.SessionValue.{Clip, Track, Marker, Session}
 
 -- what ends a line
 abbrev pub newline : ℕ
 newline = 10
 
 -- ` gain NUM/DEN mute on` or ` gain NUM/DEN mute off`
-abbrev pub sound_text : Ratio → Bool → List ℕ
+abbrev pub sound_text : Gain → Bool → List ℕ
 sound_text gain mute = codes " gain " ++ (decimal gain.num ++ (codes "/" ++ (decimal gain.den ++ (if mute then codes " mute on" else codes " mute off"))))
 
 -- ` fade IN OUT`, where the clip has a fade
@@ -45,5 +45,5 @@ marker_line m = codes "marker " ++ (stamp_text m.marker ++ (codes " at " ++ (dec
 abbrev pub held_line : ℕ → List ℕ
 held_line held = codes "held " ++ (decimal held ++ newline ∷ [])
 
-abbrev pub session_text : Content → List ℕ
+abbrev pub session_text : Session → List ℕ
 session_text c = flat_map track_lines c.tracks ++ (flat_map marker_line c.markers ++ held_line c.held)

@@ -5,10 +5,10 @@ ghost use Rattle.std.specs.List.{sum_by};
 ghost use Rattle.mt_stamp.specs.Sorting.{RisesStrictly};
 ghost use Rattle.mt_stamp.specs.Tree.{IsTree};
 ghost use Rattle.mt_op.specs.ByStamp.{op_cmp};
-ghost use Rattle.mt_op.specs.Operation.{Operation};
+ghost use Rattle.mt_op.specs.OpValue.{Op};
 ghost use Rattle.mt_opcodec.specs.LogValue.{operations};
-ghost use Rattle.mt_items.specs.Noting.{AreNoted};
-ghost use Rattle.mt_sessionview.specs.Noted.{markers_in, tracks_in, places_in, placed_in};
+ghost use Rattle.session_state.specs.Applying.{AreApplied};
+ghost use Rattle.mt_sessionview.specs.AppliedOps.{markers_in, tracks_in, places_in, placed_in};
 ghost use Rattle.mt_sessionview.specs.Parts.{session_in, ArePartsOf, ArePartsOfSession};
 
 use crate::by_stamp::sorted_ops;
@@ -19,19 +19,19 @@ use crate::ready::{Ready, ready_of};
 use crate::session::{MarkerView, Session, TrackView};
 use crate::taken::taken_tracks;
 use crate::track::tracks;
-use mt_items::{Items, MarkerCells};
 use mt_op::Op;
 use mt_opcodec::Log;
 use mt_stamp::{List, Stamp};
+use session_state::{ItemStates, MarkerCells};
 use std::alloc::{AllocError, Allocator};
 
 // The tracks that noted operations leave, in the order of their places, from the operations that gave these, in order.
 fn tracks_of<A: Allocator + Clone>(
     alloc: &A,
-    items: &Items<A>,
+    items: &ItemStates<A>,
     placed: &[&Op<A>],
 ) -> Result<Vec<TrackView<A>, A>, AllocError>
-    requires noted { AreNoted items.now }
+    requires applied { AreApplied items.now }
     requires placed { map (λ o. o.now) placed.now ≡ placed_in items.now }
     ensures ok { IfOk result (λ tracks. tracks.items ≡ tracks_in items.now) }
 {
@@ -43,10 +43,10 @@ fn tracks_of<A: Allocator + Clone>(
 fn placed_tracks<'a, A: Allocator + Clone>(
     alloc: &A,
     ready: &[&'a Op<A>],
-    items: &Items<A>,
+    items: &ItemStates<A>,
 ) -> Result<(Vec<TrackView<A>, A>, Vec<&'a Op<A>, A>), AllocError>
-    requires noted { AreNoted items.now }
-    requires same { (f : Operation → ℕ) → sum_by f items.now ≡ sum_by f (map (λ o. o.now) ready.now) }
+    requires applied { AreApplied items.now }
+    requires same { (f : Op → ℕ) → sum_by f items.now ≡ sum_by f (map (λ o. o.now) ready.now) }
     requires rising { RisesStrictly op_cmp (map (λ o. o.now) ready.now) }
     requires tree { IsTree (places_in (map (λ o. o.now) ready.now)) }
     ensures tracks { IfOk result (λ both. both.0.items ≡ tracks_in items.now) }
@@ -60,9 +60,9 @@ fn placed_tracks<'a, A: Allocator + Clone>(
 // The markers that noted operations leave, by position, then by stamp.
 fn markers_of<A: Allocator + Clone>(
     alloc: &A,
-    items: &Items<A>,
+    items: &ItemStates<A>,
 ) -> Result<Vec<MarkerView<A>, A>, AllocError>
-    requires noted { AreNoted items.now }
+    requires applied { AreApplied items.now }
     ensures ok { IfOk result (λ markers. markers.items ≡ markers_in items.now) }
 {
     let mut markers = markers(alloc.clone()?, items)?;
@@ -76,11 +76,11 @@ fn markers_of<A: Allocator + Clone>(
 pub fn session_of_ready<'a, A: Allocator + Clone>(
     alloc: A,
     ready: &[&'a Op<A>],
-    items: &Items<A>,
+    items: &ItemStates<A>,
     held: u64,
 ) -> Result<(Session<A>, Vec<&'a Op<A>, A>), AllocError>
-    requires noted { AreNoted items.now }
-    requires same { (f : Operation → ℕ) → sum_by f items.now ≡ sum_by f (map (λ o. o.now) ready.now) }
+    requires applied { AreApplied items.now }
+    requires same { (f : Op → ℕ) → sum_by f items.now ≡ sum_by f (map (λ o. o.now) ready.now) }
     requires rising { RisesStrictly op_cmp (map (λ o. o.now) ready.now) }
     requires tree { IsTree (places_in (map (λ o. o.now) ready.now)) }
     ensures session { IfOk result (λ both. both.0 ≡ record { tracks = tracks_in items.now; markers = markers_in items.now; held = held }) }
@@ -109,11 +109,11 @@ pub(crate) struct Parts<A: Allocator> {
 fn parts_of_items<A: Allocator + Clone>(
     alloc: &A,
     ready: &[&Op<A>],
-    items: Items<A>,
+    items: ItemStates<A>,
     held: u64,
 ) -> Result<Parts<A>, AllocError>
-    requires noted { AreNoted items }
-    requires same { (f : Operation → ℕ) → sum_by f items ≡ sum_by f (map (λ o. o.now) ready.now) }
+    requires applied { AreApplied items }
+    requires same { (f : Op → ℕ) → sum_by f items ≡ sum_by f (map (λ o. o.now) ready.now) }
     requires rising { RisesStrictly op_cmp (map (λ o. o.now) ready.now) }
     requires tree { IsTree (places_in (map (λ o. o.now) ready.now)) }
     ensures parts { IfOk result (λ parts. ArePartsOf items parts.tracks.items parts.cells.items) }
@@ -159,8 +159,8 @@ pub(crate) fn session_of_parts<A: Allocator + Clone>(
     alloc: A,
     parts: Parts<A>,
 ) -> Result<Session<A>, AllocError>
-    requires { (items : ListOf Operation) × ArePartsOf items parts.tracks.items parts.cells.items }
-    ensures ok { IfOk result (λ session. (items : ListOf Operation) → ArePartsOf items parts.tracks.items parts.cells.items
+    requires { (items : ListOf Op) × ArePartsOf items parts.tracks.items parts.cells.items }
+    ensures ok { IfOk result (λ session. (items : ListOf Op) → ArePartsOf items parts.tracks.items parts.cells.items
         → session ≡ session_in items parts.held) }
 {
     let Parts {

@@ -3,7 +3,7 @@
 ghost use Rattle.std.specs.Prelude.{◌≡◌, ◌<◌, true, false, length, slice_get, Some, IfNone, IfSome, OnErr, OnOk, find, option_and_then};
 ghost use Rattle.std.specs.List.{list_any};
 ghost use Rattle.mt_stamp.specs.Sorting.{RisesStrictly};
-ghost use Rattle.mt_sessionview.specs.Content.{Track, clip_cmp};
+ghost use Rattle.mt_sessionview.specs.SessionValue.{Track, clip_cmp};
 ghost use Rattle.mt_sessionview.specs.Changing.{changed_at, is_clip_at, is_placed_by, with_clip, without_clip, clip_beside, IsPlace, StandsAt, IsNowhere};
 
 use crate::session::{ClipView, Session, TrackView};

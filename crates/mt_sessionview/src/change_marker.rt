@@ -3,7 +3,7 @@
 ghost use Rattle.std.specs.Prelude.{◌≡◌, true, false, IfNone, IfSome, OnErr, OnOk, find, filter, not};
 ghost use Rattle.std.specs.List.{list_any};
 ghost use Rattle.mt_stamp.specs.Sorting.{RisesStrictly, insert_by};
-ghost use Rattle.mt_sessionview.specs.Content.{marker_cmp};
+ghost use Rattle.mt_sessionview.specs.SessionValue.{marker_cmp};
 ghost use Rattle.mt_sessionview.specs.Changing.{is_marker_at, marker_beside, IsPlace, StandsAt, IsNowhere};
 
 use crate::session::{MarkerView, Session};

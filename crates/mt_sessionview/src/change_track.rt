@@ -2,7 +2,7 @@
 
 ghost use Rattle.std.specs.Prelude.{◌≡◌, ◌<◌, ◌≤◌, false, length, slice_get, Some, OnErr, OnOk, insert, remove, position};
 ghost use Rattle.std.specs.List.{list_any};
-ghost use Rattle.mt_sessionview.specs.Content.{Track};
+ghost use Rattle.mt_sessionview.specs.SessionValue.{Track};
 ghost use Rattle.mt_sessionview.specs.Changing.{changed_at, is_track_of, with_fields};
 
 use crate::session::{Session, TrackView};

@@ -3,16 +3,16 @@
 ghost use Rattle.std.specs.Prelude.{◌≡◌, ◌≤◌, ◌++◌, List as ListOf, [], ◌∷◌, unwrap_or, if◌then◌else◌, IfOk, OnOk};
 ghost use Rattle.std.specs.BTreeMap.{get};
 ghost use Rattle.std.specs.List.Sorted.{IsPermutation, IsSorted};
-ghost use Rattle.mt_stamp.specs.Moment.{Moment, stamp_cmp, stamp_eq};
-ghost use Rattle.mt_op.specs.Operation.{Operation};
+ghost use Rattle.mt_stamp.specs.StampOrder.{Stamp, stamp_cmp, stamp_eq};
+ghost use Rattle.mt_op.specs.OpValue.{Op};
 ghost use Rattle.mt_op.specs.Valid.{AreShort};
-ghost use Rattle.mt_items.specs.Cells.{HoldsClip};
-ghost use Rattle.mt_sessionview.specs.Content.{clip_cmp};
+ghost use Rattle.session_state.specs.Cells.{HoldsClip};
+ghost use Rattle.mt_sessionview.specs.SessionValue.{clip_cmp};
 ghost use Rattle.mt_sessionview.specs.Read.{clip_read, AreTheClips};
 
 use crate::session::ClipView;
-use mt_items::{ClipCells, Items};
 use mt_stamp::{List, Stamp};
+use session_state::{ClipCells, ItemStates};
 use std::alloc::{AllocError, Allocator};
 use std::collections::BTreeMap;
 
@@ -27,7 +27,7 @@ struct OnTrack {
 fn clip_at<A: Allocator>(clip: Stamp, cells: &ClipCells<A>) -> Option<OnTrack>
     requires positive { 1 ≤ cells.now.trim.value.len }
     requires short { AreShort cells.now.fades.value }
-    ensures { (ops : ListOf Operation) → HoldsClip clip ops cells.now → result ≡ clip_read ops clip }
+    ensures { (ops : ListOf Op) → HoldsClip clip ops cells.now → result ≡ clip_read ops clip }
 {
     if !cells.presence.is_present() {
         return None;
@@ -53,12 +53,12 @@ fn clip_at<A: Allocator>(clip: Stamp, cells: &ClipCells<A>) -> Option<OnTrack>
 }
 
 // Puts a clip with those of its track.
-fn note_clip<A: Allocator + Clone>(
+fn apply_clip<A: Allocator + Clone>(
     alloc: &A,
     table: &mut BTreeMap<Stamp, List<ClipView, A>, A>,
     found: OnTrack,
 ) -> Result<(), AllocError>
-    ensures ok { OnOk result ((track : Moment) → unwrap_or (get stamp_cmp table.new track) [] ≡ unwrap_or (get stamp_cmp table.old track) [] ++ (if stamp_eq found.track track then found.clip ∷ [] else [])) }
+    ensures ok { OnOk result ((track : Stamp) → unwrap_or (get stamp_cmp table.new track) [] ≡ unwrap_or (get stamp_cmp table.old track) [] ++ (if stamp_eq found.track track then found.clip ∷ [] else [])) }
 {
     if let Some(clips) = table.get_mut(&found.track) {
         clips.insert(clips.items().len(), found.clip)?;
@@ -73,14 +73,14 @@ fn note_clip<A: Allocator + Clone>(
 // The present clips of each track, by their rising stamps.
 pub(crate) fn clips_by_track<A: Allocator + Clone>(
     alloc: &A,
-    items: &Items<A>,
+    items: &ItemStates<A>,
 ) -> Result<BTreeMap<Stamp, List<ClipView, A>, A>, AllocError>
     ensures ok { IfOk result (AreTheClips items.now) }
 {
     let mut table = BTreeMap::new(alloc.clone()?);
     for (clip, cells) in items.clip_cells() {
         if let Some(found) = clip_at(*clip, cells) {
-            note_clip(alloc, &mut table, found)?;
+            apply_clip(alloc, &mut table, found)?;
         }
     }
     Ok(table)

@@ -1,9 +1,9 @@
 //! What holds of all sessions: each law is the contract of a small function, which does nothing.
 
 ghost use Rattle.std.specs.Prelude.{◌≡◌, ◌↔◌, IsTrue, List};
-ghost use Rattle.mt_stamp.specs.Moment.{stamp_cmp};
-ghost use Rattle.mt_op.specs.Operation.{Operation};
-ghost use Rattle.mt_sessionview.specs.Content.{clip_cmp, marker_cmp};
+ghost use Rattle.mt_stamp.specs.StampOrder.{stamp_cmp};
+ghost use Rattle.mt_op.specs.OpValue.{Op};
+ghost use Rattle.mt_sessionview.specs.SessionValue.{clip_cmp, marker_cmp};
 ghost use Rattle.mt_sessionview.specs.Session.{track_cmp};
 ghost use Rattle.mt_sessionview.specs.SessionLaws.{AnyListing, HeldIsCounted, PlacesAreATree};
 ghost use Rattle.mt_stamp.specs.Sorting.{Sorts};
@@ -24,7 +24,7 @@ pub fn sorted_clips()
 
 /// The tracks of a session are in the order of their places, and sorting them neither loses nor makes one.
 pub fn sorted_tracks()
-    ensures { (ops : List Operation) → Sorts (track_cmp ops) }
+    ensures { (ops : List Op) → Sorts (track_cmp ops) }
 {}
 
 /// Stamps that are sorted rise, and sorting them neither loses nor makes one.

@@ -28,7 +28,7 @@
 //! ```
 //!
 //! `ready_stamps` gives the stamps of those operations of a log that its session shows, rising: all but the held ones. `session_of_ready` makes the
-//! session of ready operations that were noted already (`Items` of mt_items), as an editor does for a whole log.
+//! session of ready operations that were noted already (`Items` of session_state), as an editor does for a whole log.
 //!
 //! A session is changed one entry at a time by twelve calls, each of which says what the whole session is then. `put_marker`,
 //! `put_clip` and `put_track` put an entry in, which must not be there yet; they alone take memory, and where that is refused
@@ -84,7 +84,7 @@ mod track;
 pub use build::session_of_ready;
 pub use by_stamp::{sorted_by_stamp, sorted_ops};
 pub use fault::SessionFault;
-pub use places::placed_by;
+pub use places::place_of_op;
 pub use readiness::ready_stamps;
 pub use scratch::{from_scratch, of_log, write_text};
 pub use session::{ClipView, MarkerView, Session, TrackView};

@@ -5,14 +5,14 @@ ghost use Rattle.std.specs.List.{AllByRecursion, filter_map};
 ghost use Rattle.std.specs.Map.{keys_of};
 ghost use Rattle.std.specs.List.Sorted.{IsPermutation, IsSorted};
 ghost use Rattle.mt_op.specs.declared.need.Role.TheVariants.{Marker};
-ghost use Rattle.mt_op.specs.Operation.{Operation};
-ghost use Rattle.mt_items.specs.Cells.{HoldsMarker, items_of};
-ghost use Rattle.mt_sessionview.specs.Content.{marker_cmp};
+ghost use Rattle.mt_op.specs.OpValue.{Op};
+ghost use Rattle.session_state.specs.Cells.{HoldsMarker, items_of};
+ghost use Rattle.mt_sessionview.specs.SessionValue.{marker_cmp};
 ghost use Rattle.mt_sessionview.specs.Read.{marker_read};
 
 use crate::session::MarkerView;
-use mt_items::{Items, MarkerCells};
 use mt_stamp::Stamp;
+use session_state::{ItemStates, MarkerCells};
 use std::alloc::{AllocError, Allocator};
 
 // A marker, from its cells, where it is present.
@@ -20,7 +20,7 @@ fn marker_at<A: Allocator + Clone>(
     marker: Stamp,
     cells: &MarkerCells<A>,
 ) -> Result<Option<MarkerView<A>>, AllocError>
-    ensures ok { IfOk result (λ view. (ops : List Operation) → HoldsMarker marker ops cells.now → view ≡ marker_read ops marker) }
+    ensures ok { IfOk result (λ view. (ops : List Op) → HoldsMarker marker ops cells.now → view ≡ marker_read ops marker) }
 {
     if !cells.presence.is_present() {
         return Ok(None);
@@ -39,7 +39,7 @@ fn marker_at<A: Allocator + Clone>(
 // The markers that are present, in the order in which they were noted, with copies of their titles.
 pub(crate) fn markers<A: Allocator + Clone>(
     alloc: A,
-    items: &Items<A>,
+    items: &ItemStates<A>,
 ) -> Result<Vec<MarkerView<A>, A>, AllocError>
     ensures ok { IfOk result (λ markers. markers.items ≡ filter_map (marker_read items.now) (items_of Marker items.now)) }
 {
@@ -55,7 +55,7 @@ pub(crate) fn markers<A: Allocator + Clone>(
 
 // A marker, from its cells by value, where it is present.
 fn marker_from<A: Allocator>(marker: Stamp, cells: MarkerCells<A>) -> Option<MarkerView<A>>
-    ensures { (ops : List Operation) → HoldsMarker marker ops cells → result ≡ marker_read ops marker }
+    ensures { (ops : List Op) → HoldsMarker marker ops cells → result ≡ marker_read ops marker }
 {
     let MarkerCells {
         position,
@@ -79,7 +79,7 @@ pub(crate) fn taken_markers<A: Allocator + Clone>(
     alloc: A,
     cells: Vec<(Stamp, MarkerCells<A>), A>,
 ) -> Result<Vec<MarkerView<A>, A>, AllocError>
-    ensures ok { IfOk result (λ markers. (ops : List Operation) → AllByRecursion (λ e. HoldsMarker e.0 ops e.1) cells.items → markers.items ≡ filter_map (marker_read ops) (keys_of cells.items)) }
+    ensures ok { IfOk result (λ markers. (ops : List Op) → AllByRecursion (λ e. HoldsMarker e.0 ops e.1) cells.items → markers.items ≡ filter_map (marker_read ops) (keys_of cells.items)) }
 {
     let mut markers = Vec::with_capacity(alloc, cells.len())?;
     for (marker, cells) in cells {

@@ -4,7 +4,7 @@ ghost use Rattle.std.specs.Prelude.{◌≡◌, ◌<◌, ℕ, map, length, slice_
 ghost use Rattle.mt_stamp.specs.Sorting.{RisesStrictly};
 ghost use Rattle.mt_stamp.specs.Tree.{IsTree};
 ghost use Rattle.mt_op.specs.ByStamp.{op_cmp};
-ghost use Rattle.mt_sessionview.specs.Noted.{places_in, placed_in};
+ghost use Rattle.mt_sessionview.specs.AppliedOps.{places_in, placed_in};
 ghost use Rattle.mt_sessionview.specs.Read.{ops_at};
 
 use crate::places::{place_ops, places_of};

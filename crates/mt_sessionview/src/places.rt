@@ -5,7 +5,7 @@ ghost use Rattle.std.specs.List.{filter};
 ghost use Rattle.mt_op.specs.declared.need.Role.TheVariants.{Place};
 ghost use Rattle.mt_op.specs.Needs.{fits};
 ghost use Rattle.mt_tracklist.specs.Rising.{given_tree};
-ghost use Rattle.mt_sessionview.specs.Read.{place_after, placed_by, tree_place};
+ghost use Rattle.mt_sessionview.specs.Read.{place_after, place_of_op, tree_place};
 
 use crate::track::placed_track;
 use mt_op::{Body, Op, Role};
@@ -41,8 +41,8 @@ fn after<A: Allocator>(op: &Op<A>) -> Option<Stamp>
 
 /// The element that an operation gives a list of places, where it gives a track a place: an AddTrack to the track that it adds, a
 /// MoveTrack to the one that it moves. Of any other it is its own stamp at the head.
-pub fn placed_by<A: Allocator>(op: &Op<A>) -> Placed
-    ensures { result ≡ placed_by op.now }
+pub fn place_of_op<A: Allocator>(op: &Op<A>) -> Placed
+    ensures { result ≡ place_of_op op.now }
 {
     let place = op.stamp();
     Placed {

@@ -1,7 +1,7 @@
 //! The stamps of the operations that are ready.
 
 ghost use Rattle.std.specs.Prelude.{◌≡◌, IfOk, IfErr};
-ghost use Rattle.mt_stamp.specs.Moment.{stamp_cmp};
+ghost use Rattle.mt_stamp.specs.StampOrder.{stamp_cmp};
 ghost use Rattle.mt_stamp.specs.Sorting.{sort_by};
 ghost use Rattle.mt_opcodec.specs.LogValue.{operations};
 ghost use Rattle.mt_sessionview.specs.Session.{ready_ops, stamps_of};

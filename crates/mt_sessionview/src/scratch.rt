@@ -2,7 +2,7 @@
 
 ghost use Rattle.std.specs.Prelude.{◌≡◌, IfOk, IfErr, OnOk, false, true};
 ghost use Rattle.std.specs.Io.KnownBytes.{Appends};
-ghost use Rattle.mt_latch.specs.Latch.{AppendsPrefix};
+ghost use Rattle.base_io.specs.Latch.{AppendsPrefix};
 ghost use Rattle.mt_opcodec.specs.LogValue.{operations};
 ghost use Rattle.mt_sessionview.specs.Session.{session_of};
 ghost use Rattle.mt_sessionview.specs.SessionText.{session_text};
@@ -43,7 +43,7 @@ pub fn of_log<A: Allocator + Clone>(alloc: A, log: Log<A>) -> Result<Session<A>,
 ///
 /// Refused only as `Write` (37), where the output's latch has failed, before or in this call; the output then holds a prefix of
 /// the text, and is as it was where the latch had failed before.
-#[tactic(auto, unfolding(mt_latch::specs::Buffered::Puts))]
+#[tactic(auto, unfolding(base_io::specs::Buffered::Puts))]
 pub fn write_text<A: Allocator, W: Write>(
     session: &Session<A>,
     output: &mut Latch<W>,

@@ -31,7 +31,7 @@ pub struct ClipView {
 }
 
 impl Model for ClipView {
-    ghost use Rattle.mt_sessionview.specs.Content.{Clip, IsClip};
+    ghost use Rattle.mt_sessionview.specs.SessionValue.{Clip, IsClip};
 
     ghost Value = { Clip };
 
@@ -59,7 +59,7 @@ pub struct TrackView<A: Allocator = Global> {
 }
 
 impl<A: Allocator> Model for TrackView<A> {
-    ghost use Rattle.mt_sessionview.specs.Content.{Track, IsTrack};
+    ghost use Rattle.mt_sessionview.specs.SessionValue.{Track, IsTrack};
 
     ghost Value = { Track };
 
@@ -85,7 +85,7 @@ pub struct MarkerView<A: Allocator = Global> {
 }
 
 impl<A: Allocator> Model for MarkerView<A> {
-    ghost use Rattle.mt_sessionview.specs.Content.{Marker};
+    ghost use Rattle.mt_sessionview.specs.SessionValue.{Marker};
 
     ghost Value = { Marker };
 
@@ -107,13 +107,13 @@ pub struct Session<A: Allocator = Global> {
 }
 
 impl<A: Allocator> Model for Session<A> {
-    ghost use Rattle.mt_sessionview.specs.Content.{Content, IsContent};
+    ghost use Rattle.mt_sessionview.specs.SessionValue.{Session, IsSession};
 
-    ghost Value = { Content };
+    ghost Value = { Session };
 
     ghost view = { λ s. record { tracks = s.tracks; markers = s.markers; held = s.held } };
 
-    ghost invariant = { λ s. IsContent (record { tracks = s.tracks; markers = s.markers; held = s.held }) };
+    ghost invariant = { λ s. IsSession (record { tracks = s.tracks; markers = s.markers; held = s.held }) };
 
     ghost inverse = { λ c. record { tracks = c.tracks; markers = c.markers; held = c.held } };
 }

@@ -3,32 +3,32 @@
 ghost use Rattle.std.specs.Prelude.{◌≡◌, ◌≢◌, ℕ, true, List as ListOf, Some, is_some, map, IfOk, OnOk, IfSome};
 ghost use Rattle.std.specs.List.{AllByRecursion, filter_map, sum_by};
 ghost use Rattle.std.specs.Map.{keys_of, lookup};
-ghost use Rattle.mt_stamp.specs.Moment.{Moment, stamp_eq};
+ghost use Rattle.mt_stamp.specs.StampOrder.{Stamp, stamp_eq};
 ghost use Rattle.mt_stamp.specs.Sorting.{DifferBy, RisesStrictly};
 ghost use Rattle.mt_stamp.specs.Tree.{IsTree};
 ghost use Rattle.mt_op.specs.declared.need.Role.TheVariants.{Marker};
 ghost use Rattle.mt_op.specs.ByStamp.{stamp_of, op_cmp};
-ghost use Rattle.mt_op.specs.Operation.{Operation};
+ghost use Rattle.mt_op.specs.OpValue.{Op};
 ghost use Rattle.mt_op.specs.Writes.{title_written, last_write};
-ghost use Rattle.mt_items.specs.Cells.{HoldsTrack, HoldsMarker, items_of};
-ghost use Rattle.mt_items.specs.Noting.{AreNoted};
-ghost use Rattle.mt_sessionview.specs.Content.{AreClips};
-ghost use Rattle.mt_sessionview.specs.Noted.{places_in, tracks_in};
+ghost use Rattle.session_state.specs.Cells.{HoldsTrack, HoldsMarker, items_of};
+ghost use Rattle.session_state.specs.Applying.{AreApplied};
+ghost use Rattle.mt_sessionview.specs.SessionValue.{AreClips};
+ghost use Rattle.mt_sessionview.specs.AppliedOps.{places_in, tracks_in};
 ghost use Rattle.mt_sessionview.specs.Read.{standing, track_from, track_read, HoldStands};
 
 use crate::clip::{clips_by_track, sorted_clips};
 use crate::placed::placed_ops;
 use crate::session::{ClipView, TrackView};
 use crate::track::{placed_track, stands_at, track_with};
-use mt_items::{Items, MarkerCells, TrackCells};
+use base_stampmap::StampMap;
 use mt_op::Op;
 use mt_stamp::Stamp;
-use mt_stampmap::StampMap;
+use session_state::{ItemStates, MarkerCells, TrackCells};
 use std::alloc::{AllocError, Allocator};
 
 // The present track that stands where an operation put it, from the cells of all tracks.
 fn standing_track<A: Allocator>(tracks: &StampMap<TrackCells<A>, A>, op: &Op<A>) -> Option<Stamp>
-    ensures standing { (ops : ListOf Operation) → AreNoted ops → HoldStands ops tracks.now → result ≡ standing ops op.now }
+    ensures standing { (ops : ListOf Op) → AreApplied ops → HoldStands ops tracks.now → result ≡ standing ops op.now }
     ensures there { IfSome result (λ track. is_some (lookup (stamp_eq track) tracks.now) ≡ true) }
 {
     let track = placed_track(op)?;
@@ -48,9 +48,9 @@ fn taken_track<A: Allocator + Clone>(
 ) -> Result<TrackView<A>, AllocError>
     requires there { is_some (lookup (stamp_eq track) tracks.old) ≡ true }
     requires clips { AreClips clips.items }
-    ensures ok { IfOk result (λ view. IfSome (lookup (stamp_eq track) tracks.old) (λ cells. (ops : ListOf Operation) → HoldsTrack track ops cells → Some view ≡ track_from ops track clips.items (last_write title_written track ops))) }
-    ensures stand { OnOk result ((ops : ListOf Operation) → HoldStands ops tracks.old → HoldStands ops tracks.new) }
-    ensures others { OnOk result ((other : Moment) → track ≢ other → lookup (stamp_eq other) tracks.new ≡ lookup (stamp_eq other) tracks.old) }
+    ensures ok { IfOk result (λ view. IfSome (lookup (stamp_eq track) tracks.old) (λ cells. (ops : ListOf Op) → HoldsTrack track ops cells → Some view ≡ track_from ops track clips.items (last_write title_written track ops))) }
+    ensures stand { OnOk result ((ops : ListOf Op) → HoldStands ops tracks.old → HoldStands ops tracks.new) }
+    ensures others { OnOk result ((other : Stamp) → track ≢ other → lookup (stamp_eq other) tracks.new ≡ lookup (stamp_eq other) tracks.old) }
 {
     let Some(cells) = tracks.get_mut(track) else {
         unreachable!()
@@ -63,10 +63,10 @@ fn taken_track<A: Allocator + Clone>(
 // cells held; beside them the cells of the markers. All else of the items is let go.
 fn tracks_in_order<A: Allocator + Clone>(
     alloc: &A,
-    items: Items<A>,
+    items: ItemStates<A>,
     ops: &[&Op<A>],
 ) -> Result<(Vec<TrackView<A>, A>, Vec<(Stamp, MarkerCells<A>), A>), AllocError>
-    requires noted { AreNoted items }
+    requires applied { AreApplied items }
     requires differ { DifferBy stamp_of (map (λ o. o.now) ops.now) }
     ensures tracks { IfOk result (λ both. both.0.items ≡ filter_map (track_read items) (map (λ o. o.now) ops.now)) }
     ensures markers { IfOk result (λ both. keys_of both.1.items ≡ items_of Marker items) }
@@ -89,10 +89,10 @@ fn tracks_in_order<A: Allocator + Clone>(
 pub(crate) fn taken_tracks<A: Allocator + Clone>(
     alloc: &A,
     ready: &[&Op<A>],
-    items: Items<A>,
+    items: ItemStates<A>,
 ) -> Result<(Vec<TrackView<A>, A>, Vec<(Stamp, MarkerCells<A>), A>), AllocError>
-    requires noted { AreNoted items }
-    requires same { (f : Operation → ℕ) → sum_by f items ≡ sum_by f (map (λ o. o.now) ready.now) }
+    requires applied { AreApplied items }
+    requires same { (f : Op → ℕ) → sum_by f items ≡ sum_by f (map (λ o. o.now) ready.now) }
     requires rising { RisesStrictly op_cmp (map (λ o. o.now) ready.now) }
     requires tree { IsTree (places_in (map (λ o. o.now) ready.now)) }
     ensures tracks { IfOk result (λ both. both.0.items ≡ tracks_in items) }

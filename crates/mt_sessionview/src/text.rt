@@ -5,8 +5,8 @@ ghost use Rattle.std.specs.Fmt.{decimal};
 ghost use Rattle.std.specs.List.{flat_map};
 ghost use Rattle.mt_stamp.specs.Texts.{replica_text, stamp_text};
 ghost use Rattle.mt_op.specs.Digest.{digest_text};
-ghost use Rattle.mt_latch.specs.Buffered.{Puts};
-ghost use Rattle.mt_sessionview.specs.Content.{Clip};
+ghost use Rattle.base_io.specs.Buffered.{Puts};
+ghost use Rattle.mt_sessionview.specs.SessionValue.{Clip};
 ghost use Rattle.mt_sessionview.specs.SessionText.{newline, sound_text, fade_text, len_text, clip_line, track_line, track_lines, marker_line, held_line, session_text};
 
 use crate::session::{ClipView, MarkerView, Session, TrackView};
@@ -69,7 +69,7 @@ fn put_sound<W: Write>(output: &mut BufferedLatch<'_, W>, gain: Gain, mute: bool
 }
 
 // Puts ` fade IN OUT`, in frames, where one of them is not 0.
-#[tactic(auto, using(mt_latch::proofs::Putting::then_puts, mt_latch::proofs::Putting::puts_none))]
+#[tactic(auto, using(base_io::proofs::Putting::then_puts, base_io::proofs::Putting::puts_none))]
 fn put_fades<W: Write>(output: &mut BufferedLatch<'_, W>, fade_in: u32, fade_out: u32)
     ensures { Puts W.contents output.old output.new (fade_text fade_in fade_out) }
 {
@@ -83,7 +83,7 @@ fn put_fades<W: Write>(output: &mut BufferedLatch<'_, W>, fade_in: u32, fade_out
 }
 
 // Puts ` len N`, in frames, where it is not 0.
-#[tactic(auto, using(mt_latch::proofs::Putting::then_puts, mt_latch::proofs::Putting::puts_none))]
+#[tactic(auto, using(base_io::proofs::Putting::then_puts, base_io::proofs::Putting::puts_none))]
 fn put_len<W: Write>(output: &mut BufferedLatch<'_, W>, len: u32)
     ensures { Puts W.contents output.old output.new (len_text len) }
 {
@@ -95,7 +95,7 @@ fn put_len<W: Write>(output: &mut BufferedLatch<'_, W>, len: u32)
 }
 
 // Puts a digest in hex digits and a line feed.
-#[tactic(auto, using(mt_latch::proofs::Putting::then_puts))]
+#[tactic(auto, using(base_io::proofs::Putting::then_puts))]
 fn put_digest<W: Write>(output: &mut BufferedLatch<'_, W>, digest: Digest)
     ensures { Puts W.contents output.old output.new (digest_text digest ++ newline ∷ []) }
 {
@@ -122,7 +122,7 @@ fn put_clip_line<W: Write>(output: &mut BufferedLatch<'_, W>, view: &ClipView)
 }
 
 // Puts ` title TITLE` and a line feed, the title as it is.
-#[tactic(auto, using(mt_latch::proofs::Putting::then_puts))]
+#[tactic(auto, using(base_io::proofs::Putting::then_puts))]
 fn put_title<W: Write>(output: &mut BufferedLatch<'_, W>, title: &str)
     ensures { Puts W.contents output.old output.new (codes " title " ++ (title.now ++ newline ∷ [])) }
 {
@@ -147,7 +147,7 @@ fn put_track_line<W: Write>(
 }
 
 // Puts the lines of clips, in order.
-#[tactic(auto, using(mt_latch::proofs::Putting::puts_none))]
+#[tactic(auto, using(base_io::proofs::Putting::puts_none))]
 fn put_clip_lines<W: Write>(output: &mut BufferedLatch<'_, W>, clips: &[ClipView])
     ensures { Puts W.contents output.old output.new (flat_map clip_line clips.now) }
 {
@@ -198,7 +198,7 @@ fn put_held_line<W: Write>(output: &mut BufferedLatch<'_, W>, held: u64)
 }
 
 // Puts the lines of tracks and their clips, in order.
-#[tactic(auto, using(mt_latch::proofs::Putting::puts_none))]
+#[tactic(auto, using(base_io::proofs::Putting::puts_none))]
 fn put_tracks<A: Allocator, W: Write>(output: &mut BufferedLatch<'_, W>, tracks: &[TrackView<A>])
     ensures { Puts W.contents output.old output.new (flat_map track_lines tracks.now) }
 {
@@ -207,14 +207,14 @@ fn put_tracks<A: Allocator, W: Write>(output: &mut BufferedLatch<'_, W>, tracks:
     }
 }
 
-// At how many titles `look_ahead` looks.
-const AHEAD: usize = 16;
+// At how many titles `prefetch` looks.
+const PREFETCH_DISTANCE: usize = 16;
 
 // Looks at the titles of the next markers, and tells for how many of these that will do: not for those whose title begins with NUL. Titles lie far apart in the memory
 // of a great session, so that each look at one waits for it; whoever looks at several waits for all of them together.
-fn look_ahead<A: Allocator>(next: &[MarkerView<A>]) -> usize {
+fn prefetch<A: Allocator>(next: &[MarkerView<A>]) -> usize {
     let mut begun: usize = 0;
-    for place in 0..AHEAD.min(next.len()) {
+    for place in 0..PREFETCH_DISTANCE.min(next.len()) {
         let view = &next[place];
         if view.title.text().as_bytes().first() != Some(&0) {
             begun = begun.saturating_add(1);
@@ -224,14 +224,14 @@ fn look_ahead<A: Allocator>(next: &[MarkerView<A>]) -> usize {
 }
 
 // Puts the lines of markers, in order.
-#[tactic(auto, using(mt_latch::proofs::Putting::puts_none))]
+#[tactic(auto, using(base_io::proofs::Putting::puts_none))]
 fn put_markers<A: Allocator, W: Write>(output: &mut BufferedLatch<'_, W>, markers: &[MarkerView<A>])
     ensures { Puts W.contents output.old output.new (flat_map marker_line markers.now) }
 {
     let mut ahead = 0;
     for index in 0..markers.len() {
         if ahead == 0 {
-            ahead = look_ahead(&markers[index..]);
+            ahead = prefetch(&markers[index..]);
         }
         ahead = ahead.saturating_sub(1);
         let view = &markers[index];

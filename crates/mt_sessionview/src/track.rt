@@ -3,23 +3,23 @@
 ghost use Rattle.std.specs.Prelude.{◌≡◌, ◌≢◌, List as ListOf, Some, None, map, IfOk, OnOk, IfSome, IfNone};
 ghost use Rattle.std.specs.BTreeMap.{get};
 ghost use Rattle.std.specs.List.{filter_map};
-ghost use Rattle.mt_stamp.specs.Moment.{Moment, stamp_cmp};
+ghost use Rattle.mt_stamp.specs.StampOrder.{Stamp, stamp_cmp};
 ghost use Rattle.mt_stamp.specs.Sorting.{DifferBy};
 ghost use Rattle.mt_op.specs.ByStamp.{stamp_of};
-ghost use Rattle.mt_op.specs.Operation.{Operation};
+ghost use Rattle.mt_op.specs.OpValue.{Op};
 ghost use Rattle.mt_op.specs.Writes.{title_written, track_place_written, last_write};
-ghost use Rattle.mt_items.specs.Cells.{HoldsTrack};
-ghost use Rattle.mt_items.specs.Fields.{HoldsLast};
-ghost use Rattle.mt_items.specs.Noting.{AreNoted};
-ghost use Rattle.mt_items.specs.Tags.{HoldsTags};
-ghost use Rattle.mt_sessionview.specs.Content.{AreClips};
+ghost use Rattle.session_state.specs.Cells.{HoldsTrack};
+ghost use Rattle.session_state.specs.Fields.{HoldsLast};
+ghost use Rattle.session_state.specs.Applying.{AreApplied};
+ghost use Rattle.session_state.specs.Tags.{HoldsTags};
+ghost use Rattle.mt_sessionview.specs.SessionValue.{AreClips};
 ghost use Rattle.mt_sessionview.specs.Read.{placed_track, stands_at, standing, track_from, HasClips, AreTheClips, track_read};
 
 use crate::clip::sorted_clips;
 use crate::session::{ClipView, TrackView};
-use mt_items::{Items, TrackCells};
 use mt_op::{Body, Op, Title};
 use mt_stamp::{List, Stamp};
+use session_state::{ItemStates, TrackCells};
 use std::alloc::{AllocError, Allocator};
 use std::collections::BTreeMap;
 
@@ -67,7 +67,7 @@ fn track_from<A: Allocator + Clone>(
     clips: Vec<ClipView, A>,
 ) -> Result<TrackView<A>, AllocError>
     requires clips { AreClips clips.items }
-    ensures ok { IfOk result (λ view. (ops : ListOf Operation) → HoldsTrack track ops cells.now → Some view ≡ track_from ops track clips.items (last_write title_written track ops)) }
+    ensures ok { IfOk result (λ view. (ops : ListOf Op) → HoldsTrack track ops cells.now → Some view ≡ track_from ops track clips.items (last_write title_written track ops)) }
 {
     let Ok(title) = cells.title.get().try_clone() else {
         return Err(AllocError);
@@ -77,14 +77,14 @@ fn track_from<A: Allocator + Clone>(
 
 // Whether a track is present and stands at a place, from its cells.
 pub(crate) fn stands_at<A: Allocator>(track: Stamp, cells: &TrackCells<A>, place: Stamp) -> bool
-    ensures { (ops : ListOf Operation) → HoldsLast track_place_written track ops cells.now.place → HoldsTags track ops cells.now.presence → result ≡ stands_at ops track place }
+    ensures { (ops : ListOf Op) → HoldsLast track_place_written track ops cells.now.place → HoldsTags track ops cells.now.presence → result ≡ stands_at ops track place }
 {
     cells.place.stamp() == place && cells.presence.is_present()
 }
 
 // The present track that stands where an operation put it, with its cells.
-fn standing<'a, A: Allocator>(items: &'a Items<A>, op: &Op<A>) -> Option<TrackHere<'a, A>>
-    requires noted { AreNoted items.now }
+fn standing<'a, A: Allocator>(items: &'a ItemStates<A>, op: &Op<A>) -> Option<TrackHere<'a, A>>
+    requires applied { AreApplied items.now }
     ensures none { IfNone result (standing items.now op.now ≡ None) }
     ensures some { IfSome result (λ s. standing items.now op.now ≡ Some s.track × HoldsTrack s.track items.now s.cells.now) }
 {
@@ -99,14 +99,14 @@ fn standing<'a, A: Allocator>(items: &'a Items<A>, op: &Op<A>) -> Option<TrackHe
 // The present track that stands where an operation put it, with its clips, which are taken out of those of all tracks.
 fn track_at<A: Allocator + Clone>(
     alloc: &A,
-    items: &Items<A>,
+    items: &ItemStates<A>,
     clips: &mut BTreeMap<Stamp, List<ClipView, A>, A>,
     op: &Op<A>,
 ) -> Result<Option<TrackView<A>>, AllocError>
-    requires noted { AreNoted items.now }
+    requires applied { AreApplied items.now }
     requires clips { IfSome (standing items.now op.now) (HasClips items.now clips.old) }
     ensures ok { IfOk result (λ view. view ≡ track_read items.now op.now) }
-    ensures others { OnOk result ((track : Moment) → standing items.now op.now ≢ Some track → get stamp_cmp clips.new track ≡ get stamp_cmp clips.old track) }
+    ensures others { OnOk result ((track : Stamp) → standing items.now op.now ≢ Some track → get stamp_cmp clips.new track ≡ get stamp_cmp clips.old track) }
 {
     let Some(here) = standing(items, op) else {
         return Ok(None);
@@ -118,11 +118,11 @@ fn track_at<A: Allocator + Clone>(
 // The present tracks with their clips, in the order of the operations that put them where they stand.
 pub(crate) fn tracks<A: Allocator + Clone>(
     alloc: &A,
-    items: &Items<A>,
+    items: &ItemStates<A>,
     mut clips: BTreeMap<Stamp, List<ClipView, A>, A>,
     ops: &[&Op<A>],
 ) -> Result<Vec<TrackView<A>, A>, AllocError>
-    requires noted { AreNoted items.now }
+    requires applied { AreApplied items.now }
     requires clips { AreTheClips items.now clips }
     requires differ { DifferBy stamp_of (map (λ o. o.now) ops.now) }
     ensures ok { IfOk result (λ tracks. tracks.items ≡ filter_map (track_read items.now) (map (λ o. o.now) ops.now)) }

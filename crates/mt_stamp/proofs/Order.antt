@@ -8,13 +8,13 @@ use Rattle.std.proofs.lemmas.Bool.{eqb-true}
 use Rattle.std.proofs.lemmas.Cmp.{then_total, on_total, nat_cmp_total}
 use Rattle.mt_stamp.specs.declared.name.Replica.{Replica}
 use Rattle.mt_stamp.specs.declared.name.Dot.{Dot}
-use Rattle.mt_stamp.specs.Moment.{Moment, stamp_cmp, stamp_eq, dot_cmp}
+use Rattle.mt_stamp.specs.StampOrder.{Stamp, stamp_cmp, stamp_eq, dot_cmp}
 use Rattle.mt_stamp.specs.Laws.{AreOrdered}
 
 pub stamp_cmp_total : IsTotalOrder stamp_cmp
 stamp_cmp_total =
-    then_total (on_total (λ (m : Moment). m.clock) nat_cmp_total)
-    (then_total (on_total (λ (m : Moment). m.replica.0) nat_cmp_total) (on_total (λ (m : Moment). m.seq) nat_cmp_total))
+    then_total (on_total (λ (m : Stamp). m.clock) nat_cmp_total)
+    (then_total (on_total (λ (m : Stamp). m.replica.0) nat_cmp_total) (on_total (λ (m : Stamp). m.seq) nat_cmp_total))
 
 pub dot_cmp_total : IsTotalOrder dot_cmp
 dot_cmp_total =
@@ -37,7 +37,7 @@ same_replica r s number = λ i. record { 0 = number i }
 pub same_dot : (d e : Dot) → d.replica.0 ≡ e.replica.0 → d.seq ≡ e.seq → d ≡ e
 same_dot d e number seq = λ i. record { replica = record { 0 = number i }; seq = seq i }
 
-pub same_moment : (a b : Moment) → a.clock ≡ b.clock → a.replica.0 ≡ b.replica.0 → a.seq ≡ b.seq → a ≡ b
+pub same_moment : (a b : Stamp) → a.clock ≡ b.clock → a.replica.0 ≡ b.replica.0 → a.seq ≡ b.seq → a ≡ b
 same_moment a b clock number seq = λ i. record { clock = clock i; replica = record { 0 = number i }; seq = seq i }
 
 pub dot_cmp-IsAntisymmetric : IsAntisymmetric dot_cmp
@@ -72,7 +72,7 @@ and_second true b e = e
 and_second false b e = absurd cc
 
 -- stamps that pass the test are one, and each stamp passes it with itself
-pub stamp_eq-true : (a b : Moment) → stamp_eq a b ≡ true → a ≡ b
+pub stamp_eq-true : (a b : Stamp) → stamp_eq a b ≡ true → a ≡ b
 stamp_eq-true a b e =
     let rest = and_second _ _ e in
     same_moment a b
@@ -80,5 +80,5 @@ stamp_eq-true a b e =
     (eqb-true a.replica.0 b.replica.0 (and_first _ _ rest))
     (eqb-true a.seq b.seq (and_second _ _ rest))
 
-pub stamp_eq-itself : (a : Moment) → stamp_eq a a ≡ true
+pub stamp_eq-itself : (a : Stamp) → stamp_eq a a ≡ true
 stamp_eq-itself a = rw (eq-eqb a.clock a.clock refl, eq-eqb a.replica.0 a.replica.0 refl, eq-eqb a.seq a.seq refl) refl

@@ -4,7 +4,7 @@ use Rattle.std.specs.Fmt.{decimal}
 use Rattle.std.specs.Int.{w128, from_be_bytes}
 use Rattle.std.specs.Str.{bytes_eq}
 use Rattle.std.specs.Result.{result_ok}
-use Rattle.mt_stamp.specs.Moment.{Moment, IsMoment, greatest}
+use Rattle.mt_stamp.specs.StampOrder.{Stamp, IsStamp, greatest}
 use Rattle.std.proofs.lemmas.Slice.Eq.{bytes_eq-Decides}
 use Rattle.std.proofs.lemmas.Fmt.{decimal_is_IsNumeral, length-decimal-le}
 use Rattle.std.proofs.lemmas.Str.Parse.{digit_at}
@@ -55,16 +55,16 @@ pub some_from_ok : {A F : Type 0} (r : Result A F) (o : Option A) (P Q : A → T
 some_from_ok (Ok x) o P Q is p next = rw is (next x p)
 some_from_ok (Err e) o P Q is p next = rw is tt
 
-pub moment_from_parts : {F : Type 0} (r : Result Moment F) (o : Option Moment) (clock seq : ℕ) (replica : Replica) (s : Moment) → IsMoment s
+pub moment_from_parts : {F : Type 0} (r : Result Stamp F) (o : Option Stamp) (clock seq : ℕ) (replica : Replica) (s : Stamp) → IsStamp s
     → clock ≡ s.clock → replica ≡ s.replica → seq ≡ s.seq
-    → (IsMoment (record { clock = clock; replica = replica; seq = seq }) → r ≡ Ok (record { clock = clock; replica = replica; seq = seq }))
+    → (IsStamp (record { clock = clock; replica = replica; seq = seq }) → r ≡ Ok (record { clock = clock; replica = replica; seq = seq }))
     → o ≡ result_ok r → o ≡ Some s
 moment_from_parts r o clock seq replica s fits clock_is replica_is seq_is made is =
-    let same : ◌≡◌ {A = Moment} (record { clock = clock; replica = replica; seq = seq }) s = λ i. record { clock = clock_is i; replica = replica_is i; seq = seq_is i } in
-    is ∙ ap result_ok (made (subst IsMoment (sym same) fits)) ∙ ap Some same
+    let same : ◌≡◌ {A = Stamp} (record { clock = clock; replica = replica; seq = seq }) s = λ i. record { clock = clock_is i; replica = replica_is i; seq = seq_is i } in
+    is ∙ ap result_ok (made (subst IsStamp (sym same) fits)) ∙ ap Some same
 
 -- the parts of a text, put together
-pub text_from_parts : (clock seq : ℕ) (replica : Replica) (s : Moment) (text rest last : List ℕ)
+pub text_from_parts : (clock seq : ℕ) (replica : Replica) (s : Stamp) (text rest last : List ℕ)
     → text ≡ decimal clock ++ (46 ∷ rest) → rest ≡ decimal seq ++ (46 ∷ last) → last ≡ replica_text replica
     → s ≡ record { clock = clock; replica = replica; seq = seq } → text ≡ stamp_text s
 text_from_parts clock seq replica s text rest last text_is rest_is last_is is =

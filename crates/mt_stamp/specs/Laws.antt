@@ -2,7 +2,7 @@
 use Rattle.std.specs.Prelude.{◌≡◌}
 use Rattle.std.specs.Cmp.{IsTotalOrder}
 use Rattle.std.specs.FinMap.{IsAntisymmetric}
-use Rattle.mt_stamp.specs.Moment.{Moment, IsMoment, stamp_cmp, dot_cmp}
+use Rattle.mt_stamp.specs.StampOrder.{Stamp, IsStamp, stamp_cmp, dot_cmp}
 use Rattle.mt_stamp.specs.Texts.{stamp_text}
 
 -- Stamps and dots are totally ordered, and only equal ones tie.
@@ -14,4 +14,4 @@ pub record AreOrdered : Type 0 where
 
 -- Each text is the text of one stamp at most.
 abbrev pub TextsAreApart : Type 0
-TextsAreApart = (a b : Moment) → IsMoment a → IsMoment b → stamp_text a ≡ stamp_text b → a ≡ b
+TextsAreApart = (a b : Stamp) → IsStamp a → IsStamp b → stamp_text a ≡ stamp_text b → a ≡ b

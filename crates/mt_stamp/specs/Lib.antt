@@ -1,4 +1,4 @@
-pub mod Moment
+pub mod StampOrder
 pub mod MomentOrder
 pub mod Codes
 pub mod Texts

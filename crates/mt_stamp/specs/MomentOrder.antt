@@ -1,8 +1,8 @@
 -- The order of stamps is total: what an implementation of it has to show.
 use Rattle.std.specs.Cmp.{IsTotalOrder, then_total, on_total, nat_cmp_total}
-use Rattle.mt_stamp.specs.Moment.{Moment, stamp_cmp}
+use Rattle.mt_stamp.specs.StampOrder.{Stamp, stamp_cmp}
 
 pub stamps_total : IsTotalOrder stamp_cmp
 stamps_total =
-    then_total (on_total (λ (m : Moment). m.clock) nat_cmp_total)
-    (then_total (on_total (λ (m : Moment). m.replica.0) nat_cmp_total) (on_total (λ (m : Moment). m.seq) nat_cmp_total))
+    then_total (on_total (λ (m : Stamp). m.clock) nat_cmp_total)
+    (then_total (on_total (λ (m : Stamp). m.replica.0) nat_cmp_total) (on_total (λ (m : Stamp). m.seq) nat_cmp_total))

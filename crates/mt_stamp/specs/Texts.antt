@@ -4,7 +4,7 @@ use Rattle.std.specs.Fmt.{decimal}
 use Rattle.std.specs.Int.{w128, to_be_bytes}
 use Rattle.uuid.specs.Text.{hyphenated_text, lower}
 use Rattle.mt_stamp.specs.declared.name.Replica.{Replica}
-use Rattle.mt_stamp.specs.Moment.{Moment}
+use Rattle.mt_stamp.specs.StampOrder.{Stamp}
 
 -- the sixteen bytes of a replica, the greatest first
 abbrev pub replica_bytes : Replica → List ℕ
@@ -19,5 +19,5 @@ abbrev pub point : ℕ
 point = 46
 
 -- clock.seq.replica, the numbers in decimal
-abbrev pub stamp_text : Moment → List ℕ
+abbrev pub stamp_text : Stamp → List ℕ
 stamp_text m = decimal m.clock ++ (point ∷ (decimal m.seq ++ (point ∷ replica_text m.replica)))

@@ -1,28 +1,28 @@
 -- Orders of places that compute.
 use Rattle.std.specs.Prelude.{◌≡◌, ℕ, List, [], ◌∷◌, Option, Some, None, refl}
 use Rattle.std.specs.declared.cmp.Ordering.TheVariants.{Less, Equal, Greater}
-use Rattle.mt_stamp.specs.Moment.{Moment}
+use Rattle.mt_stamp.specs.StampOrder.{Stamp}
 use Rattle.mt_stamp.specs.Tree.{TreePlace, path, tree_cmp}
 
-abbrev pub stamp : ℕ → ℕ → ℕ → Moment
+abbrev pub stamp : ℕ → ℕ → ℕ → Stamp
 stamp c r n = record { clock = c; replica = record { 0 = r }; seq = n }
 
 -- the first place, at the head
-abbrev pub a : Moment
+abbrev pub a : Stamp
 a = stamp 1 10 1
 
 -- two that were added after it, at one time
-abbrev pub x : Moment
+abbrev pub x : Stamp
 x = stamp 2 10 2
 
-abbrev pub y : Moment
+abbrev pub y : Stamp
 y = stamp 2 11 1
 
 -- one more at the head, later than all of them
-abbrev pub z : Moment
+abbrev pub z : Stamp
 z = stamp 3 11 2
 
-abbrev pub added : Moment → Option Moment → TreePlace
+abbrev pub added : Stamp → Option Stamp → TreePlace
 added p after = record { place = p; after = after }
 
 abbrev pub four : List TreePlace

@@ -3,7 +3,7 @@ use Rattle.std.specs.Prelude.{◌≡◌, ℕ, List, [], ◌∷◌, ◌++◌, Som
 use Rattle.std.specs.Cmp.{IsTotalOrder}
 use Rattle.std.specs.FinMap.{IsAntisymmetric}
 use Rattle.std.specs.declared.cmp.Ordering.TheVariants.{Less}
-use Rattle.mt_stamp.specs.Moment.{Moment, stamp_cmp}
+use Rattle.mt_stamp.specs.StampOrder.{Stamp, stamp_cmp}
 use Rattle.mt_stamp.specs.Tree.{TreePlace, IsTree, path_to, path, tree_cmp}
 
 -- The path to a place is the path to what it was added after, and then its own stamp.
@@ -31,5 +31,5 @@ SiblingsFall = (places : List TreePlace) → IsTree places → (i j : ℕ) (s t 
 
 -- What goes on from the one with the greater stamp stands first too: all that is under a place stands together.
 abbrev pub SubtreesStandTogether : Type 0
-SubtreesStandTogether = (places : List TreePlace) → IsTree places → (i j : ℕ) (s t : TreePlace) (p : Moment) (rest : List Moment) → slice_get places i ≡ Some s → slice_get places j ≡ Some t
+SubtreesStandTogether = (places : List TreePlace) → IsTree places → (i j : ℕ) (s t : TreePlace) (p : Stamp) (rest : List Stamp) → slice_get places i ≡ Some s → slice_get places j ≡ Some t
     → s.after ≡ t.after → stamp_cmp s.place t.place ≡ Less → path places p ≡ path places t.place ++ rest → tree_cmp places p s.place ≡ Less

@@ -2,11 +2,11 @@
 use Rattle.std.specs.Prelude.{if◌then◌else◌}
 use Rattle.std.specs.Ordering.{is_lt}
 use Rattle.std.specs.declared.cmp.Ordering.{Ordering}
-use Rattle.mt_stamp.specs.Moment.{Moment, stamp_cmp}
+use Rattle.mt_stamp.specs.StampOrder.{Stamp, stamp_cmp}
 
 -- a value with the stamp of its writer
 pub record Written (X : Type 0) : Type 0 where
-  pub writer : Moment
+  pub writer : Stamp
   pub value : X
 
 -- by writer

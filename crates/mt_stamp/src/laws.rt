@@ -1,7 +1,7 @@
 //! What holds of every stamp: each law is the contract of a function that does nothing.
 
 ghost use Rattle.std.specs.Prelude.{◌≡◌};
-ghost use Rattle.mt_stamp.specs.Moment.{stamp_cmp, dot_cmp};
+ghost use Rattle.mt_stamp.specs.StampOrder.{stamp_cmp, dot_cmp};
 ghost use Rattle.mt_stamp.specs.Laws.{AreOrdered, TextsAreApart};
 ghost use Rattle.mt_stamp.specs.TreeLaws.{PathsLeadThere, TreesAreOrdered, ParentsStandFirst, SiblingsFall, SubtreesStandTogether};
 

@@ -7,7 +7,7 @@ ghost use Rattle.std.specs.Cmp.Rules.{comparing, hashing};
 ghost use Rattle.std.specs.Ordering.{as_partial_cmp};
 ghost use Rattle.std.specs.Hash as fed;
 ghost use Rattle.mt_stamp.specs.MomentOrder.{stamps_total};
-ghost use Rattle.mt_stamp.specs.Moment.{Moment, IsMoment, greatest, dot_of};
+ghost use Rattle.mt_stamp.specs.StampOrder.{Stamp, IsStamp, greatest, dot_of};
 
 use crate::fault::StampFault;
 use crate::name::{Dot, Replica};
@@ -26,19 +26,19 @@ pub struct Stamp {
 }
 
 impl Model for Stamp {
-    ghost use Rattle.mt_stamp.specs.Moment.{Moment, IsMoment};
+    ghost use Rattle.mt_stamp.specs.StampOrder.{Stamp, IsStamp};
 
-    ghost Value = { Moment };
+    ghost Value = { Stamp };
 
     ghost view = { λ s. record { clock = s.clock; replica = s.replica; seq = s.seq } };
 
-    ghost invariant = { λ s. IsMoment (record { clock = s.clock; replica = s.replica; seq = s.seq }) };
+    ghost invariant = { λ s. IsStamp (record { clock = s.clock; replica = s.replica; seq = s.seq }) };
 
     ghost inverse = { λ m. record { clock = m.clock; replica = m.replica; seq = m.seq } };
 }
 
 impl PartialEq for Stamp {
-    ghost use Rattle.mt_stamp.specs.Moment.{stamp_eq};
+    ghost use Rattle.mt_stamp.specs.StampOrder.{stamp_eq};
 
     ghost eq = { stamp_eq };
 
@@ -56,7 +56,7 @@ impl Eq for Stamp {
 }
 
 impl PartialOrd for Stamp {
-    ghost use Rattle.mt_stamp.specs.Moment.{stamp_cmp};
+    ghost use Rattle.mt_stamp.specs.StampOrder.{stamp_cmp};
 
     ghost partial_cmp = { as_partial_cmp stamp_cmp };
 
@@ -69,7 +69,7 @@ impl PartialOrd for Stamp {
 }
 
 impl Ord for Stamp {
-    ghost use Rattle.mt_stamp.specs.Moment.{stamp_cmp};
+    ghost use Rattle.mt_stamp.specs.StampOrder.{stamp_cmp};
 
     ghost cmp = { stamp_cmp };
 
@@ -110,8 +110,8 @@ impl Stamp {
     /// A stamp of its parts. Refused, in this order: `ZeroClock` (1) where the clock is 0, `ZeroSeq` (2)
     /// where the number is 0, `TooGreat` (3) where either is above 2^62.
     pub fn new(clock: u64, replica: Replica, seq: u64) -> Result<Self, StampFault>
-        ensures ok { IfOk result (λ s. (s ≡ record { clock = clock; replica = replica; seq = seq }) × IsMoment s) }
-        ensures made { IsMoment (record { clock = clock; replica = replica; seq = seq }) → result ≡ Ok (record { clock = clock; replica = replica; seq = seq }) }
+        ensures ok { IfOk result (λ s. (s ≡ record { clock = clock; replica = replica; seq = seq }) × IsStamp s) }
+        ensures made { IsStamp (record { clock = clock; replica = replica; seq = seq }) → result ≡ Ok (record { clock = clock; replica = replica; seq = seq }) }
         ensures zero_clock { IsErrOf result StampFault.ZeroClock ↔ (clock ≡ 0) }
         ensures zero_seq { IsErrOf result StampFault.ZeroSeq ↔ ((clock ≢ 0) × (seq ≡ 0)) }
         ensures too_great { IsErrOf result StampFault.TooGreat ↔ ((clock ≢ 0) × (seq ≢ 0) × ((greatest < clock) ⊎ (greatest < seq))) }
@@ -135,7 +135,7 @@ impl Stamp {
     /// The Lamport clock, from 1 to 2^62.
     pub fn clock(&self) -> u64
         ensures value { result ≡ self.now.clock }
-        ensures valid { IsMoment self.now }
+        ensures valid { IsStamp self.now }
     {
         self.clock
     }
@@ -150,7 +150,7 @@ impl Stamp {
     /// The operation's number among those of its replica, from 1 to 2^62.
     pub fn seq(&self) -> u64
         ensures value { result ≡ self.now.seq }
-        ensures valid { IsMoment self.now }
+        ensures valid { IsStamp self.now }
     {
         self.seq
     }

@@ -3,7 +3,7 @@
 ghost use Rattle.std.specs.Prelude.{◌≡◌, ◌<◌, ◌^◌, ◌∷◌, ◌++◌, List, ℕ, IfOk, IfErr, IfSome, MatchOption, OnOk, OnErr, Ok, Err};
 ghost use Rattle.std.specs.Fmt.{decimal};
 ghost use Rattle.std.specs.String.{string_bytes};
-ghost use Rattle.mt_stamp.specs.Moment.{Moment, IsMoment};
+ghost use Rattle.mt_stamp.specs.StampOrder.{Stamp, IsStamp};
 ghost use Rattle.mt_stamp.specs.Texts.{point, replica_text, stamp_text};
 
 use crate::fault::StampFault;
@@ -47,8 +47,8 @@ impl Stamp {
     /// Reads the text of a stamp. Every other spelling is refused as `BadText` (4): leading zeros,
     /// capitals, other forms of a UUID, and numbers that no stamp has.
     pub fn read(text: &str) -> Result<Self, StampFault>
-        ensures found { IfOk result (λ s. IsMoment s × (text.now ≡ stamp_text s)) }
-        ensures only { (s : Moment) → IsMoment s → text.now ≡ stamp_text s → result ≡ Ok s }
+        ensures found { IfOk result (λ s. IsStamp s × (text.now ≡ stamp_text s)) }
+        ensures only { (s : Stamp) → IsStamp s → text.now ≡ stamp_text s → result ≡ Ok s }
         ensures err { IfErr result (λ fault. fault ≡ StampFault.BadText) }
     {
         match stamp_of(text) {
@@ -60,8 +60,8 @@ impl Stamp {
 
 // The stamp that a text is the text of.
 fn stamp_of(text: &str) -> Option<Stamp>
-    ensures found { IfSome result (λ s. IsMoment s × (text.now ≡ stamp_text s)) }
-    ensures only { (s : Moment) → IsMoment s → text.now ≡ stamp_text s → result ≡ Some s }
+    ensures found { IfSome result (λ s. IsStamp s × (text.now ≡ stamp_text s)) }
+    ensures only { (s : Stamp) → IsStamp s → text.now ≡ stamp_text s → result ≡ Some s }
 {
     let (clock, rest) = number_and_rest(text)?;
     let (seq, rest) = number_and_rest(rest)?;

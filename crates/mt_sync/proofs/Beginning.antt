@@ -2,16 +2,16 @@
 use Rattle.std.proofs.Common.{◌≡◌, ℕ, true, List, Option, Some, Err, refl, sym, ◌∙◌, subst, inl}
 use Rattle.std.specs.Io.KnownBytes.{Appends}
 use Rattle.mt_opcodec.specs.LogValue.{LogMap}
-use Rattle.mt_latch.specs.Latch.{AppendsPrefix}
+use Rattle.base_io.specs.Latch.{AppendsPrefix}
 use Rattle.mt_sync.specs.declared.fault.TalkFault.{TalkFault}
 use Rattle.mt_sync.specs.declared.fault.TalkFault.TheVariants.{Memory, FrameTooLong}
 use Rattle.mt_sync.specs.declared.fault.SyncFault.{SyncFault}
 use Rattle.mt_sync.specs.declared.fault.SyncFault.TheVariants as fault
 use Rattle.mt_sync.specs.declared.fault.Side.{Side}
 use Rattle.mt_sync.specs.declared.fault.Side.TheVariants.{Caller}
-use Rattle.mt_frames.specs.Frames.{frame_text}
-use Rattle.mt_summary.specs.Summary.{summary_of}
-use Rattle.mt_summary.specs.Messages.{have_text}
+use Rattle.sync_framing.specs.Frames.{frame_text}
+use Rattle.sync_messages.specs.Summary.{summary_of}
+use Rattle.sync_messages.specs.Messages.{have_text}
 use Rattle.mt_sync.specs.Conversation.{can_say}
 use Rattle.mt_sync.specs.Feeding.{CallRefused}
 use Rattle.mt_sync.specs.Conversing.{Begins, NotBegun, conversant, ConversesAs}

@@ -2,12 +2,12 @@
 use Rattle.std.proofs.Common.{◌≡◌, ℕ, Bool, true, false, Result, List, [], ◌∷◌, ◌++◌, Option, refl, sym, ap, ap₂, ◌∙◌, subst, inl, inr, append_assoc}
 use Rattle.std.specs.Prelude.{◌⊎◌}
 use Rattle.mt_opcodec.specs.LogValue.{LogMap}
-use Rattle.mt_frames.specs.Frames.{cut_short, whole, front_of}
-use Rattle.mt_frames.proofs.Fronts.{short-beginning, whole_decided}
+use Rattle.sync_framing.specs.Frames.{cut_short, whole, front_of}
+use Rattle.sync_framing.proofs.Fronts.{short-beginning, whole_decided}
 use Rattle.std.specs.Prelude.{IfErr}
 use Rattle.mt_sync.specs.declared.fault.TalkFault.{TalkFault}
 use Rattle.mt_sync.specs.declared.fault.TalkFault.TheVariants.{Memory, OutOfTurn}
-use Rattle.mt_sync.specs.Conversation.{Turn, ended, stopped, End, Heard, body_in, hears}
+use Rattle.mt_sync.specs.Conversation.{Turn, ended, stopped, End, Received, body_in, receives}
 use Rattle.mt_sync.specs.Feeding.{IsOpen, Waits, over_at, end_at}
 use Rattle.mt_sync.specs.Leaving.{IsOfFront, IsLeft, StaysOrFails}
 use Rattle.mt_sync.proofs.Cuts.{after, told-append}
@@ -17,7 +17,7 @@ use Rattle.mt_sync.proofs.Fronting.{told_short, told_whole, told_again}
 pub record IsToldTo (start : End) (all : List ℕ) (turn : Turn) (unread : List ℕ) (set : Option LogMap) : Type 0 where
   pub front : List ℕ
   pub parts : all ≡ front ++ unread
-  pub told_so : (hears start front).0 ≡ end_at turn [] set
+  pub told_so : (receives start front).0 ≡ end_at turn [] set
 
 pub told_nothing : (turn : Turn) (rest : List ℕ) (set : Option LogMap) (piece all : List ℕ) → all ≡ rest ++ piece → IsToldTo (end_at turn [] set) (rest ++ piece) turn all set
 told_nothing turn rest set piece all is = record { front = []; parts = sym is; told_so = refl }
@@ -32,9 +32,9 @@ told_on start all turn unread set body rest next new opens at is so_far =
       front = so_far.front ++ frame;
       parts = so_far.parts ∙ ap (λ (l : List ℕ). so_far.front ++ l) (d.1.parts ∙ sym (append_assoc _ (d.0 ∷ []) rest)) ∙ sym (append_assoc so_far.front frame rest);
       told_so =
-          ap (λ (t : Heard). t.0) (told-append start so_far.front frame)
-          ∙ ap (λ (e : End). (hears e frame).0) so_far.told_so
-          ∙ ap (λ (t : Heard). t.0) (told_whole turn set frame body [] opens d.1.decides)
+          ap (λ (t : Received). t.0) (told-append start so_far.front frame)
+          ∙ ap (λ (e : End). (receives e frame).0) so_far.told_so
+          ∙ ap (λ (t : Received). t.0) (told_whole turn set frame body [] opens d.1.decides)
           ∙ is;
     }
 
@@ -61,24 +61,24 @@ of_piece : (turn : Turn) (rest : List ℕ) (old : Option LogMap) (piece : List �
 of_piece turn rest old piece now unread set opens waits so_far = elim (beginnings so_far.front unread rest piece (sym so_far.parts)) [
   | inl longer ↦
       let short : front_of so_far.front ≡ cut_short = short-beginning so_far.front longer.0 (ap front_of (sym longer.1) ∙ waits) in
-      nothing_more (end_at turn rest old) piece set (ap (λ (e : End). e.set) (sym so_far.told_so ∙ ap (λ (t : Heard). t.0) (told_short turn [] old so_far.front opens short)))
+      nothing_more (end_at turn rest old) piece set (ap (λ (e : End). e.set) (sym so_far.told_so ∙ ap (λ (t : Received). t.0) (told_short turn [] old so_far.front opens short)))
   | inr shorter ↦ record {
     front = shorter.0;
     more = unread;
     parts = shorter.1.1;
-    held = ap (λ (e : End). e.set) (sym so_far.told_so ∙ ap (λ (l : List ℕ). (hears (end_at turn [] old) l).0) shorter.1.0 ∙ ap (λ (t : Heard). t.0) (told_again turn rest old shorter.0 opens waits));
+    held = ap (λ (e : End). e.set) (sym so_far.told_so ∙ ap (λ (l : List ℕ). (receives (end_at turn [] old) l).0) shorter.1.0 ∙ ap (λ (t : Received). t.0) (told_again turn rest old shorter.0 opens waits));
   }
 ]
 
 -- what a piece leaves is what a front of all bytes leaves
-pub left_after : (start : End) (bytes piece : List ℕ) (end : End) (reply : List ℕ) (set : Option LogMap) → hears start bytes ≡ (end, reply) → IsLeft end piece set → IsLeft start (bytes ++ piece) set
+pub left_after : (start : End) (bytes piece : List ℕ) (end : End) (reply : List ℕ) (set : Option LogMap) → receives start bytes ≡ (end, reply) → IsLeft end piece set → IsLeft start (bytes ++ piece) set
 left_after start bytes piece end reply set is left = elim left [
   | inl fails ↦ inl fails
   | inr held ↦ inr (record {
     front = bytes ++ held.front;
     more = held.more;
     parts = ap (λ (l : List ℕ). bytes ++ l) held.parts ∙ sym (append_assoc bytes held.front held.more);
-    held = held.held ∙ sym (ap (λ (t : Heard). t.0.set) (told-append start bytes held.front ∙ ap (λ (t : Heard). after t held.front) is));
+    held = held.held ∙ sym (ap (λ (t : Received). t.0.set) (told-append start bytes held.front ∙ ap (λ (t : Received). after t held.front) is));
   })
 ]
 

@@ -6,7 +6,7 @@ use Rattle.std.specs.Prelude.{is_some, nat_le, slice_get, Result, Ok, Err}
 use Rattle.std.specs.List.{AllByRecursion}
 use Rattle.std.specs.FinMap as fin
 use Rattle.mt_stamp.specs.declared.name.Dot.{Dot}
-use Rattle.mt_op.specs.Operation.{Operation}
+use Rattle.mt_op.specs.OpValue.{Op}
 use Rattle.mt_opcodec.specs.LogValue.{LogMap, log_of}
 use Rattle.mt_opcodec.specs.Laws.{PairsAgree}
 use Rattle.mt_opcodec.specs.Union.{Agree, union, union_all}
@@ -76,24 +76,24 @@ all_joined logs a b =
 -- ---- an operation in one of them
 
 -- what one of them has all of them have
-pub in_one : (front rest : List LogMap) (log : LogMap) (dot : Dot) (p : Operation) → PairsAgree (front ++ log ∷ rest) → fin.get log dot ≡ Some p → fin.get (union_all (front ++ log ∷ rest)) dot ≡ Some p
+pub in_one : (front rest : List LogMap) (log : LogMap) (dot : Dot) (p : Op) → PairsAgree (front ++ log ∷ rest) → fin.get log dot ≡ Some p → fin.get (union_all (front ++ log ∷ rest)) dot ≡ Some p
 in_one front rest log dot p pairs at =
     let here : fin.get (union_all (log ∷ rest)) dot ≡ Some p = ap (λ (m : LogMap). fin.get m dot) (first_apart log rest) ∙ get-union log (union_all rest) dot ∙ in_first (fin.get log dot) (fin.get (union_all rest) dot) p at in
     ap (λ (m : LogMap). fin.get m dot) (all_apart front (log ∷ rest)) ∙ get-union (union_all front) (union_all (log ∷ rest)) dot ∙ by here (fin.get (union_all front) dot) refl
   where
-    by : fin.get (union_all (log ∷ rest)) dot ≡ Some p → (x : Option Operation) → fin.get (union_all front) dot ≡ x
+    by : fin.get (union_all (log ∷ rest)) dot ≡ Some p → (x : Option Op) → fin.get (union_all front) dot ≡ x
         → cond (is_some (fin.get (union_all front) dot)) (fin.get (union_all front) dot) (fin.get (union_all (log ∷ rest)) dot) ≡ Some p
     by here None e = in_second (fin.get (union_all front) dot) (fin.get (union_all (log ∷ rest)) dot) e ∙ here
     by here (Some q) e =
         in_first (fin.get (union_all front) dot) (fin.get (union_all (log ∷ rest)) dot) q e ∙ ap Some (halves_agree front (log ∷ rest) pairs dot q p e here)
 
 -- what a log and those before it have in common with one operation, all of these have
-pub none_more : (front : List LogMap) (log : LogMap) (dot : Dot) (o : Operation) → ((p : Operation) → fin.get (union_all front) dot ≡ Some p → p ≡ o) → ((p : Operation) → fin.get log dot ≡ Some p → p ≡ o)
-    → (p : Operation) → fin.get (union_all (front ++ log ∷ [])) dot ≡ Some p → p ≡ o
+pub none_more : (front : List LogMap) (log : LogMap) (dot : Dot) (o : Op) → ((p : Op) → fin.get (union_all front) dot ≡ Some p → p ≡ o) → ((p : Op) → fin.get log dot ≡ Some p → p ≡ o)
+    → (p : Op) → fin.get (union_all (front ++ log ∷ [])) dot ≡ Some p → p ≡ o
 none_more front log dot o before here p at =
     by (fin.get (union_all front) dot) refl (sym (ap (λ (m : LogMap). fin.get m dot) (all_with front log) ∙ get-union (union_all front) log dot) ∙ at)
   where
-    by : (x : Option Operation) → fin.get (union_all front) dot ≡ x → cond (is_some (fin.get (union_all front) dot)) (fin.get (union_all front) dot) (fin.get log dot) ≡ Some p → p ≡ o
+    by : (x : Option Op) → fin.get (union_all front) dot ≡ x → cond (is_some (fin.get (union_all front) dot)) (fin.get (union_all front) dot) (fin.get log dot) ≡ Some p → p ≡ o
     by None e h = here p (sym (in_second (fin.get (union_all front) dot) (fin.get log dot) e) ∙ h)
     by (Some q) e h = before p (e ∙ sym (in_first (fin.get (union_all front) dot) (fin.get log dot) q e) ∙ h)
 
@@ -111,21 +111,21 @@ up_to logs i log lt is = take_more logs i log lt ∙ ap (λ (x : LogMap). take i
 
 -- what a message answers where these joined and this clashed
 abbrev pub AnswersTo : Option Dot → Result (Unit {0}) TalkFault → Type 0
-AnswersTo clash (Ok _) = clash ≡ None
-AnswersTo clash (Err (Conflict dot)) = clash ≡ Some dot
-AnswersTo clash (Err _) = ⊥
+AnswersTo conflict_at (Ok _) = conflict_at ≡ None
+AnswersTo conflict_at (Err (Conflict dot)) = conflict_at ≡ Some dot
+AnswersTo conflict_at (Err _) = ⊥
 
 -- logs that are put together with the operations before a clash hold what has joined
-pub taken_together : (logs others new : List LogMap) (log more : LogMap) (list front : List Operation) (clash : Option Dot) → logs ≡ log ∷ others → more ≡ log_of front
-    → joined (union_all (log ∷ others)) list ≡ (union (union_all (log ∷ others)) (log_of front), clash) → held_by new ≡ held_by (logs ++ more ∷ [])
-    → (result : Result (Unit {0}) TalkFault) → AnswersTo clash result → TakesIn (held_by logs) list result (held_by new)
-taken_together logs others new log more list front clash parts is joins held result answers =
+pub taken_together : (logs others new : List LogMap) (log more : LogMap) (list front : List Op) (conflict_at : Option Dot) → logs ≡ log ∷ others → more ≡ log_of front
+    → joined (union_all (log ∷ others)) list ≡ (union (union_all (log ∷ others)) (log_of front), conflict_at) → held_by new ≡ held_by (logs ++ more ∷ [])
+    → (result : Result (Unit {0}) TalkFault) → AnswersTo conflict_at result → TakesIn (held_by logs) list result (held_by new)
+taken_together logs others new log more list front conflict_at parts is joins held result answers =
     let all = union_all (log ∷ others) in
     let now : held_by new ≡ Some (union all (log_of front)) =
     held ∙ held_with logs more ∙ ap Some (all_with logs more ∙ ap (λ (l : List LogMap). union (union_all l) more) parts ∙ ap (union all) is) in
     subst (λ (l : List LogMap). TakesIn (held_by l) list result (held_by new)) (sym parts) (by result answers now)
   where
-    by : (result : Result (Unit {0}) TalkFault) → AnswersTo clash result → held_by new ≡ Some (union (union_all (log ∷ others)) (log_of front)) → TakesIn (Some (union_all (log ∷ others))) list result (held_by new)
+    by : (result : Result (Unit {0}) TalkFault) → AnswersTo conflict_at result → held_by new ≡ Some (union (union_all (log ∷ others)) (log_of front)) → TakesIn (Some (union_all (log ∷ others))) list result (held_by new)
     by (Ok u) answers now = (ap (λ (j : LogMap × Option Dot). j.1) joins ∙ answers, now ∙ sym (ap (λ (j : LogMap × Option Dot). Some j.0) joins))
     by (Err (Conflict dot)) answers now = (ap (λ (j : LogMap × Option Dot). j.1) joins ∙ answers, now ∙ sym (ap (λ (j : LogMap × Option Dot). Some j.0) joins))
     by (Err _) answers now = absurd answers

@@ -4,11 +4,11 @@ use Rattle.std.specs.Io.KnownBytes.{Appends, Consumes, Keeps}
 use Rattle.std.proofs.KnownBytes.{Appends-nil, Appends-trans, Consumes-nil, Consumes-trans, Consumes-kept}
 use Rattle.std.proofs.lemmas.List.{take_at, drop_at}
 use Rattle.std.proofs.Math.Seq.{take-add}
-use Rattle.mt_latch.specs.Latch.{AppendsPrefix}
+use Rattle.base_io.specs.Latch.{AppendsPrefix}
 use Rattle.mt_sync.specs.declared.fault.TalkFault.{TalkFault}
 use Rattle.mt_sync.specs.declared.fault.TalkFault.TheVariants.{Memory}
 use Rattle.mt_sync.specs.declared.fault.SyncFault.TheVariants as fault
-use Rattle.mt_sync.specs.Conversation.{Turn, ended, stopped, End, Heard, hears}
+use Rattle.mt_sync.specs.Conversation.{Turn, ended, stopped, End, Received, receives}
 use Rattle.mt_sync.specs.Feeding.{IsGoing, IsOpen, FeedStops, Fed, FeedsAt, Feeds}
 use Rattle.mt_sync.specs.Conversing.{StopsBy, Outcome, conversant, Converses}
 use Rattle.mt_sync.specs.declared.fault.SyncFault.{SyncFault}
@@ -27,28 +27,28 @@ pub record Goes (start : End) (read read' written written' : Option (List ℕ)) 
   pub bytes : List ℕ
   pub reply : List ℕ
   pub consumed : Consumes read read' bytes
-  pub told_so : hears start bytes ≡ (end, reply)
+  pub told_so : receives start bytes ≡ (end, reply)
   pub appended : Appends written written' reply
 
 pub starts : (start : End) (a b : Option (List ℕ)) → Goes start a a b b start
 starts start a b = record { bytes = []; reply = []; consumed = Consumes-nil a; told_so = refl; appended = Appends-nil b }
 
-fed_at : {X : Type 0} (view : X → List ℕ) (turn : Turn) (old : End) (piece : List ℕ) (r : Result X TalkFault) (new : End) → IsGoing turn → FeedsAt view turn old piece r new → Fed view (hears old piece) r new
+fed_at : {X : Type 0} (view : X → List ℕ) (turn : Turn) (old : End) (piece : List ℕ) (r : Result X TalkFault) (new : End) → IsGoing turn → FeedsAt view turn old piece r new → Fed view (receives old piece) r new
 fed_at view (stopped fault) old piece r new going h = absurd going
 fed_at view turn old piece r new going h = h
 
-pub fed_going : {X : Type 0} (view : X → List ℕ) (old : End) (piece : List ℕ) (r : Result X TalkFault) (new : End) → IsGoing old.turn → Feeds view old piece r new → Fed view (hears old piece) r new
+pub fed_going : {X : Type 0} (view : X → List ℕ) (old : End) (piece : List ℕ) (r : Result X TalkFault) (new : End) → IsGoing old.turn → Feeds view old piece r new → Fed view (receives old piece) r new
 fed_going view old piece r new going h = fed_at view old.turn old piece r new going h
 
-told_more : (start : End) (bytes piece : List ℕ) (end : End) (reply : List ℕ) → hears start bytes ≡ (end, reply) → hears start (bytes ++ piece) ≡ ((hears end piece).0, reply ++ (hears end piece).1)
-told_more start bytes piece end reply is = told-append start bytes piece ∙ ap (λ (t : Heard). after t piece) is
+told_more : (start : End) (bytes piece : List ℕ) (end : End) (reply : List ℕ) → receives start bytes ≡ (end, reply) → receives start (bytes ++ piece) ≡ ((receives end piece).0, reply ++ (receives end piece).1)
+told_more start bytes piece end reply is = told-append start bytes piece ∙ ap (λ (t : Received). after t piece) is
 
-pub goes_on : (start : End) (a b c d e f : Option (List ℕ)) (end new : End) (piece more : List ℕ) → Goes start a b d e end → Consumes b c piece → hears end piece ≡ (new, more) → Appends e f more → Goes start a c d f new
+pub goes_on : (start : End) (a b c d e f : Option (List ℕ)) (end new : End) (piece more : List ℕ) → Goes start a b d e end → Consumes b c piece → receives end piece ≡ (new, more) → Appends e f more → Goes start a c d f new
 goes_on start a b c d e f end new piece more g took fed put = record {
   bytes = g.bytes ++ piece;
   reply = g.reply ++ more;
   consumed = Consumes-trans a b c g.bytes piece g.consumed took;
-  told_so = told_more start g.bytes piece end g.reply g.told_so ∙ ap (λ (t : Heard). (t.0, g.reply ++ t.1)) fed;
+  told_so = told_more start g.bytes piece end g.reply g.told_so ∙ ap (λ (t : Received). (t.0, g.reply ++ t.1)) fed;
   appended = Appends-trans d e f g.reply more g.appended put;
 }
 
@@ -79,8 +79,8 @@ pub is_done : (start : End) (a b c d : Option (List ℕ)) (end : End) → Goes s
 is_done start a b c d end g is = record {
   bytes = g.bytes;
   consumed = g.consumed;
-  prefix = subst (AppendsPrefix c d) (sym (ap (λ (t : Heard). t.1) g.told_so)) (whole_prefix c d g.reply g.appended);
-  outcome = subst (λ (t : Heard). Outcome t c d end.set (Ok tt)) (sym g.told_so) (is, refl, g.appended);
+  prefix = subst (AppendsPrefix c d) (sym (ap (λ (t : Received). t.1) g.told_so)) (whole_prefix c d g.reply g.appended);
+  outcome = subst (λ (t : Received). Outcome t c d end.set (Ok tt)) (sym g.told_so) (is, refl, g.appended);
   left = λ e. absurd (no_refusal e);
 }
 
@@ -89,8 +89,8 @@ pub is_unread : (start : End) (a b b' c d : Option (List ℕ)) (end : End) → G
 is_unread start a b b' c d end g kept reads = record {
   bytes = g.bytes;
   consumed = Consumes-kept a b b' g.bytes g.consumed kept;
-  prefix = subst (AppendsPrefix c d) (sym (ap (λ (t : Heard). t.1) g.told_so)) (whole_prefix c d g.reply g.appended);
-  outcome = subst (λ (t : Heard). Outcome t c d end.set (Err fault.Read)) (sym g.told_so) (reads, refl);
+  prefix = subst (AppendsPrefix c d) (sym (ap (λ (t : Received). t.1) g.told_so)) (whole_prefix c d g.reply g.appended);
+  outcome = subst (λ (t : Received). Outcome t c d end.set (Err fault.Read)) (sym g.told_so) (reads, refl);
   left = λ e. absurd (no_read e);
 }
 
@@ -99,8 +99,8 @@ pub is_unfinished : (start : End) (a b b' c d : Option (List ℕ)) (end : End) �
 is_unfinished start a b b' c d end g none reads = record {
   bytes = g.bytes;
   consumed = subst (Consumes a b') (append-nil g.bytes) (Consumes-trans a b b' g.bytes [] g.consumed none);
-  prefix = subst (AppendsPrefix c d) (sym (ap (λ (t : Heard). t.1) g.told_so)) (whole_prefix c d g.reply g.appended);
-  outcome = subst (λ (t : Heard). Outcome t c d end.set (Err fault.Ended)) (sym g.told_so) (reads, refl);
+  prefix = subst (AppendsPrefix c d) (sym (ap (λ (t : Received). t.1) g.told_so)) (whole_prefix c d g.reply g.appended);
+  outcome = subst (λ (t : Received). Outcome t c d end.set (Err fault.Ended)) (sym g.told_so) (reads, refl);
   left = λ e. absurd (no_end e);
 }
 
@@ -113,30 +113,30 @@ longer_prefix a b c xs ys h k =
     taken xs ys n = ap₂ (λ (u v : List ℕ). u ++ take n v) (sym (take_at xs ys (length xs) refl)) (sym (drop_at xs ys (length xs) refl)) ∙ sym (take-add (length xs) n (xs ++ ys))
 
 -- the writer failed at the reply to a piece
-pub is_unwritten : (start : End) (a b b' c d d' : Option (List ℕ)) (end new : End) (piece more : List ℕ) → Goes start a b c d end → Consumes b b' piece → hears end piece ≡ (new, more) → AppendsPrefix d d' more → IsGoing new.turn → Converses start (conversant start.set a c) (conversant new.set b' d') (Err fault.Write)
+pub is_unwritten : (start : End) (a b b' c d d' : Option (List ℕ)) (end new : End) (piece more : List ℕ) → Goes start a b c d end → Consumes b b' piece → receives end piece ≡ (new, more) → AppendsPrefix d d' more → IsGoing new.turn → Converses start (conversant start.set a c) (conversant new.set b' d') (Err fault.Write)
 is_unwritten start a b b' c d d' end new piece more g took fed put going =
-    let all = told_more start g.bytes piece end g.reply g.told_so ∙ ap (λ (t : Heard). (t.0, g.reply ++ t.1)) fed in
+    let all = told_more start g.bytes piece end g.reply g.told_so ∙ ap (λ (t : Received). (t.0, g.reply ++ t.1)) fed in
     record {
       bytes = g.bytes ++ piece;
       consumed = Consumes-trans a b b' g.bytes piece g.consumed took;
-      prefix = subst (AppendsPrefix c d') (sym (ap (λ (t : Heard). t.1) all)) (longer_prefix c d d' g.reply more g.appended put);
-      outcome = subst (λ (t : Heard). Outcome t c d' new.set (Err fault.Write)) (sym all) (going, refl);
+      prefix = subst (AppendsPrefix c d') (sym (ap (λ (t : Received). t.1) all)) (longer_prefix c d d' g.reply more g.appended put);
+      outcome = subst (λ (t : Received). Outcome t c d' new.set (Err fault.Write)) (sym all) (going, refl);
       left = λ e. absurd (no_write e);
     }
 
-stops_by : (f : TalkFault) (t : Heard) (new : End) → FeedStops t new f → StopsBy t.0 new.set f
+stops_by : (f : TalkFault) (t : Received) (new : End) → FeedStops t new f → StopsBy t.0 new.set f
 stops_by Memory t new h = tt
 stops_by f t new h = (ap (λ (e : End). e.turn) h.0 ∙ h.1, ap (λ (e : End). e.set) h.0)
 
 -- the talk stopped at a piece
-pub is_stopped : (start : End) (a b b' c d : Option (List ℕ)) (end new : End) (piece : List ℕ) (f : TalkFault) → Goes start a b c d end → Consumes b b' piece → FeedStops (hears end piece) new f → (f ≡ Memory → IsLeft end piece new.set) → Converses start (conversant start.set a c) (conversant new.set b' d) (Err (fault.Talk f))
+pub is_stopped : (start : End) (a b b' c d : Option (List ℕ)) (end new : End) (piece : List ℕ) (f : TalkFault) → Goes start a b c d end → Consumes b b' piece → FeedStops (receives end piece) new f → (f ≡ Memory → IsLeft end piece new.set) → Converses start (conversant start.set a c) (conversant new.set b' d) (Err (fault.Talk f))
 is_stopped start a b b' c d end new piece f g took fed left =
     let all = told_more start g.bytes piece end g.reply g.told_so in
     record {
       bytes = g.bytes ++ piece;
       consumed = Consumes-trans a b b' g.bytes piece g.consumed took;
-      prefix = subst (AppendsPrefix c d) (sym (ap (λ (t : Heard). t.1) all)) (longer_prefix c d d g.reply (hears end piece).1 g.appended (0, Appends-nil d));
-      outcome = subst (λ (t : Heard). StopsBy t.0 new.set f) (sym all) (stops_by f (hears end piece) new fed);
+      prefix = subst (AppendsPrefix c d) (sym (ap (λ (t : Received). t.1) all)) (longer_prefix c d d g.reply (receives end piece).1 g.appended (0, Appends-nil d));
+      outcome = subst (λ (t : Received). StopsBy t.0 new.set f) (sym all) (stops_by f (receives end piece) new fed);
       left = λ e. left_after start g.bytes piece end g.reply new.set g.told_so (left (of_talk f e));
     }
 

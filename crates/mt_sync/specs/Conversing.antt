@@ -2,22 +2,22 @@
 use Rattle.std.specs.Prelude.{◌≡◌, ℕ, List, [], Option, Some, None, Result, true, false, ◌⊎◌, Ok, Err}
 use Rattle.std.specs.Io.KnownBytes.{Appends, Consumes, IsAtEnd}
 use Rattle.mt_opcodec.specs.LogValue.{LogMap}
-use Rattle.mt_latch.specs.Latch.{AppendsPrefix, Latched}
+use Rattle.base_io.specs.Latch.{AppendsPrefix, Latch}
 use Rattle.mt_sync.specs.declared.fault.TalkFault.{TalkFault}
 use Rattle.mt_sync.specs.declared.fault.TalkFault.TheVariants.{Memory, Failed, FrameTooLong}
 use Rattle.mt_sync.specs.declared.fault.SyncFault.{SyncFault}
 use Rattle.mt_sync.specs.declared.fault.SyncFault.TheVariants as fault
-use Rattle.mt_frames.specs.Frames.{frame_text, front_of}
-use Rattle.mt_frames.specs.Unread.{sole, is_too_long}
-use Rattle.mt_summary.specs.Summary.{Summary, summary_of}
-use Rattle.mt_summary.specs.Messages.{Message, have, ops, bye, have_text, message_at}
-use Rattle.mt_summary.specs.declared.fault.MessageFault.{MessageFault}
-use Rattle.mt_summary.specs.declared.fault.MessageFault.TheVariants as message
+use Rattle.sync_framing.specs.Frames.{frame_text, front_of}
+use Rattle.sync_framing.specs.Unread.{sole, is_too_long}
+use Rattle.sync_messages.specs.Summary.{Summary, summary_of}
+use Rattle.sync_messages.specs.Messages.{Message, have, ops, bye, have_text, message_at}
+use Rattle.sync_messages.specs.declared.fault.MessageFault.{MessageFault}
+use Rattle.sync_messages.specs.declared.fault.MessageFault.TheVariants as message
 use Rattle.mt_sync.specs.declared.fault.Side.{Side}
 use Rattle.mt_sync.specs.declared.fault.Side.TheVariants.{Caller, Answerer}
 use Rattle.mt_sync.specs.Feeding.{Talking, IsOpen, IsGoing, end_at}
 use Rattle.mt_sync.specs.Leaving.{IsLeft}
-use Rattle.mt_sync.specs.Conversation.{can_say, answer, awaits_have, ended, stopped, End, Heard, hears}
+use Rattle.mt_sync.specs.Conversation.{can_say, answer, awaits_have, ended, stopped, End, Received, receives}
 
 -- an end stopped by this fault, or memory ran out
 abbrev pub StopsBy : End → Option LogMap → TalkFault → Type 0
@@ -25,7 +25,7 @@ StopsBy end set Memory = Unit {0}
 StopsBy end set fault = (end.turn ≡ stopped fault) × (end.set ≡ set)
 
 -- what an answer says of what was heard
-abbrev pub Outcome : Heard → Option (List ℕ) → Option (List ℕ) → Option LogMap → Result (Unit {0}) SyncFault → Type 0
+abbrev pub Outcome : Received → Option (List ℕ) → Option (List ℕ) → Option LogMap → Result (Unit {0}) SyncFault → Type 0
 Outcome t written written' set (Ok _) = (t.0.turn ≡ ended) × (t.0.set ≡ set) × Appends written written' t.1
 Outcome t written written' set (Err (fault.Talk by)) = StopsBy t.0 set by
 Outcome t written written' set (Err fault.Ended) = IsOpen t.0.turn × (t.0.set ≡ set)
@@ -45,19 +45,19 @@ conversant set read written = record { set = set; read = read; written = written
 pub record Converses (start : End) (before after : Conversant) (result : Result (Unit {0}) SyncFault) : Type 0 where
   pub bytes : List ℕ
   pub consumed : Consumes before.read after.read bytes
-  pub prefix : AppendsPrefix before.written after.written (hears start bytes).1
-  pub outcome : Outcome (hears start bytes) before.written after.written after.set result
+  pub prefix : AppendsPrefix before.written after.written (receives start bytes).1
+  pub outcome : Outcome (receives start bytes) before.written after.written after.set result
   pub left : result ≡ Err (fault.Talk Memory) → IsLeft start bytes after.set
 
 -- What a refusal says of the reader and the writer: which of them has failed, or that the input has ended. A stop is the talk's own.
-abbrev pub Blames : {R W : Type 0} → (R → Option (List ℕ)) → Latched R → Latched W → SyncFault → Type 0
+abbrev pub Blames : {R W : Type 0} → (R → Option (List ℕ)) → Latch R → Latch W → SyncFault → Type 0
 Blames remaining reader writer fault.Read = reader.failed ≡ true
 Blames remaining reader writer fault.Write = writer.failed ≡ true
 Blames remaining reader writer fault.Ended = (reader.failed ≡ false) × IsAtEnd (remaining reader.inner)
 Blames remaining reader writer (fault.Talk by) = Unit {0}
 
 -- neither has failed
-abbrev pub AreSound : {R W : Type 0} → Latched R → Latched W → Type 0
+abbrev pub AreSound : {R W : Type 0} → Latch R → Latch W → Type 0
 AreSound reader writer = (reader.failed ≡ false) × (writer.failed ≡ false)
 
 -- ---- a whole conversation
@@ -90,7 +90,7 @@ ConversesAs Caller before after result =
 -- ---- operations out of bytes
 
 -- what taking operations out of bytes answers and leaves
-abbrev pub TakesAll : Heard → Result (Unit {0}) SyncFault → Option LogMap → Type 0
+abbrev pub TakesAll : Received → Result (Unit {0}) SyncFault → Option LogMap → Type 0
 TakesAll t (Ok _) new = (t.0.turn ≡ ended) × (t.0.set ≡ new)
 TakesAll t (Err (fault.Talk by)) new = StopsBy t.0 new by
 TakesAll t (Err fault.Ended) new = IsOpen t.0.turn × (t.0.set ≡ new)

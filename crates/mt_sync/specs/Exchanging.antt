@@ -1,9 +1,9 @@
 -- What an exchange between two editors answers and leaves.
 use Rattle.std.specs.Prelude.{◌≡◌, true, false, List, Option, Some, None, Result, Ok, Err, ◌⊎◌}
-use Rattle.mt_op.specs.Operation.{Operation}
+use Rattle.mt_op.specs.OpValue.{Op}
 use Rattle.mt_opcodec.specs.LogValue.{LogMap, AreLogged}
 use Rattle.mt_opcodec.specs.Union.{union}
-use Rattle.mt_summary.specs.Summary.{summary_of}
+use Rattle.sync_messages.specs.Summary.{summary_of}
 use Rattle.mt_sync.specs.declared.fault.TalkFault.{TalkFault}
 use Rattle.mt_sync.specs.declared.fault.TalkFault.TheVariants.{Memory, Failed, FrameTooLong}
 use Rattle.mt_sync.specs.Conversation.{can_say, joined}
@@ -29,16 +29,16 @@ Exchanges (Some a) (Some b) result a' b' = ExchangesSets a b result a' b'
 -- ---- what an editor lacks of another one's operations (working predicates)
 
 -- a log's operations that join a set without a clash and make it the union with another set
-abbrev pub IsMissing : LogMap → LogMap → List Operation → Type 0
+abbrev pub IsMissing : LogMap → LogMap → List Op → Type 0
 IsMissing own other list = AreLogged list × (joined own list ≡ (union own other, None))
 
-abbrev pub FindsMissing : {X : Type 0} → (X → List Operation) → LogMap → LogMap → Result X TalkFault → Type 0
+abbrev pub FindsMissing : {X : Type 0} → (X → List Op) → LogMap → LogMap → Result X TalkFault → Type 0
 FindsMissing view own other (Ok x) = (can_say (summary_of own) ≡ true) × IsMissing own other (view x)
 FindsMissing view own other (Err Memory) = Unit {0}
 FindsMissing view own other (Err FrameTooLong) = can_say (summary_of own) ≡ false
 FindsMissing view own other (Err _) = ⊥
 
-abbrev pub FindsLacking : {X : Type 0} → (X → List Operation) → Option LogMap → Option LogMap → Result X TalkFault → Type 0
+abbrev pub FindsLacking : {X : Type 0} → (X → List Op) → Option LogMap → Option LogMap → Result X TalkFault → Type 0
 FindsLacking view None other result = result ≡ Err Failed
 FindsLacking view (Some own) None result = result ≡ Err Failed
 FindsLacking view (Some own) (Some other) result = FindsMissing view own other result

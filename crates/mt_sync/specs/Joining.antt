@@ -2,9 +2,9 @@
 use Rattle.std.specs.Prelude.{◌≡◌, ◌≢◌, List, Bool, true, false, Option, Some, None, Result, Ok, Err}
 use Rattle.std.specs.FinMap as map
 use Rattle.mt_stamp.specs.declared.name.Dot.{Dot}
-use Rattle.mt_op.specs.Operation.{Operation}
+use Rattle.mt_op.specs.OpValue.{Op}
 use Rattle.mt_op.specs.Dots.{op_dot}
-use Rattle.mt_op.specs.Valid.{IsOperation}
+use Rattle.mt_op.specs.Valid.{IsOp}
 use Rattle.mt_opcodec.specs.LogValue.{LogMap}
 use Rattle.mt_sync.specs.declared.fault.TalkFault.{TalkFault}
 use Rattle.mt_sync.specs.declared.fault.TalkFault.TheVariants.{Memory, Conflict, Failed}
@@ -16,11 +16,11 @@ JoinsSet j set (Err Memory) new = new ≡ Some set
 JoinsSet j set (Err (Conflict dot)) new = (j.1 ≡ Some dot) × (new ≡ Some j.0)
 JoinsSet j set (Err _) new = ⊥
 
-abbrev pub JoinsIn : Option LogMap → List Operation → Result (Unit {0}) TalkFault → Option LogMap → Type 0
+abbrev pub JoinsIn : Option LogMap → List Op → Result (Unit {0}) TalkFault → Option LogMap → Type 0
 JoinsIn None list result new = (result ≡ Err Failed) × (new ≡ None)
 JoinsIn (Some set) list result new = JoinsSet (joined set list) set result new
 
 -- whether a set has another operation under this one's dot
-abbrev pub HasAnotherOperation : LogMap → Operation → Bool → Type 0
-HasAnotherOperation set o true = (p : Operation) × ((map.get set (op_dot o) ≡ Some p) × ((p ≢ o) × IsOperation p))
-HasAnotherOperation set o false = (p : Operation) → map.get set (op_dot o) ≡ Some p → p ≡ o
+abbrev pub HasConflict : LogMap → Op → Bool → Type 0
+HasConflict set o true = (p : Op) × ((map.get set (op_dot o) ≡ Some p) × ((p ≢ o) × IsOp p))
+HasConflict set o false = (p : Op) → map.get set (op_dot o) ≡ Some p → p ≡ o

@@ -4,42 +4,42 @@ use Rattle.std.specs.Int.{w32, to_be_bytes}
 use Rattle.std.specs.List.{flat_map}
 use Rattle.std.specs.FinMap as map
 use Rattle.mt_stamp.specs.declared.name.Dot.{Dot}
-use Rattle.mt_op.specs.Operation.{Operation}
+use Rattle.mt_op.specs.OpValue.{Op}
 use Rattle.mt_opcodec.specs.LogValue.{LogMap}
 use Rattle.mt_opcodec.specs.Union.{union}
-use Rattle.mt_frames.specs.Frames.{longest_body, frame_text}
-use Rattle.mt_summary.specs.Summary.{Summary, summary_of, IsSummary}
-use Rattle.mt_summary.specs.Messages.{Message, have, ops, bye, have_text, ops_text, bye_text, message_at, message_text, IsMessage}
+use Rattle.sync_framing.specs.Frames.{longest_body, frame_text}
+use Rattle.sync_messages.specs.Summary.{Summary, summary_of, IsSummary}
+use Rattle.sync_messages.specs.Messages.{Message, have, ops, bye, have_text, ops_text, bye_text, message_at, message_text, IsMessage}
 use Rattle.mt_sync.specs.declared.fault.TalkFault.TheVariants.{Conflict, Failed, BadMessage, OutOfTurn, FrameTooLong}
 use Rattle.mt_sync.specs.declared.fault.Side.{Side}
 use Rattle.mt_sync.specs.declared.fault.Side.TheVariants.{Caller, Answerer}
-use Rattle.mt_sync.specs.Conversation.{Turn, awaits_have, awaits_ops, ended, End, Heard, stop, can_say, answer, joined, hears_message, body_in, hears}
+use Rattle.mt_sync.specs.Conversation.{Turn, awaits_have, awaits_ops, ended, End, Received, stop, can_say, answer, joined, receives_message, body_in, receives}
 use Rattle.mt_sync.specs.Feeding.{IsOpen, end_at}
 
 -- an end that hears piece by piece, and all that it sends
-abbrev pub hears_pieces : End → List (List ℕ) → Heard
-hears_pieces end [] = (end, [])
-hears_pieces end (piece ∷ pieces) = ((hears_pieces (hears end piece).0 pieces).0, (hears end piece).1 ++ (hears_pieces (hears end piece).0 pieces).1)
+abbrev pub receives_pieces : End → List (List ℕ) → Received
+receives_pieces end [] = (end, [])
+receives_pieces end (piece ∷ pieces) = ((receives_pieces (receives end piece).0 pieces).0, (receives end piece).1 ++ (receives_pieces (receives end piece).0 pieces).1)
 
 -- However a stream is cut, the end comes to the same turn and set, and sends the same bytes.
 abbrev pub CutsDoNotMatter : Type 0
-CutsDoNotMatter = (end : End) (pieces : List (List ℕ)) → hears_pieces end pieces ≡ hears end (flat_map (λ piece. piece) pieces)
+CutsDoNotMatter = (end : End) (pieces : List (List ℕ)) → receives_pieces end pieces ≡ receives end (flat_map (λ piece. piece) pieces)
 
 -- ---- frames
 
 -- what more bytes do after what was heard
-abbrev pub after : Heard → List ℕ → Heard
-after t bytes = ((hears t.0 bytes).0, t.1 ++ (hears t.0 bytes).1)
+abbrev pub after : Received → List ℕ → Received
+after t bytes = ((receives t.0 bytes).0, t.1 ++ (receives t.0 bytes).1)
 
 -- A frame at the front of a stream is what an end reads: its body, or the message that it is the text of, does what it does, and what
 -- follows comes next. Before its last byte it does nothing.
-pub record FramesAreHeard : Type 0 where
+pub record FramesAreReceived : Type 0 where
   pub body : (turn : Turn) (set : Option LogMap) (body rest : List ℕ) → IsOpen turn → length body ≤ longest_body
-      → hears (end_at turn [] set) (frame_text body ++ rest) ≡ after (body_in turn set body) rest
+      → receives (end_at turn [] set) (frame_text body ++ rest) ≡ after (body_in turn set body) rest
   pub message : (turn : Turn) (set : Option LogMap) (m : Message) (rest : List ℕ) → IsOpen turn → IsMessage m → length (message_text m) ≤ longest_body
-      → hears (end_at turn [] set) (frame_text (message_text m) ++ rest) ≡ after (hears_message turn m set) rest
+      → receives (end_at turn [] set) (frame_text (message_text m) ++ rest) ≡ after (receives_message turn m set) rest
   pub cut : (turn : Turn) (set : Option LogMap) (body front more : List ℕ) (byte : ℕ) → IsOpen turn → length body ≤ longest_body → front ++ byte ∷ more ≡ frame_text body
-      → hears (end_at turn [] set) front ≡ (end_at turn front set, [])
+      → receives (end_at turn [] set) front ≡ (end_at turn front set, [])
 
 -- ---- what stops an end
 
@@ -54,26 +54,26 @@ is_due turn message = false
 pub record EndsStop : Type 0 where
   -- 38: the body of a frame is the text of no message
   pub bad_message : (turn : Turn) (set : Option LogMap) (body rest : List ℕ) → IsOpen turn → length body ≤ longest_body → message_at body ≡ None
-      → hears (end_at turn [] set) (frame_text body ++ rest) ≡ stop BadMessage set
+      → receives (end_at turn [] set) (frame_text body ++ rest) ≡ stop BadMessage set
   -- 39: a message that is not due, or a byte after the end
   pub out_of_turn : (turn : Turn) (set : Option LogMap) (m : Message) (rest : List ℕ) → IsOpen turn → IsMessage m → length (message_text m) ≤ longest_body → is_due turn m ≡ false
-      → hears (end_at turn [] set) (frame_text (message_text m) ++ rest) ≡ stop OutOfTurn set
-  pub after_the_end : (set : Option LogMap) (byte : ℕ) (bytes : List ℕ) → hears (end_at ended [] set) (byte ∷ bytes) ≡ stop OutOfTurn set
+      → receives (end_at turn [] set) (frame_text (message_text m) ++ rest) ≡ stop OutOfTurn set
+  pub after_the_end : (set : Option LogMap) (byte : ℕ) (bytes : List ℕ) → receives (end_at ended [] set) (byte ∷ bytes) ≡ stop OutOfTurn set
   -- 40: a length over the longest, whatever follows it
   pub too_long : (turn : Turn) (set : Option LogMap) (len : ℕ) (rest : List ℕ) → IsOpen turn → longest_body < len → len < 2 ^ 32
-      → hears (end_at turn [] set) (to_be_bytes w32 len ++ rest) ≡ stop FrameTooLong set
+      → receives (end_at turn [] set) (to_be_bytes w32 len ++ rest) ≡ stop FrameTooLong set
   -- 17: an operation whose dot names another one; those before it have joined
-  pub conflict : (owed : Option Summary) (set new : LogMap) (list : List Operation) (dot : Dot) (rest : List ℕ) → IsMessage (ops list) → length (ops_text list) ≤ longest_body → joined set list ≡ (new, Some dot)
-      → hears (end_at (awaits_ops owed) [] (Some set)) (frame_text (ops_text list) ++ rest) ≡ stop (Conflict dot) (Some new)
+  pub conflict : (owed : Option Summary) (set new : LogMap) (list : List Op) (dot : Dot) (rest : List ℕ) → IsMessage (ops list) → length (ops_text list) ≤ longest_body → joined set list ≡ (new, Some dot)
+      → receives (end_at (awaits_ops owed) [] (Some set)) (frame_text (ops_text list) ++ rest) ≡ stop (Conflict dot) (Some new)
   -- 20: the editor has failed, and its log is needed: to greet back, to take operations, or to answer Bye
   pub failed_at_have : (summary : Summary) (rest : List ℕ) → IsSummary summary → can_say summary ≡ true
-      → hears (end_at (awaits_have Answerer) [] None) (frame_text (have_text summary) ++ rest) ≡ stop Failed None
-  pub failed_at_ops : (owed : Option Summary) (list : List Operation) (rest : List ℕ) → IsMessage (ops list) → length (ops_text list) ≤ longest_body
-      → hears (end_at (awaits_ops owed) [] None) (frame_text (ops_text list) ++ rest) ≡ stop Failed None
-  pub failed_at_bye : (owed : Summary) (rest : List ℕ) → hears (end_at (awaits_ops (Some owed)) [] None) (frame_text bye_text ++ rest) ≡ stop Failed None
+      → receives (end_at (awaits_have Answerer) [] None) (frame_text (have_text summary) ++ rest) ≡ stop Failed None
+  pub failed_at_ops : (owed : Option Summary) (list : List Op) (rest : List ℕ) → IsMessage (ops list) → length (ops_text list) ≤ longest_body
+      → receives (end_at (awaits_ops owed) [] None) (frame_text (ops_text list) ++ rest) ≡ stop Failed None
+  pub failed_at_bye : (owed : Summary) (rest : List ℕ) → receives (end_at (awaits_ops (Some owed)) [] None) (frame_text bye_text ++ rest) ≡ stop Failed None
   -- 40: the own summary does not fit a frame
   pub own_too_long : (set : LogMap) (summary : Summary) (rest : List ℕ) → IsSummary summary → can_say summary ≡ true → can_say (summary_of set) ≡ false
-      → hears (end_at (awaits_have Answerer) [] (Some set)) (frame_text (have_text summary) ++ rest) ≡ stop FrameTooLong (Some set)
+      → receives (end_at (awaits_have Answerer) [] (Some set)) (frame_text (have_text summary) ++ rest) ≡ stop FrameTooLong (Some set)
 
 -- ---- an honest other end
 
@@ -84,13 +84,13 @@ honest greeting answering asked = frame_text (have_text (summary_of greeting)) +
 
 -- A set that holds one set, and beside it only what stands in another one.
 pub record IsBetween (own other set : LogMap) : Type 0 where
-  pub keeps : (dot : Dot) (o : Operation) → map.get own dot ≡ Some o → map.get set dot ≡ Some o
-  pub gains : (dot : Dot) (o : Operation) → map.get set dot ≡ Some o → (map.get own dot ≡ Some o) ⊎ (map.get other dot ≡ Some o)
+  pub keeps : (dot : Dot) (o : Op) → map.get own dot ≡ Some o → map.get set dot ≡ Some o
+  pub gains : (dot : Dot) (o : Op) → map.get set dot ≡ Some o → (map.get own dot ≡ Some o) ⊎ (map.get other dot ≡ Some o)
 
 -- what an end of this set has after these bytes
 pub record HoldsBetween (side : Side) (own other : LogMap) (bytes : List ℕ) : Type 0 where
   pub set : LogMap
-  pub held : (hears (end_at (awaits_have side) [] (Some own)) bytes).0.set ≡ Some set
+  pub held : (receives (end_at (awaits_have side) [] (Some own)) bytes).0.set ≡ Some set
   pub between : IsBetween own other set
 
 -- Whatever front of an honest other end's bytes has come, the set is the own set and a part of the other's.
@@ -102,9 +102,9 @@ FrontsAreHonest other = (side : Side) (own greeting : LogMap) (asked : Summary) 
 -- A conversation between a caller and an answerer of these sets, turn by turn: what each becomes, and what it sends. At its end each holds
 -- its own operations, and the other's under dots that it had not.
 pub record Converse (caller answerer : LogMap) : Type 0 where
-  pub greeted : hears (end_at (awaits_have Answerer) [] (Some answerer)) (frame_text (have_text (summary_of caller))) ≡ (end_at (awaits_ops None) [] (Some answerer), honest answerer answerer (summary_of caller))
-  pub called : hears (end_at (awaits_have Caller) [] (Some caller)) (honest answerer answerer (summary_of caller)) ≡ (end_at ended [] (Some (union caller answerer)), answer (union caller answerer) (summary_of answerer))
-  pub answered : hears (end_at (awaits_ops None) [] (Some answerer)) (answer (union caller answerer) (summary_of answerer)) ≡ (end_at ended [] (Some (union answerer caller)), [])
+  pub greeted : receives (end_at (awaits_have Answerer) [] (Some answerer)) (frame_text (have_text (summary_of caller))) ≡ (end_at (awaits_ops None) [] (Some answerer), honest answerer answerer (summary_of caller))
+  pub called : receives (end_at (awaits_have Caller) [] (Some caller)) (honest answerer answerer (summary_of caller)) ≡ (end_at ended [] (Some (union caller answerer)), answer (union caller answerer) (summary_of answerer))
+  pub answered : receives (end_at (awaits_ops None) [] (Some answerer)) (answer (union caller answerer) (summary_of answerer)) ≡ (end_at ended [] (Some (union answerer caller)), [])
 
 -- Every conversation between two logs whose summaries fit a frame comes to this end.
 abbrev pub ConversationsEnd : LogMap → LogMap → Type 0

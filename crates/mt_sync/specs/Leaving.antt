@@ -1,14 +1,14 @@
 -- What a piece leaves where memory ran out.
 use Rattle.std.specs.Prelude.{◌≡◌, ◌⊎◌, ℕ, List, ◌++◌, Option, None}
 use Rattle.mt_opcodec.specs.LogValue.{LogMap}
-use Rattle.mt_sync.specs.Conversation.{End, hears}
+use Rattle.mt_sync.specs.Conversation.{End, receives}
 
 -- the set that a front of the bytes leaves
 pub record IsOfFront (old : End) (bytes : List ℕ) (set : Option LogMap) : Type 0 where
   pub front : List ℕ
   pub more : List ℕ
   pub parts : bytes ≡ front ++ more
-  pub held : set ≡ (hears old front).0.set
+  pub held : set ≡ (receives old front).0.set
 
 -- The editor has failed, or it holds what it held and the operations of a front of the bytes.
 abbrev pub IsLeft : End → List ℕ → Option LogMap → Type 0

@@ -1,7 +1,7 @@
 -- What taking operations into an editor answers and leaves.
 use Rattle.std.specs.Prelude.{◌≡◌, List, Option, Some, None, Result, Ok, Err}
 use Rattle.mt_stamp.specs.declared.name.Dot.{Dot}
-use Rattle.mt_op.specs.Operation.{Operation}
+use Rattle.mt_op.specs.OpValue.{Op}
 use Rattle.mt_opcodec.specs.LogValue.{LogMap}
 use Rattle.mt_replica.specs.declared.fault.EditorFault.{EditorFault}
 use Rattle.mt_replica.specs.declared.fault.EditorFault.TheVariants as editor
@@ -16,7 +16,7 @@ TakesSet j (Err Memory) new = new ≡ None
 TakesSet j (Err (Conflict dot)) new = (j.1 ≡ Some dot) × (new ≡ Some j.0)
 TakesSet j (Err _) new = ⊥
 
-abbrev pub TakesIn : Option LogMap → List Operation → Result (Unit {0}) TalkFault → Option LogMap → Type 0
+abbrev pub TakesIn : Option LogMap → List Op → Result (Unit {0}) TalkFault → Option LogMap → Type 0
 TakesIn None list result new = (result ≡ Err Failed) × (new ≡ None)
 TakesIn (Some set) list result new = TakesSet (joined set list) result new
 

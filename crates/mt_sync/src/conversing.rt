@@ -6,7 +6,7 @@ ghost use Rattle.mt_sync.specs.declared.fault.SyncFault.TheVariants.{Write as Wr
 ghost use Rattle.mt_sync.specs.Conversing.{AreSound, BeginsWith, Blames, Converses, ConversesAs, conversant};
 
 use crate::fault::{Side, SyncFault, TalkFault};
-use crate::holder::Holder;
+use crate::holder::OpStore;
 use crate::talk::Talk;
 use mt_opcodec::Latch;
 use std::alloc::{Allocator, Global};
@@ -17,14 +17,14 @@ const PIECE: usize = 65_536;
 
 /// Reads and answers until the other end's Bye: a whole conversation, as the caller, who writes its summary first, or as the answerer.
 /// Nothing is read past the piece with that Bye, of at most 65,536 bytes, after which no byte may follow. The holder's operations have to lie in one
-/// log (`whole`), as an editor's always do, and those of a `GrowingLog` once `settle` was called.
+/// log (`whole`), as an editor's always do, and those of a `LogBuilder` once `settle` was called.
 ///
 /// Refused as the caller's `Talk::call` and each `Talk::feed` are; as `Read` (45) and `Write` (37) where the reader or the
 /// writer has failed, before or in this call; as `Ended` (49) where the input ends before the talk does, and at no other time. A latch that had
 /// failed is not asked and stays as it was; after `Ok` neither has failed. After a refusal the writer holds a prefix of the bytes
 /// that the conversation calls for, and the holder its own operations and those that came before; where an allocation failed while operations
 /// joined, the holder has failed.
-pub fn converse<A: Allocator + Clone, R: Read, W: Write, H: Holder<A>>(
+pub fn converse<A: Allocator + Clone, R: Read, W: Write, H: OpStore<A>>(
     alloc: A,
     frames: Global,
     holder: &mut H,
@@ -55,7 +55,7 @@ pub fn converse<A: Allocator + Clone, R: Read, W: Write, H: Holder<A>>(
 }
 
 // Begins as the caller: writes the frame of its summary.
-fn begin<A: Allocator + Clone, W: Write, H: Holder<A>>(
+fn begin<A: Allocator + Clone, W: Write, H: OpStore<A>>(
     alloc: A,
     frames: Global,
     holder: &H,
@@ -68,7 +68,7 @@ fn begin<A: Allocator + Clone, W: Write, H: Holder<A>>(
     ensures blames { IfErr result (λ fault. fault ≡ WriteFault → writer.new.failed ≡ true) }
     ensures stays_failed { writer.old.failed ≡ true → writer.new ≡ writer.old }
 {
-    let Some(log) = holder.whole_log() else {
+    let Some(log) = holder.compacted_log() else {
         return Err(SyncFault::Talk(TalkFault::Failed));
     };
     let (talk, bytes) = match Talk::call(alloc, frames, log) {
@@ -82,7 +82,7 @@ fn begin<A: Allocator + Clone, W: Write, H: Holder<A>>(
 }
 
 // Reads and answers until the talk has ended.
-fn hold_on<A: Allocator + Clone, R: Read, W: Write, H: Holder<A>>(
+fn hold_on<A: Allocator + Clone, R: Read, W: Write, H: OpStore<A>>(
     talk: &mut Talk<A>,
     holder: &mut H,
     reader: &mut Latch<R>,

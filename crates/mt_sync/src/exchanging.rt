@@ -7,12 +7,12 @@ ghost use Rattle.mt_sync.specs.Exchanging.{Exchanges, FindsLacking, FindsMissing
 ghost use Rattle.mt_sync.specs.Leaving.{StaysOrFails};
 
 use crate::fault::TalkFault;
-use crate::holder::Holder;
+use crate::holder::OpStore;
 use crate::replying::put_have;
 use mt_op::Op;
 use mt_opcodec::Log;
-use mt_summary::{Summary, lacking};
 use std::alloc::Allocator;
+use sync_messages::{Summary, lacking};
 
 /// Swaps between two holders, editors or logs that grow, what each lacks, as a conversation does that the first one begins: each holds its own operations after
 /// it, and the other's under dots that it had not. So both hold the union of their operations, where that is a log; of two operations
@@ -21,7 +21,7 @@ use std::alloc::Allocator;
 /// Refused, in this order, as `Failed` (20) where one of them has failed and as `FrameTooLong` (40) where the summary of one of them
 /// does not fit a frame: then both are unchanged. `Memory` (0) where an allocation failed: then each is unchanged, has all that it
 /// lacked, or has failed. `Conflict` (17) is never answered. What it does is what a conversation does (`laws::conversations`).
-pub fn exchange<A: Allocator + Clone, H: Holder<A>, K: Holder<A>>(
+pub fn exchange<A: Allocator + Clone, H: OpStore<A>, K: OpStore<A>>(
     alloc: A,
     caller: &mut H,
     answerer: &mut K,
@@ -38,7 +38,7 @@ pub fn exchange<A: Allocator + Clone, H: Holder<A>, K: Holder<A>>(
 }
 
 // What a holder lacks of another one's operations, where its summary, which tells that, fits a frame.
-fn lacks_of<A: Allocator + Clone, H: Holder<A>, K: Holder<A>>(
+fn lacks_of<A: Allocator + Clone, H: OpStore<A>, K: OpStore<A>>(
     alloc: &A,
     holder: &mut H,
     other: &mut K,
@@ -54,12 +54,12 @@ fn lacks_of<A: Allocator + Clone, H: Holder<A>, K: Holder<A>>(
     if holder.has_failed() || other.has_failed() {
         return Err(TalkFault::Failed);
     }
-    holder.settle()?;
-    let Some(own) = holder.whole_log() else {
+    holder.compact()?;
+    let Some(own) = holder.compacted_log() else {
         return Err(TalkFault::Failed);
     };
-    other.settle()?;
-    let Some(others) = other.whole_log() else {
+    other.compact()?;
+    let Some(others) = other.compacted_log() else {
         return Err(TalkFault::Failed);
     };
     missing_of(alloc, own, others)
@@ -88,7 +88,7 @@ fn missing_of<A: Allocator + Clone>(
 }
 
 // Takes operations, if there are any, into a holder that has not failed.
-fn take_some<A: Allocator + Clone, H: Holder<A>>(
+fn take_some<A: Allocator + Clone, H: OpStore<A>>(
     alloc: &A,
     holder: &mut H,
     ops: Vec<Op<A>, A>,

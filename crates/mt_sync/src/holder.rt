@@ -11,11 +11,11 @@ use crate::fault::TalkFault;
 use crate::taking::take_all_in_editor;
 use mt_op::Op;
 use mt_opcodec::Log;
-use mt_replica::{Desk, Editor, Sessions};
+use mt_replica::{Editor, EditorCore, Sessions};
 use std::alloc::{AllocError, Allocator};
 
 /// Whoever has a log: a log itself, a draft or an editor.
-pub trait HoldsLog<A: Allocator> {
+pub trait HasLog<A: Allocator> {
     /// The set of its operations; none where it has failed.
     ghost held: { Self → Option LogMap };
 
@@ -24,7 +24,7 @@ pub trait HoldsLog<A: Allocator> {
         ensures { option_copied result ≡ held self.now };
 }
 
-impl<A: Allocator> HoldsLog<A> for Log<A> {
+impl<A: Allocator> HasLog<A> for Log<A> {
     ghost held = { λ l. Some l };
 
     fn log(&self) -> Option<&Log<A>> {
@@ -32,7 +32,7 @@ impl<A: Allocator> HoldsLog<A> for Log<A> {
     }
 }
 
-impl<A: Allocator, S: Sessions> HoldsLog<A> for Desk<A, S> {
+impl<A: Allocator, S: Sessions> HasLog<A> for EditorCore<A, S> {
     ghost held = { λ d. d.log };
 
     fn log(&self) -> Option<&Log<A>> {
@@ -42,7 +42,7 @@ impl<A: Allocator, S: Sessions> HoldsLog<A> for Desk<A, S> {
 
 /// Whoever takes part in a conversation: it lends the log that it has, and takes the operations of a message. An editor, or a log
 /// that grows.
-pub trait Holder<A: Allocator> {
+pub trait OpStore<A: Allocator> {
     /// The set of its operations; none where it has failed.
     ghost held: { Self → Option LogMap };
 
@@ -58,7 +58,7 @@ pub trait Holder<A: Allocator> {
 
     /// Brings its operations into one log. `AllocError` where they were not in one and an allocation failed: then it is as it was, or has
     /// failed.
-    fn settle(&mut self) -> Result<(), AllocError>
+    fn compact(&mut self) -> Result<(), AllocError>
         ensures whole { OnOk result (whole self.new ≡ true) }
         ensures held { OnOk result (held self.new ≡ held self.old) }
         ensures left { StaysOrFails (held self.old) (held self.new) }
@@ -66,7 +66,7 @@ pub trait Holder<A: Allocator> {
         ensures name { named self.new ≡ named self.old };
 
     /// Its log, where its operations are in one; `None` where it has failed.
-    fn whole_log(&self) -> Option<&Log<A>>
+    fn compacted_log(&self) -> Option<&Log<A>>
         requires whole { whole self.now ≡ true }
         ensures log { option_copied result ≡ held self.now };
 
@@ -79,7 +79,7 @@ pub trait Holder<A: Allocator> {
         ensures name { named self.new ≡ named self.old };
 }
 
-impl<A: Allocator + Clone> Holder<A> for Editor<A> {
+impl<A: Allocator + Clone> OpStore<A> for Editor<A> {
     ghost held = { λ e. e.log };
 
     ghost named = { λ e. e.name };
@@ -90,11 +90,11 @@ impl<A: Allocator + Clone> Holder<A> for Editor<A> {
         self.log().is_none()
     }
 
-    fn settle(&mut self) -> Result<(), AllocError> {
+    fn compact(&mut self) -> Result<(), AllocError> {
         Ok(())
     }
 
-    fn whole_log(&self) -> Option<&Log<A>>
+    fn compacted_log(&self) -> Option<&Log<A>>
         requires whole { true ≡ true }
         ensures log { option_copied result ≡ self.now.log }
     {

@@ -5,11 +5,11 @@ ghost use Rattle.mt_opcodec.specs.LogValue.{AreLogged, log_of};
 ghost use Rattle.mt_opcodec.specs.Laws.{PairsAgree};
 ghost use Rattle.mt_opcodec.specs.Union.{Agree, union, union_all};
 ghost use Rattle.mt_sync.specs.Conversation.{joined};
-ghost use Rattle.mt_sync.specs.Joining.{HasAnotherOperation, JoinsIn};
+ghost use Rattle.mt_sync.specs.Joining.{HasConflict, JoinsIn};
 
 use crate::fault::TalkFault;
-use crate::growing_log::GrowingLog;
-use crate::holder::Holder;
+use crate::holder::OpStore;
+use crate::log_builder::LogBuilder;
 use mt_op::Op;
 use mt_opcodec::Log;
 use mt_replica::Editor;
@@ -20,7 +20,7 @@ use std::mem;
 // Whether a log or one of others, every two of which agree, has another operation under this one's dot.
 fn have_another<A: Allocator>(log: &Log<A>, others: &[Log<A>], op: &Op<A>) -> bool
     requires agree { PairsAgree (log.now ∷ others.now) }
-    ensures { HasAnotherOperation (union_all (log.now ∷ others.now)) op.now result }
+    ensures { HasConflict (union_all (log.now ∷ others.now)) op.now result }
 {
     // for the proof: that what a log has are operations
     let _ = log.runs();
@@ -39,7 +39,7 @@ fn have_another<A: Allocator>(log: &Log<A>, others: &[Log<A>], op: &Op<A>) -> bo
 
 // Cuts operations, which rise by dot, before the first whose dot names another one in a log or in others, every two of which agree, and
 // gives that dot: what is left agrees with them.
-pub(crate) fn cut_at_clash<A: Allocator>(
+pub(crate) fn cut_at_conflict<A: Allocator>(
     log: &Log<A>,
     others: &[Log<A>],
     ops: &mut Vec<Op<A>, A>,
@@ -122,7 +122,7 @@ pub(crate) fn join_ops<A: Allocator + Clone>(
     let Ok(copy) = log.try_clone() else {
         return Err(TalkFault::Memory);
     };
-    let mut growing = GrowingLog::new(alloc.clone()?, copy)?;
+    let mut growing = LogBuilder::new(alloc.clone()?, copy)?;
     let mut ops = ops;
     let taken = growing.take_all(alloc, &mut ops);
     let Ok(all) = growing.into_log() else {

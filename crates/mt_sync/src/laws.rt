@@ -1,7 +1,7 @@
 //! What holds of conversations: each law is the contract of a small function, which does nothing or only compares.
 
 ghost use Rattle.std.specs.Prelude.{◌≡◌, ◌↔◌, IsTrue};
-ghost use Rattle.mt_sync.specs.Laws.{FramesAreHeard, EndsStop, CutsDoNotMatter, FrontsAreHonest, ConversationsEnd};
+ghost use Rattle.mt_sync.specs.Laws.{FramesAreReceived, EndsStop, CutsDoNotMatter, FrontsAreHonest, ConversationsEnd};
 
 use crate::fault::{Side, SyncFault, TalkFault};
 use mt_opcodec::Log;
@@ -10,7 +10,7 @@ use std::alloc::Allocator;
 /// A frame at the front of a stream is what an end reads: at its last byte, and not before, the message in it does what it does, and
 /// what follows comes next.
 pub fn frames()
-    ensures { FramesAreHeard }
+    ensures { FramesAreReceived }
 {}
 
 /// What stops an end, where it stands at the front of a stream: a body that is no message (38); a message that is not due, or a byte

@@ -35,30 +35,30 @@
 //! operations joined, and the talk answers 39 from then on. `converse` does all this over a reader and a writer, `exchange` in memory,
 //! and `have_bytes`, `lack_bytes` and `take_ops` with bytes that are carried by hand.
 //!
-//! Who takes part is a `Holder`: an `Editor`, which shows its session at each step, or a `GrowingLog`, which makes none: operations that come
-//! stand behind those that it has until its log is asked for. `HoldsLog` is whoever has a log to lend: a `Log`, a draft or an editor.
+//! Who takes part is a `Holder`: an `Editor`, which shows its session at each step, or a `LogBuilder`, which makes none: operations that come
+//! stand behind those that it has until its log is asked for. `HasLog` is whoever has a log to lend: a `Log`, a draft or an editor.
 #![tactic(auto)]
 
+mod by_files;
 mod conversing;
 mod exchanging;
 mod fault;
 mod following;
-mod frames_of;
-mod growing_log;
 mod holder;
 mod joining;
 pub mod laws;
+mod log_builder;
 mod replying;
 mod taking;
 mod talk;
 mod turn;
 
+pub use by_files::{have_bytes, lack_bytes, take_ops};
 pub use conversing::converse;
 pub use exchanging::exchange;
 pub use fault::{Side, SyncFault, TalkFault};
-pub use frames_of::{have_bytes, lack_bytes, take_ops};
-pub use growing_log::GrowingLog;
-pub use holder::{Holder, HoldsLog};
-pub use mt_summary::{Message, MessageFault, Numbers, Summary, lacking};
-pub use mt_world::{Event, World, WorldFault};
+pub use holder::{HasLog, OpStore};
+pub use log_builder::LogBuilder;
+pub use sync_messages::{Message, MessageFault, SeenSeqs, Summary, lacking};
+pub use sync_world::{Event, World, WorldFault};
 pub use talk::Talk;

@@ -1,19 +1,19 @@
 //! What an end replies.
 
 ghost use Rattle.std.specs.Prelude.{◌≡◌, ◌++◌, OnOk};
-ghost use Rattle.mt_frames.specs.Frames.{frame_text};
-ghost use Rattle.mt_summary.specs.Summary.{summary_of};
-ghost use Rattle.mt_summary.specs.Messages.{have_text};
+ghost use Rattle.sync_framing.specs.Frames.{frame_text};
+ghost use Rattle.sync_messages.specs.Summary.{summary_of};
+ghost use Rattle.sync_messages.specs.Messages.{have_text};
 ghost use Rattle.mt_sync.specs.Conversation.{answer, greets_back, answers_back, can_say};
 ghost use Rattle.mt_sync.specs.Feeding.{Replies, Says};
 ghost use Rattle.mt_sync.specs.Leaving.{StaysOrFails};
 
 use crate::fault::TalkFault;
-use crate::holder::Holder;
-use mt_frames::put_frame;
+use crate::holder::OpStore;
 use mt_opcodec::Log;
-use mt_summary::{Message, MessageFault, Summary, lacking, put_ops_frames};
 use std::alloc::{AllocError, Allocator};
+use sync_framing::put_frame;
+use sync_messages::{Message, MessageFault, Summary, lacking, put_ops_frames};
 
 // Appends the frame of the log's Have.
 pub(crate) fn put_have<A: Allocator + Clone, B: Allocator>(
@@ -55,7 +55,7 @@ pub(crate) fn put_answer<A: Allocator + Clone, B: Allocator>(
 }
 
 // Appends the answerer's first reply.
-pub(crate) fn put_greeting<A: Allocator + Clone, B: Allocator, H: Holder<A>>(
+pub(crate) fn put_greeting<A: Allocator + Clone, B: Allocator, H: OpStore<A>>(
     alloc: &A,
     holder: &mut H,
     summary: &Summary<B>,
@@ -66,8 +66,8 @@ pub(crate) fn put_greeting<A: Allocator + Clone, B: Allocator, H: Holder<A>>(
     ensures left { StaysOrFails (H.held holder.old) (H.held holder.new) }
     ensures name { H.named holder.new ≡ H.named holder.old }
 {
-    holder.settle()?;
-    let Some(log) = holder.whole_log() else {
+    holder.compact()?;
+    let Some(log) = holder.compacted_log() else {
         return Err(TalkFault::Failed);
     };
     put_have(alloc, log, out)?;
@@ -76,7 +76,7 @@ pub(crate) fn put_greeting<A: Allocator + Clone, B: Allocator, H: Holder<A>>(
 }
 
 // Appends the caller's reply to Bye.
-pub(crate) fn put_farewell<A: Allocator + Clone, B: Allocator, H: Holder<A>>(
+pub(crate) fn put_farewell<A: Allocator + Clone, B: Allocator, H: OpStore<A>>(
     alloc: &A,
     holder: &mut H,
     summary: &Summary<B>,
@@ -87,8 +87,8 @@ pub(crate) fn put_farewell<A: Allocator + Clone, B: Allocator, H: Holder<A>>(
     ensures left { StaysOrFails (H.held holder.old) (H.held holder.new) }
     ensures name { H.named holder.new ≡ H.named holder.old }
 {
-    holder.settle()?;
-    let Some(log) = holder.whole_log() else {
+    holder.compact()?;
+    let Some(log) = holder.compacted_log() else {
         return Err(TalkFault::Failed);
     };
     put_answer(alloc, log, summary, out)?;

@@ -1,24 +1,24 @@
 //! One end of a conversation.
 
 ghost use Rattle.std.specs.Prelude.{◌≡◌, ◌<◌, ℕ, [], ◌↔◌, IsTrue, IfOk, IfErr, Ok, Err, slice_index};
-ghost use Rattle.mt_frames.specs.Frames.{frame_text};
-ghost use Rattle.mt_summary.specs.Summary.{summary_of};
-ghost use Rattle.mt_summary.specs.Messages.{have_text, IsMessage};
-ghost use Rattle.mt_summary.specs.Reading.{message_of};
-ghost use Rattle.mt_sync.specs.Conversation.{ended, awaits_have, awaits_ops, hears_message, body_in};
-ghost use Rattle.mt_sync.specs.Feeding.{turn_of, IsOpen, IsGoing, Waits, end_at, end_of, ReadsBody, Hears, Feeds, IsFaultOf, over_at, Calls};
+ghost use Rattle.sync_framing.specs.Frames.{frame_text};
+ghost use Rattle.sync_messages.specs.Summary.{summary_of};
+ghost use Rattle.sync_messages.specs.Messages.{have_text, IsMessage};
+ghost use Rattle.sync_messages.specs.Reading.{message_of};
+ghost use Rattle.mt_sync.specs.Conversation.{ended, awaits_have, awaits_ops, receives_message, body_in};
+ghost use Rattle.mt_sync.specs.Feeding.{turn_of, IsOpen, IsGoing, Waits, end_at, end_of, ReadsBody, Receives, Feeds, IsFaultOf, over_at, Calls};
 ghost use Rattle.mt_sync.specs.Leaving.{IsLeft, StaysOrFails};
 
 use crate::fault::{Side, TalkFault};
-use crate::holder::{Holder, HoldsLog};
+use crate::holder::{HasLog, OpStore};
 use crate::replying::{put_farewell, put_greeting, put_have};
 use crate::turn::Turn;
-use mt_frames::{FrameFault, Unread};
-use mt_summary::laws::texts;
-use mt_summary::{Message, MessageFault};
 use std::alloc::{Allocator, Global};
 use std::marker::Model;
 use std::mem;
+use sync_framing::{FrameFault, Unread};
+use sync_messages::laws::texts;
+use sync_messages::{Message, MessageFault};
 
 /// One end of a conversation, which reads the other end's bytes in pieces that are cut anywhere and answers what to send back.
 ///
@@ -58,7 +58,7 @@ impl<A: Allocator + Clone> Talk<A> {
     /// The caller's end, and the bytes that begin the conversation: the frame of its summary. `frames` is where the bytes of a frame that
     /// is not whole are kept. Refused, in this order, as `Failed` (20) where the holder has failed and as `FrameTooLong`
     /// (40) where its summary does not fit a frame; as `Memory` (0) where an allocation failed.
-    pub fn call<H: HoldsLog<A>>(
+    pub fn call<H: HasLog<A>>(
         alloc: A,
         frames: Global,
         holder: &H,
@@ -100,12 +100,12 @@ impl<A: Allocator + Clone> Talk<A> {
     /// needed; `Conflict` (17) where an operation's dot names another one in the log; `FrameTooLong` (40) where the own
     /// summary does not fit a frame. `Memory` (0) where an allocation failed. After a fault the holder has its own operations and those before
     /// the fault, and the talk answers 39 from then on; where an allocation failed while operations joined, the holder has failed.
-    pub fn feed<H: Holder<A>>(
+    pub fn feed<H: OpStore<A>>(
         &mut self,
         holder: &mut H,
         piece: &[u8],
     ) -> Result<Vec<u8, A>, TalkFault>
-        ensures hears { Feeds (λ out. out.items) (end_of self.old (H.held holder.old)) piece.now result
+        ensures receives { Feeds (λ out. out.items) (end_of self.old (H.held holder.old)) piece.now result
             (end_of self.new (H.held holder.new)) }
         ensures left { IfErr result (λ fault. fault ≡ TalkFault.Memory
             → IsLeft (end_of self.old (H.held holder.old)) piece.now (H.held holder.new)) }
@@ -114,7 +114,7 @@ impl<A: Allocator + Clone> Talk<A> {
         if self.turn.has_stopped() {
             return Err(TalkFault::OutOfTurn);
         }
-        match hear_all(&self.alloc, &mut self.turn, &mut self.unread, holder, piece) {
+        match receive_all(&self.alloc, &mut self.turn, &mut self.unread, holder, piece) {
             Ok(out) => Ok(out),
             Err(fault) => {
                 self.turn = Turn::Stopped(fault);
@@ -126,7 +126,7 @@ impl<A: Allocator + Clone> Talk<A> {
 }
 
 // Hears one piece, and gives the replies.
-fn hear_all<A: Allocator + Clone, H: Holder<A>>(
+fn receive_all<A: Allocator + Clone, H: OpStore<A>>(
     alloc: &A,
     turn: &mut Turn<A>,
     unread: &mut Unread,
@@ -135,19 +135,19 @@ fn hear_all<A: Allocator + Clone, H: Holder<A>>(
 ) -> Result<Vec<u8, A>, TalkFault>
     requires going { IsGoing (turn_of turn.old) }
     requires waits { Waits (turn_of turn.old) unread.old }
-    ensures hears { Hears (λ out. out.items) (end_at (turn_of turn.old) unread.old (H.held holder.old)) piece.now result
+    ensures receives { Receives (λ out. out.items) (end_at (turn_of turn.old) unread.old (H.held holder.old)) piece.now result
         (end_at (turn_of turn.new) unread.new (H.held holder.new)) }
     ensures name { H.named holder.new ≡ H.named holder.old }
 {
     let mut out = Vec::new(alloc.clone()?);
-    match hear(alloc, turn, unread, holder, piece, &mut out) {
+    match receive(alloc, turn, unread, holder, piece, &mut out) {
         Ok(()) => Ok(out),
         Err(fault) => Err(fault),
     }
 }
 
 // Hears one piece, and appends the replies.
-fn hear<A: Allocator + Clone, H: Holder<A>>(
+fn receive<A: Allocator + Clone, H: OpStore<A>>(
     alloc: &A,
     turn: &mut Turn<A>,
     unread: &mut Unread,
@@ -158,19 +158,19 @@ fn hear<A: Allocator + Clone, H: Holder<A>>(
     requires going { IsGoing (turn_of turn.old) }
     requires waits { Waits (turn_of turn.old) unread.old }
     requires empty { out.old.items ≡ [] }
-    ensures hears { Hears (λ _. out.new.items) (end_at (turn_of turn.old) unread.old (H.held holder.old)) piece.now result
+    ensures receives { Receives (λ _. out.new.items) (end_at (turn_of turn.old) unread.old (H.held holder.old)) piece.now result
         (end_at (turn_of turn.new) unread.new (H.held holder.new)) }
     ensures name { H.named holder.new ≡ H.named holder.old }
 {
     if turn.is_open() {
-        hear_frames(alloc, turn, unread, holder, piece, out)
+        receive_frames(alloc, turn, unread, holder, piece, out)
     } else {
         end_of_turn(piece.is_empty())
     }
 }
 
 // The same, where it reads frames.
-fn hear_frames<A: Allocator + Clone, H: Holder<A>>(
+fn receive_frames<A: Allocator + Clone, H: OpStore<A>>(
     alloc: &A,
     turn: &mut Turn<A>,
     unread: &mut Unread,
@@ -181,7 +181,7 @@ fn hear_frames<A: Allocator + Clone, H: Holder<A>>(
     requires reads { IsOpen (turn_of turn.old) }
     requires waits { Waits (turn_of turn.old) unread.old }
     requires empty { out.old.items ≡ [] }
-    ensures hears { Hears (λ _. out.new.items) (end_at (turn_of turn.old) unread.old (H.held holder.old)) piece.now result
+    ensures receives { Receives (λ _. out.new.items) (end_at (turn_of turn.old) unread.old (H.held holder.old)) piece.now result
         (end_at (turn_of turn.new) unread.new (H.held holder.new)) }
     ensures name { H.named holder.new ≡ H.named holder.old }
 {
@@ -221,7 +221,7 @@ fn fault_of(fault: FrameFault) -> TalkFault
 
 // Reads the body of a frame, and appends the reply.
 #[tactic(auto, unfolding(crate::specs::Conversation::body_in))]
-fn take_body<A: Allocator + Clone, H: Holder<A>>(
+fn take_body<A: Allocator + Clone, H: OpStore<A>>(
     alloc: &A,
     turn: &mut Turn<A>,
     holder: &mut H,
@@ -229,7 +229,7 @@ fn take_body<A: Allocator + Clone, H: Holder<A>>(
     out: &mut Vec<u8, A>,
 ) -> Result<(), TalkFault>
     requires { IsOpen (turn_of turn.old) }
-    ensures hears { ReadsBody (body_in (turn_of turn.old) (H.held holder.old) body.now) result
+    ensures receives { ReadsBody (body_in (turn_of turn.old) (H.held holder.old) body.now) result
         (end_at (turn_of turn.new) [] (H.held holder.new)) out.old.items out.new.items }
     ensures left { IfErr result (λ fault. fault ≡ TalkFault.Memory
         → StaysOrFails (H.held holder.old) (H.held holder.new)) }
@@ -251,7 +251,7 @@ fn are_bytes(bytes: &[u8])
 {}
 
 // What a message does, by turns.
-fn take_message<A: Allocator + Clone, H: Holder<A>>(
+fn take_message<A: Allocator + Clone, H: OpStore<A>>(
     alloc: &A,
     turn: &mut Turn<A>,
     holder: &mut H,
@@ -260,7 +260,7 @@ fn take_message<A: Allocator + Clone, H: Holder<A>>(
 ) -> Result<(), TalkFault>
     requires open { IsOpen (turn_of turn.old) }
     requires sound { IsMessage (message_of message) }
-    ensures hears { ReadsBody (hears_message (turn_of turn.old) (message_of message) (H.held holder.old)) result
+    ensures receives { ReadsBody (receives_message (turn_of turn.old) (message_of message) (H.held holder.old)) result
         (end_at (turn_of turn.new) [] (H.held holder.new)) out.old.items out.new.items }
     ensures left { IfErr result (λ fault. fault ≡ TalkFault.Memory
         → StaysOrFails (H.held holder.old) (H.held holder.new)) }

@@ -4,8 +4,8 @@ ghost use Rattle.std.specs.Prelude.{◌↔◌, IsTrue};
 ghost use Rattle.mt_sync.specs.Feeding.{turn_of, IsOpen, HasStopped};
 
 use crate::fault::{Side, TalkFault};
-use mt_summary::Summary;
 use std::alloc::Allocator;
+use sync_messages::Summary;
 
 // What an end waits for.
 #[derive(Drop)]

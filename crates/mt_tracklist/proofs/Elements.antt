@@ -7,7 +7,7 @@ use Rattle.std.specs.Cmp.{IsTotalOrder, tied_itself}
 use Rattle.std.specs.declared.cmp.Ordering.{Ordering}
 use Rattle.std.specs.declared.cmp.Ordering.TheVariants.{Less}
 use Rattle.std.proofs.lemmas.Option.{same_Some, none-some}
-use Rattle.mt_stamp.specs.Moment.{Moment}
+use Rattle.mt_stamp.specs.StampOrder.{Stamp}
 use Rattle.mt_stamp.specs.Tree.{TreePlace, IsPlaceOf, stamps_of, after_of, tree_cmp}
 use Rattle.mt_stamp.proofs.Tree.{afters_are_older, after_at, tree_cmp_total}
 use Rattle.mt_tracklist.specs.declared.track_list.Placed.{Placed}
@@ -32,11 +32,11 @@ stands_at [] t there = absurd there
 stands_at (u ∷ list) t (inl same) = (0, ap Some same)
 stands_at (u ∷ list) t (inr later) = let rest = stands_at list t later in (suc rest.0, rest.1)
 
-module _ (cmp : Moment → Moment → Ordering) (total : IsTotalOrder cmp) where
-  never_less : (p : Moment) → cmp p p ≡ Less → ⊥
+module _ (cmp : Stamp → Stamp → Ordering) (total : IsTotalOrder cmp) where
+  never_less : (p : Stamp) → cmp p p ≡ Less → ⊥
   never_less p less = let tied = tied_itself total p in absurd cc
 
-  later_in : (p : Moment) (list : List Placed) (t : Placed) → AllByRecursion (λ q. cmp p q ≡ Less) (stamps_of (tree_of list)) → IsIn t list → cmp p t.place ≡ Less
+  later_in : (p : Stamp) (list : List Placed) (t : Placed) → AllByRecursion (λ q. cmp p q ≡ Less) (stamps_of (tree_of list)) → IsIn t list → cmp p t.place ≡ Less
   later_in p [] t all there = absurd there
   later_in p (u ∷ list) t all (inl same) = subst (λ (v : Placed). cmp p v.place ≡ Less) same all.0
   later_in p (u ∷ list) t all (inr later) = later_in p list t all.1 later
@@ -69,7 +69,7 @@ module _ (cmp : Moment → Moment → Ordering) (total : IsTotalOrder cmp) where
       λ i. first i ∷ rest i
 
 -- what a place was put after in one list it was put after in the other
-same_after_of : (one other : List Placed) → IsOrdered one → IsOrdered other → HasElementsOf other one → (p : Moment) → IsPlaceOf (tree_of one) p → after_of (tree_of other) p ≡ after_of (tree_of one) p
+same_after_of : (one other : List Placed) → IsOrdered one → IsOrdered other → HasElementsOf other one → (p : Stamp) → IsPlaceOf (tree_of one) p → after_of (tree_of other) p ≡ after_of (tree_of one) p
 same_after_of one other one_ordered other_ordered has p there = by (element_of one there.index there.found there.at)
   where
     by : IsElement one there.index there.found → after_of (tree_of other) p ≡ after_of (tree_of one) p
@@ -91,5 +91,5 @@ elements_tell_the_list one other one_ordered other_ordered there back =
     placed : (i : ℕ) (s : TreePlace) → slice_get (tree_of other) i ≡ Some s → IsPlaceOf (tree_of other) s.place
     placed i s at = record { index = i; found = s; at = at; is = refl }
 
-    turned : (p q : Moment) → IsPlaceOf (tree_of other) p → IsPlaceOf (tree_of other) q → tree_cmp (tree_of one) p q ≡ tree_cmp (tree_of other) p q
+    turned : (p q : Stamp) → IsPlaceOf (tree_of other) p → IsPlaceOf (tree_of other) q → tree_cmp (tree_of one) p q ≡ tree_cmp (tree_of other) p q
     turned = same_order (tree_of other) (tree_of one) (afters_are_older (tree_of other) other_ordered.tree) (afters_are_older (tree_of one) one_ordered.tree) (same_after_of other one other_ordered one_ordered back)

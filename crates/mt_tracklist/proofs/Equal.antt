@@ -1,7 +1,7 @@
 -- Lists are equal where their elements are, one by one.
 use Rattle.std.proofs.Common.{◌≡◌, ◌↔◌, IsTrue, Bool, true, List, [], ◌∷◌, Option, Some, None, refl, sym, ap, ◌∙◌, true≢false}
 use lib.Pointwise.{pointwise}
-use Rattle.mt_stamp.specs.Moment.{Moment}
+use Rattle.mt_stamp.specs.StampOrder.{Stamp}
 use Rattle.mt_tracklist.specs.declared.track_list.Placed.{Placed}
 use Rattle.mt_tracklist.specs.Equal.{both, same_placed, placed_true, placed_itself}
 use Rattle.mt_tracklist.specs.contracts.track_list.PlacedPartialEq.TheImpl as derived
@@ -17,7 +17,7 @@ lists_itself [] = refl
 lists_itself (x ∷ xs) = rw (placed_itself x) (lists_itself xs)
 
 -- the derived test is this one
-by_parts : (a b : Placed) (o p : Option Moment) → (derived.eq-value).it (record a { after = o }) (record b { after = p }) ≡ same_placed (record a { after = o }) (record b { after = p })
+by_parts : (a b : Placed) (o p : Option Stamp) → (derived.eq-value).it (record a { after = o }) (record b { after = p }) ≡ same_placed (record a { after = o }) (record b { after = p })
 by_parts a b None None = refl
 by_parts a b None (Some q) = refl
 by_parts a b (Some p) None = refl

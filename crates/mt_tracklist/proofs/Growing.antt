@@ -3,7 +3,7 @@ use Rattle.std.proofs.Common.{◌≡◌, ℕ, zero, suc, ◌<◌, ◌≤◌, Boo
 use Rattle.std.specs.Prelude.{slice_get}
 use Rattle.std.specs.declared.cmp.Ordering.TheVariants.{Less}
 use Rattle.std.proofs.lemmas.Option.{same_Some}
-use Rattle.mt_stamp.specs.Moment.{Moment, stamp_cmp, stamp_eq}
+use Rattle.mt_stamp.specs.StampOrder.{Stamp, stamp_cmp, stamp_eq}
 use Rattle.mt_stamp.specs.Tree.{TreePlace, after_of, IsPlaceOf, IsTree}
 
 -- where an element stands after one more was put in at n
@@ -54,21 +54,21 @@ pub new_stands : (xs ys : List TreePlace) (x : TreePlace) → slice_get (xs ++ x
 new_stands [] ys x = refl
 new_stands (s ∷ xs) ys x = new_stands xs ys x
 
-pub place_stays : (xs ys : List TreePlace) (x : TreePlace) (p : Moment) → IsPlaceOf (xs ++ ys) p → IsPlaceOf (xs ++ x ∷ ys) p
+pub place_stays : (xs ys : List TreePlace) (x : TreePlace) (p : Stamp) → IsPlaceOf (xs ++ ys) p → IsPlaceOf (xs ++ x ∷ ys) p
 place_stays xs ys x p there = record { index = shifted (length xs) there.index; found = there.found; at = old_stays xs ys x there.index there.found there.at; is = there.is }
 
 -- no place of the list has this stamp
-abbrev pub IsNewIn : List TreePlace → Moment → Type 0
+abbrev pub IsNewIn : List TreePlace → Stamp → Type 0
 IsNewIn old p = (j : ℕ) (t : TreePlace) → slice_get old j ≡ Some t → t.place ≡ p → ⊥
 
 -- what the others were put after stays
-pub after_of_others : (xs ys : List TreePlace) (x : TreePlace) (p : Moment) → stamp_eq x.place p ≡ false → after_of (xs ++ x ∷ ys) p ≡ after_of (xs ++ ys) p
+pub after_of_others : (xs ys : List TreePlace) (x : TreePlace) (p : Stamp) → stamp_eq x.place p ≡ false → after_of (xs ++ x ∷ ys) p ≡ after_of (xs ++ ys) p
 after_of_others [] ys x p other = ap (λ (b : Bool). cond b x.after (after_of ys p)) other
-after_of_others (s ∷ xs) ys x p other = ap (λ (o : Option Moment). cond (stamp_eq s.place p) s.after o) (after_of_others xs ys x p other)
+after_of_others (s ∷ xs) ys x p other = ap (λ (o : Option Stamp). cond (stamp_eq s.place p) s.after o) (after_of_others xs ys x p other)
 
 -- A new place whose reference is there and older keeps the list a tree.
 pub tree_grows : (xs ys : List TreePlace) (x : TreePlace) → IsTree (xs ++ ys) → IsNewIn (xs ++ ys) x.place
-    → ((p : Moment) → x.after ≡ Some p → IsPlaceOf (xs ++ ys) p × (stamp_cmp p x.place ≡ Less)) → IsTree (xs ++ x ∷ ys)
+    → ((p : Stamp) → x.after ≡ Some p → IsPlaceOf (xs ++ ys) p × (stamp_cmp p x.place ≡ Less)) → IsTree (xs ++ x ∷ ys)
 tree_grows xs ys x tree new reference = record {
   apart = λ i j s t at_i at_j same. by i j s t same (new_or_old xs ys x i s at_i) (new_or_old xs ys x j t at_j);
   after_older = λ i t p at after. older t p after (new_or_old xs ys x i t at);
@@ -81,7 +81,7 @@ tree_grows xs ys x tree new reference = record {
     by i j s t same (inr first) (inr second) =
         sym first.is ∙ ap (shifted (length xs)) (tree.apart first.index second.index s t first.at second.at same) ∙ second.is
 
-    older : {i : ℕ} → (t : TreePlace) (p : Moment) → t.after ≡ Some p → ((i ≡ length xs) × (x ≡ t)) ⊎ WasAt (xs ++ ys) (length xs) i t → IsPlaceOf (xs ++ x ∷ ys) p × (stamp_cmp p t.place ≡ Less)
+    older : {i : ℕ} → (t : TreePlace) (p : Stamp) → t.after ≡ Some p → ((i ≡ length xs) × (x ≡ t)) ⊎ WasAt (xs ++ ys) (length xs) i t → IsPlaceOf (xs ++ x ∷ ys) p × (stamp_cmp p t.place ≡ Less)
     older t p after (inl itself) =
         let there = reference p (ap (λ (u : TreePlace). u.after) itself.1 ∙ after) in
         (place_stays xs ys x p there.0, subst (λ (u : TreePlace). stamp_cmp p u.place ≡ Less) itself.1 there.1)

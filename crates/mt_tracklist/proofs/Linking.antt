@@ -10,7 +10,7 @@ use Rattle.std.specs.declared.cmp.Ordering.TheVariants.{Less, Equal, Greater}
 use Rattle.std.proofs.lemmas.Bool.{eqb-true, ltb-true, cases_lt, cases_eq}
 use Rattle.std.proofs.lemmas.List.{length-map, take_all}
 use Rattle.std.proofs.lemmas.Option.{same_Some, none-some, slice_get_within, slice_get-get_or, slice_get-map, get_or_from_slice_get}
-use Rattle.mt_stamp.specs.Moment.{Moment, stamp_cmp, stamp_eq}
+use Rattle.mt_stamp.specs.StampOrder.{Stamp, stamp_cmp, stamp_eq}
 use Rattle.mt_stamp.specs.Sorting.{RisesStrictly}
 use Rattle.mt_stamp.specs.Tree.{TreePlace, stamps_of, IsPlaceOf, IsTree, tree_cmp}
 use Rattle.mt_stamp.proofs.Order.{stamp_cmp_total, stamp_cmp-IsAntisymmetric, stamp_eq-true, stamp_eq-itself}
@@ -57,9 +57,9 @@ all_had P [] each = tt
 all_had P (x ∷ xs) each =
     (each x (or_first (eqb x x) (eq-eqb x x refl) (has xs x)), all_had P xs (λ p h. each p (or_second (eqb p x) (has xs p) h)))
 
-module _ (f : ℕ → Moment) where
+module _ (f : ℕ → Stamp) where
   -- a stamp that stands is that of a place that the list has
-  stands_had : (p : Moment) (items : List ℕ) → Stands p (map f items) → (j : ℕ) × (has items j ≡ true) × (f j ≡ p)
+  stands_had : (p : Stamp) (items : List ℕ) → Stands p (map f items) → (j : ℕ) × (has items j ≡ true) × (f j ≡ p)
   stands_had p [] at = absurd at
   stands_had p (x ∷ xs) (inl here) = (x, or_first (eqb x x) (eq-eqb x x refl) (has xs x), here)
   stands_had p (x ∷ xs) (inr later) = let rest = stands_had p xs later in (rest.0, or_second (eqb rest.0 x) (has xs rest.0) rest.1, rest.2)
@@ -74,9 +74,9 @@ module _ (f : ℕ → Moment) where
       by : (t : Bool) → map f (put_after before place xs) ≡ insert_after (Some (f before)) (f place) (map f xs)
           → map f (cond t (x ∷ place ∷ xs) (x ∷ put_after before place xs)) ≡ cond t (f x ∷ f place ∷ map f xs) (f x ∷ insert_after (Some (f before)) (f place) (map f xs))
       by true rest = refl
-      by false rest = ap (λ (ys : List Moment). f x ∷ ys) rest
+      by false rest = ap (λ (ys : List Stamp). f x ∷ ys) rest
 
-strictly_sorted : (stamps : List Moment) → RisesStrictly stamp_cmp stamps → IsStrictlySortedBy stamp_cmp stamps
+strictly_sorted : (stamps : List Stamp) → RisesStrictly stamp_cmp stamps → IsStrictlySortedBy stamp_cmp stamps
 unfolding IsStrictlySortedBy
 strictly_sorted [] rises = tt
 strictly_sorted (x ∷ xs) rises = (rises.0, strictly_sorted xs rises.1)
@@ -127,7 +127,7 @@ module _ (places : List TreePlace) (tree : IsTree places) (rises : RisesStrictly
     within j had = let less = ltb-true j n (sym (linked.had j) ∙ had) in slice_get-get_or places j (place_at [] 0) (omega (arith, less, slice_get_within places n t here))
 
     -- what it is put after is in the list
-    pub there : (p : Moment) → t.after ≡ Some p → (there : IsPlaceOf places p) × (has items there.index ≡ true)
+    pub there : (p : Stamp) → t.after ≡ Some p → (there : IsPlaceOf places p) × (has items there.index ≡ true)
     there p after =
         let way = subst (λ (rest : List TreePlace). IsUnderWay places (arranged (take n places)) rest) (drop_at places n t here) (under_way_at places tree sorted n) in
         let found = stands_had (stamp_at places) p items (subst (Stands p) (sym linked.order) (after_stands places (afters_are_older places tree) (arranged (take n places)) t (drop (suc n) places) p way after)) in
@@ -143,13 +143,13 @@ module _ (places : List TreePlace) (tree : IsTree places) (rises : RisesStrictly
             absurd (unlike x j e (tree.apart x j (place_at places x) (place_at places j) (within x x_had) (within j j_had) (stamp_eq-true (stamp_at places x) (stamp_at places j) s)))
         by x x_had false s true e = absurd (true≢false (sym (ap (λ (y : ℕ). stamp_eq (stamp_at places y) (stamp_at places j)) (eqb-true x j e) ∙ stamp_eq-itself (stamp_at places j)) ∙ s))
 
-    grows : (grown : List ℕ) (after : Option Moment) → t.after ≡ after → ((q : ℕ) → has grown q ≡ (eqb q n || has items q)) → map (stamp_at places) grown ≡ insert_after after (stamp_at places n) (map (stamp_at places) items) → IsLinked places grown (n + 1)
+    grows : (grown : List ℕ) (after : Option Stamp) → t.after ≡ after → ((q : ℕ) → has grown q ≡ (eqb q n || has items q)) → map (stamp_at places) grown ≡ insert_after after (stamp_at places n) (map (stamp_at places) items) → IsLinked places grown (n + 1)
     grows grown after is has_grown inserted = record {
       had = λ p. has_grown p ∙ ap (λ (b : Bool). eqb p n || b) (linked.had p) ∙ below_more p n;
       order = inserted ∙ (λ i. insert_after (sym is i) (at_here i) (linked.order i)) ∙ sym (arranged_more places n t here);
     }
 
-    pub linked_more : (after : Option Moment) (grown : List ℕ) → t.after ≡ after → IsPut places after n items grown → IsLinked places grown (n + 1)
+    pub linked_more : (after : Option Stamp) (grown : List ℕ) → t.after ≡ after → IsPut places after n items grown → IsLinked places grown (n + 1)
     linked_more None grown is put = grows grown None is (λ q. ap (λ (l : List ℕ). has l q) put) (ap (map (stamp_at places)) put)
     linked_more (Some p) grown is put =
         let found = there p is in
@@ -157,7 +157,7 @@ module _ (places : List TreePlace) (tree : IsTree places) (rises : RisesStrictly
         let grown_is : grown ≡ put_after j n items = put found.0 in
         let named : stamp_at places j ≡ p = ap (λ (u : TreePlace). u.place) (same_Some (place_at places j) found.0.found (sym (within j found.1) ∙ found.0.at)) ∙ found.0.is in
         grows grown (Some p) is (λ q. ap (λ (l : List ℕ). has l q) grown_is ∙ has_put_after j n items q)
-        (ap (map (stamp_at places)) grown_is ∙ map_put_after (stamp_at places) j n items (alike j found.1) ∙ ap (λ (m : Moment). insert_after (Some m) (stamp_at places n) (map (stamp_at places) items)) named)
+        (ap (map (stamp_at places)) grown_is ∙ map_put_after (stamp_at places) j n items (alike j found.1) ∙ ap (λ (m : Stamp). insert_after (Some m) (stamp_at places n) (map (stamp_at places) items)) named)
 
   pub linked_all : (items : List ℕ) (n : ℕ) → length places ≤ n → IsLinked places items n → IsStrictlySortedBy (tree_cmp places) (map (stamp_at places) items)
   linked_all items n past linked =
@@ -169,7 +169,7 @@ had_below places items n linked k p at = ltb-true p n (sym (linked.had p) ∙ ha
 
 -- ---- a search among places of rising stamps
 
-index_less : (a b : Moment) → stamp_cmp a b ≡ Less → (p : Moment) → ordering_index (stamp_cmp a p) ≤ ordering_index (stamp_cmp b p)
+index_less : (a b : Stamp) → stamp_cmp a b ≡ Less → (p : Stamp) → ordering_index (stamp_cmp a p) ≤ ordering_index (stamp_cmp b p)
 index_less a b less p = by (stamp_cmp a p) refl (stamp_cmp b p) refl
   where
     by : (s : Ordering) → stamp_cmp a p ≡ s → (t : Ordering) → stamp_cmp b p ≡ t → ordering_index s ≤ ordering_index t
@@ -181,12 +181,12 @@ index_less a b less p = by (stamp_cmp a p) refl (stamp_cmp b p) refl
     by Greater s Equal t = absurd (let e = sym s ∙ ap (stamp_cmp a) (sym (stamp_cmp-IsAntisymmetric b p t)) ∙ less in cc e)
     by Greater s Greater t = omega arith
 
-all_read : (P : Moment → Type 0) (given : List PlaceAfter) → AllByRecursion P (stamps_of (given_tree given)) → (j : ℕ) (d : PlaceAfter) → j < length given → P (get_or given j d).place
+all_read : (P : Stamp → Type 0) (given : List PlaceAfter) → AllByRecursion P (stamps_of (given_tree given)) → (j : ℕ) (d : PlaceAfter) → j < length given → P (get_or given j d).place
 all_read P [] all j d within = absurd (omega (arith, within))
 all_read P (x ∷ xs) all zero d within = all.0
 all_read P (x ∷ xs) all (suc j) d within = all_read P xs all.1 j d (omega (arith, within))
 
-search_rises : (p : Moment) (given : List PlaceAfter) → RisesStrictly stamp_cmp (stamps_of (given_tree given)) → IsNonDecreasingBy (λ y. ordering_index (stamp_cmp y.place p)) given
+search_rises : (p : Stamp) (given : List PlaceAfter) → RisesStrictly stamp_cmp (stamps_of (given_tree given)) → IsNonDecreasingBy (λ y. ordering_index (stamp_cmp y.place p)) given
 search_rises p [] rises i j d le lt = absurd (omega (arith, lt))
 search_rises p (x ∷ xs) rises zero zero d le lt = omega arith
 search_rises p (x ∷ xs) rises zero (suc j) d le lt = index_less x.place (get_or xs j d).place (all_read (λ y. stamp_cmp x.place y ≡ Less) xs rises.0 j d (omega (arith, lt))) p
@@ -200,7 +200,7 @@ given_at given k x at = slice_get-map given_place given k ∙ ap (option_map giv
 given_within : (given : List PlaceAfter) (k : ℕ) (t : TreePlace) → slice_get (given_tree given) k ≡ Some t → k < length given
 given_within given k t at = omega (arith, slice_get_within (given_tree given) k t at, length-map given given_place)
 
-module _ (given : List PlaceAfter) (tree : IsTree (given_tree given)) (rises : RisesStrictly stamp_cmp (stamps_of (given_tree given))) (p : Moment) (there : IsPlaceOf (given_tree given) p) where
+module _ (given : List PlaceAfter) (tree : IsTree (given_tree given)) (rises : RisesStrictly stamp_cmp (stamps_of (given_tree given))) (p : Stamp) (there : IsPlaceOf (given_tree given) p) where
   read : (d : PlaceAfter) → (get_or given there.index d).place ≡ p
   read d =
       let at = given_at given there.index (get_or given there.index d) (slice_get-get_or given there.index d (given_within given there.index there.found there.at)) in
@@ -215,7 +215,7 @@ module _ (given : List PlaceAfter) (tree : IsTree (given_tree given)) (rises : R
   search_missed k position =
       let split = position (search_rises p given rises) in
       let d : PlaceAfter = record { place = p; after = None } in
-      let tied : stamp_cmp (get_or given there.index d).place p ≡ Equal = ap (λ (m : Moment). stamp_cmp m p) (read d) ∙ tied_itself stamp_cmp_total p in
+      let tied : stamp_cmp (get_or given there.index d).place p ≡ Equal = ap (λ (m : Stamp). stamp_cmp m p) (read d) ∙ tied_itself stamp_cmp_total p in
       let inside = given_within given there.index there.found there.at in
       elim (cases_lt there.index k) [
         | inl before ↦ (let e = sym tied ∙ split.0 there.index d (omega arith) before in cc e)

@@ -9,7 +9,7 @@ use Rattle.std.specs.declared.cmp.Ordering.TheVariants.{Less, Equal, Greater}
 use Rattle.std.proofs.lemmas.List.{map-append, length-map, length-take-le}
 use Rattle.std.proofs.lemmas.List.Sums.{prefix_len-le-length, fails_before_first, passes_at_first}
 use Rattle.std.proofs.lemmas.Option.{same_Some, none-some, slice_get_within, get_or_from_slice_get, slice_get-get_or, slice_get-map}
-use Rattle.mt_stamp.specs.Moment.{Moment, stamp_cmp, stamp_eq}
+use Rattle.mt_stamp.specs.StampOrder.{Stamp, stamp_cmp, stamp_eq}
 use Rattle.mt_stamp.specs.Tree.{TreePlace, stamps_of, tree_cmp, IsPlaceOf, IsTree}
 use Rattle.mt_stamp.proofs.Order.{stamp_cmp_total, stamp_cmp-IsAntisymmetric, stamp_eq-true, stamp_eq-itself}
 use Rattle.mt_tracklist.specs.declared.track_list.Placed.{Placed}
@@ -64,10 +64,10 @@ tree_place_at list k t at = slice_get-map tree_place list k ∙ ap (option_map t
 
 -- the place that an insertion makes, in a list that is written as what is before it and the rest
 placed_between : (old xs ys : List TreePlace) (x : TreePlace) (start n : ℕ) → xs ++ ys ≡ old → length xs ≡ n → IsTree old → IsStrictlySortedBy (tree_cmp old) (stamps_of old) → IsNewIn old x.place
-    → ((p : Moment) → x.after ≡ Some p → IsPlaceOf old p × (stamp_cmp p x.place ≡ Less)) → IsGap old x start n
+    → ((p : Stamp) → x.after ≡ Some p → IsPlaceOf old p × (stamp_cmp p x.place ≡ Less)) → IsGap old x start n
     → IsTree (xs ++ x ∷ ys) × IsStrictlySortedBy (tree_cmp (xs ++ x ∷ ys)) (stamps_of (xs ++ x ∷ ys))
 placed_between old xs ys x start n cut count =
-    subst (λ (o : List TreePlace). IsTree o → IsStrictlySortedBy (tree_cmp o) (stamps_of o) → IsNewIn o x.place → ((p : Moment) → x.after ≡ Some p → IsPlaceOf o p × (stamp_cmp p x.place ≡ Less)) → IsGap o x start n
+    subst (λ (o : List TreePlace). IsTree o → IsStrictlySortedBy (tree_cmp o) (stamps_of o) → IsNewIn o x.place → ((p : Stamp) → x.after ≡ Some p → IsPlaceOf o p × (stamp_cmp p x.place ≡ Less)) → IsGap o x start n
     → IsTree (xs ++ x ∷ ys) × IsStrictlySortedBy (tree_cmp (xs ++ x ∷ ys)) (stamps_of (xs ++ x ∷ ys)))
     cut
     (λ tree sorted new reference gap. (tree_grows xs ys x tree new reference, sorted_with xs ys x start tree sorted new reference (subst (λ (m : ℕ). IsGap (xs ++ ys) x start m) (sym count) gap)))
@@ -77,11 +77,11 @@ module _ (list : List Placed) (t : Placed) (fresh : has_place list t.place ≡ f
   is_new j u at same =
       let e = element_of list j u at in
       let other : stamp_eq e.element.place t.place ≡ false = passes_nowhere (λ s. stamp_eq s.place t.place) list j e.element fresh e.at in
-      let itself : stamp_eq e.element.place t.place ≡ true = ap (λ (v : TreePlace). stamp_eq v.place t.place) e.is ∙ ap (λ (q : Moment). stamp_eq q t.place) same ∙ stamp_eq-itself t.place in
+      let itself : stamp_eq e.element.place t.place ≡ true = ap (λ (v : TreePlace). stamp_eq v.place t.place) e.is ∙ ap (λ (q : Stamp). stamp_eq q t.place) same ∙ stamp_eq-itself t.place in
       true≢false (sym itself ∙ other)
 
   -- what the reference is in the list
-  pub record IsReference (p : Moment) : Type 0 where
+  pub record IsReference (p : Stamp) : Type 0 where
     pub index : ℕ
     pub element : Placed
     pub at : slice_get list index ≡ Some element
@@ -89,10 +89,10 @@ module _ (list : List Placed) (t : Placed) (fresh : has_place list t.place ≡ f
     pub start : right_of list t.after ≡ suc index
     pub older : stamp_cmp p t.place ≡ Less
 
-  reference_is : (p : Moment) → t.after ≡ Some p → IsReference p
+  reference_is : (p : Stamp) → t.after ≡ Some p → IsReference p
   reference_is p after = by t.after refl there newer after
     where
-      by : (o : Option Moment) → t.after ≡ o → IsReferenceThere list o → IsNewer t.place o → o ≡ Some p → IsReference p
+      by : (o : Option Stamp) → t.after ≡ o → IsReferenceThere list o → IsNewer t.place o → o ≡ Some p → IsReference p
       by None is_after there newer e = absurd (none-some p e)
       by (Some q) is_after there newer e =
           let same : q ≡ p = same_Some q p e in
@@ -104,7 +104,7 @@ module _ (list : List Placed) (t : Placed) (fresh : has_place list t.place ≡ f
             at = at;
             is = stamp_eq-true (get_or list (index_in list q) t).place q (passes_at (λ s. stamp_eq s.place q) list (get_or list (index_in list q) t) at) ∙ same;
             start = ap (right_of list) is_after ∙ plus_one (index_in list q);
-            older = subst (λ (r : Moment). stamp_cmp r t.place ≡ Less) same newer;
+            older = subst (λ (r : Stamp). stamp_cmp r t.place ≡ Less) same newer;
           }
         where
           plus_one : (i : ℕ) → i + 1 ≡ suc i
@@ -113,7 +113,7 @@ module _ (list : List Placed) (t : Placed) (fresh : has_place list t.place ≡ f
   start_within : right_of list t.after ≤ length list
   start_within = by t.after refl
     where
-      by : (o : Option Moment) → t.after ≡ o → right_of list t.after ≤ length list
+      by : (o : Option Stamp) → t.after ≡ o → right_of list t.after ≤ length list
       by None e = rw e (omega arith)
       by (Some p) e = let r = reference_is p e in omega (arith, r.start, slice_get_within list r.index r.element r.at)
 
@@ -122,7 +122,7 @@ module _ (list : List Placed) (t : Placed) (fresh : has_place list t.place ≡ f
       omega (arith, start_within, prefix_len-le-length (λ (s : Placed). not (is_lt (stamp_cmp s.place t.place))) (drop (right_of list t.after) list), length-drop (right_of list t.after) list)
 
   -- what is not smaller, and another, is greater
-  greater : (q : Moment) → (q ≡ t.place → ⊥) → is_lt (stamp_cmp q t.place) ≡ false → stamp_cmp t.place q ≡ Less
+  greater : (q : Stamp) → (q ≡ t.place → ⊥) → is_lt (stamp_cmp q t.place) ≡ false → stamp_cmp t.place q ≡ Less
   greater q other not_less = by (stamp_cmp q t.place) refl not_less
     where
       by : (o : Ordering) → stamp_cmp q t.place ≡ o → is_lt o ≡ false → stamp_cmp t.place q ≡ Less
@@ -130,7 +130,7 @@ module _ (list : List Placed) (t : Placed) (fresh : has_place list t.place ≡ f
       by Equal e h = absurd (other (stamp_cmp-IsAntisymmetric q t.place e))
       by Greater e h = stamp_cmp_total.antisymm t.place q ∙ ap ordering_reverse e
 
-  smaller : (q : Moment) → is_lt (stamp_cmp q t.place) ≡ true → stamp_cmp q t.place ≡ Less
+  smaller : (q : Stamp) → is_lt (stamp_cmp q t.place) ≡ true → stamp_cmp q t.place ≡ Less
   smaller q less = by (stamp_cmp q t.place) refl less
     where
       by : (o : Ordering) → stamp_cmp q t.place ≡ o → is_lt o ≡ true → o ≡ Less
@@ -162,7 +162,7 @@ module _ (list : List Placed) (t : Placed) (fresh : has_place list t.place ≡ f
           let at = slice_get_drop list (right_of list t.after) (skipped t.place (drop (right_of list t.after) list)) (insertion_index list t) refl ∙ e.at in
           subst (λ (v : TreePlace). stamp_cmp v.place t.place ≡ Less) e.is (smaller e.element.place (passes_at (λ s. is_lt (stamp_cmp s.place t.place)) (drop (right_of list t.after) list) e.element at))
 
-  stands : (p : Moment) → t.after ≡ Some p → IsPlaceOf (tree_of list) p × (stamp_cmp p t.place ≡ Less)
+  stands : (p : Stamp) → t.after ≡ Some p → IsPlaceOf (tree_of list) p × (stamp_cmp p t.place ≡ Less)
   stands p after =
       let r = reference_is p after in
       (record { index = r.index; found = tree_place r.element; at = tree_place_at list r.index r.element r.at; is = r.is }, r.older)

@@ -8,20 +8,20 @@ use Rattle.std.specs.declared.cmp.Ordering.{Ordering}
 use Rattle.std.specs.declared.cmp.Ordering.TheVariants.{Less}
 use Rattle.std.proofs.lemmas.Bool.{cases_lt}
 use Rattle.std.proofs.lemmas.Option.{same_Some, none-some, slice_get_within, slice_get-get_or}
-use Rattle.mt_stamp.specs.Moment.{Moment, stamp_cmp, stamp_eq}
+use Rattle.mt_stamp.specs.StampOrder.{Stamp, stamp_cmp, stamp_eq}
 use Rattle.mt_stamp.specs.Tree.{TreePlace, stamps_of, after_of, tree_cmp, IsPlaceOf, IsTree}
 use Rattle.mt_stamp.proofs.Order.{stamp_eq-true}
 use Rattle.mt_stamp.proofs.Tree.{afters_are_older, after_at, after_first, tree_cmp_total, AftersAreOlder}
 use Rattle.mt_tracklist.proofs.Growing.{shifted_before, shifted_behind, shifted_rises, WasAt, new_or_old, new_stands, IsNewIn, after_of_others, tree_grows}
 use Rattle.mt_tracklist.proofs.Order.{same_order, never_both, before_smaller, skipped_before}
 
-module _ (cmp : Moment → Moment → Ordering) where
-  pub all_at : (P : Moment → Type 0) (list : List TreePlace) → AllByRecursion P (stamps_of list) → (i : ℕ) (t : TreePlace) → slice_get list i ≡ Some t → P t.place
+module _ (cmp : Stamp → Stamp → Ordering) where
+  pub all_at : (P : Stamp → Type 0) (list : List TreePlace) → AllByRecursion P (stamps_of list) → (i : ℕ) (t : TreePlace) → slice_get list i ≡ Some t → P t.place
   all_at P [] all i t at = absurd (none-some t at)
   all_at P (s ∷ list) all zero t at = subst (λ (u : TreePlace). P u.place) (same_Some s t at) all.0
   all_at P (s ∷ list) all (suc i) t at = all_at P list all.1 i t at
 
-  all_from : (P : Moment → Type 0) (list : List TreePlace) → ((i : ℕ) (t : TreePlace) → slice_get list i ≡ Some t → P t.place) → AllByRecursion P (stamps_of list)
+  all_from : (P : Stamp → Type 0) (list : List TreePlace) → ((i : ℕ) (t : TreePlace) → slice_get list i ≡ Some t → P t.place) → AllByRecursion P (stamps_of list)
   all_from P [] each = tt
   all_from P (s ∷ list) each = (each 0 s refl, all_from P list (λ i t at. each (suc i) t at))
 
@@ -40,9 +40,9 @@ module _ (cmp : Moment → Moment → Ordering) where
       (all_from (λ q. cmp u.place q ≡ Less) list (λ j t at. each 0 (suc j) u t (omega arith) refl at), sorted_from list (λ i j s t lt at_i at_j. each (suc i) (suc j) s t (omega arith) at_i at_j))
 
 -- where the right of a reference begins
-pub record IsRightOf (old : List TreePlace) (after : Option Moment) (start : ℕ) : Type 0 where
+pub record IsRightOf (old : List TreePlace) (after : Option Stamp) (start : ℕ) : Type 0 where
   pub head : after ≡ None → start ≡ 0
-  pub reference : (p : Moment) → after ≡ Some p → (r : ℕ) × (t : TreePlace) × (slice_get old r ≡ Some t) × (t.place ≡ p) × (start ≡ suc r)
+  pub reference : (p : Stamp) → after ≡ Some p → (r : ℕ) × (t : TreePlace) × (slice_get old r ≡ Some t) × (t.place ≡ p) × (start ≡ suc r)
 
 -- A place between the first n of a list and the others, where an insertion goes that skips greater stamps.
 pub record IsGap (old : List TreePlace) (x : TreePlace) (start n : ℕ) : Type 0 where
@@ -52,7 +52,7 @@ pub record IsGap (old : List TreePlace) (x : TreePlace) (start n : ℕ) : Type 0
   pub stops : (t : TreePlace) → slice_get old n ≡ Some t → stamp_cmp t.place x.place ≡ Less
 
 module _ (xs ys : List TreePlace) (x : TreePlace) (start : ℕ) (tree : IsTree (xs ++ ys)) (sorted : IsStrictlySortedBy (tree_cmp (xs ++ ys)) (stamps_of (xs ++ ys))) (new : IsNewIn (xs ++ ys) x.place)
-    (reference : (p : Moment) → x.after ≡ Some p → IsPlaceOf (xs ++ ys) p × (stamp_cmp p x.place ≡ Less)) (gap : IsGap (xs ++ ys) x start (length xs)) where
+    (reference : (p : Stamp) → x.after ≡ Some p → IsPlaceOf (xs ++ ys) p × (stamp_cmp p x.place ≡ Less)) (gap : IsGap (xs ++ ys) x start (length xs)) where
   grown : IsTree (xs ++ x ∷ ys)
   grown = tree_grows xs ys x tree new reference
 
@@ -62,7 +62,7 @@ module _ (xs ys : List TreePlace) (x : TreePlace) (start : ℕ) (tree : IsTree (
   after_is : after_of (xs ++ x ∷ ys) x.place ≡ x.after
   after_is = after_at (xs ++ x ∷ ys) grown (length xs) x (new_stands xs ys x)
 
-  after_stays : (p : Moment) → IsPlaceOf (xs ++ ys) p → after_of (xs ++ x ∷ ys) p ≡ after_of (xs ++ ys) p
+  after_stays : (p : Stamp) → IsPlaceOf (xs ++ ys) p → after_of (xs ++ x ∷ ys) p ≡ after_of (xs ++ ys) p
   after_stays p there = after_of_others xs ys x p (by (stamp_eq x.place p) refl)
     where
       by : (b : Bool) → stamp_eq x.place p ≡ b → b ≡ false
@@ -82,7 +82,7 @@ module _ (xs ys : List TreePlace) (x : TreePlace) (start : ℕ) (tree : IsTree (
   before_start : (k : ℕ) (t : TreePlace) → k < start → slice_get (xs ++ ys) k ≡ Some t → tree_cmp (xs ++ x ∷ ys) t.place x.place ≡ Less
   before_start k t lt at = by x.after refl
     where
-      by : (o : Option Moment) → x.after ≡ o → tree_cmp (xs ++ x ∷ ys) t.place x.place ≡ Less
+      by : (o : Option Stamp) → x.after ≡ o → tree_cmp (xs ++ x ∷ ys) t.place x.place ≡ Less
       by None head = absurd (omega (arith, gap.right.head head))
       by (Some p) after = at_or_before (gap.right.reference p after)
         where
@@ -90,28 +90,28 @@ module _ (xs ys : List TreePlace) (x : TreePlace) (start : ℕ) (tree : IsTree (
           at_or_before (r, u, u_at, u_is, start_is) =
               let p_first : tree_cmp (xs ++ x ∷ ys) p x.place ≡ Less = after_first (xs ++ x ∷ ys) older x.place p (after_is ∙ after) in
               elim (cases_lt k r) [
-                | inl less ↦ (tree_cmp_total (xs ++ x ∷ ys)).trans t.place p x.place (subst (λ (q : Moment). tree_cmp (xs ++ x ∷ ys) t.place q ≡ Less) u_is (rises k r t u less at u_at)) p_first
+                | inl less ↦ (tree_cmp_total (xs ++ x ∷ ys)).trans t.place p x.place (subst (λ (q : Stamp). tree_cmp (xs ++ x ∷ ys) t.place q ≡ Less) u_is (rises k r t u less at u_at)) p_first
                 | inr not_less ↦
                     let same_index : k ≡ r = omega arith in
                     let same : t ≡ u = same_Some t u (sym at ∙ ap (slice_get (xs ++ ys)) same_index ∙ u_at) in
-                    subst (λ (q : Moment). tree_cmp (xs ++ x ∷ ys) q x.place ≡ Less) (sym (ap (λ (v : TreePlace). v.place) same ∙ u_is)) p_first
+                    subst (λ (q : Stamp). tree_cmp (xs ++ x ∷ ys) q x.place ≡ Less) (sym (ap (λ (v : TreePlace). v.place) same ∙ u_is)) p_first
               ]
 
   -- the stamp of an old place that the new one stands before, up to one that is skipped
-  greater_up_to : (k : ℕ) (t : TreePlace) → k < length xs → slice_get (xs ++ ys) k ≡ Some t → (u : Moment) → IsPlaceOf (xs ++ ys) u → tree_cmp (xs ++ x ∷ ys) x.place u ≡ Less
+  greater_up_to : (k : ℕ) (t : TreePlace) → k < length xs → slice_get (xs ++ ys) k ≡ Some t → (u : Stamp) → IsPlaceOf (xs ++ ys) u → tree_cmp (xs ++ x ∷ ys) x.place u ≡ Less
       → (u ≡ t.place) ⊎ (tree_cmp (xs ++ x ∷ ys) u t.place ≡ Less) → stamp_cmp x.place u ≡ Less
   greater_up_to k t lt at u there later up_to =
-      subst (λ (q : Moment). stamp_cmp x.place q ≡ Less) there.is (gap.skipped there.index there.found not_before (omega (arith, not_behind, lt)) there.at)
+      subst (λ (q : Stamp). stamp_cmp x.place q ≡ Less) there.is (gap.skipped there.index there.found not_before (omega (arith, not_behind, lt)) there.at)
     where
       not_before : start ≤ there.index
       not_before = elim (cases_lt there.index start) [
-        | inl less ↦ absurd (never_both (xs ++ x ∷ ys) x.place there.found.place (subst (λ (q : Moment). tree_cmp (xs ++ x ∷ ys) x.place q ≡ Less) (sym there.is) later) (before_start there.index there.found less there.at))
+        | inl less ↦ absurd (never_both (xs ++ x ∷ ys) x.place there.found.place (subst (λ (q : Stamp). tree_cmp (xs ++ x ∷ ys) x.place q ≡ Less) (sym there.is) later) (before_start there.index there.found less there.at))
         | inr not_less ↦ omega arith
       ]
 
       not_behind : there.index ≤ k
       not_behind = elim (cases_lt k there.index) [
-        | inl less ↦ absurd (turn up_to (subst (λ (q : Moment). tree_cmp (xs ++ x ∷ ys) t.place q ≡ Less) there.is (rises k there.index t there.found less at there.at)))
+        | inl less ↦ absurd (turn up_to (subst (λ (q : Stamp). tree_cmp (xs ++ x ∷ ys) t.place q ≡ Less) there.is (rises k there.index t there.found less at there.at)))
         | inr not_less ↦ omega arith
       ]
         where
@@ -120,7 +120,7 @@ module _ (xs ys : List TreePlace) (x : TreePlace) (start : ℕ) (tree : IsTree (
               let tied = ap (tree_cmp (xs ++ x ∷ ys) t.place) same ∙ tied_itself (tree_cmp_total (xs ++ x ∷ ys)) t.place in absurd cc
           turn (inr before) less = never_both (xs ++ x ∷ ys) u t.place before less
 
-  closed : (s p : Moment) → IsPlaceOf (xs ++ ys) s → after_of (xs ++ x ∷ ys) s ≡ Some p → IsPlaceOf (xs ++ ys) p
+  closed : (s p : Stamp) → IsPlaceOf (xs ++ ys) s → after_of (xs ++ x ∷ ys) s ≡ Some p → IsPlaceOf (xs ++ ys) p
   closed s p there after = (afters_are_older (xs ++ ys) tree).there s p (sym (after_stays s there) ∙ after)
 
   before_new : (k : ℕ) (t : TreePlace) → k < length xs → slice_get (xs ++ ys) k ≡ Some t → tree_cmp (xs ++ x ∷ ys) t.place x.place ≡ Less
@@ -132,9 +132,9 @@ module _ (xs ys : List TreePlace) (x : TreePlace) (start : ℕ) (tree : IsTree (
   before_first t at =
       before_smaller (xs ++ x ∷ ys) older x.place t.place (gap.stops t at) (λ p after. by p (gap.right.reference p (sym after_is ∙ after)))
     where
-      by : (p : Moment) → (r : ℕ) × (u : TreePlace) × (slice_get (xs ++ ys) r ≡ Some u) × (u.place ≡ p) × (start ≡ suc r) → tree_cmp (xs ++ x ∷ ys) p t.place ≡ Less
+      by : (p : Stamp) → (r : ℕ) × (u : TreePlace) × (slice_get (xs ++ ys) r ≡ Some u) × (u.place ≡ p) × (start ≡ suc r) → tree_cmp (xs ++ x ∷ ys) p t.place ≡ Less
       by p (r, u, u_at, u_is, start_is) =
-          subst (λ (q : Moment). tree_cmp (xs ++ x ∷ ys) q t.place ≡ Less) u_is (rises r (length xs) u t (omega (arith, start_is, gap.from)) u_at at)
+          subst (λ (q : Stamp). tree_cmp (xs ++ x ∷ ys) q t.place ≡ Less) u_is (rises r (length xs) u t (omega (arith, start_is, gap.from)) u_at at)
 
   behind_new : (k : ℕ) (t : TreePlace) → length xs ≤ k → slice_get (xs ++ ys) k ≡ Some t → tree_cmp (xs ++ x ∷ ys) x.place t.place ≡ Less
   behind_new k t le at = elim (cases_lt (length xs) k) [

@@ -2,11 +2,11 @@
 use Rattle.std.specs.Prelude.{◌≡◌, Bool, true, false, ◌&&◌, Option, Some, None, refl}
 use Rattle.std.specs.Cmp.{IsEquivalence}
 use Rattle.std.proofs.Common.{sym, ap, ◌∙◌, true≢false}
-use Rattle.mt_stamp.specs.Moment.{Moment, stamp_eq}
+use Rattle.mt_stamp.specs.StampOrder.{Stamp, stamp_eq}
 use Rattle.mt_stamp.proofs.Order.{stamp_eq-true, stamp_eq-itself}
 use Rattle.mt_tracklist.specs.declared.track_list.Placed.{Placed}
 
-abbrev pub same_after : Option Moment → Option Moment → Bool
+abbrev pub same_after : Option Stamp → Option Stamp → Bool
 same_after None None = true
 same_after (Some p) (Some q) = stamp_eq p q
 same_after _ _ = false
@@ -21,13 +21,13 @@ pub both : (a b : Bool) → (a && b) ≡ true → (a ≡ true) × (b ≡ true)
 both true b e = (refl, e)
 both false b e = absurd (true≢false (sym e))
 
-after_true : (o p : Option Moment) → same_after o p ≡ true → o ≡ p
+after_true : (o p : Option Stamp) → same_after o p ≡ true → o ≡ p
 after_true None None e = refl
 after_true None (Some q) e = absurd (true≢false (sym e))
 after_true (Some p) None e = absurd (true≢false (sym e))
 after_true (Some p) (Some q) e = ap Some (stamp_eq-true p q e)
 
-after_itself : (o : Option Moment) → same_after o o ≡ true
+after_itself : (o : Option Stamp) → same_after o o ≡ true
 after_itself None = refl
 after_itself (Some p) = stamp_eq-itself p
 

@@ -1,17 +1,17 @@
 -- Insertions that compute.
 use Rattle.std.specs.Prelude.{◌≡◌, [], ◌∷◌, Option, Some, None, refl}
-use Rattle.mt_stamp.specs.Moment.{Moment}
+use Rattle.mt_stamp.specs.StampOrder.{Stamp}
 use Rattle.mt_stamp.specs.TreeExamples.{a, x, y, z, stamp}
 use Rattle.mt_tracklist.specs.declared.track_list.Placed.{Placed}
 use Rattle.mt_tracklist.specs.Skipping.{inserted}
 
-abbrev pub placed : Moment → Option Moment → Placed
+abbrev pub placed : Stamp → Option Stamp → Placed
 placed p after = record { place = p; after = after; track = p }
 
-abbrev pub at_head : Moment → Placed
+abbrev pub at_head : Stamp → Placed
 at_head p = placed p None
 
-abbrev pub after_a : Moment → Placed
+abbrev pub after_a : Stamp → Placed
 after_a p = placed p (Some a)
 
 -- the order of the four places is z a y x, whichever comes first

@@ -3,7 +3,7 @@ use Rattle.std.specs.Prelude.{◌≡◌, Bool, List, map, Option, Some, None}
 use Rattle.std.specs.List.{list_any}
 use Rattle.std.specs.List.Sorted.{IsStrictlySortedBy}
 use Rattle.std.specs.declared.cmp.Ordering.TheVariants.{Less}
-use Rattle.mt_stamp.specs.Moment.{Moment, stamp_cmp, stamp_eq}
+use Rattle.mt_stamp.specs.StampOrder.{Stamp, stamp_cmp, stamp_eq}
 use Rattle.mt_stamp.specs.Tree.{TreePlace, IsTree, stamps_of, tree_cmp}
 use Rattle.mt_tracklist.specs.declared.track_list.Placed.{Placed}
 
@@ -20,10 +20,10 @@ pub record IsOrdered (list : List Placed) : Type 0 where
   pub sorted : IsStrictlySortedBy (tree_cmp (tree_of list)) (stamps_of (tree_of list))
 
 -- whether an element of the list has this place
-abbrev pub has_place : List Placed → Moment → Bool
+abbrev pub has_place : List Placed → Stamp → Bool
 has_place list p = list_any (λ t. stamp_eq t.place p) list
 
 -- what an element is put after has a smaller stamp; the head has none
-abbrev pub IsNewer : Moment → Option Moment → Type 0
+abbrev pub IsNewer : Stamp → Option Stamp → Type 0
 IsNewer place None = Unit {0}
 IsNewer place (Some reference) = stamp_cmp reference place ≡ Less

@@ -2,21 +2,21 @@
 use Rattle.std.specs.Prelude.{◌≡◌, ℕ, ◌+◌, true, false, List, drop, insert, slice_get, Option, Some, None}
 use Rattle.std.specs.List.{position_or_len}
 use Rattle.std.specs.Ordering.{is_lt}
-use Rattle.mt_stamp.specs.Moment.{Moment, stamp_cmp, stamp_eq}
+use Rattle.mt_stamp.specs.StampOrder.{Stamp, stamp_cmp, stamp_eq}
 use Rattle.mt_tracklist.specs.declared.track_list.Placed.{Placed}
 use Rattle.mt_tracklist.specs.Ordered.{IsOrdered, IsNewer, has_place}
 
 -- the index of a place; the list's length where it is not there
-abbrev pub index_in : List Placed → Moment → ℕ
+abbrev pub index_in : List Placed → Stamp → ℕ
 index_in list p = position_or_len (λ t. stamp_eq t.place p) list
 
 -- right of the reference; none: the front
-abbrev pub right_of : List Placed → Option Moment → ℕ
+abbrev pub right_of : List Placed → Option Stamp → ℕ
 right_of list None = 0
 right_of list (Some reference) = index_in list reference + 1
 
 -- how many elements a place skips: those up to the first with a smaller stamp
-abbrev pub skipped : Moment → List Placed → ℕ
+abbrev pub skipped : Stamp → List Placed → ℕ
 skipped place list = position_or_len (λ t. is_lt (stamp_cmp t.place place)) list
 
 -- Where an insertion goes: right of its reference, past the elements up to the first with a smaller stamp.
@@ -28,12 +28,12 @@ abbrev pub inserted : List Placed → Placed → List Placed
 inserted list t = insert list (insertion_index list t) t
 
 -- what a place is put after is in the list; the head always is
-abbrev pub IsReferenceThere : List Placed → Option Moment → Type 0
+abbrev pub IsReferenceThere : List Placed → Option Stamp → Type 0
 IsReferenceThere list None = Unit {0}
 IsReferenceThere list (Some reference) = has_place list reference ≡ true
 
 -- what a place is put after is not in the list
-abbrev pub IsReferenceMissing : List Placed → Option Moment → Type 0
+abbrev pub IsReferenceMissing : List Placed → Option Stamp → Type 0
 IsReferenceMissing list None = ⊥
 IsReferenceMissing list (Some reference) = has_place list reference ≡ false
 

@@ -2,7 +2,7 @@
 
 ghost use Rattle.std.specs.Prelude.{◌≡◌, ◌<◌, ℕ, true, false, length, map, slice_get, Some, IfOk};
 ghost use Rattle.std.specs.List.Sorted.{IsStrictlySortedBy};
-ghost use Rattle.mt_stamp.specs.Moment.{Moment, stamp_cmp};
+ghost use Rattle.mt_stamp.specs.StampOrder.{Stamp, stamp_cmp};
 ghost use Rattle.mt_stamp.specs.Sorting.{RisesStrictly};
 ghost use Rattle.mt_stamp.specs.Tree.{IsPlaceOf, IsTree, stamps_of, tree_cmp};
 ghost use Rattle.mt_tracklist.specs.Chain.{has};
@@ -59,7 +59,7 @@ fn link_place<A: Allocator>(
     requires tree { IsTree (given_tree places.now) }
     requires in_range { index < chain.old.count }
     requires new { has chain.old.items index ≡ false }
-    requires there { (p : Moment) → after ≡ Some p → (there : IsPlaceOf (given_tree places.now) p) × (has chain.old.items there.index ≡ true) }
+    requires there { (p : Stamp) → after ≡ Some p → (there : IsPlaceOf (given_tree places.now) p) × (has chain.old.items there.index ≡ true) }
     ensures count { chain.new.count ≡ chain.old.count }
     ensures items { IsPut (given_tree places.now) after index chain.old.items chain.new.items }
 {

@@ -1,7 +1,7 @@
 //! The list of places.
 
 ghost use Rattle.std.specs.Prelude.{◌≡◌, ◌+◌, ◌≤◌, [], true, false, drop, length, position, IfOk, IfErr, OnOk, OnErr, IsErrOf, MatchOption, IsTrue, ◌↔◌};
-ghost use Rattle.mt_stamp.specs.Moment.{stamp_eq};
+ghost use Rattle.mt_stamp.specs.StampOrder.{stamp_eq};
 ghost use Rattle.mt_tracklist.specs.Ordered.{IsOrdered, IsNewer, has_place};
 ghost use Rattle.mt_tracklist.specs.Skipping.{inserted, skipped, right_of, IsReferenceThere, IsReferenceMissing};
 

@@ -5,11 +5,11 @@ use Rattle.std.specs.Prelude.{if◌then◌else◌}
 use Rattle.std.specs.Fmt.{decimal}
 use Rattle.std.specs.List.{flat_map}
 use Rattle.csv.specs.Writing.{default_writer, row_text}
-use Rattle.mt_stamp.specs.Moment.{Moment}
+use Rattle.mt_stamp.specs.StampOrder.{Stamp}
 use Rattle.mt_stamp.specs.Texts.{stamp_text}
 use Rattle.mt_op.specs.Digest.{digest_text}
-use Rattle.mt_op.specs.Gain.{Ratio}
-use Rattle.mt_sessionview.specs.Content.{Clip, Track, Marker, Content}
+use Rattle.mt_op.specs.Gain.{Gain}
+use Rattle.mt_sessionview.specs.SessionValue.{Clip, Track, Marker, Session}
 use Rattle.text_labels.specs.Seconds.{seconds_text}
 
 -- ---- fields
@@ -19,7 +19,7 @@ abbrev pub amount : Option ℕ → ℕ → List ℕ
 amount None frames = decimal frames
 amount (Some rate) frames = seconds_text rate frames
 
-abbrev pub gain_text : Ratio → List ℕ
+abbrev pub gain_text : Gain → List ℕ
 gain_text g = decimal g.num ++ (codes "/" ++ decimal g.den)
 
 abbrev pub switch_text : Bool → List ℕ
@@ -42,7 +42,7 @@ track_row t =
     ∷ gain_text t.gain ∷ switch_text t.mute ∷ [] ∷ [] ∷ t.title ∷ [] ∷ []
 
 -- a clip, on the track of this stamp
-abbrev pub clip_row : Option ℕ → Moment → Clip → Row
+abbrev pub clip_row : Option ℕ → Stamp → Clip → Row
 clip_row rate track c =
     codes "clip" ∷ stamp_text c.clip ∷ stamp_text track
     ∷ amount rate c.at ∷ amount rate c.offset ∷ amount rate c.len
@@ -60,7 +60,7 @@ marker_row rate m =
 unfoldable pub line : Row → List ℕ
 line row = row_text default_writer row
 
-abbrev pub clips_text : Option ℕ → Moment → List Clip → List ℕ
+abbrev pub clips_text : Option ℕ → Stamp → List Clip → List ℕ
 clips_text rate track clips = flat_map (λ c. line (clip_row rate track c)) clips
 
 abbrev pub track_text : Option ℕ → Track → List ℕ
@@ -70,7 +70,7 @@ abbrev pub markers_text : Option ℕ → List Marker → List ℕ
 markers_text rate ms = flat_map (λ m. line (marker_row rate m)) ms
 
 -- Fields hold what the session holds, whatever they begin with.
-abbrev pub table : Option ℕ → Content → List ℕ
+abbrev pub table : Option ℕ → Session → List ℕ
 table rate c =
     line header
     ++ (flat_map (track_text rate) c.tracks ++ markers_text rate c.markers)

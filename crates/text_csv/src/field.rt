@@ -8,10 +8,10 @@ ghost use Rattle.mt_op.specs.Digest.{digest_text};
 ghost use Rattle.text_csv.specs.Table.{amount, gain_text, switch_text};
 ghost use Rattle.text_csv.specs.Writing.{AddsField, EndsRow};
 
+use base_text::append_decimal;
 use csv::Writer;
 use mt_op::{Digest, Gain};
 use mt_stamp::Stamp;
-use base_text::append_decimal;
 use std::alloc::{AllocError, Allocator};
 use text_labels::append_seconds;
 

@@ -9,10 +9,10 @@ use Rattle.std.proofs.lemmas.Bool.{and_parts}
 use Rattle.std.proofs.lemmas.Fmt.{decimal_is_IsNumeral, IsAscii-decimal}
 use Rattle.std.proofs.lemmas.Str.{IsUtf8-append, IsUtf8-from_ascii, IsUtf8-from_is_utf8, is_utf8-from_IsUtf8, IsAscii-append}
 use Rattle.std.proofs.lemmas.Str.Parse.{digit_at}
-use Rattle.mt_stamp.specs.Moment.{Moment}
-use Rattle.mt_op.specs.Operation.{AddMarker}
+use Rattle.mt_stamp.specs.StampOrder.{Stamp}
+use Rattle.mt_op.specs.OpValue.{AddMarker}
 use Rattle.mt_op.specs.Title.{is_plain, is_title}
-use Rattle.mt_logtext.specs.LogText.{act_text, number_word, word}
+use Rattle.text_log.specs.LogText.{act_text, number_word, word}
 use Rattle.mt_replica.specs.Edit as edit
 use Rattle.mt_script.specs.Laws.{NumbersAreSpelled}
 use Rattle.base_text.specs.Cutting.{cut}
@@ -81,7 +81,7 @@ module _ (spelled : NumbersAreSpelled) where
   unfolding said add_marker
   said_adds items at title small is = rw (parted at title small, number_is at small, is)
 
-  said_spans : (items : Items) (line len : ℕ) (marker : Moment) → line < 2 ^ 32 → len < 2 ^ 32 → item_of_line items line ≡ Some marker
+  said_spans : (items : Items) (line len : ℕ) (marker : Stamp) → line < 2 ^ 32 → len < 2 ^ 32 → item_of_line items line ≡ Some marker
       → said items (length_words line len) ≡ Some (edit.SetMarkerLength marker len)
   unfolding said set_marker_length item
   said_spans items line len marker line_small len_small made =

@@ -1,10 +1,10 @@
 -- What holds of the titles of labels, and of the lines of markers.
 use Rattle.std.specs.Prelude.{◌≡◌, ◌<◌, ◌^◌, ℕ, true, List, Some}
 use Rattle.std.specs.List.{AllByRecursion}
-use Rattle.mt_stamp.specs.Moment.{Moment}
-use Rattle.mt_op.specs.Operation.{AddMarker}
+use Rattle.mt_stamp.specs.StampOrder.{Stamp}
+use Rattle.mt_op.specs.OpValue.{AddMarker}
 use Rattle.mt_op.specs.Title.{is_title}
-use Rattle.mt_logtext.specs.LogText.{act_text}
+use Rattle.text_log.specs.LogText.{act_text}
 use Rattle.mt_replica.specs.Edit as edit
 use Rattle.mt_script.specs.Words.{item_of_line}
 use Rattle.mt_script.specs.Forms.{Items, asked}
@@ -25,6 +25,6 @@ TitlesStay = (title : List ℕ) → is_title title ≡ true → title_of title �
 pub record LinesAsk : Type 0 where
   pub adds : (items : Items) (at : ℕ) (title : List ℕ) → at < 2 ^ 32 → is_title title ≡ true
       → asked items (act_text (AddMarker at title)) ≡ Some (edit.AddMarker at title)
-  pub spans : (items : Items) (line len : ℕ) (marker : Moment) → line < 2 ^ 32 → len < 2 ^ 32
+  pub spans : (items : Items) (line len : ℕ) (marker : Stamp) → line < 2 ^ 32 → len < 2 ^ 32
       → item_of_line items line ≡ Some marker
       → asked items (length_words line len) ≡ Some (edit.SetMarkerLength marker len)

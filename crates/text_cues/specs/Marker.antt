@@ -1,8 +1,8 @@
 -- A marker as lines of a script (profile).
 use Rattle.std.specs.Prelude.{ℕ, ◌==◌, List, [], ◌∷◌, ◌++◌, codes, if◌then◌else◌}
 use Rattle.std.specs.Fmt.{decimal}
-use Rattle.mt_op.specs.Operation.{AddMarker}
-use Rattle.mt_logtext.specs.LogText.{act_text, word, number_word}
+use Rattle.mt_op.specs.OpValue.{AddMarker}
+use Rattle.text_log.specs.LogText.{act_text, word, number_word}
 use Rattle.mt_sessionview.specs.SessionText.{newline}
 
 -- the line that adds it: `add-marker AT TITLE`

@@ -2,7 +2,7 @@
 use Rattle.std.proofs.Common.{◌≡◌, ℕ, zero, suc, ◌+◌, ◌<◌, List, [], ◌∷◌, ◌++◌, length, get_or, take, drop, map}
 use Rattle.std.proofs.Common.{sym, ap, subst, ◌∙◌, arith, append_assoc}
 use Rattle.std.proofs.lemmas.List.{drop_more, map_more}
-use Rattle.mt_sessionview.specs.Content.{Clip}
+use Rattle.mt_sessionview.specs.SessionValue.{Clip}
 use Rattle.mt_overlap.specs.declared.span.Segment.{Segment}
 use Rattle.mt_overlap.specs.Overlap.{segment_at}
 use Rattle.text_edl.specs.declared.frame_rate.FrameRate.{FrameRate}

@@ -6,14 +6,14 @@ use Rattle.std.specs.Fmt.{decimal}
 use Rattle.std.specs.Ordering.{is_eq}
 use Rattle.mt_op.specs.declared.digest.Digest.{Digest}
 use Rattle.mt_op.specs.Digest.{digest_text}
-use Rattle.mt_sessionview.specs.Content.{Clip, Track}
+use Rattle.mt_sessionview.specs.SessionValue.{Clip, Track}
 use Rattle.mt_sessionview.specs.SessionText.{newline}
 use Rattle.mt_overlap.specs.declared.span.Span.{Span}
 use Rattle.mt_overlap.specs.declared.span.Segment.{Segment}
 use Rattle.mt_overlap.specs.Overlap.{AreSegments}
 use Rattle.mt_render.specs.Sources.{digest_cmp}
 use Rattle.mt_render.specs.Lanes.{clip_at, AreSpans}
-use Rattle.mt_times.specs.Printing.{three_digits}
+use Rattle.base_times.specs.Printing.{three_digits}
 use Rattle.text_cues.specs.Title.{shown}
 use Rattle.text_edl.specs.declared.frame_rate.FrameRate.{FrameRate}
 use Rattle.text_edl.specs.declared.event.Event.{Event}

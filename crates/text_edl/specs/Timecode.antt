@@ -2,7 +2,7 @@
 use Rattle.std.specs.Prelude.{ℕ, ◌+◌, ◌-◌, ◌*◌, ◌/◌, ◌%◌, ◌==◌, nat_lt, Bool, true, false}
 use Rattle.std.specs.Prelude.{List, ◌∷◌, ◌++◌, codes, if◌then◌else◌}
 use Rattle.std.specs.Fmt.{decimal}
-use Rattle.mt_times.specs.Printing.{two_digits}
+use Rattle.base_times.specs.Printing.{two_digits}
 use Rattle.text_edl.specs.declared.frame_rate.FrameRate.{FrameRate}
 use Rattle.text_edl.specs.declared.frame_rate.FrameRate.TheVariants.{Film24, Video25, Drop2997}
 use Rattle.text_edl.specs.declared.frame_rate.FrameRate.TheVariants.{Whole30}

@@ -2,7 +2,7 @@
 
 ghost use Rattle.std.specs.Prelude.{◌≡◌, ◌+◌, ◌<◌, ◌≤◌, length, IfOk};
 ghost use Rattle.mt_stamp.specs.Sorting.{DifferBy};
-ghost use Rattle.mt_sessionview.specs.Content.{Clip};
+ghost use Rattle.mt_sessionview.specs.SessionValue.{Clip};
 ghost use Rattle.mt_overlap.specs.Overlap.{segment_at};
 ghost use Rattle.mt_render.specs.Lanes.{clip_at};
 ghost use Rattle.text_edl.specs.EditList.{event_of, Heard, AreEvents};

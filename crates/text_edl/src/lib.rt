@@ -3,7 +3,7 @@
 //! ```rust
 //! use mt_op::Digest;
 //! use mt_sessionview::from_scratch;
-//! use mt_testkit::{RECORDING, log_of_a_clip};
+//! use test_kit::{RECORDING, log_of_a_clip};
 //! use std::test::Fail;
 //! use text_edl::{FrameRate, Named, edit_list};
 //!

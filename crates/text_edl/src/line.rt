@@ -12,8 +12,8 @@ use crate::event::Event;
 use crate::frame_rate::{FrameRate, is_exact, video_frame};
 use crate::named::{Named, name_of};
 use crate::timecode::{append_three, append_timecode};
-use mt_op::Digest;
 use base_text::append_decimal;
+use mt_op::Digest;
 use std::alloc::{AllocError, Allocator};
 use text_cues::append_shown;
 

@@ -1,7 +1,7 @@
 //! Time codes.
 
 ghost use Rattle.std.specs.Prelude.{◌≡◌, ◌<◌, ◌+◌, ◌++◌, ◌^◌, OnOk};
-ghost use Rattle.mt_times.specs.Printing.{two_digits, three_digits};
+ghost use Rattle.base_times.specs.Printing.{two_digits, three_digits};
 ghost use Rattle.text_edl.specs.Timecode.{hours_text, sign, number_text, timecode};
 
 use crate::frame_rate::{FrameRate, counted, is_drop, shown_number};

@@ -5,7 +5,7 @@ use Rattle.std.proofs.Math.Nat.{one-le-pow, div-div-eq-div-mul, mul-add-div_righ
 use Rattle.std.proofs.lemmas.Bool.{cases_lt}
 use Rattle.std.proofs.lemmas.Nat.{le-div}
 use Rattle.base_text.specs.Cutting.{◌>>=◌, cut}
-use Rattle.mt_times.specs.Words.{point, number}
+use Rattle.base_times.specs.Words.{point, number}
 use Rattle.text_labels.specs.Seconds.{Time, whole_time, later, nearest_frame, frame, parts, seconds_at, seconds, frame_of}
 use Rattle.text_labels.specs.Steps.{part_of, frame_by, by_whole, by_parts}
 

@@ -12,7 +12,7 @@ use Rattle.std.proofs.lemmas.Nat.{div_below}
 use Rattle.std.proofs.lemmas.Str.{digit_value_digit}
 use Rattle.std.proofs.lemmas.Str.Parse.{IsNumeralModel, numerals_by_value, digit_at}
 use Rattle.base_text.specs.Digits.{are_digits}
-use Rattle.mt_times.specs.Words.{number}
+use Rattle.base_times.specs.Words.{number}
 use Rattle.text_labels.specs.Seconds.{nearest_frame, micros, six_digits, micros_text, seconds}
 use Rattle.text_labels.specs.Laws.{FramesSurvive}
 use Rattle.base_text.proofs.Cuts.{cut_there}

@@ -10,7 +10,7 @@ use Rattle.std.proofs.lemmas.Bool.{and_parts}
 use Rattle.std.proofs.lemmas.Fmt.{decimal_is_IsNumeral}
 use Rattle.std.proofs.lemmas.Str.Parse.{digit_at}
 use Rattle.mt_op.specs.Title.{is_plain, is_title}
-use Rattle.mt_sessionview.specs.Content.{Marker}
+use Rattle.mt_sessionview.specs.SessionValue.{Marker}
 use Rattle.base_text.specs.Cutting.{newline, lines}
 use Rattle.text_cues.specs.Marker.{marker_lines, line_count}
 use Rattle.text_labels.specs.Seconds.{micros, six_digits, seconds_text}

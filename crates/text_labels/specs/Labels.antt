@@ -1,7 +1,7 @@
 -- Markers as an Audacity label track: a line for each, `START TAB END TAB TITLE`.
 use Rattle.std.specs.Prelude.{ℕ, ◌+◌, List, [], ◌∷◌, ◌++◌}
 use Rattle.std.specs.List.{flat_map}
-use Rattle.mt_sessionview.specs.Content.{Marker}
+use Rattle.mt_sessionview.specs.SessionValue.{Marker}
 use Rattle.mt_sessionview.specs.SessionText.{newline}
 use Rattle.text_labels.specs.Seconds.{seconds_text}
 

@@ -3,7 +3,7 @@ use Rattle.std.specs.Prelude.{◌≡◌, ◌<◌, ◌≤◌, ◌+◌, ◌*◌, �
 use Rattle.std.specs.Prelude.{List, [], ◌∷◌, ◌++◌, length, Some, Ok}
 use Rattle.std.specs.List.{AllByRecursion}
 use Rattle.mt_op.specs.Title.{is_title}
-use Rattle.mt_sessionview.specs.Content.{Marker}
+use Rattle.mt_sessionview.specs.SessionValue.{Marker}
 use Rattle.text_cues.specs.Marker.{marker_lines, line_count}
 use Rattle.text_labels.specs.Seconds.{seconds_text, frame_of}
 use Rattle.text_labels.specs.Labels.{label_track}

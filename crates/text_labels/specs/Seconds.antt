@@ -3,9 +3,9 @@
 use Rattle.std.specs.Prelude.{ℕ, ◌+◌, ◌*◌, ◌/◌, ◌%◌, ◌^◌, nat_lt, List, length, ◌++◌, codes}
 use Rattle.std.specs.Prelude.{Option, Some, None}
 use Rattle.std.specs.Fmt.{decimal}
-use Rattle.mt_times.specs.Printing.{three_digits}
+use Rattle.base_times.specs.Printing.{three_digits}
 use Rattle.base_text.specs.Cutting.{◌>>=◌, cut}
-use Rattle.mt_times.specs.Words.{point, number, passing}
+use Rattle.base_times.specs.Words.{point, number, passing}
 
 -- ---- printed
 

@@ -2,7 +2,7 @@
 use Rattle.std.specs.Prelude.{◌≡◌, ℕ, ◌+◌, ◌*◌, ◌/◌, ◌^◌, min, nat_lt, List, ◌++◌, length}
 use Rattle.std.specs.Prelude.{Option, Some, Result, Ok}
 use Rattle.base_text.specs.Cutting.{◌>>=◌}
-use Rattle.mt_times.specs.Words.{number, passing}
+use Rattle.base_times.specs.Words.{number, passing}
 use Rattle.text_cues.specs.CueLines.{LinesText}
 use Rattle.text_labels.specs.declared.fault.LabelsFault.{LabelsFault}
 use Rattle.text_labels.specs.declared.label.Label.{Label}

@@ -4,7 +4,7 @@ use super::{
     Part, Shell, is_valued, place_behind, put_command_names, put_names, put_options, put_part,
 };
 use crate::words::{HELP, Lists, VERSION, WHY, Word, Words, has_below};
-use mt_latch::BufferedLatch;
+use base_io::BufferedLatch;
 use std::io::Write;
 
 const HEAD: &[u8] = b"\

@@ -2,8 +2,8 @@
 
 use super::{Part, Shell, is_valued, place_behind, put_names, put_options, put_part, put_quoted};
 use crate::escape::Language;
-use crate::words::{HELP, HELP_COMMAND, Lists, Shape, VERSION, WHY, Word, Words, has_below};
-use mt_latch::BufferedLatch;
+use crate::words::{ArgKind, HELP, HELP_COMMAND, Lists, VERSION, WHY, Word, Words, has_below};
+use base_io::BufferedLatch;
 use std::io::Write;
 
 const HEAD: &[u8] = b"\
@@ -126,7 +126,7 @@ fn put_option<W: Write>(script: &mut BufferedLatch<'_, W>, named: Named<'_>, wor
     put_at(script, named);
     script.put(b"' -l ");
     script.put(word.name().as_bytes());
-    if word.shape() == Shape::Valued {
+    if word.shape() == ArgKind::Valued {
         script.put(b" -r");
     }
     script.put(b" -d ");

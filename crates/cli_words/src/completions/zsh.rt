@@ -2,8 +2,8 @@
 
 use super::{Part, Shell, put_command_names, put_names, put_part};
 use crate::escape::{Language, put_escaped};
-use crate::words::{HELP, HELP_COMMAND, Lists, Shape, VERSION, WHY, Word, Words};
-use mt_latch::BufferedLatch;
+use crate::words::{ArgKind, HELP, HELP_COMMAND, Lists, VERSION, WHY, Word, Words};
+use base_io::BufferedLatch;
 use std::io::Write;
 
 const HEAD: &[u8] = b"\
@@ -68,13 +68,13 @@ fn put_values<W: Write>(script: &mut BufferedLatch<'_, W>, word: &Word) {
 fn put_option<W: Write>(script: &mut BufferedLatch<'_, W>, word: &Word) {
     script.put(b"'--");
     script.put(word.name().as_bytes());
-    if word.shape() == Shape::Valued {
+    if word.shape() == ArgKind::Valued {
         script.put(b"=");
     }
     script.put(b"[");
     put_escaped(script, Language::Zsh, word.help().as_bytes());
     script.put(b"]");
-    if word.shape() != Shape::Valued {
+    if word.shape() != ArgKind::Valued {
         script.put(b"'");
         return;
     }
@@ -87,10 +87,10 @@ fn put_option<W: Write>(script: &mut BufferedLatch<'_, W>, word: &Word) {
 fn put_word<W: Write>(script: &mut BufferedLatch<'_, W>, word: &Word) {
     script.put(b" \\\n                ");
     match word.shape() {
-        Shape::Flag | Shape::Valued => return put_option(script, word),
-        Shape::One => script.put(b"':"),
-        Shape::Optional => script.put(b"'::"),
-        Shape::Any | Shape::Many => script.put(b"'*:"),
+        ArgKind::Flag | ArgKind::Valued => return put_option(script, word),
+        ArgKind::One => script.put(b"':"),
+        ArgKind::Optional => script.put(b"'::"),
+        ArgKind::Any | ArgKind::Many => script.put(b"'*:"),
     }
     script.put(word.name().as_bytes());
     put_values(script, word);

@@ -6,10 +6,10 @@ use super::render::{
     format_of, head_of,
 };
 use crate::files::open_all;
+use base_io::Latch;
 use clap::ArgMatches;
-use cli_calls::{CliFault, LineForm, check_log};
+use cli_calls::{CliFault, TextOptions, check_log};
 use cli_words::{Word, Words};
-use mt_latch::Latch;
 use std::io::Write;
 use std::rt::Files;
 
@@ -48,7 +48,7 @@ pub(crate) fn run<F: Files + AllocGlobal, W: Write>(
     words: &ArgMatches<'_>,
     output: &mut Latch<W>,
 ) -> Result<(), CliFault> {
-    let form = LineForm {
+    let form = TextOptions {
         rate: if words.get_flag("times") {
             words.get_one::<u32>("rate")
         } else {

@@ -1,9 +1,9 @@
 //! `radio completions`.
 
+use base_io::Latch;
 use clap::ArgMatches;
 use cli_calls::CliFault;
 use cli_words::{Lists, Shell, Word, Words, put_script};
-use mt_latch::Latch;
 use std::io::Write;
 
 pub(crate) const WORDS: Words = Words {

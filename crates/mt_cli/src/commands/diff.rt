@@ -2,10 +2,10 @@
 
 use super::form_of;
 use crate::files::open_all;
+use base_io::Latch;
 use clap::ArgMatches;
-use cli_calls::{CliFault, DiffForm, diff_logs};
+use cli_calls::{CliFault, DiffKind, diff_logs};
 use cli_words::{AS_JSON, AS_TIMES, TIMES_RATE, Word, Words};
-use mt_latch::Latch;
 use std::io::Write;
 use std::rt::Files;
 
@@ -40,14 +40,14 @@ pub(crate) const WORDS: Words = Words {
 };
 
 // What these words ask for.
-fn asked_for(words: &ArgMatches<'_>) -> DiffForm {
+fn asked_for(words: &ArgMatches<'_>) -> DiffKind {
     if words.get_flag("fields") {
-        return DiffForm::Fields;
+        return DiffKind::Fields;
     }
     if words.get_flag("view") {
-        return DiffForm::View;
+        return DiffKind::View;
     }
-    DiffForm::Operations
+    DiffKind::Operations
 }
 
 pub(crate) fn run<F: Files + AllocGlobal, W: Write>(

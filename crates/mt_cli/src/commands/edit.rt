@@ -2,11 +2,11 @@
 
 use super::rate_of_times;
 use crate::files::{OpenLog, open, open_log};
-use crate::part::{Naming, Part};
+use crate::part::{Part, WriteOptions};
+use base_io::Latch;
 use clap::ArgMatches;
 use cli_calls::{CliFault, edit_log};
 use cli_words::{NEW, NO_SYNC, TIMES_RATE, Word, Words};
-use mt_latch::Latch;
 use mt_stamp::Replica;
 use std::fs::File;
 use std::io::Write;
@@ -57,7 +57,7 @@ pub(crate) fn run<F: Files<File = File> + AllocGlobal, W: Write>(
     let out = words.get_str("OUT").unwrap_or("");
     let OpenLog { log, base } = open_log(rt, 0, words.get_str("LOG").unwrap_or(""), out)?;
     let script = open(rt, 1, words.get_str("SCRIPT").unwrap_or(""))?;
-    let mut part = Part::later(alloc, rt, out, Naming::of(words))?;
+    let mut part = Part::later(alloc, rt, out, WriteOptions::of(words))?;
     let written = edit_log(
         alloc,
         name,

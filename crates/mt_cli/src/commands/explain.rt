@@ -4,11 +4,11 @@ ghost use Rattle.std.specs.Prelude.{◌≡◌, IfErr};
 ghost use Rattle.mt_cli.specs.Mistakes.{IsMistake};
 
 use crate::refusals::{Refusal, find_refusal};
-use crate::stop::{Stop, refused, stopped_by};
+use crate::stop::{Exit, exit_of, refused};
+use base_io::{BufferedLatch, Latch};
 use clap::ArgMatches;
 use cli_calls::CliFault;
 use cli_words::{Word, Words};
-use mt_latch::{BufferedLatch, Latch};
 use std::alloc::Global;
 use std::io::Write;
 
@@ -28,24 +28,24 @@ pub(crate) fn run<W: Write>(
     alloc: Global,
     words: &ArgMatches<'_>,
     output: &mut Latch<W>,
-) -> Result<(), Stop>
+) -> Result<(), Exit>
     ensures untouched_output { IfErr result (λ stop. IsMistake stop → output.new ≡ output.old) }
 {
     let Some(number) = words.get_one::<u8>("N") else {
-        return stopped_by(put_all(output));
+        return exit_of(put_all(output));
     };
     match find_refusal(number) {
-        Some(found) => stopped_by(put_whole(output, found)),
+        Some(found) => exit_of(put_whole(output, found)),
         None => Err(unknown(alloc, number)),
     }
 }
 
 // What is told of a number that is no refusal, as the parser tells of a mistake.
-fn unknown(alloc: Global, number: u8) -> Stop {
+fn unknown(alloc: Global, number: u8) -> Exit {
     match format!(in alloc;
         "error: no refusal has the number {number}\n\nUsage: radio explain [N]\n\nFor more information, try '--help'.\n"
     ) {
-        Ok(text) => Stop::Told {
+        Ok(text) => Exit::Told {
             text,
             is_mistake: true,
         },

@@ -4,11 +4,11 @@ ghost use Rattle.std.specs.Prelude.{◌≡◌, IfErr};
 ghost use Rattle.mt_cli.specs.Mistakes.{IsMistake};
 
 use crate::files::{open, open_all};
-use crate::stop::{Stop, refused, stopped_by};
+use crate::stop::{Exit, exit_of, refused};
+use base_io::Latch;
 use clap::ArgMatches;
-use cli_calls::{CliFault, Wanted, find_items, read_digest};
+use cli_calls::{CliFault, FindQuery, find_items, read_digest};
 use cli_words::{Word, Words};
-use mt_latch::Latch;
 use mt_op::Digest;
 use std::alloc::Global;
 use std::io::Write;
@@ -48,17 +48,17 @@ pub(crate) const WORDS: Words = Words {
 fn wanted<'w, F: Files + AllocGlobal>(
     rt: &F,
     words: &ArgMatches<'w>,
-) -> Result<Wanted<'w>, CliFault> {
+) -> Result<FindQuery<'w>, CliFault> {
     let what = words.get_str("WHAT").unwrap_or("");
     match words.get_str("KIND") {
-        Some("track") => Ok(Wanted::Track(what)),
-        Some("marker") => Ok(Wanted::Marker(what)),
+        Some("track") => Ok(FindQuery::Track(what)),
+        Some("marker") => Ok(FindQuery::Marker(what)),
         _ if words.get_flag("wave") => {
             let mut file = open(rt, 1, what)?;
-            Ok(Wanted::Clip(read_digest(&rt.alloc(), 1, &mut file)?))
+            Ok(FindQuery::Clip(read_digest(&rt.alloc(), 1, &mut file)?))
         }
         _ => match Digest::read(what) {
-            Ok(source) => Ok(Wanted::Clip(source)),
+            Ok(source) => Ok(FindQuery::Clip(source)),
             Err(fault) => Err(CliFault::Digest(fault)),
         },
     }
@@ -82,11 +82,11 @@ fn find<F: Files + AllocGlobal, W: Write>(
 }
 
 // What is told where a file is named, and no clips are looked for, as the parser tells of a mistake.
-fn no_clips(alloc: Global) -> Stop {
+fn no_clips(alloc: Global) -> Exit {
     let text =
         "error: the argument '--wave' can only be used with KIND 'clip'\n\nUsage: radio find [OPTIONS] <LOG> <KIND> <WHAT>\n\nFor more information, try '--help'.\n";
     match String::from_str(alloc, text) {
-        Ok(text) => Stop::Told {
+        Ok(text) => Exit::Told {
             text,
             is_mistake: true,
         },
@@ -98,11 +98,11 @@ pub(crate) fn run<F: Files + AllocGlobal, W: Write>(
     rt: &F,
     words: &ArgMatches<'_>,
     output: &mut Latch<W>,
-) -> Result<(), Stop>
+) -> Result<(), Exit>
     ensures untouched_output { IfErr result (λ stop. IsMistake stop → output.new ≡ output.old) }
 {
     if words.get_flag("wave") && words.get_str("KIND") != Some("clip") {
         return Err(no_clips(rt.alloc()));
     }
-    stopped_by(find(rt, words, output))
+    exit_of(find(rt, words, output))
 }

@@ -1,7 +1,7 @@
 //! `radio have`.
 
 use crate::files::open;
-use crate::part::{Naming, Part};
+use crate::part::{Part, WriteOptions};
 use clap::ArgMatches;
 use cli_calls::{CliFault, have_log};
 use cli_words::{NEW, NO_SYNC, Word, Words};
@@ -33,7 +33,7 @@ pub(crate) fn run<F: Files<File = File> + AllocGlobal>(
 ) -> Result<(), CliFault> {
     let out = words.get_str("OUT").unwrap_or("");
     let mut inputs = [open(rt, 0, words.get_str("LOG").unwrap_or(""))?];
-    let mut part = Part::later(rt.alloc(), rt, out, Naming::of(words))?;
+    let mut part = Part::later(rt.alloc(), rt, out, WriteOptions::of(words))?;
     let written = have_log(rt.alloc(), &mut inputs, part.output());
     part.finish(None, written)
 }

@@ -1,8 +1,8 @@
 //! `radio id`.
 
+use base_io::Latch;
 use cli_calls::CliFault;
 use cli_words::Words;
-use mt_latch::Latch;
 use mt_stamp::Replica;
 use std::io::Write;
 use std::random::RandomSource;

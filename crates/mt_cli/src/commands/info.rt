@@ -2,10 +2,10 @@
 
 use super::memory_of_objects;
 use crate::files::open_all;
+use base_io::Latch;
 use clap::ArgMatches;
 use cli_calls::{CliFault, InfoForm, InfoUnit, info_file};
 use cli_words::{AS_JSON, AS_TIMES, Word, Words};
-use mt_latch::Latch;
 use std::io::Write;
 use std::rt::Files;
 

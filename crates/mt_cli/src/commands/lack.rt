@@ -1,7 +1,7 @@
 //! `radio lack`.
 
 use crate::files::open;
-use crate::part::{Naming, Part};
+use crate::part::{Part, WriteOptions};
 use clap::ArgMatches;
 use cli_calls::{CliFault, lack_log};
 use cli_words::{NEW, NO_SYNC, Word, Words};
@@ -38,7 +38,7 @@ pub(crate) fn run<F: Files<File = File> + AllocGlobal>(
     let out = words.get_str("OUT").unwrap_or("");
     let log = open(rt, 0, words.get_str("LOG").unwrap_or(""))?;
     let have = open(rt, 1, words.get_str("HAVE").unwrap_or(""))?;
-    let mut part = Part::later(rt.alloc(), rt, out, Naming::of(words))?;
+    let mut part = Part::later(rt.alloc(), rt, out, WriteOptions::of(words))?;
     let written = lack_log(rt.alloc(), &mut [log, have], part.output());
     part.finish(None, written)
 }

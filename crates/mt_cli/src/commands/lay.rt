@@ -1,10 +1,10 @@
 //! `radio lay`.
 
-use crate::files::late_files;
+use crate::files::lazy_files;
+use base_io::Latch;
 use clap::ArgMatches;
 use cli_calls::{CliFault, Laying, lay_files};
 use cli_words::{Word, Words};
-use mt_latch::Latch;
 use mt_stamp::{Stamp, StampFault};
 use std::io::Write;
 use std::rt::Files;
@@ -73,6 +73,6 @@ pub(crate) fn run<F: Files + AllocGlobal, W: Write>(
         gap: words.get_one::<u32>("gap").unwrap_or(0),
         rate: words.get_one::<u32>("rate").unwrap_or(0),
     };
-    let mut files = late_files(rt, words.get_strs("WAVE").unwrap_or(&[]))?;
+    let mut files = lazy_files(rt, words.get_strs("WAVE").unwrap_or(&[]))?;
     lay_files(rt.alloc(), &laying, &mut files, output)
 }

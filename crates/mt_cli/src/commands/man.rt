@@ -1,8 +1,8 @@
 //! `radio man`.
 
+use base_io::Latch;
 use cli_calls::CliFault;
 use cli_words::{Lists, Words, put_page};
-use mt_latch::Latch;
 use std::io::Write;
 
 pub(crate) const WORDS: Words = Words {

@@ -1,7 +1,7 @@
 //! `radio meet`.
 
 use super::{limit, open_growing, swap, wait_of};
-use crate::part::Naming;
+use crate::part::WriteOptions;
 use clap::ArgMatches;
 use cli_calls::CliFault;
 use cli_words::{NEW, NO_SYNC, WAIT, Word, Words};
@@ -64,5 +64,12 @@ pub(crate) fn run<F: Files<File = File> + Net + AllocGlobal>(
     let wait = wait_of(words);
     let stream = connected(rt, words.get_str("ADDR").unwrap_or(""), wait)?;
     limit(&stream, wait)?;
-    swap(rt, opened, Side::Caller, stream, out, Naming::of(words))
+    swap(
+        rt,
+        opened,
+        Side::Caller,
+        stream,
+        out,
+        WriteOptions::of(words),
+    )
 }

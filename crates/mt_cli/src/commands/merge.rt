@@ -1,7 +1,7 @@
 //! `radio merge`.
 
 use crate::files::{OpenLogs, open_logs};
-use crate::part::{Naming, Part};
+use crate::part::{Part, WriteOptions};
 use clap::ArgMatches;
 use cli_calls::{CliFault, merge_logs};
 use cli_words::{NEW, NO_SYNC, Word, Words};
@@ -33,7 +33,7 @@ pub(crate) fn run<F: Files<File = File> + AllocGlobal>(
 ) -> Result<(), CliFault> {
     let out = words.get_str("OUT").unwrap_or("");
     let OpenLogs { mut logs, base } = open_logs(rt, words.get_strs("LOG").unwrap_or(&[]), out)?;
-    let mut part = Part::create(rt.alloc(), rt, out, Naming::of(words))?;
+    let mut part = Part::create(rt.alloc(), rt, out, WriteOptions::of(words))?;
     let merged = merge_logs(rt.alloc(), &mut logs, part.output());
     part.finish(base, merged)
 }

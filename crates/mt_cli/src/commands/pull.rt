@@ -4,11 +4,11 @@ ghost use Rattle.std.specs.Prelude.{◌≡◌, ◌+◌, length};
 
 use super::log_and_others;
 use crate::files::{OpenLogs, open_logs};
-use crate::part::{Naming, Part};
+use crate::part::{Part, WriteOptions};
+use base_io::Latch;
 use clap::ArgMatches;
 use cli_calls::{CliFault, pull_logs};
 use cli_words::{NO_SYNC, Word, Words};
-use mt_latch::Latch;
 use std::fs::File;
 use std::io::{self, Write};
 use std::rt::Files;
@@ -52,7 +52,7 @@ fn pulled<F: Files<File = File> + AllocGlobal, W: Write>(
         let mut nowhere = Latch::new(io::sink());
         return pull_logs(alloc, from, &mut logs, &mut nowhere, output);
     }
-    let mut part = Part::create(alloc, rt, log, Naming::in_place(words))?;
+    let mut part = Part::create(alloc, rt, log, WriteOptions::in_place(words))?;
     let pulled = pull_logs(alloc, from, &mut logs, part.output(), output);
     part.finish(base, pulled)
 }

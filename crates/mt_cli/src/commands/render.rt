@@ -1,7 +1,7 @@
 //! `radio render`.
 
 use crate::files::open_all;
-use crate::part::{Naming, Part};
+use crate::part::{Part, WriteOptions};
 use clap::ArgMatches;
 use cli_calls::{CliFault, bounce_logs};
 use cli_words::{NEW, NO_SYNC, Word, Words};
@@ -139,7 +139,7 @@ pub(crate) fn run<F: Files<File = File> + AllocGlobal>(
     let out = given(words, "OUT");
     let mut logs = open_all(rt, 0, &[given(words, "LOG")])?;
     let mut sources = open_all(rt, logs.len(), words.get_strs("SOURCE").unwrap_or(&[]))?;
-    let mut part = Part::create(rt.alloc(), rt, out, Naming::of(words))?;
+    let mut part = Part::create(rt.alloc(), rt, out, WriteOptions::of(words))?;
     let rendered = bounce_logs(
         rt.alloc(),
         &mut logs,

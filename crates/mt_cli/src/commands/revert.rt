@@ -1,10 +1,10 @@
 //! `radio revert`.
 
 use crate::files::open_all;
+use base_io::Latch;
 use clap::ArgMatches;
 use cli_calls::{CliFault, revert_log};
 use cli_words::{Word, Words};
-use mt_latch::Latch;
 use mt_stamp::Stamp;
 use std::alloc::Global;
 use std::io::Write;

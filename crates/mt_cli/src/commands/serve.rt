@@ -3,13 +3,13 @@
 ghost use Rattle.mt_cli.specs.Telling.{TellsCauses};
 
 use super::{limit, open_growing, swap, wait_of};
-use crate::part::Naming;
+use crate::part::WriteOptions;
 use crate::refusal_lines::put_cause;
 use crate::why::cause;
+use base_io::Latch;
 use clap::ArgMatches;
 use cli_calls::{CliFault, PartFault};
 use cli_words::{NEW, NO_SYNC, WAIT, Word, Words};
-use mt_latch::Latch;
 use mt_sync::Side;
 use std::fs::File;
 use std::io::Write;
@@ -95,7 +95,14 @@ fn serve_one<F: Files<File = File> + AllocGlobal>(
     let out = words.get_str("OUT").unwrap_or("");
     let stream = accepted(serving.listener, serving.wait)?;
     let opened = open_growing(rt, words.get_str("LOG").unwrap_or(""), out)?;
-    swap(rt, opened, Side::Answerer, stream, out, Naming::of(words))
+    swap(
+        rt,
+        opened,
+        Side::Answerer,
+        stream,
+        out,
+        WriteOptions::of(words),
+    )
 }
 
 // Whether a meeting was refused by what the caller said, or since LOG was changed while it was held: then the next caller is waited for.
@@ -164,7 +171,14 @@ pub(crate) fn run<
     match words.get_one::<u64>("meetings") {
         None => {
             let stream = accepted(&listener, wait)?;
-            swap(rt, opened, Side::Answerer, stream, out, Naming::of(words))
+            swap(
+                rt,
+                opened,
+                Side::Answerer,
+                stream,
+                out,
+                WriteOptions::of(words),
+            )
         }
         Some(count) => {
             drop(opened);

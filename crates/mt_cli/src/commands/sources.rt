@@ -1,14 +1,14 @@
 //! `radio sources`.
 
 use super::{log_and_others, memory_of_objects};
-use crate::files::late_files;
+use crate::files::lazy_files;
+use base_io::Latch;
 use clap::ArgMatches;
-use cli_calls::{CliFault, LineForm, list_sources};
+use cli_calls::{CliFault, TextOptions, list_sources};
 use cli_words::{Word, Words};
-use mt_latch::Latch;
-use mt_preflight::Listing;
 use std::io::Write;
 use std::rt::Files;
+use text_check::Listing;
 
 pub(crate) const WORDS: Words = Words {
     name: "sources",
@@ -58,13 +58,13 @@ pub(crate) fn run<F: Files + AllocGlobal, W: Write>(
     words: &ArgMatches<'_>,
     output: &mut Latch<W>,
 ) -> Result<(), CliFault> {
-    let form = LineForm {
+    let form = TextOptions {
         rate: None,
         json: memory_of_objects(rt.alloc(), words),
     };
     let names = words.get_strs("WAVE").unwrap_or(&[]);
     let log = words.get_str("LOG").unwrap_or("");
-    let mut inputs = late_files(rt, &log_and_others(rt.alloc(), log, names)?)?;
+    let mut inputs = lazy_files(rt, &log_and_others(rt.alloc(), log, names)?)?;
     list_sources(
         rt.alloc(),
         form,

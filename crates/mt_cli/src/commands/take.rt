@@ -1,7 +1,7 @@
 //! `radio take`.
 
 use crate::files::{OpenLog, open, open_log};
-use crate::part::{Naming, Part};
+use crate::part::{Part, WriteOptions};
 use clap::ArgMatches;
 use cli_calls::{CliFault, take_log};
 use cli_words::{NEW, NO_SYNC, Word, Words};
@@ -39,7 +39,7 @@ pub(crate) fn run<F: Files<File = File> + AllocGlobal>(
     let out = words.get_str("OUT").unwrap_or("");
     let OpenLog { log, base } = open_log(rt, 0, words.get_str("LOG").unwrap_or(""), out)?;
     let ops = open(rt, 1, words.get_str("OPS").unwrap_or(""))?;
-    let mut part = Part::later(alloc, rt, out, Naming::of(words))?;
+    let mut part = Part::later(alloc, rt, out, WriteOptions::of(words))?;
     let written = take_log(alloc, alloc, &mut [log, ops], part.output());
     part.finish(base, written)
 }

@@ -4,15 +4,15 @@ ghost use Rattle.std.specs.Prelude.{◌≤◌};
 ghost use Rattle.cli_calls.specs.Drawing.{columns_of};
 
 use crate::files::{in_latch, open_all};
+use base_io::Latch;
 use clap::ArgMatches;
 use cli_calls::{CliFault, Drawing, SessionDrawing, catalogue_of, draw_logs, read_all_sources};
 use cli_words::{Word, Words};
-use mt_latch::Latch;
 use mt_render::HashedFile;
-use mt_timeline::Lengths;
 use std::io::{Read, Write};
 use std::rt::Files;
 use std::slice;
+use text_timeline::SpanUnits;
 
 pub(crate) const WORDS: Words = Words {
     name: "timeline",
@@ -74,11 +74,11 @@ fn drawing_of(words: &ArgMatches<'_>) -> Drawing
 }
 
 // In which ways the last line says how long the session is.
-fn lengths_of(words: &ArgMatches<'_>) -> Lengths {
+fn lengths_of(words: &ArgMatches<'_>) -> SpanUnits {
     if words.get_flag("time") {
-        Lengths::Times
+        SpanUnits::Times
     } else {
-        Lengths::FramesAndTimes
+        SpanUnits::FramesAndTimes
     }
 }
 

@@ -2,10 +2,10 @@
 
 use super::form_of;
 use crate::files::{in_latch, open_all};
+use base_io::Latch;
 use clap::ArgMatches;
 use cli_calls::{CliFault, view_logs_in};
 use cli_words::{AS_JSON, AS_TIMES, TIMES_RATE, Word, Words};
-use mt_latch::Latch;
 use std::io::{Read, Write};
 use std::rt::Files;
 use std::slice;

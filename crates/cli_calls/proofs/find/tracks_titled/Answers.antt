@@ -1,7 +1,7 @@
 use Rattle.std.proofs.Common.{[], ◌∷◌, ◌++◌, ◌∙◌, ap}
 use Rattle.std.specs.Prelude.{Bool, if◌then◌else◌}
 use Rattle.std.specs.Str.{bytes_eq}
-use Rattle.mt_sessionview.specs.Content.{Track}
+use Rattle.mt_sessionview.specs.SessionValue.{Track}
 use Rattle.cli_calls.proofs.Finding.{found_more}
 use Rattle.cli_calls.proofs.find.tracks_titled.Goals as goal
 

@@ -1,6 +1,6 @@
 use Rattle.std.proofs.Common.{◌≡◌, ℕ, subst}
 use Rattle.std.specs.Prelude.{IfOk}
-use Rattle.mt_lines.specs.Saying.{timed_text}
+use Rattle.text_json.specs.Saying.{timed_text}
 use Rattle.cli_calls.proofs.form.timed_at.Goals as goal
 
 pub returns : goal.returns

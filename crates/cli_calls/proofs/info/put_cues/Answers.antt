@@ -2,8 +2,8 @@ use Rattle.std.proofs.Common.{None, get_or}
 use Rattle.std.proofs.lemmas.Option.{slice_get-get_or}
 use Rattle.mt_bwfread.specs.Cues.{cue_text}
 use Rattle.mt_bwfread.specs.declared.cue.Cue.{Cue}
-use Rattle.mt_latch.specs.Buffered.{Puts}
-use Rattle.mt_latch.proofs.Putting.{one_more_handed}
+use Rattle.base_io.specs.Buffered.{Puts}
+use Rattle.base_io.proofs.Putting.{one_more_handed}
 use Rattle.cli_calls.specs.Info.{cue_line}
 use Rattle.cli_calls.proofs.info.put_cues.Goals as goal
 

@@ -1,7 +1,7 @@
 use Rattle.std.proofs.Common.{take}
 use Rattle.std.specs.List.{flat_map}
 use Rattle.mt_bwfread.specs.Cues.{cue_text}
-use Rattle.mt_latch.specs.Buffered.{Puts}
+use Rattle.base_io.specs.Buffered.{Puts}
 use Rattle.cli_calls.specs.Info.{cue_line}
 use Rattle.cli_calls.proofs.info.put_cues.Given as goal
 

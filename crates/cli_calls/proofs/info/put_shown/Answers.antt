@@ -1,7 +1,7 @@
 use Rattle.std.proofs.lemmas.Option.{slice_get-get_or}
 use Rattle.cli_calls.specs.Info.{shown_byte}
-use Rattle.mt_latch.specs.Buffered.{Puts}
-use Rattle.mt_latch.proofs.Putting.{one_more_handed}
+use Rattle.base_io.specs.Buffered.{Puts}
+use Rattle.base_io.proofs.Putting.{one_more_handed}
 use Rattle.cli_calls.proofs.info.put_shown.Goals as goal
 
 pub loop-byte-preserved : goal.loop-byte-preserved

@@ -1,6 +1,6 @@
 use Rattle.std.proofs.Common.{take}
 use Rattle.std.specs.List.{flat_map}
-use Rattle.mt_latch.specs.Buffered.{Puts}
+use Rattle.base_io.specs.Buffered.{Puts}
 use Rattle.cli_calls.specs.Info.{shown_byte}
 use Rattle.cli_calls.proofs.info.put_shown.Given as goal
 

@@ -1,5 +1,5 @@
-use Rattle.mt_latch.specs.Buffered.{Puts}
-use Rattle.mt_latch.proofs.Putting.{then_handed}
+use Rattle.base_io.specs.Buffered.{Puts}
+use Rattle.base_io.proofs.Putting.{then_handed}
 use Rattle.cli_calls.proofs.info.put_sound.Goals as goal
 
 pub returns : goal.returns

@@ -1,7 +1,7 @@
 use Rattle.std.proofs.Common.{rules}
 use Rattle.std.proofs.lemmas.List.{append-nil}
-use Rattle.mt_latch.specs.Buffered.{Puts}
-use Rattle.mt_latch.proofs.Putting.{then_handed, same_handed}
+use Rattle.base_io.specs.Buffered.{Puts}
+use Rattle.base_io.proofs.Putting.{then_handed, same_handed}
 use Rattle.cli_calls.specs.Info.{told_text}
 use Rattle.cli_calls.proofs.Writing.{handed_written, handed_failed}
 use Rattle.cli_calls.proofs.info.write_lines.Goals as goal

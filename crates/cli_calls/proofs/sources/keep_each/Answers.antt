@@ -2,7 +2,7 @@ use Rattle.std.proofs.Common.{◌≡◌, ℕ, ◌+◌, List, [], ◌++◌, get_o
 use Rattle.std.specs.Prelude.{Vec}
 use Rattle.std.proofs.lemmas.List.{drop_all}
 use Rattle.sha2.specs.Sha256.{sha256}
-use Rattle.mt_preflight.specs.Using.{plays}
+use Rattle.text_check.specs.Using.{plays}
 use Rattle.cli_calls.specs.Sources.{HoldWanted, bytes_in}
 use Rattle.cli_calls.proofs.Keeping.{one_kept, rest_at, hashed_at}
 use Rattle.cli_calls.proofs.Readers.{left_at, left_more}

@@ -1,5 +1,5 @@
 use Rattle.std.proofs.Common.{◌≡◌, ◌++◌, drop}
-use Rattle.mt_preflight.specs.Using.{plays}
+use Rattle.text_check.specs.Using.{plays}
 use Rattle.cli_calls.specs.Sources.{HoldWanted, bytes_in}
 use Rattle.cli_calls.proofs.sources.keep_each.Given as goal
 

@@ -1,7 +1,7 @@
 use Rattle.std.proofs.Common.{List, get_or, refl, subst, arith}
 use Rattle.std.proofs.lemmas.List.{take_all}
 use Rattle.std.proofs.Math.ListN.{set}
-use Rattle.mt_latch.specs.Latch.{Latched}
+use Rattle.base_io.specs.Latch.{Latch}
 use Rattle.cli_calls.specs.declared.fault.CliFault.TheVariants.{Memory}
 use Rattle.cli_calls.specs.Sources.{GaveWave, GaveWaves, IsSourceCause, HasSourceCause}
 use Rattle.cli_calls.proofs.Readers.{rest_same, told_as, cause_at, gave_more, read_more, left_more}
@@ -41,4 +41,4 @@ loop-place-preserved g c =
 
 pub returns-clause-ok : goal.returns-clause-ok
 returns-clause-ok g c =
-    subst (λ (l : List (Latched _)). GaveWaves g.R.Read.remaining l c.loop-place.kept.items) (take_all c.loop-place.place c.args.inputs.now (omega arith)) c.loop-place.invariant.gave
+    subst (λ (l : List (Latch _)). GaveWaves g.R.Read.remaining l c.loop-place.kept.items) (take_all c.loop-place.place c.args.inputs.now (omega arith)) c.loop-place.invariant.gave

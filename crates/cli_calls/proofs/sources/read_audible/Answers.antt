@@ -1,8 +1,8 @@
 use Rattle.std.proofs.Common.{[], List, ◌∷◌, ◌++◌, get_or, refl, subst, arith}
 use Rattle.std.proofs.lemmas.List.{take_all}
 use Rattle.std.proofs.Math.ListN.{set}
-use Rattle.mt_latch.specs.Latch.{Latched}
-use Rattle.mt_preflight.specs.Using.{plays}
+use Rattle.base_io.specs.Latch.{Latch}
+use Rattle.text_check.specs.Using.{plays}
 use Rattle.cli_calls.specs.Reading.{AreRead}
 use Rattle.cli_calls.specs.declared.fault.CliFault.TheVariants.{Memory}
 use Rattle.cli_calls.specs.Sources.{GaveWave, GaveWaves, IsSourceCause, HasSourceCause, bytes_in}
@@ -68,15 +68,15 @@ pub returns-in_err-keep_group-clause-err : goal.returns-in_err-keep_group-clause
 returns-in_err-keep_group-clause-err g c =
     told_as c.from_residual-in_err-keep_group.result (HasSourceCause g.R.Read.remaining c.args.others 0 c.args.inputs.now c.loop-place.inputs) Memory c.from_residual-in_err-keep_group.ensures.1
     (HasSourceCause-end g.R.Read.remaining c.args.others 0 c.args.inputs.now c.loop-place.inputs c.loop-place.invariant.gave.0 c.loop-place.auto.inputs
-    (subst (λ (l : List (Latched _)). GaveWaves g.R.Read.remaining l c.loop-place.invariant.gave.0) (take_all c.loop-place.place c.args.inputs.now (omega arith)) c.loop-place.invariant.gave.1.0)
-    (subst (λ (l : List (Latched _)). AreRead g.R.Read.remaining l) (take_all c.loop-place.place c.loop-place.inputs (omega arith)) c.loop-place.invariant.read))
+    (subst (λ (l : List (Latch _)). GaveWaves g.R.Read.remaining l c.loop-place.invariant.gave.0) (take_all c.loop-place.place c.args.inputs.now (omega arith)) c.loop-place.invariant.gave.1.0)
+    (subst (λ (l : List (Latch _)). AreRead g.R.Read.remaining l) (take_all c.loop-place.place c.loop-place.inputs (omega arith)) c.loop-place.invariant.read))
 
 pub returns-clause-ok : goal.returns-clause-ok
 returns-clause-ok g c =
     let was = c.loop-place.invariant.gave in (
       was.0,
       (
-        subst (λ (l : List (Latched _)). GaveWaves g.R.Read.remaining l was.0) (take_all c.loop-place.place c.args.inputs.now (omega arith)) was.1.0,
+        subst (λ (l : List (Latch _)). GaveWaves g.R.Read.remaining l was.0) (take_all c.loop-place.place c.args.inputs.now (omega arith)) was.1.0,
         hold_through (plays c.args.audible.now.uses) c.keep_group.new.kept.items (c.loop-place.kept.items ++ bytes_in c.loop-place.group.items) was.0 c.in_ok-keep_group.ensures.holds was.1.1,
       ),
     )

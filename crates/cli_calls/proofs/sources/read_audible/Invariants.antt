@@ -1,5 +1,5 @@
 use Rattle.std.proofs.Common.{◌≡◌, ◌++◌, take, drop}
-use Rattle.mt_preflight.specs.Using.{plays}
+use Rattle.text_check.specs.Using.{plays}
 use Rattle.cli_calls.specs.Reading.{AreRead}
 use Rattle.cli_calls.specs.Sources.{GaveKept, bytes_in}
 use Rattle.cli_calls.proofs.sources.read_audible.Given as goal

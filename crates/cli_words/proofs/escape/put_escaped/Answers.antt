@@ -1,7 +1,7 @@
 use Rattle.std.proofs.lemmas.Option.{slice_get-get_or}
 use Rattle.cli_words.specs.Escaping.{escaped_byte}
-use Rattle.mt_latch.specs.Buffered.{Puts}
-use Rattle.mt_latch.proofs.Putting.{one_more_handed}
+use Rattle.base_io.specs.Buffered.{Puts}
+use Rattle.base_io.proofs.Putting.{one_more_handed}
 use Rattle.cli_words.proofs.escape.put_escaped.Goals as goal
 
 pub loop-byte-preserved : goal.loop-byte-preserved

@@ -1,6 +1,6 @@
 -- The bytes below the index are put.
 use Rattle.std.proofs.Common.{take}
-use Rattle.mt_latch.specs.Buffered.{Puts}
+use Rattle.base_io.specs.Buffered.{Puts}
 use Rattle.cli_words.specs.Escaping.{escaped}
 use Rattle.cli_words.proofs.escape.put_escaped.Given as goal
 

@@ -1,7 +1,7 @@
 use Rattle.std.proofs.lemmas.Option.{slice_get-get_or}
 use Rattle.mt_cli.specs.Telling.{on_line}
-use Rattle.mt_latch.specs.Buffered.{Puts}
-use Rattle.mt_latch.proofs.Putting.{one_more_handed}
+use Rattle.base_io.specs.Buffered.{Puts}
+use Rattle.base_io.proofs.Putting.{one_more_handed}
 use Rattle.mt_cli.proofs.refusal_lines.hand_text.Goals as goal
 
 pub loop-byte-preserved : goal.loop-byte-preserved

@@ -1,6 +1,6 @@
 use Rattle.std.proofs.Common.{take}
 use Rattle.std.specs.List.{flat_map}
-use Rattle.mt_latch.specs.Buffered.{Puts}
+use Rattle.base_io.specs.Buffered.{Puts}
 use Rattle.mt_cli.specs.Telling.{on_line}
 use Rattle.mt_cli.proofs.refusal_lines.hand_text.Given as goal
 

@@ -1,7 +1,7 @@
 use Rattle.std.proofs.Common.{rules}
 use Rattle.std.proofs.lemmas.List.{append-nil}
-use Rattle.mt_latch.specs.Buffered.{Puts}
-use Rattle.mt_latch.proofs.Putting.{then_handed, same_handed}
+use Rattle.base_io.specs.Buffered.{Puts}
+use Rattle.base_io.proofs.Putting.{then_handed, same_handed}
 use Rattle.mt_cli.proofs.Telling.{handed_told}
 use Rattle.mt_cli.proofs.refusal_lines.put_text.Goals as goal
 

@@ -1,7 +1,7 @@
 use Rattle.std.proofs.Common.{arith, ◌≤◌, ◌+◌, ◌-◌, sym, ap, ◌∙◌, append_assoc}
 use Rattle.mt_cuewrite.specs.File.{frames_from}
-use Rattle.mt_latch.specs.Buffered.{Puts}
-use Rattle.mt_latch.proofs.Putting.{then_handed, same_handed, none_handed, prefix_handed}
+use Rattle.base_io.specs.Buffered.{Puts}
+use Rattle.base_io.proofs.Putting.{then_handed, same_handed, none_handed, prefix_handed}
 use Rattle.mt_cuewrite.proofs.Blocks.{frames_none, frames_left, frames_more}
 use Rattle.mt_cuewrite.proofs.block.put_samples.Goals as goal
 

@@ -1,6 +1,6 @@
 use Rattle.std.proofs.Common.{◌≤◌, ◌-◌}
 use Rattle.mt_cuewrite.specs.File.{frames_from}
-use Rattle.mt_latch.specs.Buffered.{Puts}
+use Rattle.base_io.specs.Buffered.{Puts}
 use Rattle.mt_cuewrite.proofs.block.put_samples.Given as goal
 
 abbrev pub invariant-loop-first : goal.invariant-loop-first

@@ -2,8 +2,8 @@ use Rattle.std.proofs.Common.{ap}
 use Rattle.byteorder.specs.Endian.{little_bytes}
 use Rattle.mt_cuewrite.specs.Head.{HeadText}
 use Rattle.mt_cuewrite.specs.File.{bext}
-use Rattle.mt_latch.specs.Buffered.{Puts}
-use Rattle.mt_latch.proofs.Putting.{then_handed, same_handed}
+use Rattle.base_io.specs.Buffered.{Puts}
+use Rattle.base_io.proofs.Putting.{then_handed, same_handed}
 use Rattle.mt_cuewrite.proofs.chunks.put_extension.Goals as goal
 
 pub returns : goal.returns

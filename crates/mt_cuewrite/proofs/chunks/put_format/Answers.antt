@@ -1,7 +1,7 @@
 use Rattle.std.proofs.Common.{refl, sym}
 use Rattle.std.specs.Prelude.{codes}
 use Rattle.mt_cuewrite.specs.File.{format}
-use Rattle.mt_latch.specs.Buffered.{Puts}
+use Rattle.base_io.specs.Buffered.{Puts}
 use Rattle.mt_cuewrite.proofs.Putting.{even_handed}
 use Rattle.mt_cuewrite.proofs.Sizing.{length-format}
 use Rattle.mt_cuewrite.proofs.chunks.put_format.Goals as goal

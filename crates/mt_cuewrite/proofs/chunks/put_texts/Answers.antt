@@ -1,7 +1,7 @@
 use Rattle.mt_cuewrite.specs.File.{texts}
 use Rattle.std.proofs.Common.{ap}
-use Rattle.mt_latch.specs.Buffered.{Puts}
-use Rattle.mt_latch.proofs.Putting.{then_handed, same_handed}
+use Rattle.base_io.specs.Buffered.{Puts}
+use Rattle.base_io.proofs.Putting.{then_handed, same_handed}
 use Rattle.mt_cuewrite.proofs.chunks.put_texts.Goals as goal
 
 pub returns : goal.returns

@@ -1,6 +1,6 @@
 use Rattle.std.specs.Prelude.{codes}
 use Rattle.mt_cuewrite.specs.File.{samples}
-use Rattle.mt_latch.specs.Buffered.{Puts}
+use Rattle.base_io.specs.Buffered.{Puts}
 use Rattle.mt_cuewrite.proofs.Putting.{chunk_handed}
 use Rattle.mt_cuewrite.proofs.file.put_data.Goals as goal
 

@@ -1,7 +1,7 @@
 use Rattle.std.proofs.Common.{arith, sym}
 use Rattle.mt_cuewrite.specs.File.{before}
-use Rattle.mt_latch.specs.Buffered.{Puts}
-use Rattle.mt_latch.proofs.Putting.{then_handed, same_handed, none_handed}
+use Rattle.base_io.specs.Buffered.{Puts}
+use Rattle.base_io.proofs.Putting.{then_handed, same_handed, none_handed}
 use Rattle.mt_cuewrite.proofs.Totals.{no_marks, some_marks}
 use Rattle.mt_cuewrite.proofs.file.put_marks.Goals as goal
 

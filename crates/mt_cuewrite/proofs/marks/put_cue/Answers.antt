@@ -2,8 +2,8 @@ use Rattle.std.proofs.Common.{ℕ, ap, sym, ◌+◌, ◌*◌, ◌∙◌}
 use Rattle.std.specs.Prelude.{codes}
 use Rattle.byteorder.specs.Endian.{little_bytes}
 use Rattle.mt_cuewrite.specs.File.{before, points}
-use Rattle.mt_latch.specs.Buffered.{Puts}
-use Rattle.mt_latch.proofs.Putting.{then_handed, same_handed}
+use Rattle.base_io.specs.Buffered.{Puts}
+use Rattle.base_io.proofs.Putting.{then_handed, same_handed}
 use Rattle.mt_cuewrite.proofs.Putting.{even_handed}
 use Rattle.mt_cuewrite.proofs.Totals.{length-points, even_points}
 use Rattle.mt_cuewrite.proofs.marks.put_cue.Goals as goal

@@ -1,6 +1,6 @@
 use Rattle.std.specs.Prelude.{codes}
 use Rattle.mt_cuewrite.specs.File.{label_content, label}
-use Rattle.mt_latch.specs.Buffered.{Puts}
+use Rattle.base_io.specs.Buffered.{Puts}
 use Rattle.mt_cuewrite.proofs.Putting.{chunk_handed}
 use Rattle.mt_cuewrite.proofs.marks.put_label.Goals as goal
 

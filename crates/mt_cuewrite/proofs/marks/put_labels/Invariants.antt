@@ -1,6 +1,6 @@
 use Rattle.std.proofs.Common.{◌≡◌, ◌+◌, length, take}
 use Rattle.mt_cuewrite.specs.File.{before, named, label}
-use Rattle.mt_latch.specs.Buffered.{Puts}
+use Rattle.base_io.specs.Buffered.{Puts}
 use Rattle.mt_cuewrite.proofs.marks.put_labels.Given as goal
 
 abbrev pub invariant-loop-marker : goal.invariant-loop-marker

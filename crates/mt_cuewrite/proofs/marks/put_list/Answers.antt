@@ -1,7 +1,7 @@
 use Rattle.std.specs.Prelude.{codes}
 use Rattle.mt_cuewrite.specs.File.{before, list_content}
-use Rattle.mt_latch.specs.Buffered.{Puts}
-use Rattle.mt_latch.proofs.Putting.{then_handed}
+use Rattle.base_io.specs.Buffered.{Puts}
+use Rattle.base_io.proofs.Putting.{then_handed}
 use Rattle.mt_cuewrite.proofs.Putting.{chunk_handed}
 use Rattle.mt_cuewrite.proofs.marks.put_list.Goals as goal
 

@@ -1,9 +1,9 @@
 use Rattle.std.proofs.Common.{arith, refl, sym, ap}
 use Rattle.std.specs.Prelude.{codes}
-use Rattle.mt_sessionview.specs.Content.{Marker}
+use Rattle.mt_sessionview.specs.SessionValue.{Marker}
 use Rattle.mt_cuewrite.specs.File.{region_content}
-use Rattle.mt_latch.specs.Buffered.{Puts}
-use Rattle.mt_latch.proofs.Putting.{same_handed, none_handed}
+use Rattle.base_io.specs.Buffered.{Puts}
+use Rattle.base_io.proofs.Putting.{same_handed, none_handed}
 use Rattle.mt_cuewrite.proofs.Putting.{even_handed}
 use Rattle.mt_cuewrite.proofs.Sizing.{length-region_content}
 use Rattle.mt_cuewrite.proofs.Marking.{no_region, some_region}

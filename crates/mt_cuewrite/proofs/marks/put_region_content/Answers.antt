@@ -1,8 +1,8 @@
 use Rattle.std.proofs.Common.{ap}
 use Rattle.byteorder.specs.Endian.{little_bytes}
 use Rattle.mt_cuewrite.specs.File.{region_content}
-use Rattle.mt_latch.specs.Buffered.{Puts}
-use Rattle.mt_latch.proofs.Putting.{then_handed, same_handed}
+use Rattle.base_io.specs.Buffered.{Puts}
+use Rattle.base_io.proofs.Putting.{then_handed, same_handed}
 use Rattle.mt_cuewrite.proofs.marks.put_region_content.Goals as goal
 
 pub returns : goal.returns

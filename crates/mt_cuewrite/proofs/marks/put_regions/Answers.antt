@@ -1,7 +1,7 @@
 use Rattle.std.proofs.Common.{arith, refl, sym, ◌∙◌}
 use Rattle.mt_cuewrite.specs.File.{region}
-use Rattle.mt_latch.specs.Buffered.{Puts}
-use Rattle.mt_latch.proofs.Putting.{same_handed, none_handed}
+use Rattle.base_io.specs.Buffered.{Puts}
+use Rattle.base_io.proofs.Putting.{same_handed, none_handed}
 use Rattle.mt_cuewrite.proofs.Marking.{named-none, few_so_far, one_named, one_hidden, next_name, same_name}
 use Rattle.mt_cuewrite.proofs.marks.put_regions.Goals as goal
 use Rattle.mt_cuewrite.proofs.marks.put_regions.Goals.{then-is_before, else-is_before}

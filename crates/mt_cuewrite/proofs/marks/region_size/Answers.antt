@@ -1,5 +1,5 @@
 use Rattle.std.proofs.Common.{sym, ap, ◌∙◌}
-use Rattle.mt_sessionview.specs.Content.{Marker}
+use Rattle.mt_sessionview.specs.SessionValue.{Marker}
 use Rattle.mt_cuewrite.proofs.Marking.{no_region_size, some_region_size}
 use Rattle.mt_cuewrite.proofs.marks.region_size.Goals as goal
 

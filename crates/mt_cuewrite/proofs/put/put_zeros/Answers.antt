@@ -1,6 +1,6 @@
 use Rattle.std.proofs.lemmas.List.{take-replicate}
-use Rattle.mt_latch.specs.Buffered.{Puts}
-use Rattle.mt_latch.proofs.Putting.{same_handed}
+use Rattle.base_io.specs.Buffered.{Puts}
+use Rattle.base_io.proofs.Putting.{same_handed}
 use Rattle.mt_cuewrite.proofs.put.put_zeros.Goals as goal
 
 pub returns : goal.returns

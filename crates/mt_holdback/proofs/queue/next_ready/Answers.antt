@@ -1,7 +1,7 @@
 use Rattle.std.proofs.Common.{◌≡◌, length, List, sym, refl, ap, subst, ◌∙◌, arith}
 use Rattle.std.specs.BTreeMap.{get}
 use Rattle.std.specs.BTreeSet.{contains}
-use Rattle.mt_stamp.specs.Moment.{stamp_cmp}
+use Rattle.mt_stamp.specs.StampOrder.{stamp_cmp}
 use Rattle.mt_holdback.specs.Queue.{items_of, listed, is_under, is_woken, Takes}
 use Rattle.mt_holdback.proofs.Entries.{length_items}
 use Rattle.mt_holdback.proofs.Keys.{none_to_look_at}

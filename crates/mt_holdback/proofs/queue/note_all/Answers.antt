@@ -1,7 +1,7 @@
 use Rattle.std.proofs.Common.{◌||◌, sym, ◌∙◌, ap, arith}
 use Rattle.std.specs.List.{list_any}
 use Rattle.std.specs.BTreeSet.{contains}
-use Rattle.mt_stamp.specs.Moment.{stamp_cmp, stamp_eq}
+use Rattle.mt_stamp.specs.StampOrder.{stamp_cmp, stamp_eq}
 use Rattle.mt_holdback.proofs.Keys.{or_second, noted, note_stays, seen_all}
 use Rattle.mt_holdback.proofs.queue.note_all.Goals as goal
 

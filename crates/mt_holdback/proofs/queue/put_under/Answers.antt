@@ -1,5 +1,5 @@
 use Rattle.std.specs.BTreeMap.{get}
-use Rattle.mt_stamp.specs.Moment.{stamp_cmp}
+use Rattle.mt_stamp.specs.StampOrder.{stamp_cmp}
 use Rattle.mt_holdback.proofs.Keys.{put_stays}
 use Rattle.mt_holdback.proofs.queue.put_under.Goals as goal
 

@@ -1,5 +1,5 @@
 use Rattle.std.proofs.Common.{sym, ap, ◌∙◌}
-use Rattle.mt_stamp.specs.Moment.{stamp_eq}
+use Rattle.mt_stamp.specs.StampOrder.{stamp_eq}
 use Rattle.mt_holdback.specs.Queue.{passes_at}
 use Rattle.mt_holdback.proofs.Released.{there_passes, found_stamp}
 use Rattle.mt_holdback.proofs.queue.was_released.Goals as goal

@@ -3,7 +3,7 @@ use Rattle.std.specs.Prelude.{slice_get}
 use Rattle.std.specs.declared.cmp.Ordering.TheVariants.{Less, Equal, Greater}
 use Rattle.std.proofs.lemmas.Option.{slice_get_read}
 use Rattle.mt_stamp.specs.declared.name.Dot.{Dot}
-use Rattle.mt_stamp.specs.Moment.{dot_cmp}
+use Rattle.mt_stamp.specs.StampOrder.{dot_cmp}
 use Rattle.mt_stamp.proofs.Order.{dot_cmp-IsAntisymmetric}
 use Rattle.mt_op.specs.Dots.{op_dot}
 use Rattle.mt_op.proofs.Dots.{Narrows-up, Narrows-down}

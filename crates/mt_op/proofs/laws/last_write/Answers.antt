@@ -1,7 +1,7 @@
 use Rattle.std.proofs.Common.{ℕ, Bool, List}
 use Rattle.std.specs.Prelude.{Option}
-use Rattle.mt_stamp.specs.Moment.{Moment}
-use Rattle.mt_op.specs.Gain.{Ratio}
+use Rattle.mt_stamp.specs.StampOrder.{Stamp}
+use Rattle.mt_op.specs.Gain.{Gain}
 use Rattle.mt_op.specs.declared.digest.Digest.{Digest}
 use Rattle.mt_op.specs.declared.value.Placement.{Placement}
 use Rattle.mt_op.specs.declared.value.TrimRange.{TrimRange}
@@ -13,13 +13,13 @@ pub returns-clause-titles : goal.returns-clause-titles
 returns-clause-titles c = latest_is_greatest (List ℕ)
 
 pub returns-clause-gains : goal.returns-clause-gains
-returns-clause-gains c = latest_is_greatest Ratio
+returns-clause-gains c = latest_is_greatest Gain
 
 pub returns-clause-mutes : goal.returns-clause-mutes
 returns-clause-mutes c = latest_is_greatest Bool
 
 pub returns-clause-track_places : goal.returns-clause-track_places
-returns-clause-track_places c = latest_is_greatest (Option Moment)
+returns-clause-track_places c = latest_is_greatest (Option Stamp)
 
 pub returns-clause-clip_places : goal.returns-clause-clip_places
 returns-clause-clip_places c = latest_is_greatest Placement

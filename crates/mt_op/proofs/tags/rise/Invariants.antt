@@ -1,5 +1,5 @@
 use Rattle.std.proofs.Common.{◌≡◌, drop}
-use Rattle.mt_stamp.specs.Moment.{stamp_cmp}
+use Rattle.mt_stamp.specs.StampOrder.{stamp_cmp}
 use Rattle.mt_op.specs.Rising.{rises_from}
 use Rattle.mt_op.specs.Tags.{stamps_rise}
 use Rattle.mt_op.proofs.tags.rise.Given as goal

@@ -1,7 +1,7 @@
 use Rattle.std.proofs.Common.{◌∙◌, Bor, List, map, sym, ap, subst}
 use Rattle.std.specs.Option.{option_copied}
-use Rattle.mt_op.specs.declared.op.Op.{Op}
-use Rattle.mt_op.specs.Operation.{Operation}
+use Rattle.mt_op.specs.declared.op.Op.{Op as OpFields}
+use Rattle.mt_op.specs.OpValue.{Op}
 use Rattle.mt_opcodec.specs.Turns.{IsInOne}
 use Rattle.mt_opcodec.proofs.Walked.{HaveWalked, walk_one, walk_none, walk_end}
 use Rattle.mt_opcodec.proofs.agreeing.rise_in_turns.Goals as goal
@@ -9,7 +9,7 @@ use Rattle.mt_opcodec.proofs.agreeing.rise_in_turns.Goals.{in-Some+then-may_stan
 
 pub loop-turn-preserved : goal.loop-turn-preserved
 loop-turn-preserved g c =
-    let lists_of : List (Bor (List (Op g.row.A.Denot))) → List (List Operation) = map (λ (l : Bor (List (Op g.row.A.Denot))). l.now) in
+    let lists_of : List (Bor (List (OpFields g.row.A.Denot))) → List (List Op) = map (λ (l : Bor (List (OpFields g.row.A.Denot))). l.now) in
     let all = lists_of c.args.lists.items in
     let lists = lists_of c.loop-turn.lists.items in
     let left = lists_of c.take_ref.new.lists.items in
@@ -24,6 +24,6 @@ loop-turn-preserved g c =
 
 pub returns : goal.returns
 returns g c = λ told.
-    let lists_of : List (Bor (List (Op g.row.A.Denot))) → List (List Operation) = map (λ (l : Bor (List (Op g.row.A.Denot))). l.now) in
+    let lists_of : List (Bor (List (OpFields g.row.A.Denot))) → List (List Op) = map (λ (l : Bor (List (OpFields g.row.A.Denot))). l.now) in
     let lists = lists_of c.loop-turn.lists.items in
-    walk_end (lists_of c.args.lists.items) lists (option_copied c.loop-turn.last) (λ o h. c.none_left.ensures told o (subst (λ (l : List (Bor (List (Op g.row.A.Denot)))). IsInOne (lists_of l) o) (sym c.deref.ensures.value) h)) c.loop-turn.invariant
+    walk_end (lists_of c.args.lists.items) lists (option_copied c.loop-turn.last) (λ o h. c.none_left.ensures told o (subst (λ (l : List (Bor (List (OpFields g.row.A.Denot)))). IsInOne (lists_of l) o) (sym c.deref.ensures.value) h)) c.loop-turn.invariant

@@ -1,7 +1,7 @@
 use Rattle.std.proofs.Common.{sym, subst, arith, List}
 use Rattle.mt_opcodec.specs.Runs.{RunOf}
 use Rattle.mt_opcodec.proofs.JoinedRuns.{IsJoining, joining_start, join_left, join_right, join_both, join_end, shorter}
-use Rattle.mt_opcodec.proofs.JoinedClash.{join_fails}
+use Rattle.mt_opcodec.proofs.JoinedConflict.{join_fails}
 use Rattle.mt_opcodec.proofs.join.joined_runs.Goals as goal
 
 pub loop-left-init : goal.loop-left-init

@@ -2,7 +2,7 @@ use Rattle.std.proofs.Common.{◌≡◌, true, ap, sym, ◌∙◌}
 use Rattle.std.specs.Option.{option_copied}
 use Rattle.std.specs.Ordering.{is_lt}
 use Rattle.mt_stamp.specs.declared.name.Dot.{Dot}
-use Rattle.mt_stamp.specs.Moment.{dot_cmp}
+use Rattle.mt_stamp.specs.StampOrder.{dot_cmp}
 use Rattle.mt_op.specs.Dots.{op_dot}
 use Rattle.mt_opcodec.proofs.Ends.{is_less}
 use Rattle.mt_opcodec.proofs.Appending.{ends_before}

@@ -1,5 +1,5 @@
 use Rattle.std.proofs.Common.{◌≡◌, sym, subst, arith, List}
-use Rattle.mt_op.specs.Operation.{Operation}
+use Rattle.mt_op.specs.OpValue.{Op}
 use Rattle.mt_opcodec.specs.LogValue.{log_of}
 use Rattle.mt_opcodec.specs.Union.{MergeFails}
 use Rattle.mt_opcodec.proofs.MovedOps.{IsJoining, joining_start, join_left, join_right, join_both, join_conflict, join_end, shorter}
@@ -7,8 +7,8 @@ use Rattle.mt_opcodec.proofs.joining.walked_ops.Goals as goal
 
 pub loop-left-init : goal.loop-left-init
 loop-left-init g c =
-    subst (λ (l : List Operation). IsJoining c.args.left.items c.args.right.items l c.from-right.result.items c.in_ok-ops.ops.items) (sym c.from-left.ensures.0)
-    (subst (λ (l : List Operation). IsJoining c.args.left.items c.args.right.items c.args.left.items l c.in_ok-ops.ops.items) (sym c.from-right.ensures.0)
+    subst (λ (l : List Op). IsJoining c.args.left.items c.args.right.items l c.from-right.result.items c.in_ok-ops.ops.items) (sym c.from-left.ensures.0)
+    (subst (λ (l : List Op). IsJoining c.args.left.items c.args.right.items c.args.left.items l c.in_ok-ops.ops.items) (sym c.from-right.ensures.0)
     (subst (IsJoining c.args.left.items c.args.right.items c.args.left.items c.args.right.items) (sym c.in_ok-ops.ensures.items) (joining_start c.args.left.items c.args.right.items)))
 
 pub loop-left-smaller-in_ok-move_first-in-Left : goal.loop-left-smaller-in_ok-move_first-in-Left

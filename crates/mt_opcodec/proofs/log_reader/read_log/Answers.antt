@@ -1,6 +1,6 @@
 use Rattle.std.proofs.Common.{◌≡◌, ℕ, arith, ◌++◌, [], ◌∷◌, None, Some, List, ◌∙◌, sym, ap, ◌+◌, ◌-◌, subst}
 use Rattle.mt_stamp.specs.declared.name.Dot.{Dot}
-use Rattle.mt_op.specs.Operation.{Operation}
+use Rattle.mt_op.specs.OpValue.{Op}
 use Rattle.mt_opcodec.specs.Versions.{version_of_act, version_of}
 use Rattle.mt_opcodec.specs.LogReading.{records_at, in_version}
 use Rattle.mt_opcodec.specs.LogValue.{LogMap, operations}
@@ -18,7 +18,7 @@ same n = omega arith
 pub loop-record-init : goal.loop-record-init
 loop-record-init g c =
     let none : operations c.new-log.result ≡ [] = ap operations c.new-log.ensures ∙ no_operations in (
-      ap (λ (ops : List Operation). with_front ops (records_at c.args.version (c.args.count - 0) 0 None c.args.bytes.now)) none
+      ap (λ (ops : List Op). with_front ops (records_at c.args.version (c.args.count - 0) 0 None c.args.bytes.now)) none
           ∙ ap (λ (n : ℕ). with_front [] (records_at c.args.version n 0 None c.args.bytes.now)) (same c.args.count)
           ∙ with_front-nil (records_at c.args.version c.args.count 0 None c.args.bytes.now),
       subst (λ (m : LogMap). EndsAt None (operations m)) (sym c.new-log.ensures) ends_at_none,
@@ -40,7 +40,7 @@ loop-record-preserved g c =
     let left = c.args.count - (c.loop-record.record + 1) in
     let version = c.args.version in
     let after = record_ok c.loop-record.record c.loop-record.greatest (op_at version c.loop-record.rest.now) (c.in-Ok.op, c.in-Ok.after.now) c.in-Ok.ensures in (
-      ap (λ (ops : List Operation). with_front ops (records_at version left (c.loop-record.record + 1) (Some c.dot.result) c.in-Ok.after.now)) c.in_ok-add_last-in-Ok.ensures.ok
+      ap (λ (ops : List Op). with_front ops (records_at version left (c.loop-record.record + 1) (Some c.dot.result) c.in-Ok.after.now)) c.in_ok-add_last-in-Ok.ensures.ok
           ∙ ap (λ (dot : Dot). with_front (operations c.loop-record.log ++ c.in-Ok.op ∷ []) (records_at version left (c.loop-record.record + 1) (Some dot) c.in-Ok.after.now)) c.dot.ensures.value
           ∙ goes_on version (operations c.loop-record.log) c.args.count c.loop-record.record c.loop-record.greatest c.loop-record.rest.now c.in-Ok.op c.in-Ok.after.now (records_at version c.args.count 0 None c.args.bytes.now) c.loop-record-test.true c.in-Ok.ensures c.loop-record.invariant.0,
       ends_at_more c.loop-record.greatest (operations c.loop-record.log) (operations c.add_last.new.log) c.in-Ok.op c.dot.result c.loop-record.invariant.1 after.1 c.in_ok-add_last-in-Ok.ensures.ok c.dot.ensures.value,

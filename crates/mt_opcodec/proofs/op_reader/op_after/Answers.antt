@@ -1,6 +1,6 @@
 use Rattle.std.proofs.Common.{◌≡◌, true, ℕ, sym, ◌∙◌, ap, arith, rules}
 use Rattle.mt_op.specs.Bodies.{act_of}
-use Rattle.mt_op.specs.Operation.{Operation}
+use Rattle.mt_op.specs.OpValue.{Op}
 use Rattle.mt_op.specs.Valid.{length_is_good, fades_are_good, tags_are_good}
 use Rattle.mt_op.proofs.Refused.{is_op, is_given}
 use Rattle.mt_opcodec.specs.OpReading.{act_in}
@@ -21,6 +21,6 @@ returns-in-Err g c =
 
 pub returns-in-Ok : goal.returns-in-Ok
 returns-in-Ok g c =
-    let o : Operation = record { stamp = c.args.stamp; act = act_of c.in_ok-body.body } in
+    let o : Op = record { stamp = c.args.stamp; act = act_of c.in_ok-body.body } in
     let is : c.in-Ok.op ≡ o = is_given o c.in-Ok.op c.in-Ok.ensures in
     search (rules, is)

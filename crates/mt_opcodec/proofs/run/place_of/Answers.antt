@@ -1,7 +1,7 @@
 use Rattle.std.proofs.Common.{◌≡◌, ◌∙◌, ap, sym, Less, Equal}
 use Rattle.std.specs.Option.{option_copied}
 use Rattle.mt_stamp.specs.declared.name.Dot.{Dot}
-use Rattle.mt_stamp.specs.Moment.{dot_cmp}
+use Rattle.mt_stamp.specs.StampOrder.{dot_cmp}
 use Rattle.mt_stamp.proofs.Order.{dot_cmp-IsAntisymmetric}
 use Rattle.mt_op.specs.Dots.{op_dot}
 use Rattle.mt_opcodec.proofs.Ends.{gap_past_last}

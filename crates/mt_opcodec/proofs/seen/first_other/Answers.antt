@@ -1,5 +1,5 @@
 use Rattle.std.proofs.Common.{◌+◌, List, Some, None, drop, refl, sym, subst}
-use Rattle.mt_op.specs.Operation.{Operation}
+use Rattle.mt_op.specs.OpValue.{Op}
 use Rattle.mt_opcodec.specs.Runs.{RunOf, run_ops}
 use Rattle.mt_opcodec.specs.Clashing.{FirstOther}
 use Rattle.mt_opcodec.proofs.Others.{none_in_front, one_in_front}
@@ -14,17 +14,17 @@ returns-in-Some g c = λ log are.
     let runs = c.args.runs.now in
     let rest = run_ops (drop (c.loop-run.run-index + 1) runs) in
     let here : FirstOther log c.run-item.result.ops (Some c.in-Some.dot) =
-    subst (λ (l : List Operation). FirstOther log l (Some c.in-Some.dot)) c.ops.ensures.value (subst (FirstOther log c.ops.result.now) c.in-Some.is (c.first_of_ops.ensures log are)) in
+    subst (λ (l : List Op). FirstOther log l (Some c.in-Some.dot)) c.ops.ensures.value (subst (FirstOther log c.ops.result.now) c.in-Some.is (c.first_of_ops.ensures log are)) in
     c.loop-run.invariant log are (Some c.in-Some.dot)
-    (subst (λ (l : List Operation). FirstOther log l (Some c.in-Some.dot)) (sym (ops_left runs c.loop-run.run-index c.run-item.result c.loop-run-test.true c.run-item.is)) (one_in_front log c.run-item.result.ops rest c.in-Some.dot here))
+    (subst (λ (l : List Op). FirstOther log l (Some c.in-Some.dot)) (sym (ops_left runs c.loop-run.run-index c.run-item.result c.loop-run-test.true c.run-item.is)) (one_in_front log c.run-item.result.ops rest c.in-Some.dot here))
 
 pub loop-run-preserved : goal.loop-run-preserved
 loop-run-preserved g c = λ log are.
     let runs = c.args.runs.now in
     let rest = run_ops (drop (c.loop-run.run-index + 1) runs) in
-    let here : FirstOther log c.run-item.result.ops None = subst (λ (l : List Operation). FirstOther log l None) c.ops.ensures.value (subst (FirstOther log c.ops.result.now) c.in_default.is (c.first_of_ops.ensures log are)) in
+    let here : FirstOther log c.run-item.result.ops None = subst (λ (l : List Op). FirstOther log l None) c.ops.ensures.value (subst (FirstOther log c.ops.result.now) c.in_default.is (c.first_of_ops.ensures log are)) in
     λ r h. c.loop-run.invariant log are r
-    (subst (λ (l : List Operation). FirstOther log l r) (sym (ops_left runs c.loop-run.run-index c.run-item.result c.loop-run-test.true c.run-item.is)) (none_in_front log c.run-item.result.ops rest r here h))
+    (subst (λ (l : List Op). FirstOther log l r) (sym (ops_left runs c.loop-run.run-index c.run-item.result c.loop-run-test.true c.run-item.is)) (none_in_front log c.run-item.result.ops rest r here h))
 
 pub returns : goal.returns
 returns g c = λ log are.

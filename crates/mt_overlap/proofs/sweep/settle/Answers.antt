@@ -1,5 +1,5 @@
 use Rattle.std.proofs.Common.{arith}
-use Rattle.mt_stamp.specs.Moment.{stamp_cmp}
+use Rattle.mt_stamp.specs.StampOrder.{stamp_cmp}
 use Rattle.std.specs.BTreeMap.{get}
 use Rattle.mt_overlap.specs.Sweep.{Begun}
 use Rattle.mt_overlap.proofs.Sweeping.{taken_out, idle, sounded}

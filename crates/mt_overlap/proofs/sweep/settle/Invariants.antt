@@ -1,5 +1,5 @@
 use Rattle.std.proofs.Common.{◌+◌, ◌-◌, ◌≤◌}
-use Rattle.mt_stamp.specs.Moment.{stamp_cmp}
+use Rattle.mt_stamp.specs.StampOrder.{stamp_cmp}
 use Rattle.std.specs.BTreeMap.{get, btree_map_len}
 use Rattle.mt_overlap.specs.Sweep.{Swept, Begun}
 use Rattle.mt_overlap.proofs.sweep.settle.Given as goal

@@ -1,5 +1,5 @@
 use Rattle.std.proofs.Common.{◌≡◌, ◌+◌, ◌<◌, ◌≤◌, length, arith, refl, sym, ◌∙◌, ap, below_more, subst}
-use Rattle.mt_stamp.specs.Moment.{stamp_cmp}
+use Rattle.mt_stamp.specs.StampOrder.{stamp_cmp}
 use Rattle.std.specs.BTreeMap.{get}
 use Rattle.mt_overlap.specs.Overlap.{span_at, end_of}
 use Rattle.mt_overlap.specs.Sweep.{order_at, Begun}

@@ -8,7 +8,7 @@ use Rattle.mt_render.proofs.lane.reach_of.Given as goal
 
 abbrev pub invariant-loop-part : goal.invariant-loop-part
 invariant-loop-part l = record {
-  enough : (k : ℕ) (p : Part) → k < l.part-index → IsAt l.parts k p → p.scale.num ≤ l.reach * p.scale.den;
+  enough : (k : ℕ) (p : Part) → k < l.part-index → IsAt l.parts k p → p.scale.num ≤ l.max_gain * p.scale.den;
   small_samples : (k : ℕ) (p : Part) → k < l.part-index → IsAt l.parts k p → (frame channel : ℕ) → unsigned_abs (sample_or_silence p.wave.now frame channel) ≤ 2 ^ 31;
-  small : l.reach ≤ 2 ^ 32;
+  small : l.max_gain ≤ 2 ^ 32;
 }

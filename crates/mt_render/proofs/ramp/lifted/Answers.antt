@@ -15,7 +15,7 @@ pub returns-clause-value : goal.returns-clause-value
 returns-clause-value c =
     let r = c.args.ramp.now in
     let d = r.divisor.den in
-    rw (c.from-3.ensures, c.from-4.ensures) (lift_is c.args.x c.from-2.result c.args.num (r.lift - c.args.num * 2147483648) (d / 2) (d * r.turns) (search (rules, arith)) (omega (arith, r.lift_is, r.enough)))
+    rw (c.from-3.ensures, c.from-4.ensures) (lift_is c.args.x c.from-2.result c.args.num (r.bias_quotients - c.args.num * 2147483648) (d / 2) (d * r.bias) (search (rules, arith)) (omega (arith, r.lift_is, r.enough)))
 
 pub returns-clause-small : goal.returns-clause-small
 returns-clause-small c =

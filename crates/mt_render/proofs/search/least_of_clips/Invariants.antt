@@ -1,6 +1,6 @@
 -- The least of the clips below the index.
 use Rattle.std.proofs.Common.{◌++◌, List, take}
-use Rattle.mt_sessionview.specs.Content.{Clip}
+use Rattle.mt_sessionview.specs.SessionValue.{Clip}
 use Rattle.mt_render.specs.Refusals.{unmuted, LeastOf}
 use Rattle.mt_render.proofs.search.least_of_clips.Given as goal
 

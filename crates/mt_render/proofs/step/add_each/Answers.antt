@@ -9,6 +9,6 @@ loop-index-preserved g c =
     let here : i < length c.loop-index.sums = omega arith in (
       below_more _ _
           (λ k h. let ne : k ≢ i = omega arith in rw get_or-set_other (before.0 k h))
-          (rw get_or-set_same (gained (g.S.Step.gives c.args.step.now) _ _ _ _ (search rules) (search rules) (search rules) (before.1 i (omega arith)) c.of.ensures)),
+          (rw get_or-set_same (gained (g.S.GainKernel.gives c.args.step.now) _ _ _ _ (search rules) (search rules) (search rules) (before.1 i (omega arith)) c.of.ensures)),
       λ k h. let ne : k ≢ i = omega arith in rw get_or-set_other (before.1 k (omega arith)),
     )

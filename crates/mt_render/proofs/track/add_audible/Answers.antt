@@ -1,5 +1,5 @@
 use Rattle.std.proofs.Common.{◌≡◌, ◌∙◌, false, refl, sym, ap, ◌+ℤ◌}
-use Rattle.mt_sessionview.specs.Content.{Track}
+use Rattle.mt_sessionview.specs.SessionValue.{Track}
 use Rattle.mt_render.specs.Parts.{lanes_give}
 use Rattle.mt_render.proofs.Summing.{lanes_push}
 use Rattle.mt_render.proofs.track.add_audible.Goals as goal

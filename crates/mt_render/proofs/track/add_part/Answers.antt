@@ -1,6 +1,6 @@
 use Rattle.std.proofs.Common.{◌∙◌, ap, [], ◌+ℤ◌}
 use Rattle.std.specs.Prelude.{unwrap_or}
-use Rattle.mt_sessionview.specs.Content.{Clip}
+use Rattle.mt_sessionview.specs.SessionValue.{Clip}
 use Rattle.mt_render.specs.Sources.{source_of}
 use Rattle.mt_render.specs.Parts.{all_give}
 use Rattle.mt_render.proofs.Adding.{all_give_push, part_gives}

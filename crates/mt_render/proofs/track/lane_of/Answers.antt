@@ -1,6 +1,6 @@
 use Rattle.std.proofs.Common.{◌≡◌, ◌∙◌, refl, ap, subst, arith, length, length-append, take}
 use Rattle.std.proofs.lemmas.List.{take_all}
-use Rattle.mt_sessionview.specs.Content.{Track}
+use Rattle.mt_sessionview.specs.SessionValue.{Track}
 use Rattle.mt_render.specs.Parts.{all_give}
 use Rattle.mt_render.specs.Lanes.{AreSpans, lane_sum, clip_value}
 use Rattle.mt_render.proofs.Lanes.{spans_apart, differ_at, segment_of, lane_is}

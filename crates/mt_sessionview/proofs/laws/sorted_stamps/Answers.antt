@@ -1,4 +1,4 @@
-use Rattle.mt_stamp.specs.Moment.{stamp_cmp}
+use Rattle.mt_stamp.specs.StampOrder.{stamp_cmp}
 use Rattle.mt_stamp.proofs.Order.{stamp_cmp_total}
 use Rattle.mt_stamp.proofs.Sorting.{sorts}
 use Rattle.mt_sessionview.proofs.laws.sorted_stamps.Goals as goal

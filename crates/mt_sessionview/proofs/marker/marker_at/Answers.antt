@@ -1,5 +1,5 @@
 use Rattle.std.proofs.Common.{◌∙◌, true, false, Some}
-use Rattle.mt_items.proofs.Marking.{present_is}
+use Rattle.session_state.proofs.Marking.{present_is}
 use Rattle.mt_sessionview.proofs.ItemCells.{marker_is}
 use Rattle.mt_sessionview.proofs.marker.marker_at.Goals as goal
 

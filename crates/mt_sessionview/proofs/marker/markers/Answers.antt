@@ -1,5 +1,5 @@
 use Rattle.std.proofs.Common.{◌∙◌, sym}
-use Rattle.mt_items.specs.Cells.{HoldsMarker}
+use Rattle.session_state.specs.Cells.{HoldsMarker}
 use Rattle.mt_sessionview.specs.Read.{marker_read}
 use Rattle.mt_sessionview.proofs.Lists.{item_of, one_read, none_read}
 use Rattle.mt_sessionview.proofs.marker.markers.Goals as goal

@@ -2,7 +2,7 @@ use Rattle.std.proofs.Common.{◌∙◌, Some, None, sym, subst, arith, rules}
 use Rattle.std.proofs.lemmas.List.{append-nil}
 use Rattle.std.specs.List.{AllByRecursion}
 use Rattle.std.specs.Vec.Iter.{into_iter_items}
-use Rattle.mt_items.specs.Cells.{HoldsMarker}
+use Rattle.session_state.specs.Cells.{HoldsMarker}
 use Rattle.mt_sessionview.specs.Read.{marker_read}
 use Rattle.mt_sessionview.proofs.ItemCells.{next_holds, others_left, all_read}
 use Rattle.mt_sessionview.proofs.marker.taken_markers.Goals as goal

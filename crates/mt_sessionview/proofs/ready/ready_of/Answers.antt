@@ -1,16 +1,16 @@
 use Rattle.std.proofs.Common.{◌<◌, [], map, length, refl, sym, ap, ◌∙◌, Bor, arith}
-use Rattle.mt_op.specs.declared.op.Op.{Op}
-use Rattle.mt_op.specs.Operation.{Operation}
-use Rattle.mt_items.proofs.Fresh.{passes_all}
+use Rattle.mt_op.specs.declared.op.Op.{Op as OpFields}
+use Rattle.mt_op.specs.OpValue.{Op}
+use Rattle.session_state.proofs.Fresh.{passes_all}
 use Rattle.mt_sessionview.proofs.Sifting.{next_may_follow, one_sifted, one_passed, all_sifted}
 use Rattle.mt_sessionview.proofs.ready.ready_of.Goals as goal
 use Rattle.mt_sessionview.proofs.ready.ready_of.Goals.{then-are_needs_met_near+in_ok-items-2, else-are_needs_met_near}
 
 pub loop-place-init : goal.loop-place-init
 loop-place-init g c =
-    let now : Bor (Op g.row.A.Denot) → Operation = λ o. o.now in
+    let now : Bor (OpFields g.row.A.Denot) → Op = λ o. o.now in
     rw c.in_ok-items.ensures.ok (record {
-      collecting = record { passing = passes_all (map now c.args.ops.items) [] c.requires.rising refl; noted = tt; ready = refl };
+      collecting = record { passing = passes_all (map now c.args.ops.items) [] c.requires.rising refl; applied = tt; ready = refl };
       rest = refl;
       long = refl;
       behind = omega arith;
@@ -19,8 +19,8 @@ loop-place-init g c =
 pub index-op-requires : goal.index-op-requires
 index-op-requires g c = omega (arith, c.loop-place.invariant.long, c.loop-place-test.true, c.len-place-end.ensures)
 
-pub note_near-requires : goal.note_near-requires
-note_near-requires g c = record {
+pub apply_near-requires : goal.apply_near-requires
+apply_near-requires g c = record {
   follows = next_may_follow (λ o. o.now) c.args.ops.items c.loop-place.sifted.items c.loop-place.place c.loop-place.kept c.loop-place.items c.loop-place.invariant
       c.index-op.result.now (omega (arith, c.loop-place.invariant.long, c.loop-place-test.true, c.len-place-end.ensures)) c.index-op.ensures (sym c.are_needs_met_near.ensures.met ∙ c.if-are_needs_met_near.true);
 }
@@ -28,12 +28,12 @@ note_near-requires g c = record {
 pub index_mut-requires : goal.index_mut-requires
 index_mut-requires g c = omega (arith, c.loop-place.invariant.long, c.loop-place.invariant.behind, c.loop-place-test.true, c.len-place-end.ensures)
 
-pub slice_bounds-look_ahead-count : goal.slice_bounds-look_ahead-count
-slice_bounds-look_ahead-count g c = omega (arith, c.loop-place.invariant.long, c.loop-place-test.true, c.len-place-end.ensures, c.deref-then-place-eq0.ensures.len)
+pub slice_bounds-prefetch-count : goal.slice_bounds-prefetch-count
+slice_bounds-prefetch-count g c = omega (arith, c.loop-place.invariant.long, c.loop-place-test.true, c.len-place-end.ensures, c.deref-then-place-eq0.ensures.len)
 
 pub loop-place-preserved : goal.loop-place-preserved
 loop-place-preserved g c =
-    let now : Bor (Op g.row.A.Denot) → Operation = λ o. o.now in
+    let now : Bor (OpFields g.row.A.Denot) → Op = λ o. o.now in
     let inside : c.loop-place.place < length c.loop-place.sifted.items = omega (arith, c.loop-place.invariant.long, c.loop-place-test.true, c.len-place-end.ensures) in
     elim c.if-are_needs_met_near.branch [
       | then-are_needs_met_near+in_ok-items-2 w ↦
@@ -46,7 +46,7 @@ loop-place-preserved g c =
 
 pub returns-clause-ops : goal.returns-clause-ops
 returns-clause-ops g c =
-    let now : Bor (Op g.row.A.Denot) → Operation = λ o. o.now in
+    let now : Bor (OpFields g.row.A.Denot) → Op = λ o. o.now in
     ap (map now) c.truncate.ensures.items ∙ (all_sifted now c.args.ops.items c.loop-place.sifted.items c.loop-place.place c.loop-place.kept c.loop-place.items c.loop-place.invariant
     (omega (arith, c.loop-place.invariant.long, c.loop-place-test.false, c.len-place-end.ensures)) c.requires.rising).1
 

@@ -1,7 +1,7 @@
 use Rattle.std.proofs.Common.{rules}
 use Rattle.std.proofs.lemmas.List.{append-nil}
-use Rattle.mt_latch.specs.Buffered.{Puts}
-use Rattle.mt_latch.proofs.Putting.{then_handed, same_handed, prefix_written}
+use Rattle.base_io.specs.Buffered.{Puts}
+use Rattle.base_io.proofs.Putting.{then_handed, same_handed, prefix_written}
 use Rattle.mt_sessionview.specs.SessionText.{session_text}
 use Rattle.mt_sessionview.proofs.scratch.write_text.Goals as goal
 

@@ -1,9 +1,9 @@
 use Rattle.std.proofs.Common.{◌≡◌, ◌∙◌, List, Option, Some, sym, ap, subst}
 use Rattle.std.specs.Prelude.{IfSome}
-use Rattle.mt_op.specs.Operation.{Operation}
+use Rattle.mt_op.specs.OpValue.{Op}
 use Rattle.mt_op.specs.Writes.{title_written, last_write}
-use Rattle.mt_items.specs.Cells.{HoldsTrack}
-use Rattle.mt_items.specs.declared.cells.TrackCells.{TrackCells}
+use Rattle.session_state.specs.Cells.{HoldsTrack}
+use Rattle.session_state.specs.declared.cells.TrackCells.{TrackCells}
 use Rattle.mt_sessionview.specs.Read.{track_from}
 use Rattle.mt_sessionview.proofs.ItemCells.{track_of_cells}
 use Rattle.mt_sessionview.proofs.TakenTitles.{others_same, stand_still}
@@ -14,7 +14,7 @@ returns-clause-ok g c =
     let track = c.args.track in
     let clips = c.args.clips.items in
     let kept = c.in_ok-title.ensures.cells in
-    subst (λ (found : Option (TrackCells g.row.A.Denot)). IfSome found (λ k. (ops : List Operation) → HoldsTrack track ops k → Some c.track_with.result ≡ track_from ops track clips (last_write title_written track ops))) c.in-Some.ensures.value (λ ops held.
+    subst (λ (found : Option (TrackCells g.row.A.Denot)). IfSome found (λ k. (ops : List Op) → HoldsTrack track ops k → Some c.track_with.result ≡ track_from ops track clips (last_write title_written track ops))) c.in-Some.ensures.value (λ ops held.
     ap Some c.track_with.ensures ∙ (λ i. Some (record { track = track; title = c.in_ok-title.ensures.title i; gain = (kept i).gain.value; mute = (kept i).mute.value; clips = clips })) ∙ track_of_cells ops track c.in-Some.cells.now clips held)
 
 pub returns-clause-stand : goal.returns-clause-stand

@@ -3,8 +3,8 @@ use Rattle.std.specs.Prelude.{codes}
 use Rattle.std.specs.Fmt.{decimal}
 use Rattle.mt_stamp.specs.Texts.{stamp_text}
 use Rattle.mt_op.specs.Digest.{digest_text}
-use Rattle.mt_latch.specs.Buffered.{Puts, Handed}
-use Rattle.mt_latch.proofs.Putting.{then_handed, same_handed}
+use Rattle.base_io.specs.Buffered.{Puts, Handed}
+use Rattle.base_io.proofs.Putting.{then_handed, same_handed}
 use Rattle.mt_sessionview.specs.SessionText.{newline, sound_text, fade_text, clip_line}
 use Rattle.mt_sessionview.proofs.SessionText.{clip_parts}
 use Rattle.mt_sessionview.proofs.text.put_clip_line.Goals as goal

@@ -1,6 +1,6 @@
 use Rattle.std.proofs.Common.{take}
 use Rattle.std.specs.List.{flat_map}
-use Rattle.mt_latch.specs.Buffered.{Puts}
+use Rattle.base_io.specs.Buffered.{Puts}
 use Rattle.mt_sessionview.specs.SessionText.{clip_line}
 use Rattle.mt_sessionview.proofs.text.put_clip_lines.Given as goal
 

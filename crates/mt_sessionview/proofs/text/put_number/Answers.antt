@@ -1,5 +1,5 @@
-use Rattle.mt_latch.specs.Buffered.{Puts}
-use Rattle.mt_latch.proofs.Putting.{then_handed}
+use Rattle.base_io.specs.Buffered.{Puts}
+use Rattle.base_io.proofs.Putting.{then_handed}
 use Rattle.mt_sessionview.proofs.text.put_number.Goals as goal
 
 pub returns : goal.returns

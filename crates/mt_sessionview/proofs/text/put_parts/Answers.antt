@@ -2,8 +2,8 @@ use Rattle.std.proofs.Common.{[], ◌∷◌, ◌++◌}
 use Rattle.std.specs.Prelude.{codes}
 use Rattle.std.specs.Fmt.{decimal}
 use Rattle.mt_stamp.specs.Texts.{stamp_text}
-use Rattle.mt_latch.specs.Buffered.{Puts}
-use Rattle.mt_latch.proofs.Putting.{then_handed, same_handed}
+use Rattle.base_io.specs.Buffered.{Puts}
+use Rattle.base_io.proofs.Putting.{then_handed, same_handed}
 use Rattle.mt_sessionview.specs.SessionText.{newline, len_text}
 use Rattle.mt_sessionview.proofs.SessionText.{marker_parts}
 use Rattle.mt_sessionview.proofs.text.put_parts.Goals as goal

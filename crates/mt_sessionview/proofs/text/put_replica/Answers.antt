@@ -1,6 +1,6 @@
 use Rattle.std.proofs.Common.{ℕ, List, subst, ap, ◌∙◌}
 use Rattle.uuid.specs.Text.{hyphenated_text, lower}
-use Rattle.mt_latch.specs.Buffered.{Puts}
+use Rattle.base_io.specs.Buffered.{Puts}
 use Rattle.mt_sessionview.proofs.text.put_replica.Goals as goal
 
 pub returns : goal.returns

@@ -1,8 +1,8 @@
 use Rattle.std.proofs.Common.{[], ◌∷◌, ◌++◌, append_assoc}
 use Rattle.std.specs.Prelude.{codes}
 use Rattle.mt_stamp.specs.Texts.{stamp_text}
-use Rattle.mt_latch.specs.Buffered.{Puts}
-use Rattle.mt_latch.proofs.Putting.{then_handed, same_handed}
+use Rattle.base_io.specs.Buffered.{Puts}
+use Rattle.base_io.proofs.Putting.{then_handed, same_handed}
 use Rattle.mt_sessionview.specs.SessionText.{newline, sound_text}
 use Rattle.mt_sessionview.proofs.text.put_track_line.Goals as goal
 

@@ -1,4 +1,4 @@
-use Rattle.mt_latch.specs.Buffered.{Puts}
+use Rattle.base_io.specs.Buffered.{Puts}
 use Rattle.mt_sessionview.specs.SessionText.{track_lines}
 use Rattle.mt_sessionview.proofs.SessionText.{one_more_line}
 use Rattle.mt_sessionview.proofs.text.put_tracks.Goals as goal

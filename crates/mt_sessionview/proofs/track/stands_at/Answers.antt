@@ -1,6 +1,6 @@
 use Rattle.std.proofs.Common.{arith}
 use Rattle.std.proofs.lemmas.Grind.{common_steps}
-use Rattle.mt_items.proofs.Marking.{present_is}
+use Rattle.session_state.proofs.Marking.{present_is}
 use Rattle.mt_sessionview.proofs.track.stands_at.Goals as goal
 
 pub returns-then-eq : goal.returns-then-eq

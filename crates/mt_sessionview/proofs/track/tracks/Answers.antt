@@ -1,7 +1,7 @@
 use Rattle.std.proofs.Common.{List, ◌+◌, ◌∙◌, map, drop, sym, ap, subst, Bor, arith}
 use Rattle.std.proofs.lemmas.Grind.{common_steps}
-use Rattle.mt_op.specs.declared.op.Op.{Op}
-use Rattle.mt_op.specs.Operation.{Operation}
+use Rattle.mt_op.specs.declared.op.Op.{Op as OpFields}
+use Rattle.mt_op.specs.OpValue.{Op}
 use Rattle.mt_op.proofs.TagLists.{drop_here}
 use Rattle.mt_sessionview.specs.Read.{track_read, HasClips}
 use Rattle.mt_sessionview.proofs.Lists.{one_read, none_read}
@@ -10,16 +10,16 @@ use Rattle.mt_sessionview.proofs.track.tracks.Goals as goal
 use Rattle.mt_sessionview.proofs.track.tracks.Goals.{in-Some+in_ok-push, in_default}
 
 pub loop-op-init : goal.loop-op-init
-loop-op-init g c = record { read = grind (arith, common_steps); rest = has_all c.args.items.now (HasClips c.args.items.now c.args.clips) (map (λ (o : Bor (Op g.row.A.Denot)). o.now) c.args.ops.now) c.requires.clips c.requires.differ }
+loop-op-init g c = record { read = grind (arith, common_steps); rest = has_all c.args.items.now (HasClips c.args.items.now c.args.clips) (map (λ (o : Bor (OpFields g.row.A.Denot)). o.now) c.args.ops.now) c.requires.clips c.requires.differ }
 
 pub track_at-requires-clause-clips : goal.track_at-requires-clause-clips
 track_at-requires-clause-clips g c =
-    let now : List (Bor (Op g.row.A.Denot)) → List Operation = λ l. map (λ (o : Bor (Op g.row.A.Denot)). o.now) l in
+    let now : List (Bor (OpFields g.row.A.Denot)) → List Op = λ l. map (λ (o : Bor (OpFields g.row.A.Denot)). o.now) l in
     (subst (HasTheirs c.args.items.now (HasClips c.args.items.now c.loop-op.clips)) (ap now (drop_here c.args.ops.now c.loop-op.op-index c.op-item.result c.loop-op-test.true c.op-item.is)) c.loop-op.invariant.rest).each.0
 
 pub loop-op-preserved : goal.loop-op-preserved
 loop-op-preserved g c =
-    let now : List (Bor (Op g.row.A.Denot)) → List Operation = λ l. map (λ (o : Bor (Op g.row.A.Denot)). o.now) l in
+    let now : List (Bor (OpFields g.row.A.Denot)) → List Op = λ l. map (λ (o : Bor (OpFields g.row.A.Denot)). o.now) l in
     let r = c.args.items.now in
     let os = c.args.ops.now in
     let i = c.loop-op.op-index in

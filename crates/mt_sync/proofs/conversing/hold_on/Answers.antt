@@ -21,10 +21,10 @@ returns-then-count-eq0-clause-converses g c =
 
 pub loop-piece-preserved : goal.loop-piece-preserved
 loop-piece-preserved g c =
-    let fed = fed_going _ _ _ (Ok c.in-Ok-feed.reply) (end_of c.feed.new.self (g.H.Holder.held c.feed.new.holder)) c.loop-piece.invariant.0 c.in-Ok-feed.ensures.hears in (
+    let fed = fed_going _ _ _ (Ok c.in-Ok-feed.reply) (end_of c.feed.new.self (g.H.OpStore.held c.feed.new.holder)) c.loop-piece.invariant.0 c.in-Ok-feed.ensures.receives in (
       fed.0,
       c.in-Ok-feed.ensures.name ∙ c.loop-piece.invariant.1,
-      goes_on _ _ _ _ _ _ _ _ (end_of c.feed.new.self (g.H.Holder.held c.feed.new.holder)) _ _ c.loop-piece.invariant.2 c.in-Ok.ensures.bytes.0 fed.1 (rw c.as_slice.ensures.value at c.in-Ok-put.ensures.whole),
+      goes_on _ _ _ _ _ _ _ _ (end_of c.feed.new.self (g.H.OpStore.held c.feed.new.holder)) _ _ c.loop-piece.invariant.2 c.in-Ok.ensures.bytes.0 fed.1 (rw c.as_slice.ensures.value at c.in-Ok-put.ensures.whole),
       search rules,
       search rules,
       search rules,
@@ -32,10 +32,10 @@ loop-piece-preserved g c =
 
 pub returns-in-Err-put-clause-converses : goal.returns-in-Err-put-clause-converses
 returns-in-Err-put-clause-converses g c =
-    let fed = fed_going _ _ _ (Ok c.in-Ok-feed.reply) (end_of c.feed.new.self (g.H.Holder.held c.feed.new.holder)) c.loop-piece.invariant.0 c.in-Ok-feed.ensures.hears in
-    is_unwritten _ _ _ _ _ _ _ _ (end_of c.feed.new.self (g.H.Holder.held c.feed.new.holder)) _ _ c.loop-piece.invariant.2 c.in-Ok.ensures.bytes.0 fed.1 (rw c.as_slice.ensures.value at c.in-Err-put.ensures.prefix) fed.0
+    let fed = fed_going _ _ _ (Ok c.in-Ok-feed.reply) (end_of c.feed.new.self (g.H.OpStore.held c.feed.new.holder)) c.loop-piece.invariant.0 c.in-Ok-feed.ensures.receives in
+    is_unwritten _ _ _ _ _ _ _ _ (end_of c.feed.new.self (g.H.OpStore.held c.feed.new.holder)) _ _ c.loop-piece.invariant.2 c.in-Ok.ensures.bytes.0 fed.1 (rw c.as_slice.ensures.value at c.in-Err-put.ensures.prefix) fed.0
 
 pub returns-in-Err-feed-clause-converses : goal.returns-in-Err-feed-clause-converses
 returns-in-Err-feed-clause-converses g c =
-    let fed = fed_going _ _ _ (Err c.in-Err-feed.fault) (end_of c.feed.new.self (g.H.Holder.held c.feed.new.holder)) c.loop-piece.invariant.0 c.in-Err-feed.ensures.hears in
-    is_stopped (end_of c.args.talk.now (g.H.Holder.held c.args.holder.now)) _ _ _ _ _ _ (end_of c.feed.new.self (g.H.Holder.held c.feed.new.holder)) _ _ c.loop-piece.invariant.2 c.in-Ok.ensures.bytes.0 fed c.in-Err-feed.ensures.left
+    let fed = fed_going _ _ _ (Err c.in-Err-feed.fault) (end_of c.feed.new.self (g.H.OpStore.held c.feed.new.holder)) c.loop-piece.invariant.0 c.in-Err-feed.ensures.receives in
+    is_stopped (end_of c.args.talk.now (g.H.OpStore.held c.args.holder.now)) _ _ _ _ _ _ (end_of c.feed.new.self (g.H.OpStore.held c.feed.new.holder)) _ _ c.loop-piece.invariant.2 c.in-Ok.ensures.bytes.0 fed c.in-Err-feed.ensures.left

@@ -6,8 +6,8 @@ use Rattle.mt_sync.proofs.conversing.hold_on.Given as goal
 
 abbrev pub invariant-loop-piece : goal.invariant-loop-piece
 invariant-loop-piece g l =
-    IsGoing l.talk.turn × (g.H.Holder.named l.holder ≡ g.H.Holder.named l.fn.holder)
-    × Goes (end_of l.fn.talk (g.H.Holder.held l.fn.holder)) (g.R.Read.remaining l.fn.reader.inner) (g.R.Read.remaining l.reader.inner) (g.W.Write.contents l.fn.writer.inner) (g.W.Write.contents l.writer.inner) (end_of l.talk (g.H.Holder.held l.holder))
+    IsGoing l.talk.turn × (g.H.OpStore.named l.holder ≡ g.H.OpStore.named l.fn.holder)
+    × Goes (end_of l.fn.talk (g.H.OpStore.held l.fn.holder)) (g.R.Read.remaining l.fn.reader.inner) (g.R.Read.remaining l.reader.inner) (g.W.Write.contents l.fn.writer.inner) (g.W.Write.contents l.writer.inner) (end_of l.talk (g.H.OpStore.held l.holder))
     × (AreSound l.reader l.writer ⊎ IsOpen l.talk.turn)
     × (l.fn.reader.failed ≡ true → l.reader ≡ l.fn.reader)
     × (l.fn.writer.failed ≡ true → l.writer ≡ l.fn.writer)

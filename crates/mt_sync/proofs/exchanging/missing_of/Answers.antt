@@ -1,5 +1,5 @@
 use Rattle.std.proofs.Common.{ap, ◌∙◌}
-use Rattle.mt_summary.specs.Summary.{lacking}
+use Rattle.sync_messages.specs.Summary.{lacking}
 use Rattle.mt_sync.proofs.Exchanged.{is_missing}
 use Rattle.mt_sync.proofs.exchanging.missing_of.Goals as goal
 

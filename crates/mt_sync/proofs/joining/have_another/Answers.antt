@@ -6,7 +6,7 @@ use Rattle.mt_opcodec.specs.LogValue.{LogMap}
 use Rattle.mt_opcodec.specs.Laws.{PairsAgree}
 use Rattle.mt_opcodec.specs.Union.{union_all}
 use Rattle.mt_opcodec.proofs.JoiningAll.{none_first}
-use Rattle.mt_sync.specs.Joining.{HasAnotherOperation}
+use Rattle.mt_sync.specs.Joining.{HasConflict}
 use Rattle.mt_sync.proofs.Joined.{member_valid}
 use Rattle.mt_sync.proofs.LogsTogether.{in_one, none_more, at_place, up_to}
 use Rattle.mt_sync.proofs.joining.have_another.Goals as goal
@@ -29,7 +29,7 @@ returns-then-has_another-2 g c =
     let rest = drop (i + 1) others in
     let parts = ap (λ (l : List LogMap). c.args.log.now ∷ l) (at_place others i c.other-item.result c.loop-other-test.true c.other-item.is) in
     let h = c.if-has_another-2.ensures in
-    subst (λ (l : List LogMap). HasAnotherOperation (union_all l) c.args.op.now true) (sym parts)
+    subst (λ (l : List LogMap). HasConflict (union_all l) c.args.op.now true) (sym parts)
     (h.0, (in_one front rest c.other-item.result dot h.0 (subst PairsAgree parts c.requires.agree) h.1.0, (h.1.1, member_valid c.other-item.result dot h.0 h.1.0 c.runs-in-loop-other.ensures.logged.valid)))
 
 pub loop-other-preserved : goal.loop-other-preserved
@@ -44,4 +44,4 @@ loop-other-preserved g c =
 pub returns : goal.returns
 returns g c =
     let past : length c.args.others.now ≤ c.loop-other.other-index = search rules in
-    subst (λ (l : List LogMap). HasAnotherOperation (union_all (c.args.log.now ∷ l)) c.args.op.now false) (take_all c.loop-other.other-index c.args.others.now past) c.loop-other.invariant
+    subst (λ (l : List LogMap). HasConflict (union_all (c.args.log.now ∷ l)) c.args.op.now false) (take_all c.loop-other.other-index c.args.others.now past) c.loop-other.invariant

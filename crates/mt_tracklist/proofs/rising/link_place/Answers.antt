@@ -1,6 +1,6 @@
 use Rattle.std.proofs.Common.{◌≡◌, ◌∙◌, ℕ, Option, sym, ap, subst, true}
 use Rattle.std.proofs.lemmas.Option.{same_Some, none-some}
-use Rattle.mt_stamp.specs.Moment.{Moment}
+use Rattle.mt_stamp.specs.StampOrder.{Stamp}
 use Rattle.mt_tracklist.specs.Chain.{has, put_after}
 use Rattle.mt_tracklist.specs.Rising.{given_tree, IsPut}
 use Rattle.mt_tracklist.proofs.rising.link_place.Goals as goal
@@ -13,7 +13,7 @@ insert_after-requires-clause-there g c =
 
 pub returns-in-Some-index_of-clause-items : goal.returns-in-Some-index_of-clause-items
 returns-in-Some-index_of-clause-items g c =
-    subst (λ (a : Option Moment). IsPut (given_tree c.args.places.now) a c.args.index c.args.chain.now.items c.insert_after.new.self.items) (sym c.in-Some.is) (λ there.
+    subst (λ (a : Option Stamp). IsPut (given_tree c.args.places.now) a c.args.index c.args.chain.now.items c.insert_after.new.self.items) (sym c.in-Some.is) (λ there.
     c.insert_after.ensures.items ∙ ap (λ (k : ℕ). put_after k c.args.index c.args.chain.now.items) (same_Some _ _ (sym c.in-Some-index_of.is ∙ c.index_of.ensures there)))
 
 pub returns-in_default-index_of-clause-items : goal.returns-in_default-index_of-clause-items

@@ -4,7 +4,7 @@ use Rattle.std.specs.Result.{OnOk}
 use Rattle.std.proofs.lemmas.Result.{on_ok_weaker}
 use Rattle.mt_stamp.specs.Texts.{stamp_text}
 use Rattle.mt_op.specs.Digest.{digest_text}
-use Rattle.mt_sessionview.specs.Content.{Clip}
+use Rattle.mt_sessionview.specs.SessionValue.{Clip}
 use Rattle.text_csv.specs.Table.{line, amount, gain_text, switch_text, clip_row}
 use Rattle.text_csv.specs.Writing.{AddsText}
 use Rattle.text_csv.proofs.Rows.{row_added}

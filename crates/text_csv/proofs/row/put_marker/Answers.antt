@@ -3,7 +3,7 @@ use Rattle.std.specs.Prelude.{codes}
 use Rattle.std.specs.Result.{OnOk}
 use Rattle.std.proofs.lemmas.Result.{on_ok_weaker}
 use Rattle.mt_stamp.specs.Texts.{stamp_text}
-use Rattle.mt_sessionview.specs.Content.{Marker}
+use Rattle.mt_sessionview.specs.SessionValue.{Marker}
 use Rattle.text_csv.specs.Table.{line, amount, marker_row}
 use Rattle.text_csv.specs.Writing.{AddsField, AddsText}
 use Rattle.text_csv.proofs.Rows.{row_added}

@@ -3,7 +3,7 @@ use Rattle.std.specs.Prelude.{codes}
 use Rattle.std.specs.Result.{OnOk}
 use Rattle.std.proofs.lemmas.Result.{on_ok_weaker}
 use Rattle.mt_stamp.specs.Texts.{stamp_text}
-use Rattle.mt_sessionview.specs.Content.{Track}
+use Rattle.mt_sessionview.specs.SessionValue.{Track}
 use Rattle.text_csv.specs.Table.{line, gain_text, switch_text, track_row}
 use Rattle.text_csv.specs.Writing.{AddsField, AddsText}
 use Rattle.text_csv.proofs.Rows.{row_added}

@@ -1,6 +1,6 @@
 use Rattle.std.proofs.Common.{List, subst}
 use Rattle.std.proofs.lemmas.List.{take_all}
-use Rattle.mt_sessionview.specs.Content.{Clip}
+use Rattle.mt_sessionview.specs.SessionValue.{Clip}
 use Rattle.text_csv.specs.Table.{line, clip_row, clips_text}
 use Rattle.text_csv.specs.Writing.{AddsText}
 use Rattle.text_csv.proofs.Rows.{none_added, one_more}

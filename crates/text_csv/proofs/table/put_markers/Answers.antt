@@ -1,6 +1,6 @@
 use Rattle.std.proofs.Common.{List, subst}
 use Rattle.std.proofs.lemmas.List.{take_all}
-use Rattle.mt_sessionview.specs.Content.{Marker}
+use Rattle.mt_sessionview.specs.SessionValue.{Marker}
 use Rattle.text_csv.specs.Table.{line, marker_row, markers_text}
 use Rattle.text_csv.specs.Writing.{AddsText}
 use Rattle.text_csv.proofs.Rows.{none_added, one_more}

@@ -1,7 +1,7 @@
 use Rattle.std.proofs.Common.{List, subst}
 use Rattle.std.proofs.lemmas.List.{take_all}
 use Rattle.std.specs.List.{flat_map}
-use Rattle.mt_sessionview.specs.Content.{Track}
+use Rattle.mt_sessionview.specs.SessionValue.{Track}
 use Rattle.text_csv.specs.Table.{track_text}
 use Rattle.text_csv.specs.Writing.{AddsText}
 use Rattle.text_csv.proofs.Rows.{none_added, one_more}

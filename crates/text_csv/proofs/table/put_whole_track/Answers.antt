@@ -1,6 +1,6 @@
 use Rattle.std.proofs.Common.{List, ℕ, subst, ap, ◌∙◌}
 use Rattle.std.proofs.lemmas.Result.{on_ok_weaker}
-use Rattle.mt_sessionview.specs.Content.{Clip, Track}
+use Rattle.mt_sessionview.specs.SessionValue.{Clip, Track}
 use Rattle.text_csv.specs.Table.{line, track_row, clips_text}
 use Rattle.text_csv.specs.Writing.{AddsText}
 use Rattle.text_csv.proofs.Rows.{both_added}

@@ -1,7 +1,7 @@
 use Rattle.std.proofs.Common.{◌≡◌, arith, ap, ◌∙◌}
 use Rattle.mt_render.proofs.Lanes.{spans_apart, differ_at, segment_of}
 use Rattle.mt_overlap.specs.Overlap.{segment_at}
-use Rattle.mt_sessionview.specs.Content.{Clip}
+use Rattle.mt_sessionview.specs.SessionValue.{Clip}
 use Rattle.mt_overlap.specs.declared.span.Segment.{Segment}
 use Rattle.text_edl.specs.EditList.{event_of, event_in}
 use Rattle.text_edl.proofs.Events.{events_more, small_more}

@@ -1,6 +1,6 @@
 use Rattle.std.proofs.Common.{◌≡◌, List, ap, subst, ◌∙◌}
-use Rattle.mt_stamp.specs.Moment.{Moment}
-use Rattle.mt_sessionview.specs.Content.{Content}
+use Rattle.mt_stamp.specs.StampOrder.{Stamp}
+use Rattle.mt_sessionview.specs.SessionValue.{Session}
 use Rattle.cli_calls.specs.Finding.{found, answer, Finding}
 use Rattle.cli_calls.specs.Writing.{Wrote}
 use Rattle.cli_calls.proofs.Writing.{starved}
@@ -12,5 +12,5 @@ returns-in_err-stamps g c =
 
 pub returns : goal.returns
 returns g c =
-    subst (λ (stamps : List Moment). Wrote g.W.Write.contents (λ made. made ≡ answer c.args.self.now.one stamps) c.args.output.now c.put_answer.new.output c.put_answer.result)
-    (c.deref.ensures.value ∙ c.in_ok-stamps.ensures ∙ ap (λ (s : Content). found c.args.self.now.wanted.now s) c.in-Ok.ensures.ok) c.put_answer.ensures
+    subst (λ (stamps : List Stamp). Wrote g.W.Write.contents (λ made. made ≡ answer c.args.self.now.one stamps) c.args.output.now c.put_answer.new.output c.put_answer.result)
+    (c.deref.ensures.value ∙ c.in_ok-stamps.ensures ∙ ap (λ (s : Session). found c.args.self.now.wanted.now s) c.in-Ok.ensures.ok) c.put_answer.ensures

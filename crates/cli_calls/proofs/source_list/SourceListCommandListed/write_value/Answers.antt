@@ -1,10 +1,10 @@
 use Rattle.std.proofs.Common.{ℕ, List, ap, map, subst, ◌∙◌}
 use Rattle.mt_bwfread.specs.declared.fault.WaveFault.{WaveFault}
 use Rattle.mt_opcodec.specs.LogValue.{operations}
-use Rattle.mt_preflight.specs.Files.{GivenFile}
-use Rattle.mt_preflight.specs.SourcesText.{listing_text}
-use Rattle.mt_preflight.specs.declared.given.Recording.{Recording}
-use Rattle.mt_sessionview.specs.Content.{Content}
+use Rattle.text_check.specs.Files.{GivenFile}
+use Rattle.text_check.specs.SourcesText.{listing_text}
+use Rattle.text_check.specs.declared.given.Recording.{Recording}
+use Rattle.mt_sessionview.specs.SessionValue.{Session}
 use Rattle.mt_sessionview.specs.Session.{session_of}
 use Rattle.std.specs.Prelude.{Result}
 use Rattle.cli_calls.specs.Form.{in_form}
@@ -28,5 +28,5 @@ returns g c =
     let names = map (λ n. n.now) c.args.self.now.names.now in
     let tracks = (session_of (operations c.args.listed.log)).tracks in
     let files = c.deref-2.ensures.value ∙ c.in_ok-files.ensures ∙ ap (λ (rs : List (Result Recording WaveFault)). given_files names rs) c.deref.ensures.value in
-    let text = c.in_ok-text.ensures ∙ ap (λ (s : Content). listing_text which s.tracks c.deref-2.result.now) c.in-Ok.ensures.ok ∙ ap (λ (fs : List GivenFile). listing_text which tracks fs) files in
+    let text = c.in_ok-text.ensures ∙ ap (λ (s : Session). listing_text which s.tracks c.deref-2.result.now) c.in-Ok.ensures.ok ∙ ap (λ (fs : List GivenFile). listing_text which tracks fs) files in
     subst (λ (l : List ℕ). Wrote g.W.Write.contents (Exactly l) c.args.output.now c.put_in_form.new.output c.put_in_form.result) (ap (in_form form) (c.as_bytes.ensures.value ∙ text)) c.put_in_form.ensures

@@ -1,7 +1,7 @@
 use Rattle.std.proofs.Common.{[], ◌∷◌, sym, ap, ◌∙◌}
 use Rattle.std.specs.FinSet as set
 use Rattle.mt_cells.proofs.StampSets.{Stamps, seen_at, union_with, on_ok, on_err, whatever, kept_from, kept_to, in_more}
-use Rattle.mt_cells.specs.declared.stamp_set.Kept.TheVariants.{Nothing, One, Two}
+use Rattle.mt_cells.specs.declared.stamp_set.Inline.TheVariants.{Nothing, One, Two}
 use Rattle.mt_cells.proofs.stamp_set.StampSet.append.Goals as goal
 
 pub returns-in-Nothing-clause-union : goal.returns-in-Nothing-clause-union

@@ -1,7 +1,7 @@
 use Rattle.std.proofs.Common.{◌∙◌, [], ◌∷◌, refl}
 use Rattle.std.specs.FinSet as set
 use Rattle.mt_cells.proofs.StampSets.{seen_at, inserted, union_of, union_all, union_from, union_to, kept_from, kept_to, whatever}
-use Rattle.mt_cells.specs.declared.stamp_set.Kept.TheVariants.{Nothing, One, Two, Many}
+use Rattle.mt_cells.specs.declared.stamp_set.Inline.TheVariants.{Nothing, One, Two, Many}
 use Rattle.mt_cells.proofs.stamp_set.StampSet.append_many.Goals.{in-Many-1, in-Nothing-1, in-Many-2, in-Nothing-2, in-Many-3, in-Nothing-3}
 use Rattle.mt_cells.proofs.stamp_set.StampSet.append_many.Goals as goal
 

@@ -1,7 +1,7 @@
 use Rattle.std.proofs.Common.{Bool, ◌||◌, [], ap, ◌∙◌}
-use Rattle.mt_stamp.specs.Moment.{stamp_eq}
+use Rattle.mt_stamp.specs.StampOrder.{stamp_eq}
 use Rattle.mt_cells.proofs.StampSets.{has, has_one, has_two, seen_at}
-use Rattle.mt_cells.specs.declared.stamp_set.Kept.TheVariants.{Nothing, One, Two, Many}
+use Rattle.mt_cells.specs.declared.stamp_set.Inline.TheVariants.{Nothing, One, Two, Many}
 use Rattle.mt_cells.proofs.stamp_set.StampSet.contains.Goals as goal
 
 pub returns-in-Nothing : goal.returns-in-Nothing

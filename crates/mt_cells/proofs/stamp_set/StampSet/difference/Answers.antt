@@ -1,6 +1,6 @@
 use Rattle.std.proofs.Common.{[], ◌∷◌, ◌∙◌}
 use Rattle.mt_cells.proofs.StampSets.{seen_at, swapped, alike, rising_none, rising_one, rising_two, rising_back, filtered_rising, filtered_members, when_ok}
-use Rattle.mt_cells.specs.declared.stamp_set.Kept.TheVariants.{Nothing, One, Two, Many}
+use Rattle.mt_cells.specs.declared.stamp_set.Inline.TheVariants.{Nothing, One, Two, Many}
 use Rattle.mt_cells.proofs.stamp_set.StampSet.difference.Goals as goal
 
 pub returns-in_ok-clone-in-Nothing-clause-rising : goal.returns-in_ok-clone-in-Nothing-clause-rising

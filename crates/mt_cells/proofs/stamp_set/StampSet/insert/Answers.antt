@@ -1,7 +1,7 @@
 use Rattle.std.proofs.Common.{[], ◌∷◌, sym, ap, ◌∙◌}
 use Rattle.std.specs.FinSet as set
 use Rattle.mt_cells.proofs.StampSets.{Stamps, seen_at, inserted, again}
-use Rattle.mt_cells.specs.declared.stamp_set.Kept.TheVariants.{One, Two, Many}
+use Rattle.mt_cells.specs.declared.stamp_set.Inline.TheVariants.{One, Two, Many}
 use Rattle.mt_cells.proofs.stamp_set.StampSet.insert.Goals.{in-Many-3, in-Nothing-3}
 use Rattle.mt_cells.proofs.stamp_set.StampSet.insert.Goals as goal
 

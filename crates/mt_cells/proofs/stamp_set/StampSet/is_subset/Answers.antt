@@ -1,7 +1,7 @@
 use Rattle.std.proofs.Common.{Bool, ◌&&◌, [], ap, ◌∙◌}
 use Rattle.std.specs.FinSet as set
 use Rattle.mt_cells.proofs.StampSets.{seen_at, subset_of, subset_one, subset_two, subset_listed}
-use Rattle.mt_cells.specs.declared.stamp_set.Kept.TheVariants.{Nothing, One, Two, Many}
+use Rattle.mt_cells.specs.declared.stamp_set.Inline.TheVariants.{Nothing, One, Two, Many}
 use Rattle.mt_cells.proofs.stamp_set.StampSet.is_subset.Goals as goal
 
 pub returns-in-Nothing-default : goal.returns-in-Nothing-default

@@ -2,7 +2,7 @@ use Rattle.std.proofs.Common.{◌≡◌, ◌++◌, ◌||◌, [], List, Option, s
 use Rattle.std.specs.Prelude.{is_some}
 use Rattle.std.specs.List.{list_any}
 use Rattle.std.specs.BTreeMap.{get}
-use Rattle.mt_stamp.specs.Moment.{stamp_cmp, stamp_eq}
+use Rattle.mt_stamp.specs.StampOrder.{stamp_cmp, stamp_eq}
 use Rattle.mt_holdback.specs.HoldBack.{knows}
 use Rattle.mt_holdback.specs.Queue.{waiting_in, is_under, is_woken, IsQueueOf}
 use Rattle.mt_holdback.proofs.Keys.{on_match}

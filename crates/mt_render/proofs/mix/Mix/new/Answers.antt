@@ -1,7 +1,7 @@
 use Rattle.std.proofs.Common.{◌≡◌, ℕ, ◌*◌, ◌/◌, List, ◌∙◌, ap, subst, refl, inl, inr}
 use Rattle.std.proofs.lemmas.Bool.{cases_lt, false≢true}
 use Rattle.std.proofs.lemmas.List.{take_all}
-use Rattle.mt_sessionview.specs.Content.{Track, Content}
+use Rattle.mt_sessionview.specs.SessionValue.{Track, Session}
 use Rattle.mt_render.specs.Mix.{mixed, length_of}
 use Rattle.mt_render.specs.Parts.{lanes_give}
 use Rattle.mt_render.specs.Refusals.{audible, is_missing, rate_differs, PassAll, greatest_size}
@@ -18,13 +18,13 @@ add_audible-requires g c = record {
 
 pub loop-track-preserved : goal.loop-track-preserved
 loop-track-preserved g c = λ f d.
-    let tracks : c.items-tracks.result.now ≡ c.args.session.now.tracks = c.items-tracks.ensures ∙ ap (λ (s : Content). s.tracks) c.session.view_is in
+    let tracks : c.items-tracks.result.now ≡ c.args.session.now.tracks = c.items-tracks.ensures ∙ ap (λ (s : Session). s.tracks) c.session.view_is in
     track_step c.args.catalogue.now f d c.args.session.now.tracks c.loop-track.track-index c.track-item.result (lanes_give f d c.loop-track.lanes.items) _
     (rw tracks at c.loop-track-test.true) (rw tracks at c.track-item.is) (c.loop-track.invariant f d) (c.in_ok-add_audible.ensures.ok f d)
 
 pub invariant_of-result : goal.invariant_of-result
 invariant_of-result g c =
-    let tracks : c.items-tracks.result.now ≡ c.args.session.now.tracks = c.items-tracks.ensures ∙ ap (λ (s : Content). s.tracks) c.session.view_is in
+    let tracks : c.items-tracks.result.now ≡ c.args.session.now.tracks = c.items-tracks.ensures ∙ ap (λ (s : Session). s.tracks) c.session.view_is in
     record {
       lanes = λ f d. c.loop-track.invariant f d ∙ ap (mixed c.args.catalogue.now f d) (take_all c.loop-track.track-index c.args.session.now.tracks (rw tracks at c.loop-track-test.false));
       narrow = λ passed f d. (rw c.as_slice.ensures.value at c.are_narrow-narrow.ensures) (rw passed refl) f d;
@@ -34,7 +34,7 @@ invariant_of-result g c =
 
 pub returns-clause-ok : goal.returns-clause-ok
 returns-clause-ok g c =
-    let tracks : c.items-tracks.result.now ≡ c.args.session.now.tracks = c.items-tracks.ensures ∙ ap (λ (s : Content). s.tracks) c.session.view_is in
+    let tracks : c.items-tracks.result.now ≡ c.args.session.now.tracks = c.items-tracks.ensures ∙ ap (λ (s : Session). s.tracks) c.session.view_is in
     let len : c.length-length.result ≡ length_of c.args.session.now.tracks = c.length-length.ensures.value ∙ ap length_of tracks in
     record {
       there = subst (λ (ts : List Track). PassAll (audible ts) (is_missing c.args.catalogue.now)) tracks

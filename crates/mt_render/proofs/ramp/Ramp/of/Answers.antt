@@ -9,4 +9,4 @@ returns g c =
     let r = c.args.self.now in
     let u = c.lifted.result in
     let is = rw (to_z-of_z w32 c.args.x c.ranges.x) at c.lifted.ensures.value in
-    to_z-of_z w64 c.lowered.result (search rules) ∙ c.lowered.ensures ∙ lowered_is c.args.x c.args.num r.divisor.den r.turns u _ (omega arith) is c.quotient.ensures
+    to_z-of_z w64 c.unbiased.result (search rules) ∙ c.unbiased.ensures ∙ lowered_is c.args.x c.args.num r.divisor.den r.bias u _ (omega arith) is c.quotient.ensures

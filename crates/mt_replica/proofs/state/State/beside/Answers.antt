@@ -7,7 +7,7 @@ use Rattle.mt_replica.proofs.state.State.beside.Goals as goal
 pub invariant_of-result : goal.invariant_of-result
 invariant_of-result g c = (
   record {
-    noted = c.requires.noted;
+    applied = c.requires.applied;
     clock_is = c.greatest_clock-clock.ensures ∙ ap greatest_clock c.runs.ensures.value;
     seq_is = c.greatest_seq-seq.ensures ∙ own_is c.args.name (run_ops c.runs-2.result.now) ∙ ap (greatest_seq c.args.name) c.runs-2.ensures.value;
   },

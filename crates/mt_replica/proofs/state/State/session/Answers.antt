@@ -8,5 +8,5 @@ use Rattle.mt_replica.proofs.state.State.session.Goals as goal
 
 pub returns : goal.returns
 returns g c =
-    c.session.ensures.value ∙ session_kept c.self.inside.log c.self.inside.view.ops c.self.inside.view.held c.session.ensures.noted c.self.invariant.0.noted c.self.invariant.1.0
+    c.session.ensures.value ∙ session_kept c.self.inside.log c.self.inside.view.ops c.self.inside.view.held c.session.ensures.applied c.self.invariant.0.applied c.self.invariant.1.0
     ∙ ap (λ (s : StateValue). if s.shown then Some (session_of (operations s.named.log)) else None) c.self.view_is

@@ -4,7 +4,7 @@ use Rattle.std.specs.FinMap as fin
 use Rattle.std.proofs.Common.{◌≡◌, ℕ, None, ◌∙◌, ap, sym, subst, length}
 use Rattle.mt_op.specs.Dots.{op_dot}
 use Rattle.mt_opcodec.specs.LogValue.{operations, AreLogged}
-use Rattle.mt_replica.specs.Kept.{with_op}
+use Rattle.mt_replica.specs.EditorValue.{with_op}
 use Rattle.mt_replica.specs.State.{StateValue, Named, HoldsBack, IsState}
 use Rattle.mt_replica.specs.Viewed.{Viewed}
 use Rattle.mt_replica.proofs.ShownPlaces.{held_count, held_as, still_some}

@@ -3,18 +3,18 @@ use Rattle.std.proofs.Common.{◌≡◌, ◌∙◌, ap, subst}
 use Rattle.mt_opcodec.specs.LogValue.{LogMap, operations, log_of, AreLogged}
 use Rattle.mt_sessionview.specs.Session.{ready_ops}
 use Rattle.mt_stamp.proofs.SameItems.{SameItems}
-use Rattle.mt_replica.specs.Kept.{with_op}
+use Rattle.mt_replica.specs.EditorValue.{with_op}
 use Rattle.mt_replica.specs.State.{StateValue, Named, HoldsBack, IsHeldOf, IsState}
 use Rattle.mt_replica.specs.Viewed.{Viewed}
 use Rattle.mt_replica.proofs.Keeping.{made_follows, made_absent, made_kept, made_held, made_alone}
 use Rattle.mt_replica.proofs.ShownPlaces.{held_moves}
 use Rattle.mt_replica.proofs.state.State.with.Goals as goal
 
-pub note-requires : goal.note-requires
-note-requires g c =
+pub apply-requires : goal.apply-requires
+apply-requires g c =
     let logged = subst (λ (n : Named). AreLogged (operations n.log)) (ap (λ (s : StateValue). s.named) c.self.view_is) c.runs.ensures.logged in
     let whole = subst (λ (n : Named). log_of (operations n.log) ≡ n.log) (ap (λ (s : StateValue). s.named) c.self.view_is) c.runs.ensures.whole in
-    let same = subst (λ (n : Named). SameItems c.self.inside.view.ops (ready_ops (operations n.log))) (ap (λ (s : StateValue). s.named) c.self.view_is) c.self.invariant.0.noted in
+    let same = subst (λ (n : Named). SameItems c.self.inside.view.ops (ready_ops (operations n.log))) (ap (λ (s : StateValue). s.named) c.self.view_is) c.self.invariant.0.applied in
     record { follows = made_follows c.args.self.named c.args.op.now c.requires.made logged whole c.self.inside.view.ops same }
 
 pub made_in-requires-clause-new : goal.made_in-requires-clause-new

@@ -1,4 +1,4 @@
-use Rattle.mt_sessionview.specs.Content.{marker_cmp}
+use Rattle.mt_sessionview.specs.SessionValue.{marker_cmp}
 use Rattle.mt_sessionview.specs.Changing.{is_marker_at}
 use Rattle.mt_sessionview.proofs.Placing.{rises_without}
 use Rattle.mt_sessionview.proofs.session.Session.take_marker.Goals as goal

@@ -1,6 +1,6 @@
 use Rattle.std.proofs.Common.{sym, subst}
 use Rattle.mt_stamp.specs.Sorting.{DifferBy}
-use Rattle.mt_sessionview.specs.Content.{Track}
+use Rattle.mt_sessionview.specs.SessionValue.{Track}
 use Rattle.mt_sessionview.proofs.Placing.{differ_without}
 use Rattle.mt_sessionview.proofs.session.Session.take_track.Goals as goal
 

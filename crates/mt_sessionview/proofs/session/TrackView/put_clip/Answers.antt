@@ -1,7 +1,7 @@
 use Rattle.std.proofs.Common.{◌≡◌, ap, sym, subst, ◌∙◌}
 use Rattle.std.specs.List.{list_any}
 use Rattle.mt_stamp.specs.Sorting.{insert_by}
-use Rattle.mt_sessionview.specs.Content.{Clip, Track, clip_cmp, AreClips}
+use Rattle.mt_sessionview.specs.SessionValue.{Clip, Track, clip_cmp, AreClips}
 use Rattle.mt_sessionview.specs.Changing.{is_placed_by, clip_beside, IsPlace}
 use Rattle.mt_sessionview.proofs.Beside.{none_there, AreClips-put}
 use Rattle.mt_sessionview.proofs.Orders.{clip_key}

@@ -2,7 +2,7 @@ use Rattle.std.proofs.Common.{ap, subst, ◌∙◌, not}
 use Rattle.std.specs.Prelude.{filter}
 use Rattle.std.specs.List.{list_any}
 use Rattle.mt_stamp.specs.Sorting.{insert_by}
-use Rattle.mt_sessionview.specs.Content.{Clip, Track, clip_cmp}
+use Rattle.mt_sessionview.specs.SessionValue.{Clip, Track, clip_cmp}
 use Rattle.mt_sessionview.specs.Changing.{is_clip_at, IsNowhere, StandsAt}
 use Rattle.mt_sessionview.proofs.Beside.{AreClips-rewritten}
 use Rattle.mt_sessionview.proofs.Orders.{clip_key}

@@ -1,6 +1,6 @@
 use Rattle.std.proofs.Common.{ap, ◌∙◌}
-use Rattle.mt_frames.specs.Frames.{front_of}
-use Rattle.mt_frames.proofs.Fronts.{short-nil}
+use Rattle.sync_framing.specs.Frames.{front_of}
+use Rattle.sync_framing.proofs.Fronts.{short-nil}
 use Rattle.mt_sync.proofs.Hearing.{waits_short}
 use Rattle.mt_sync.proofs.talk.Talk.waiting.Goals as goal
 

@@ -1,0 +1,6 @@
+use Rattle.std.proofs.Common.{ℕ, ◌/◌, ◌^◌, bit_xor, ap, arith}
+use Rattle.base_sha256.proofs.Rotating.{nested_two}
+use Rattle.base_sha256.proofs.words.small_sigma1.Goals as goal
+
+pub returns : goal.returns
+returns c = rw (c.rotate_right-2.ensures, c.rotate_right.ensures) (ap (λ (y : ℕ). bit_xor y (c.args.x / 2 ^ 10)) (nested_two c.args.x 17 2 (omega arith) (omega arith)))

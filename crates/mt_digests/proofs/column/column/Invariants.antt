@@ -1,5 +1,0 @@
-use Rattle.std.proofs.Common.{◌≡◌, ℕ, ◌<◌, [], get_or, length, slice_index}
-use Rattle.mt_digests.proofs.column.column.Given as goal
-
-abbrev pub invariant-each : goal.invariant-each
-invariant-each g l = (length l.words ≡ g.row.M) × ((j : ℕ) → j < l.i → slice_index l.words j ≡ slice_index (get_or l.rows j []) l.lane)

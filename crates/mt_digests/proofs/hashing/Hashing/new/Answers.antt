@@ -1,7 +1,0 @@
-use Rattle.std.proofs.Common.{refl}
-use Rattle.sha2.specs.Sha256.{hash_after}
-use Rattle.mt_digests.proofs.hashing.Hashing.new.Goals as goal
-
-pub returns : goal.returns
-unfolding hash_after
-returns c = (refl, refl, refl)

@@ -1,5 +1,0 @@
-use Rattle.std.proofs.Common.{◌≡◌, length, map}
-use Rattle.mt_digests.proofs.lane.turn.Given as goal
-
-abbrev pub invariant-each : goal.invariant-each
-invariant-each g l = (length l.lanes ≡ length l.fn.lanes) × (map (λ lane. lane.message.now) l.lanes ≡ map (λ lane. lane.message.now) l.fn.lanes)

@@ -1,6 +1,0 @@
-use Rattle.std.proofs.Common.{◌≡◌}
-use Rattle.sha2.specs.Sha256.{hash_after}
-use Rattle.mt_digests.proofs.single.absorb.Given as goal
-
-abbrev pub invariant-each : goal.invariant-each
-invariant-each l = l.state ≡ hash_after l.fn.state l.bytes l.i

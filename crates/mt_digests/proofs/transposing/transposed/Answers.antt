@@ -1,6 +1,0 @@
-use Rattle.std.proofs.Common.{refl, arith}
-use Rattle.mt_digests.proofs.Fours.{spelled}
-use Rattle.mt_digests.proofs.transposing.transposed.Goals as goal
-
-pub returns : goal.returns
-returns c = rw (spelled c.args.a (omega arith), spelled c.args.b (omega arith), spelled c.args.c (omega arith), spelled c.args.d (omega arith)) refl

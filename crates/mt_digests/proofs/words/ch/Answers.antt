@@ -1,6 +1,0 @@
-use Rattle.std.proofs.Common.{arith}
-use Rattle.mt_digests.proofs.Choosing.{choice}
-use Rattle.mt_digests.proofs.words.ch.Goals as goal
-
-pub returns : goal.returns
-returns c = choice c.args.x c.args.y c.args.z (omega arith) (omega arith) (omega arith)

@@ -1,8 +1,0 @@
--- The numbers of refusals (profile).
-use Rattle.std.specs.Prelude.{ℕ}
-use Rattle.mt_frames.specs.declared.FrameFault.{FrameFault}
-use Rattle.mt_frames.specs.declared.FrameFault.TheVariants.{Memory, TooLong}
-
-abbrev pub number_of : FrameFault → ℕ
-number_of Memory = 0
-number_of TooLong = 40

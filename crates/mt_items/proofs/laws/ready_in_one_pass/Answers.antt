@@ -1,5 +1,0 @@
-use Rattle.mt_items.proofs.OnePass.{one_pass_is}
-use Rattle.mt_items.proofs.laws.ready_in_one_pass.Goals as goal
-
-pub returns : goal.returns
-returns c = λ s older rises. one_pass_is s older rises

@@ -1,6 +1,0 @@
-use Rattle.std.proofs.Common.{◌∙◌}
-use Rattle.mt_items.proofs.OwnTag.{has_own}
-use Rattle.mt_items.proofs.marks.ItemMarks.has_tag.Goals as goal
-
-pub returns-in-None : goal.returns-in-None
-returns-in-None g c = c.eq.ensures ∙ has_own c.self.inside.own c.self.inside.noted c.args.self.now c.self.view_is c.in-None.is c.args.stamp

@@ -1,7 +1,0 @@
-pub mod Noting
-pub mod Fields
-pub mod Keeping
-pub mod Tags
-pub mod Cells
-pub mod All
-pub mod Laws

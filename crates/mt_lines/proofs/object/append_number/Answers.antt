@@ -1,6 +1,0 @@
-use Rattle.std.proofs.Common.{rules}
-use Rattle.mt_lines.proofs.Telling.{number_told}
-use Rattle.mt_lines.proofs.object.append_number.Goals as goal
-
-pub returns-then-is_some : goal.returns-then-is_some
-returns-then-is_some c = rw (number_told c.args.word.now (search rules)) (search rules)

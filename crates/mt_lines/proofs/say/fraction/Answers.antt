@@ -1,5 +1,0 @@
-use Rattle.mt_lines.proofs.Fractions.{fraction_told}
-use Rattle.mt_lines.proofs.say.fraction.Goals as goal
-
-pub returns : goal.returns
-returns c = fraction_told c.args.word.now c.fraction_of.result c.fraction_of.ensures.none c.fraction_of.ensures.found

@@ -1,6 +1,0 @@
-use Rattle.std.proofs.Common.{refl}
-use Rattle.mt_log_tests.proofs.tests.opcodec.runs.agreeing_len.Goals as goal
-
--- no dot at which they clash: so they agree
-pub join_agreeing-requires : goal.join_agreeing-requires
-join_agreeing-requires g c = record { agree = c.in-None.ensures.none refl }

@@ -1,6 +1,0 @@
-//! Tests of operations and logs: mt_op, mt_opcodec, mt_holdback and mt_summary. Texts from outside, and what is left where an allocation, a read or a write is
-//! refused.
-#![tactic(auto)]
-
-#[cfg(test)]
-mod tests;

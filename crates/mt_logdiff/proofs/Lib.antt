@@ -1,9 +1,0 @@
-mod Dividing
-mod Counting
-mod Telling
-mod Exchanging
-mod Writing
-mod Searching
-mod LookingUp
-mod Appending
-mod Deciding

@@ -1,7 +1,0 @@
--- The operations below the index are there.
-use Rattle.std.proofs.Common.{◌≡◌, ◌++◌, map, take}
-use Rattle.mt_logdiff.specs.Beside.{told_as}
-use Rattle.mt_logdiff.proofs.told.push_told.Given as goal
-
-abbrev pub invariant-loop-op : goal.invariant-loop-op
-invariant-loop-op g l = l.told.items ≡ l.initial.told.items ++ map (told_as l.right l.clashes) (map (λ o. o.now) (take l.op-index l.ops))

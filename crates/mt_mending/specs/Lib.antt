@@ -1,3 +1,0 @@
-pub mod Mending
-pub mod Examples
-pub mod Before

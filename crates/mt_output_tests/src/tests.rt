@@ -1,5 +1,0 @@
-mod cuewrite;
-mod growth;
-mod interchange;
-mod render;
-mod script;

@@ -1,5 +1,0 @@
-use Rattle.mt_preflight.proofs.Told.{unheard_has_a_line}
-use Rattle.mt_preflight.proofs.laws.unheard_channels.Goals as goal
-
-pub returns : goal.returns
-returns c = unheard_has_a_line

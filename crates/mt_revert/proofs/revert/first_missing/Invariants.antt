@@ -1,7 +1,0 @@
--- An operation has each stamp below the index.
-use Rattle.std.proofs.Common.{◌≡◌, drop}
-use Rattle.mt_revert.specs.Revert.{first_missing}
-use Rattle.mt_revert.proofs.revert.first_missing.Given as goal
-
-abbrev pub invariant-loop-stamp : goal.invariant-loop-stamp
-invariant-loop-stamp g l = first_missing l.log l.stamps ≡ first_missing l.log (drop l.stamp-index l.stamps)

@@ -1,4 +1,0 @@
-use Rattle.mt_session_tests.proofs.tests.items.ready.Goals as goal
-
-pub items_of_ready-requires : goal.items_of_ready-requires
-items_of_ready-requires g c = record { rising = c.rises.ensures c.if-not-rises.false }

@@ -1,7 +1,0 @@
--- Equal stamps.
-use Rattle.std.proofs.Common.{◌≡◌, true, ap, sym, ◌∙◌}
-use Rattle.mt_stamp.specs.Moment.{Moment, stamp_eq}
-use Rattle.mt_stamp.proofs.Order.{stamp_eq-itself}
-
-pub stamp_eq_same : (a b : Moment) → a ≡ b → stamp_eq a b ≡ true
-stamp_eq_same a b e = ap (stamp_eq a) (sym e) ∙ stamp_eq-itself a

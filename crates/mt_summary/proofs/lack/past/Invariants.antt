@@ -1,9 +1,0 @@
-use Rattle.std.proofs.Common.{◌≡◌, length}
-use Rattle.mt_summary.specs.Walking.{past_replicas}
-use Rattle.mt_summary.proofs.lack.past.Given as goal
-
-abbrev pub invariant-loop-first : goal.invariant-loop-first
-invariant-loop-first g l = past_replicas l.replica.0 l.rest ≡ past_replicas l.replica.0 l.replicas
-
-abbrev pub decreases-loop-first : goal.decreases-loop-first
-decreases-loop-first g l = length l.rest

@@ -1,5 +1,0 @@
-use Rattle.mt_summary.proofs.Rises.{RiseFrom}
-use Rattle.mt_summary.proofs.message.rise.Given as goal
-
-abbrev pub invariant-loop-op : goal.invariant-loop-op
-invariant-loop-op g l = RiseFrom l.ops l.last l.op-index

@@ -1,6 +1,0 @@
-use Rattle.std.proofs.Common.{◌≡◌, ◌++◌, None, drop, map}
-use Rattle.mt_summary.specs.Summary.{summary_after}
-use Rattle.mt_summary.proofs.summary.summary_of_ops.Given as goal
-
-abbrev pub invariant-loop-op : goal.invariant-loop-op
-invariant-loop-op g l = l.all.items ++ summary_after l.last (drop l.op-index (map (λ o. o.now) l.ops)) ≡ summary_after None (map (λ o. o.now) l.ops)

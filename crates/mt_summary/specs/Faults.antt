@@ -1,9 +1,0 @@
--- The numbers of refusals (profile).
-use Rattle.std.specs.Prelude.{ℕ}
-use Rattle.mt_summary.specs.declared.fault.MessageFault.{MessageFault}
-use Rattle.mt_summary.specs.declared.fault.MessageFault.TheVariants.{Memory, BadMessage, FrameTooLong}
-
-abbrev pub number_of : MessageFault → ℕ
-number_of Memory = 0
-number_of BadMessage = 38
-number_of FrameTooLong = 40

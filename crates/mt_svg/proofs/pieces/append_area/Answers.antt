@@ -1,5 +1,0 @@
-use Rattle.mt_svg.proofs.Added.{then_last}
-use Rattle.mt_svg.proofs.pieces.append_area.Goals as goal
-
-pub returns : goal.returns
-returns g c = then_last _ _ _ c.in_ok-append_numbered.ensures (then_last _ _ _ c.in_ok-append_numbered-2.ensures (then_last _ _ _ c.in_ok-append_numbered-3.ensures (then_last _ _ _ c.in_ok-append_numbered-4.ensures c.append.ensures)))

@@ -1,8 +1,0 @@
--- No step below the index gives few times.
-use Rattle.std.proofs.Common.{◌≡◌, drop}
-use Rattle.std.specs.List.{find}
-use Rattle.mt_svg.specs.Placement.{gives_few}
-use Rattle.mt_svg.proofs.placement.first_step.Given as goal
-
-abbrev pub invariant-loop-step : goal.invariant-loop-step
-invariant-loop-step l = find (gives_few l.seconds) (drop l.step-index l.steps) ≡ find (gives_few l.seconds) l.steps

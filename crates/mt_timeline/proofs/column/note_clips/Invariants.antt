@@ -1,8 +1,0 @@
--- The clips below the index are noted.
-use Rattle.std.proofs.Common.{length, take}
-use Rattle.mt_timeline.specs.Drawing.{AreNoted}
-use Rattle.mt_timeline.specs.Timeline.{clip_extents}
-use Rattle.mt_timeline.proofs.column.note_clips.Given as goal
-
-abbrev pub invariant-loop-clip : goal.invariant-loop-clip
-invariant-loop-clip l = AreNoted l.frames (length l.initial.columns) (clip_extents (take l.clip-index l.clips)) l.columns

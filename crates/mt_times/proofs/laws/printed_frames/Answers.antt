@@ -1,5 +1,0 @@
-use Rattle.mt_times.proofs.ReadBack.{printed_frame_is_read}
-use Rattle.mt_times.proofs.laws.printed_frames.Goals as goal
-
-pub returns : goal.returns
-returns c = printed_frame_is_read

@@ -1,5 +1,0 @@
-use Rattle.mt_times.proofs.ReadBack.{printed_is_read}
-use Rattle.mt_times.proofs.laws.printed_times.Goals as goal
-
-pub returns : goal.returns
-returns c = printed_is_read

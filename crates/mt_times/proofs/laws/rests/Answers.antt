@@ -1,5 +1,0 @@
-use Rattle.mt_times.proofs.Roots.{rests_are_near}
-use Rattle.mt_times.proofs.laws.rests.Goals as goal
-
-pub returns : goal.returns
-returns c = rests_are_near

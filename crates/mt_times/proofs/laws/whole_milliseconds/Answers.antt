@@ -1,5 +1,0 @@
-use Rattle.mt_times.proofs.ReadBack.{whole_milliseconds_stay}
-use Rattle.mt_times.proofs.laws.whole_milliseconds.Goals as goal
-
-pub returns : goal.returns
-returns c = whole_milliseconds_stay

@@ -1,6 +1,0 @@
-use Rattle.mt_world.proofs.Seated.{noted}
-use Rattle.mt_world.proofs.seat.Seat.note.Goals as goal
-
-pub returns-in-Ok-clause-unsaved : goal.returns-in-Ok-clause-unsaved
-returns-in-Ok-clause-unsaved g c =
-    noted c.args.self.now.saved c.args.self.now.unsaved c.add.new.self c.args.op c.in-Ok.field-0 c.add.result c.in-Ok.is c.add.ensures.answer c.add.ensures.added c.requires.new

@@ -1,6 +1,0 @@
-use Rattle.std.proofs.Common.{take}
-use Rattle.mt_world.specs.Sending.{AddsDots}
-use Rattle.mt_world.proofs.sent.with_dots.Given as goal
-
-abbrev pub invariant-loop-op : goal.invariant-loop-op
-invariant-loop-op g l = AddsDots l.fn.log (take l.op-index l.ops) l.log

@@ -1,0 +1,13 @@
+pub mod Applying
+pub mod Marking
+pub mod Each
+pub mod Entries
+pub mod PerKind
+pub mod Roles
+pub mod EmptyStruct
+pub mod Reading
+pub mod AnyOrder
+pub mod OnePass
+pub mod Fresh
+pub mod EachNeed
+pub mod OwnTag

@@ -1,0 +1,21 @@
+use Rattle.std.proofs.Common.{sym, ap, ◌∙◌}
+use Rattle.std.specs.Prelude.{is_some}
+use Rattle.mt_op.specs.declared.need.Role.TheVariants.{Clip}
+use Rattle.mt_op.specs.Writes.{fades_written}
+use Rattle.session_state.proofs.Roles.{fades}
+use Rattle.session_state.proofs.Reading.{read_some, read_none}
+use Rattle.session_state.proofs.items.ItemStates.fades.Goals as goal
+
+pub returns-in-Some-clause-write : goal.returns-in-Some-clause-write
+returns-in-Some-clause-write g c =
+    let cells = c.self.invariant.clips.each c.args.clip c.in-Some.cells.now (sym c.in-Some.ensures.value) in
+    read_some fades_written c.args.clip c.self.inside.applied.items c.args.self.now _ c.self.view_is cells.fades
+
+pub returns-in-None-clause-write : goal.returns-in-None-clause-write
+returns-in-None-clause-write g c =
+    let all = c.self.invariant in
+    let none = sym (all.clips.only c.args.clip) ∙ ap is_some (sym c.in-None.ensures.value) in
+    read_none Clip fades_written fades c.args.clip c.self.inside.applied.items c.args.self.now c.self.view_is all.applied none
+
+pub returns-in-Some-clause-short : goal.returns-in-Some-clause-short
+returns-in-Some-clause-short g c = (c.self.invariant.clips.each c.args.clip c.in-Some.cells.now (sym c.in-Some.ensures.value)).short

@@ -1,0 +1,41 @@
+//! How many items operations add.
+
+use mt_op::{Body, Op};
+use std::alloc::Allocator;
+
+/// How many tracks, clips, markers and places there is to be room for.
+#[derive(Clone, Copy)]
+pub(crate) struct Capacity {
+    pub tracks: usize,
+    pub clips: usize,
+    pub markers: usize,
+    pub places: usize,
+}
+
+impl Capacity {
+    /// For none.
+    pub(crate) const NONE: Capacity = Capacity {
+        tracks: 0,
+        clips: 0,
+        markers: 0,
+        places: 0,
+    };
+}
+
+/// For what these operations add, were all of them noted. It says how much memory is taken at first, and no more.
+pub(crate) fn capacity_for<A: Allocator>(ops: &[&Op<A>]) -> Capacity {
+    let mut room = Capacity::NONE;
+    for op in ops {
+        match op.body() {
+            Body::AddTrack { .. } => {
+                room.tracks = room.tracks.saturating_add(1);
+                room.places = room.places.saturating_add(1);
+            }
+            Body::MoveTrack { .. } => room.places = room.places.saturating_add(1),
+            Body::AddClip { .. } => room.clips = room.clips.saturating_add(1),
+            Body::AddMarker { .. } => room.markers = room.markers.saturating_add(1),
+            _ => {}
+        }
+    }
+    room
+}

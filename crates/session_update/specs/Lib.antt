@@ -1,0 +1,3 @@
+pub mod Updating
+pub mod Examples
+pub mod Before

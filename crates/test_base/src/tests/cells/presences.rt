@@ -1,0 +1,213 @@
+//! Presences with many marks, and each growth refused in turn.
+
+use super::{A, B};
+use mt_cells::{CellFault, Join, Presence};
+use mt_stamp::{Replica, Stamp, StampFault};
+use std::alloc::{Allocator, Global};
+use std::test::Fail;
+use test_alloc::Refusing;
+
+// A tag that is added, or removed.
+#[derive(Clone, Copy)]
+enum AppliedOps {
+    Tag(Stamp),
+    Removed(Stamp),
+}
+
+fn apply(presence: &mut Presence, marks: &[AppliedOps]) -> Result<(), CellFault> {
+    for applied in marks {
+        match applied {
+            AppliedOps::Tag(stamp) => presence.add_tag(*stamp)?,
+            AppliedOps::Removed(stamp) => presence.remove_tag(*stamp)?,
+        }
+    }
+    Ok(())
+}
+
+// The presence with these marks.
+fn with_marks(alloc: Global, marks: &[AppliedOps]) -> Result<Presence, CellFault> {
+    let mut presence = Presence::new(alloc);
+    match apply(&mut presence, marks) {
+        Ok(()) => Ok(presence),
+        Err(fault) => Err(fault),
+    }
+}
+
+// Whether these are the live tags of a presence, and its copy is equal.
+fn is_live(presence: &Presence, wanted: &[Stamp]) -> Result<bool, CellFault> {
+    let tags = presence.live_tags()?;
+    let copy = presence.try_clone()?;
+    let is_there = presence.is_present() != wanted.is_empty();
+    Ok(tags.as_slice() == wanted && is_there && copy == *presence)
+}
+
+// The same of the first marks, to which a presence with the others is joined.
+fn leave(
+    alloc: Global,
+    marks: &[AppliedOps],
+    others: &[AppliedOps],
+    wanted: &[Stamp],
+) -> Result<bool, CellFault> {
+    let mut presence = with_marks(alloc, marks)?;
+    presence.join(with_marks(alloc, others)?)?;
+    is_live(&presence, wanted)
+}
+
+// row: removed_and_restored, copies
+#[test]
+fn keeps_what_no_removal_lists(rt: HostRuntime) -> Result<(), Fail> {
+    let (item, again) = (Stamp::new(1, A, 1)?, Stamp::new(2, B, 1)?);
+    let (tag, gone, restored) = (
+        AppliedOps::Tag(item),
+        AppliedOps::Removed(item),
+        AppliedOps::Tag(again),
+    );
+    assert!(rt; leave(rt.alloc(), &[tag, gone, restored], &[], &[again]) == Ok(true));
+    assert!(rt; leave(rt.alloc(), &[gone, restored, tag], &[], &[again]) == Ok(true));
+    assert!(rt; leave(rt.alloc(), &[tag, gone], &[tag, restored], &[again]) == Ok(true));
+    let both = [gone, AppliedOps::Removed(again)];
+    assert!(rt; leave(rt.alloc(), &[tag, gone, restored], &both, &[]) == Ok(true));
+    Ok(())
+}
+
+// The stamps of a replica, from the greatest on.
+fn falling(replica: Replica) -> Result<[Stamp; 200], StampFault> {
+    let mut stamps = [Stamp::new(1, replica, 1)?; 200];
+    for i in 0..200u8 {
+        stamps[i as usize] = Stamp::new(200u64.saturating_sub(u64::from(i)), replica, 1)?;
+    }
+    Ok(stamps)
+}
+
+// Gives an item these tags.
+fn add_tags<M: Allocator + Copy>(
+    presence: &mut Presence<M>,
+    stamps: &[Stamp],
+) -> Result<(), CellFault> {
+    for stamp in stamps {
+        presence.add_tag(*stamp)?;
+    }
+    Ok(())
+}
+
+// Removes these tags of an item, and then adds them.
+fn mark<M: Allocator + Copy>(
+    presence: &mut Presence<M>,
+    stamps: &[Stamp],
+) -> Result<(), CellFault> {
+    for stamp in stamps {
+        presence.remove_tag(*stamp)?;
+    }
+    add_tags(presence, stamps)
+}
+
+// Whether a presence shows that these are all its live tags, from the greatest on.
+fn has_live<M: Allocator + Copy>(
+    presence: &Presence<M>,
+    stamps: &[Stamp],
+) -> Result<bool, CellFault> {
+    let mut tags = presence.live_tags()?;
+    tags.as_mut_slice().reverse();
+    Ok(tags.as_slice() == stamps && presence.is_present() != stamps.is_empty())
+}
+
+// The same of one that gets them.
+fn shows_tags<M: Allocator + Copy>(
+    presence: &mut Presence<M>,
+    stamps: &[Stamp],
+) -> Result<bool, CellFault> {
+    add_tags(presence, stamps)?;
+    has_live(presence, stamps)
+}
+
+// Whether the copy of a presence with these marks equals it.
+fn is_copied<M: Allocator + Copy>(
+    presence: &mut Presence<M>,
+    stamps: &[Stamp],
+) -> Result<bool, CellFault> {
+    mark(presence, stamps)?;
+    match presence.try_clone() {
+        Ok(copy) => Ok(copy == *presence),
+        Err(fault) => Err(fault),
+    }
+}
+
+fn marked<M: Allocator + Copy>(memory: M, stamps: &[Stamp]) -> Result<Presence<M>, CellFault> {
+    let mut presence = Presence::new(memory);
+    match mark(&mut presence, stamps) {
+        Ok(()) => Ok(presence),
+        Err(fault) => Err(fault),
+    }
+}
+
+// Whether no tag is live once a presence with the second marks is joined to one with the first.
+fn joins_removed<M: Allocator + Copy>(
+    presence: &mut Presence<M>,
+    memory: M,
+    (ours, theirs): (&[Stamp], &[Stamp]),
+) -> Result<bool, CellFault> {
+    mark(presence, ours)?;
+    presence.join(marked(memory, theirs)?)?;
+    has_live(presence, &[])
+}
+
+/// What takes memory for presences.
+#[derive(Clone, Copy)]
+enum Work {
+    LiveTags,
+    Copy,
+    Join,
+}
+
+// Whether a presence comes to what it should by this work.
+fn succeeds<M: Allocator + Copy>(
+    memory: M,
+    work: Work,
+    (ours, theirs): (&[Stamp], &[Stamp]),
+) -> Result<bool, CellFault> {
+    let mut presence = Presence::new(memory);
+    match work {
+        Work::LiveTags => shows_tags(&mut presence, ours),
+        Work::Copy => is_copied(&mut presence, ours),
+        Work::Join => joins_removed(&mut presence, memory, (ours, theirs)),
+    }
+}
+
+// How often memory is asked for, where this succeeds and each growth is refused as that.
+fn refusals(alloc: Global, work: Work, stamps: (&[Stamp], &[Stamp])) -> Option<u64> {
+    let granted = Refusing::new(alloc, u64::MAX);
+    if succeeds(&granted, work, stamps) != Ok(true) {
+        return None;
+    }
+    for at in 0..granted.allocations() {
+        let memory = Refusing::new(alloc, at);
+        if succeeds(&memory, work, stamps) != Err(CellFault::Memory) {
+            return None;
+        }
+    }
+    Some(granted.allocations())
+}
+
+// The first of the stamps.
+fn some_of(stamps: &[Stamp], count: usize) -> &[Stamp] {
+    stamps.get(..count).unwrap_or(stamps)
+}
+
+// row: refused_growths
+// Of many tags that are given or copied, and of two sets of each presence that are joined; none without marks, and none of two tags that are removed and copied.
+#[test]
+fn refuses_each_allocation(rt: HostRuntime) -> Result<(), Fail> {
+    let (ours, theirs) = (falling(A)?, falling(B)?);
+    for (work, count, least) in [
+        (Work::LiveTags, 200, 6),
+        (Work::Copy, 30, 11),
+        (Work::Join, 11, 6),
+    ] {
+        let stamps = (some_of(&ours, count), some_of(&theirs, count));
+        assert!(rt; refusals(rt.alloc(), work, stamps) >= Some(least));
+        assert!(rt; refusals(rt.alloc(), work, (&[], &[])) == Some(0));
+    }
+    let two = (some_of(&ours, 2), some_of(&[], 0));
+    assert!(rt; refusals(rt.alloc(), Work::Copy, two) == Some(0));
+    Ok(())
+}

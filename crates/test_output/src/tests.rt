@@ -1,0 +1,5 @@
+mod allocation;
+mod cuewrite;
+mod interchange;
+mod render;
+mod script;

@@ -1,0 +1,9 @@
+mod Dividing
+mod Counting
+mod LogStyle
+mod Exchanging
+mod Writing
+mod Searching
+mod LookingUp
+mod Appending
+mod Deciding

@@ -1,0 +1,5 @@
+use Rattle.text_svg.proofs.Added.{then_last}
+use Rattle.text_svg.proofs.svg.append_ground.Goals as goal
+
+pub returns : goal.returns
+returns g c = then_last _ _ _ c.in_ok-append_numbered.ensures c.append.ensures

@@ -1,0 +1,79 @@
+//! A session drawn as a picture in SVG: times along the top, a row with its clips for each track, and over them the markers. The boxes of clips whose recordings are
+//! at hand show their peaks.
+//!
+//! ```rust
+//! use mt_op::{Body, Op, Title};
+//! use mt_opcodec::Log;
+//! use mt_render::Catalogue;
+//! use mt_sessionview::from_scratch;
+//! use mt_stamp::Stamp;
+//! use text_svg::svg_text;
+//! use test_kit::{A, add_track};
+//! use std::test::Fail;
+//!
+//! const NEWS: &[u8] = b"\
+//! <g class=\"marker\"><title>News</title><path class=\"start\" d=\"M1399 20V72\"/>\
+//! <svg x=\"1399\" y=\"20\" width=\"160\" height=\"16\"><text x=\"4\" y=\"12\">News</text></svg></g>
+//! </svg>
+//! ";
+//!
+//! fn draws_a_marker(rt: HostRuntime) -> Result<(), Fail> {
+//!     let mut log = Log::new(rt.alloc());
+//!     let title = Title::new(rt.alloc(), "News")?;
+//!     let _new = log.add(Op::new(Stamp::new(1, A, 1)?, Body::AddMarker { at: 47999, title })?)?;
+//!     let session = from_scratch(rt.alloc(), &log)?;
+//!     // at 48000 frames a second, with no recordings
+//!     let text = svg_text(rt.alloc(), 48000, &Catalogue::new(rt.alloc()), &session)?;
+//!     assert!(rt; text.as_bytes().starts_with(b"<svg xmlns=\"http://www.w3.org/2000/svg\" width=\"1560\" height=\"80\""));
+//!     assert!(rt; text.as_bytes().ends_with(NEWS));
+//!     Ok(())
+//! }
+//!
+//! // a wave file of 8 bits with three frames: silence, and the greatest and the least sample
+//! const LOUD: &[u8] =
+//!     b"RIFF\xff\xff\0\0WAVEfmt \x10\0\0\0\x01\0\x01\0\x80\xbb\0\0\0\0\0\0\x01\0\x08\0data\x03\0\0\0\x80\xff\0";
+//!
+//! const PEAKS: &[u8] = b"<path class=\"peaks\" stroke=\"#246\" stroke-opacity=\".5\" d=\"M400 2v28M800 1v30\"/>\
+//! <text x=\"4\" y=\"14\">e083661f</text></svg>
+//! </g>
+//! </svg>
+//! ";
+//!
+//! fn draws_peaks(rt: HostRuntime) -> Result<(), Fail> {
+//!     let mut catalogue = Catalogue::new(rt.alloc());
+//!     let source = catalogue.add(LOUD)?;
+//!     let mut log = Log::new(rt.alloc());
+//!     let track = Stamp::new(1, A, 1)?;
+//!     let _new = log.add(add_track(rt.alloc(), track, None)?)?;
+//!     let _new = log.add(Op::new(Stamp::new(2, A, 2)?, Body::AddClip { source, track, at: 0, offset: 0, len: 3 })?)?;
+//!     let session = from_scratch(rt.alloc(), &log)?;
+//!     // each frame is 400 units wide, and its line stands in the first of these
+//!     assert!(rt; svg_text(rt.alloc(), 48000, &catalogue, &session)?.as_bytes().ends_with(PEAKS));
+//!     Ok(())
+//! }
+//! ```
+//!
+//! `specs/Svg.antt` is the text, `specs/Placement.antt` says where in the picture things are, `specs/Peaks.antt` what the peaks of a clip are, and
+//! `specs/XmlText.antt` how titles stand in it; `laws` says that a column has just the frames that are drawn in its unit, that no sample is louder than a peak, and
+//! that without recordings nothing else is changed. The picture names no other file and runs nothing: a browser shows it, and drawing programs read it. Where clips
+//! lie over one another, the one that begins later is drawn over the other.
+//!
+//! What peaks cost: each sample of a clip that is drawn and stands in its recording is read once, on each of its channels, in loops that look at nothing else, into
+//! one buffer; a clip takes memory for its lines, and a column none.
+#![tactic(auto)]
+
+mod clip;
+mod column;
+pub mod laws;
+mod marker;
+mod peak;
+mod peaks;
+mod pieces;
+mod placement;
+mod span;
+mod svg;
+mod tick;
+mod track;
+mod xml;
+
+pub use svg::svg_text;
